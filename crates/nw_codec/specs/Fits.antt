@@ -1,0 +1,29 @@
+-- The limits and strict orders of the format.
+use Rattle.std.specs.Prelude.{ℕ, ◌+◌, ◌*◌, ◌≤◌, List, length, map, sum_by, All}
+use Rattle.std.specs.List.Sorted.{IsStrictlyIncreasing}
+use Rattle.nw_codec.specs.declared.block.Ref.{Ref}
+use Rattle.nw_codec.specs.declared.block.Block.{Block}
+use Rattle.nw_codec.specs.declared.message.Message.{Message}
+use Rattle.nw_codec.specs.declared.message.Message.TheVariants as messages
+
+-- the parents' authors, in the order of the block
+abbrev pub authors : List Ref → List ℕ
+authors parents = map (λ r. r.author) parents
+
+-- how many bytes these transactions take, each with its length before it
+abbrev pub transactions_size : List (List ℕ) → ℕ
+transactions_size transactions = sum_by (λ t. 4 + length t) transactions
+
+-- how many bytes a body has: 13 without parents and transactions, and 34 more for each parent
+abbrev pub body_size : Block → ℕ
+body_size b = 13 + 34 * length b.parents + transactions_size b.transactions
+
+pub record Fits (b : Block) : Type 0 where
+  pub few_parents : length b.parents ≤ 100
+  pub in_order : IsStrictlyIncreasing (authors b.parents)
+  pub few_transactions : length b.transactions ≤ 1024
+  pub short_transactions : All (λ t. length t ≤ 65536) b.transactions
+  pub short_body : body_size b ≤ 1048576
+
+abbrev pub MessageFits : Message → Type 0
+MessageFits (messages.Block b s) = Fits b

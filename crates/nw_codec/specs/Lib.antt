@@ -1,0 +1,4 @@
+pub mod Grammar
+pub mod Fits
+pub mod Same
+pub mod Typed

@@ -1,0 +1,14 @@
+-- When two blocks are the same: field by field.
+use Rattle.std.specs.Prelude.{◌==◌, ◌&&◌, ℕ, Bool, List}
+use Rattle.std.specs.Cmp.Lexicographic.{pointwise}
+use Rattle.nw_codec.specs.declared.block.Ref.{Ref}
+use Rattle.nw_codec.specs.declared.block.Block.{Block}
+
+abbrev pub same_bytes : List ℕ → List ℕ → Bool
+same_bytes = pointwise (λ a b. a == b)
+
+abbrev pub same_ref : Ref → Ref → Bool
+same_ref a b = (a.author == b.author) && same_bytes a.digest.0 b.digest.0
+
+abbrev pub same_block : Block → Block → Bool
+same_block a b = (a.author == b.author) && (a.round == b.round) && pointwise same_ref a.parents b.parents && pointwise same_bytes a.transactions b.transactions

@@ -1,0 +1,74 @@
+//! Why a value has no text, or a text no value.
+ghost use Rattle.std.specs.Prelude.{◌≡◌};
+
+use nw_digest::NoMemory;
+use std::alloc::{AllocError, AllocFailed};
+use thiserror::Error;
+
+/// Why a value was not encoded.
+#[derive(Clone, Copy, Debug, PartialEq, Eq, Error)]
+pub enum EncodeError {
+    /// The value does not fit: a limit or an order is broken.
+    #[error("over limit")]
+    OverLimit,
+    /// Memory was refused.
+    #[error("out of memory")]
+    NoMemory,
+}
+
+impl From<AllocError> for EncodeError {
+    ghost use Rattle.std.specs.Prelude.{◌≡◌};
+    ghost use Rattle.nw_codec.specs.declared.error.EncodeError.TheVariants.{NoMemory};
+
+    ghost from_gives = { λ _ e. e ≡ NoMemory };
+
+    fn from(_error: AllocError) -> EncodeError {
+        EncodeError::NoMemory
+    }
+}
+
+/// Why a text was not decoded: its first fault in reading order, or want of memory.
+#[derive(Clone, Copy, Debug, PartialEq, Eq, Error)]
+pub enum DecodeError {
+    /// Fewer bytes are left than the next field has.
+    #[error("the text ends within a field")]
+    Short,
+    /// Bytes are left behind the last field.
+    #[error("bytes follow the message")]
+    Trailing,
+    /// The first byte names no kind of message.
+    #[error("unknown kind of message")]
+    Tag,
+    /// The version of the body is not 1.
+    #[error("unknown version")]
+    Version,
+    /// More than 100 parents.
+    #[error("too many parents")]
+    TooManyParents,
+    /// A parent's author is not greater than the one before.
+    #[error("parents out of order")]
+    ParentOrder,
+    /// More than 1,024 transactions.
+    #[error("too many transactions")]
+    TooManyTransactions,
+    /// A transaction of more than 65,536 bytes.
+    #[error("transaction too long")]
+    TransactionTooLong,
+    /// A body of more than 1,048,576 bytes.
+    #[error("body too long")]
+    BodyTooLong,
+    /// Memory was refused; the text is a message's.
+    #[error("out of memory")]
+    NoMemory,
+}
+
+impl From<NoMemory> for DecodeError {
+    ghost use Rattle.std.specs.Prelude.{◌≡◌};
+    ghost use Rattle.nw_codec.specs.declared.error.DecodeError.TheVariants.{NoMemory};
+
+    ghost from_gives = { λ _ e. e ≡ NoMemory };
+
+    fn from(_error: NoMemory) -> DecodeError {
+        DecodeError::NoMemory
+    }
+}

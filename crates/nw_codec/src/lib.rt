@@ -1,0 +1,17 @@
+//! The messages of the mempool as bytes.
+//!
+//! Its contract: what is decoded is exactly what the grammar spells, each fault is the first one in reading order, and
+//! what is encoded is the one text of its value. It stands on `nw_digest`, and on `sha2` for the digest of a block.
+#![tactic(auto)]
+
+mod block;
+mod certificate;
+mod encode;
+mod error;
+mod limits;
+mod message;
+
+pub use block::{Block, Ref};
+pub use certificate::{Certificate, Seal, Signature};
+pub use error::{DecodeError, EncodeError};
+pub use message::Message;

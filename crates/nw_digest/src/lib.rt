@@ -1,0 +1,20 @@
+//! Digests, rounds, and the small types that every crate above shares.
+//!
+//! Its contract: a digest is SHA-256 of the bytes, and a round is in range.
+//! It stands on `sha2` alone.
+#![tactic(auto)]
+
+mod digest;
+mod memory;
+mod round;
+mod sequence;
+mod shared;
+
+pub use digest::{Digest, digest_of};
+pub use memory::NoMemory;
+pub use round::Round;
+pub use sequence::Sequence;
+pub use shared::Shared;
+
+#[cfg(test)]
+mod tests;

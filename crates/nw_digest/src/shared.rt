@@ -1,0 +1,46 @@
+//! A value with several owners.
+ghost use Rattle.std.specs.Prelude.{◌≡◌, IfOk};
+
+use crate::NoMemory;
+use std::alloc::Global;
+use std::marker::Model;
+use std::sync::Arc;
+
+/// One owner of a shared value that never changes. Contracts see the value.
+#[derive(Debug, Drop)]
+pub struct Shared<T: Drop> {
+    owner: Arc<T>,
+}
+
+impl<T: Drop> Model for Shared<T> {
+    ghost Value = { T };
+
+    ghost view = { λ s. s.owner.value };
+}
+
+impl<T: Drop> Shared<T> {
+    /// The first owner of the value. The value is dropped where memory is refused.
+    pub fn new(alloc: Global, value: T) -> Result<Shared<T>, NoMemory>
+        ensures { IfOk result (λ s. s ≡ value) }
+    {
+        Ok(Shared {
+            owner: Arc::new(alloc, value)?,
+        })
+    }
+
+    /// The shared value.
+    pub fn get(&self) -> &T
+        ensures { result.now ≡ self.now }
+    {
+        &self.owner
+    }
+
+    /// One more owner of the same value.
+    pub fn try_clone(&self) -> Result<Shared<T>, NoMemory>
+        ensures { IfOk result (λ s. s ≡ self.now) }
+    {
+        Ok(Shared {
+            owner: Arc::try_clone(&self.owner)?,
+        })
+    }
+}
