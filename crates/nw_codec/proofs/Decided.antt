@@ -29,15 +29,15 @@ never_after AtVersion field e = never_else (eqb (slice_index field 0) 1) Version
 never_after AtAuthor field e = absurd cc
 never_after AtRound field e = absurd cc
 never_after AtParentCount field e = never_choice (ltb 100 (number16 field)) TooManyParents (at_parents (number16 field) None (11 + 34 * number16 field)) (λ h. cc) e
-never_after (AtParentAuthor left before size) field e = never_choice (option_map_or (λ b. nat_le (number16 field) b) before false) ParentOrder (AtParentDigest left (number16 field) size) (λ h. cc) e
-never_after (AtParentDigest left author size) field e = absurd cc
+never_after (AtParentAuthor more before size) field e = never_choice (option_map_or (λ b. nat_le (number16 field) b) before false) ParentOrder (AtParentDigest more (number16 field) size) (λ h. cc) e
+never_after (AtParentDigest more author size) field e = absurd cc
 never_after (AtTransactionCount size) field e = never_choice (ltb 1024 (number16 field)) TooManyTransactions (at_transactions (number16 field) (size + 2)) (λ h. cc) e
-never_after (AtTransactionLength left size) field e = never_length (ltb 65536 (number32 field)) (ltb 1048576 (size + 4 + number32 field)) (AtTransaction (number32 field) left (size + 4 + number32 field)) e
+never_after (AtTransactionLength more size) field e = never_length (ltb 65536 (number32 field)) (ltb 1048576 (size + 4 + number32 field)) (AtTransaction (number32 field) more (size + 4 + number32 field)) e
   where
     never_length : (b c : Bool) (s : Stage) → Says (cond b (Err TransactionTooLong) (cond c (Err BodyTooLong) (Ok s))) NoMemory → ⊥
     never_length true c s e = absurd cc
     never_length false c s e = never_choice c BodyTooLong s (λ h. cc) e
-never_after (AtTransaction len left size) field e = absurd cc
+never_after (AtTransaction len more size) field e = absurd cc
 never_after AtSignature field e = absurd cc
 never_after AtEnd field e = absurd cc
 
@@ -60,37 +60,38 @@ never_memory a s f = never_stops (width f.0) f.0 f.1 refl f.3
 
 -- more for a transaction, which may have no bytes
 weight : Stage → ℕ
-weight (AtTransaction len left size) = 1
+weight (AtTransaction len more size) = 1
 weight AtTag = 0
 weight AtVersion = 0
 weight AtAuthor = 0
 weight AtRound = 0
 weight AtParentCount = 0
-weight (AtParentAuthor left before size) = 0
-weight (AtParentDigest left author size) = 0
+weight (AtParentAuthor more before size) = 0
+weight (AtParentDigest more author size) = 0
 weight (AtTransactionCount size) = 0
-weight (AtTransactionLength left size) = 0
+weight (AtTransactionLength more size) = 0
 weight AtSignature = 0
 weight AtEnd = 0
 
 weight_low : (s : Stage) → weight s ≤ 1
 unfolding weight
-weight_low (AtTransaction len left size) = omega arith
+weight_low (AtTransaction len more size) = omega arith
 weight_low AtTag = omega arith
 weight_low AtVersion = omega arith
 weight_low AtAuthor = omega arith
 weight_low AtRound = omega arith
 weight_low AtParentCount = omega arith
-weight_low (AtParentAuthor left before size) = omega arith
-weight_low (AtParentDigest left author size) = omega arith
+weight_low (AtParentAuthor more before size) = omega arith
+weight_low (AtParentDigest more author size) = omega arith
 weight_low (AtTransactionCount size) = omega arith
-weight_low (AtTransactionLength left size) = omega arith
+weight_low (AtTransactionLength more size) = omega arith
 weight_low AtSignature = omega arith
 weight_low AtEnd = omega arith
 
-light : (b : Bool) (s t : Stage) (u : Stage) → weight s ≡ 0 → weight t ≡ 0 → cond b s t ≡ u → weight u ≡ 0
-light true s t u p q e = subst (λ (x : Stage). weight x ≡ 0) e p
-light false s t u p q e = subst (λ (x : Stage). weight x ≡ 0) e q
+light : (n size : ℕ) → weight (at_transactions n size) ≡ 0
+unfolding weight
+light zero size = refl
+light (suc n) size = refl
 
 abbrev going : Stage → Result Stage DecodeError
 going s = Ok s
@@ -109,13 +110,12 @@ falls AtVersion t w field e h = let k : 1 ≡ w = cc in omega (arith, weight_low
 falls AtAuthor t w field e h = let k : 2 ≡ w = cc in omega (arith, weight_low t, k)
 falls AtRound t w field e h = let k : 6 ≡ w = cc in omega (arith, weight_low t, k)
 falls AtParentCount t w field e h = let k : 2 ≡ w = cc in omega (arith, weight_low t, k)
-falls (AtParentAuthor left before size) t w field e h = let k : 2 ≡ w = cc in omega (arith, weight_low t, k)
-falls (AtParentDigest left author size) t w field e h = let k : 32 ≡ w = cc in omega (arith, weight_low t, k)
+falls (AtParentAuthor more before size) t w field e h = let k : 2 ≡ w = cc in omega (arith, weight_low t, k)
+falls (AtParentDigest more author size) t w field e h = let k : 32 ≡ w = cc in omega (arith, weight_low t, k)
 falls (AtTransactionCount size) t w field e h = let k : 2 ≡ w = cc in omega (arith, weight_low t, k)
-falls (AtTransactionLength left size) t w field e h = let k : 4 ≡ w = cc in omega (arith, weight_low t, k)
-falls (AtTransaction len left size) t w field e h =
-    let same : at_transactions (left - 1) size ≡ t = going_is _ _ h in
-    let none = light (eqb (left - 1) 0) AtSignature (AtTransactionLength (left - 1) size) t refl refl same in
+falls (AtTransactionLength more size) t w field e h = let k : 4 ≡ w = cc in omega (arith, weight_low t, k)
+falls (AtTransaction len more size) t w field e h =
+    let none : weight t ≡ 0 = subst (λ (x : Stage). weight x ≡ 0) (going_is _ _ h) (light more size) in
     omega (arith, none)
 falls AtSignature t w field e h = let k : 64 ≡ w = cc in omega (arith, weight_low t, k)
 falls AtEnd t w field e h = absurd cc
@@ -126,11 +126,11 @@ at_end AtVersion e = absurd cc
 at_end AtAuthor e = absurd cc
 at_end AtRound e = absurd cc
 at_end AtParentCount e = absurd cc
-at_end (AtParentAuthor left before size) e = absurd cc
-at_end (AtParentDigest left author size) e = absurd cc
+at_end (AtParentAuthor more before size) e = absurd cc
+at_end (AtParentDigest more author size) e = absurd cc
 at_end (AtTransactionCount size) e = absurd cc
-at_end (AtTransactionLength left size) e = absurd cc
-at_end (AtTransaction len left size) e = absurd cc
+at_end (AtTransactionLength more size) e = absurd cc
+at_end (AtTransaction len more size) e = absurd cc
 at_end AtSignature e = absurd cc
 at_end AtEnd e = refl
 

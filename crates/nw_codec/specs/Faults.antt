@@ -1,23 +1,23 @@
 -- The first fault of a text, by the fields that it is read in.
-use Rattle.std.specs.Prelude.{◌≡◌, ◌≢◌, ℕ, ◌+◌, ◌-◌, ◌*◌, ◌==◌, nat_lt, nat_le, false, List, [], ◌∷◌, ◌++◌, length, take, slice_index, MatchBool, MatchOption, Option, Some, None, Result, Ok, Err, if◌then◌else◌}
+use Rattle.std.specs.Prelude.{◌≡◌, ◌≢◌, ℕ, zero, suc, ◌+◌, ◌*◌, ◌==◌, nat_lt, nat_le, false, List, [], ◌∷◌, ◌++◌, length, take, slice_index, MatchBool, MatchOption, Option, Some, None, Result, Ok, Err, if◌then◌else◌}
 use Rattle.std.specs.List.{flat_map}
 use Rattle.std.specs.Option.{option_map_or}
 use Rattle.std.specs.Int.{from_be_bytes, w16, w32}
 use Rattle.nw_codec.specs.declared.error.DecodeError.{DecodeError}
 use Rattle.nw_codec.specs.declared.error.DecodeError.TheVariants.{Short, Trailing, Tag, Version, TooManyParents, ParentOrder, TooManyTransactions, TransactionTooLong, BodyTooLong}
 
--- which field comes next, and what later tests need: how many items are left, the parent's author before, the bytes of the body so far
+-- which field comes next, and what later tests need: how many parents or transactions follow this one, the parent's author before, the bytes of the body so far
 pub data Stage : Type 0 where
   AtTag : Stage
   AtVersion : Stage
   AtAuthor : Stage
   AtRound : Stage
   AtParentCount : Stage
-  AtParentAuthor : (left : ℕ) (before : Option ℕ) (size : ℕ) → Stage
-  AtParentDigest : (left author size : ℕ) → Stage
+  AtParentAuthor : (more : ℕ) (before : Option ℕ) (size : ℕ) → Stage
+  AtParentDigest : (more author size : ℕ) → Stage
   AtTransactionCount : (size : ℕ) → Stage
-  AtTransactionLength : (left size : ℕ) → Stage
-  AtTransaction : (len left size : ℕ) → Stage
+  AtTransactionLength : (more size : ℕ) → Stage
+  AtTransaction : (len more size : ℕ) → Stage
   AtSignature : Stage
   AtEnd : Stage
 
@@ -28,21 +28,23 @@ width AtVersion = Some 1
 width AtAuthor = Some 2
 width AtRound = Some 6
 width AtParentCount = Some 2
-width (AtParentAuthor left before size) = Some 2
-width (AtParentDigest left author size) = Some 32
+width (AtParentAuthor more before size) = Some 2
+width (AtParentDigest more author size) = Some 32
 width (AtTransactionCount size) = Some 2
-width (AtTransactionLength left size) = Some 4
-width (AtTransaction len left size) = Some len
+width (AtTransactionLength more size) = Some 4
+width (AtTransaction len more size) = Some len
 width AtSignature = Some 64
 width AtEnd = None
 
--- before a parent, or behind the last one
+-- before the first of so many parents, or behind the last one
 abbrev pub at_parents : ℕ → Option ℕ → ℕ → Stage
-at_parents left before size = if left == 0 then AtTransactionCount size else AtParentAuthor left before size
+at_parents zero before size = AtTransactionCount size
+at_parents (suc more) before size = AtParentAuthor more before size
 
--- before a transaction, or behind the last one
+-- before the first of so many transactions, or behind the last one
 abbrev pub at_transactions : ℕ → ℕ → Stage
-at_transactions left size = if left == 0 then AtSignature else AtTransactionLength left size
+at_transactions zero size = AtSignature
+at_transactions (suc more) size = AtTransactionLength more size
 
 abbrev pub number16 : List ℕ → ℕ
 number16 field = from_be_bytes w16 field
@@ -59,18 +61,18 @@ after_field AtRound field = Ok AtParentCount
 after_field AtParentCount field =
     if nat_lt 100 (number16 field) then Err TooManyParents
     else Ok (at_parents (number16 field) None (11 + 34 * number16 field))
-after_field (AtParentAuthor left before size) field =
+after_field (AtParentAuthor more before size) field =
     if option_map_or (λ b. nat_le (number16 field) b) before false then Err ParentOrder
-    else Ok (AtParentDigest left (number16 field) size)
-after_field (AtParentDigest left author size) field = Ok (at_parents (left - 1) (Some author) size)
+    else Ok (AtParentDigest more (number16 field) size)
+after_field (AtParentDigest more author size) field = Ok (at_parents more (Some author) size)
 after_field (AtTransactionCount size) field =
     if nat_lt 1024 (number16 field) then Err TooManyTransactions
     else Ok (at_transactions (number16 field) (size + 2))
-after_field (AtTransactionLength left size) field =
+after_field (AtTransactionLength more size) field =
     if nat_lt 65536 (number32 field) then Err TransactionTooLong
     else if nat_lt 1048576 (size + 4 + number32 field) then Err BodyTooLong
-    else Ok (AtTransaction (number32 field) left (size + 4 + number32 field))
-after_field (AtTransaction len left size) field = Ok (at_transactions (left - 1) size)
+    else Ok (AtTransaction (number32 field) more (size + 4 + number32 field))
+after_field (AtTransaction len more size) field = Ok (at_transactions more size)
 after_field AtSignature field = Ok AtEnd
 after_field AtEnd field = Err Trailing
 
