@@ -8,10 +8,12 @@ mod block;
 mod certificate;
 mod encode;
 mod error;
+mod laws;
 mod limits;
 mod message;
 
 pub use block::{Block, Ref};
 pub use certificate::{Certificate, Seal, Signature};
 pub use error::{DecodeError, EncodeError};
+pub use laws::{body_has_its_size, grammar_or_fault, one_text};
 pub use message::Message;
