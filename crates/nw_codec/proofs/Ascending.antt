@@ -1,8 +1,8 @@
 -- Strictly ascending numbers, one after another.
-use Rattle.std.proofs.Common.{◌≡◌, ℕ, zero, suc, ◌+◌, ◌<◌, ◌≤◌, Bool, false, leb, List, [], ◌∷◌, length, get_or, Option, Some, None, refl, arith}
-use Rattle.std.specs.Option.{option_map_or}
+use Rattle.std.proofs.Common.{◌≡◌, ℕ, zero, suc, ◌+◌, ◌<◌, ◌≤◌, true, List, [], ◌∷◌, length, get_or, Option, Some, None, refl, arith}
 use Rattle.std.specs.List.Sorted.{IsStrictlyIncreasing}
-use Rattle.std.proofs.lemmas.Bool.{lt-leb, leb-false}
+use Rattle.std.proofs.lemmas.Bool.{lt-ltb, ltb-true}
+use Rattle.nw_codec.specs.Faults.{comes_after}
 
 -- the number is greater than the one before, if there is one
 abbrev pub IsAfter : Option ℕ → ℕ → Type 0
@@ -36,10 +36,11 @@ increasing before (x ∷ y ∷ ys) h (suc k) lt =
     rw next (increasing (Some x) (y ∷ ys) h.1 k (omega arith))
 
 -- the test of a parent's author
-pub not_refused : (before : Option ℕ) (x : ℕ) → IsAfter before x → option_map_or (λ b. leb x b) before false ≡ false
-not_refused None x h = refl
-not_refused (Some b) x h = lt-leb x b h
 
-pub after_from_test : (before : Option ℕ) (x : ℕ) → option_map_or (λ b. leb x b) before false ≡ false → IsAfter before x
+pub after_test : (before : Option ℕ) (x : ℕ) → IsAfter before x → comes_after before x ≡ true
+after_test None x h = refl
+after_test (Some b) x h = lt-ltb b x h
+
+pub after_from_test : (before : Option ℕ) (x : ℕ) → comes_after before x ≡ true → IsAfter before x
 after_from_test None x h = tt
-after_from_test (Some b) x h = leb-false x b h
+after_from_test (Some b) x h = ltb-true b x h

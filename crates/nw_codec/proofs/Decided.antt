@@ -1,13 +1,13 @@
 -- Each text leads to the end or to a fault, which is never want of memory.
 use Rattle.std.proofs.Common.{◌≡◌, ◌≢◌, ℕ, zero, suc, ◌+◌, ◌-◌, ◌*◌, ◌<◌, ◌≤◌, ◌⊎◌, Bool, true, false, cond, eqb, ltb, List, [], ◌∷◌, length, take, drop, Option, Some, None, Result, Ok, Err, refl, sym, subst, ◌∙◌, arith, inl, inr}
-use Rattle.std.specs.Prelude.{slice_index, nat_le}
-use Rattle.std.specs.Option.{MatchOption, option_map_or}
+use Rattle.std.specs.Prelude.{slice_index}
+use Rattle.std.specs.Option.{MatchOption}
 use Rattle.std.specs.Bool.{MatchBool}
 use Rattle.std.proofs.lemmas.Bool.{ltb-false, ltb-true}
 use Rattle.std.proofs.lemmas.List.{length-drop}
 use Rattle.nw_codec.specs.declared.error.DecodeError.{DecodeError}
 use Rattle.nw_codec.specs.declared.error.DecodeError.TheVariants.{Short, Trailing, Tag, Version, TooManyParents, ParentOrder, TooManyTransactions, TransactionTooLong, BodyTooLong, NoMemory}
-use Rattle.nw_codec.specs.Faults.{Stage, AtTag, AtVersion, AtAuthor, AtRound, AtParentCount, AtParentAuthor, AtParentDigest, AtTransactionCount, AtTransactionLength, AtTransaction, AtSignature, AtEnd, width, after_field, at_parents, at_transactions, number16, number32, Reaches, StopsAt, FaultFrom}
+use Rattle.nw_codec.specs.Faults.{Stage, AtTag, AtVersion, AtAuthor, AtRound, AtParentCount, AtParentAuthor, AtParentDigest, AtTransactionCount, AtTransactionLength, AtTransaction, AtSignature, AtEnd, width, after_field, at_parents, at_transactions, number16, number32, comes_after, Reaches, StopsAt, FaultFrom}
 use Rattle.nw_codec.proofs.Fronts.{here, onward, passed, short, failed, trailing, later}
 
 -- ---- want of memory is no fault of a text
@@ -29,7 +29,7 @@ never_after AtVersion field e = never_else (eqb (slice_index field 0) 1) Version
 never_after AtAuthor field e = absurd cc
 never_after AtRound field e = absurd cc
 never_after AtParentCount field e = never_choice (ltb 100 (number16 field)) TooManyParents (at_parents (number16 field) None (11 + 34 * number16 field)) (λ h. cc) e
-never_after (AtParentAuthor more before size) field e = never_choice (option_map_or (λ b. nat_le (number16 field) b) before false) ParentOrder (AtParentDigest more (number16 field) size) (λ h. cc) e
+never_after (AtParentAuthor more before size) field e = never_else (comes_after before (number16 field)) ParentOrder (AtParentDigest more (number16 field) size) (λ h. cc) e
 never_after (AtParentDigest more author size) field e = absurd cc
 never_after (AtTransactionCount size) field e = never_choice (ltb 1024 (number16 field)) TooManyTransactions (at_transactions (number16 field) (size + 2)) (λ h. cc) e
 never_after (AtTransactionLength more size) field e = never_length (ltb 65536 (number32 field)) (ltb 1048576 (size + 4 + number32 field)) (AtTransaction (number32 field) more (size + 4 + number32 field)) e

@@ -1,7 +1,6 @@
 -- A text that is whole fields to the end is that of a message within the limits.
 use Rattle.std.proofs.Common.{◌≡◌, ℕ, zero, suc, ◌+◌, ◌*◌, ◌^◌, ◌<◌, ◌≤◌, Bool, true, false, cond, eqb, leb, ltb, List, [], ◌∷◌, ◌++◌, length, get_or, take, drop, map, All, Option, Some, None, Result, Ok, Err, refl, sym, ap, subst, ◌∙◌, append_assoc, arith}
 use Rattle.std.specs.Int.{w16, w32, to_be_bytes, from_be_bytes}
-use Rattle.std.specs.Option.{option_map_or}
 use Rattle.std.specs.List.{flat_map, AllByRecursion}
 use Rattle.std.proofs.lemmas.Bool.{ltb-false, eqb-true}
 use Rattle.std.proofs.lemmas.List.{append-nil, take_at, drop_at}
@@ -17,7 +16,7 @@ use Rattle.nw_codec.specs.declared.error.DecodeError.TheVariants.{Tag, Version, 
 use Rattle.nw_codec.specs.Grammar.{round_bytes, parent_bytes, transaction_bytes, body, message}
 use Rattle.nw_codec.specs.Fits.{authors, transactions_size, Fits, MessageFits}
 use Rattle.nw_codec.specs.Typed.{AreBytes, IsRef, IsBlock, IsSignature, IsMessage}
-use Rattle.nw_codec.specs.Faults.{Stage, AtTag, AtVersion, AtAuthor, AtRound, AtParentCount, AtParentAuthor, AtParentDigest, AtTransactionCount, AtTransactionLength, AtTransaction, AtSignature, AtEnd, width, after_field, at_parents, at_transactions, number16, number32, Leads, Reaches}
+use Rattle.nw_codec.specs.Faults.{Stage, AtTag, AtVersion, AtAuthor, AtRound, AtParentCount, AtParentAuthor, AtParentDigest, AtTransactionCount, AtTransactionLength, AtTransaction, AtSignature, AtEnd, width, after_field, at_parents, at_transactions, number16, number32, comes_after, Leads, Reaches}
 use Rattle.nw_codec.specs.Spelled.{Spells, IsSpelled}
 use Rattle.nw_codec.proofs.Pieces.{back16, below16, back32, round_of, back48, below48}
 use Rattle.nw_codec.proofs.Ascending.{IsAfter, Ascends, increasing, after_from_test}
@@ -122,7 +121,7 @@ read_parents zero before size text rest bytes front = record { parents = []; mor
 read_parents (suc n) before size text rest bytes front =
     let a = step (AtParentAuthor n before size) 2 text rest refl front in
     let author : ℕ = number16 a.field in
-    let test = choice (option_map_or (λ b. leb author b) before false) ParentOrder (AtParentDigest n author size) a.next a.passes in
+    let test = else_choice (comes_after before author) ParentOrder (AtParentDigest n author size) a.next a.passes in
     let a-bytes = bytes_of a.field a.more text a.cut bytes in
     let front2 = to a.next (AtParentDigest n author size) a.more rest (sym test.1) a.onwards in
     let d = step (AtParentDigest n author size) 32 a.more rest refl front2 in

@@ -1,8 +1,6 @@
 -- The text of a message within the limits leads to the end.
 use Rattle.std.proofs.Common.{◌≡◌, ℕ, zero, suc, ◌+◌, ◌-◌, ◌*◌, ◌<◌, ◌≤◌, Bool, true, false, cond, eqb, leb, ltb, List, [], ◌∷◌, ◌++◌, length, map, All, Option, Some, None, Result, Ok, Err, refl, sym, ap, subst, ◌∙◌, append_assoc, arith}
-use Rattle.std.specs.Prelude.{nat_le}
 use Rattle.std.specs.Int.{w16, w32, to_be_bytes, from_be_bytes}
-use Rattle.std.specs.Option.{option_map_or}
 use Rattle.std.specs.List.{flat_map, AllByRecursion}
 use Rattle.std.proofs.lemmas.Bool.{le-ltb}
 use Rattle.std.proofs.lemmas.List.{append-nil}
@@ -18,10 +16,10 @@ use Rattle.nw_codec.specs.declared.error.DecodeError.TheVariants.{TooManyParents
 use Rattle.nw_codec.specs.Grammar.{round_bytes, parent_bytes, transaction_bytes, body, message}
 use Rattle.nw_codec.specs.Fits.{authors, transactions_size, Fits, MessageFits}
 use Rattle.nw_codec.specs.Typed.{AreBytes, IsRef, IsBlock, IsSignature, IsMessage}
-use Rattle.nw_codec.specs.Faults.{Stage, AtTag, AtVersion, AtAuthor, AtRound, AtParentCount, AtParentAuthor, AtParentDigest, AtTransactionCount, AtTransactionLength, AtTransaction, AtSignature, AtEnd, width, after_field, at_parents, at_transactions, number16, number32, Reaches}
+use Rattle.nw_codec.specs.Faults.{Stage, AtTag, AtVersion, AtAuthor, AtRound, AtParentCount, AtParentAuthor, AtParentDigest, AtTransactionCount, AtTransactionLength, AtTransaction, AtSignature, AtEnd, width, after_field, at_parents, at_transactions, number16, number32, comes_after, Reaches}
 use Rattle.nw_codec.specs.Spelled.{Spells, IsSpelled}
 use Rattle.nw_codec.proofs.Pieces.{again16, again32}
-use Rattle.nw_codec.proofs.Ascending.{IsAfter, Ascends, ascends, not_refused}
+use Rattle.nw_codec.proofs.Ascending.{IsAfter, Ascends, ascends, after_test}
 use Rattle.nw_codec.proofs.Fronts.{here, onward, one_field}
 
 -- ---- the tests, at a number that was read back
@@ -31,11 +29,11 @@ count_passes k n high d f same low =
     let test : ltb high n ≡ false = le-ltb _ _ low in
     rw (same, test) refl
 
-author_passes : (k n : ℕ) (before : Option ℕ) (f : ℕ → Stage) → k ≡ n → IsAfter before n → cond (option_map_or (λ b. leb k b) before false) (Err ParentOrder) (Ok (f k)) ≡ Ok (f n)
+author_passes : (k n : ℕ) (before : Option ℕ) (f : ℕ → Stage) → k ≡ n → IsAfter before n → cond (comes_after before k) (Ok (f k)) (Err ParentOrder) ≡ Ok (f n)
 author_passes k n before f same after =
-    let test : option_map_or (λ b. leb n b) before false ≡ false = not_refused before n after in
-    let here : cond (option_map_or (λ b. leb n b) before false) (Err ParentOrder) (Ok (f n)) ≡ Ok (f n) = rw test refl in
-    subst (λ (x : ℕ). cond (option_map_or (λ b. leb x b) before false) (Err ParentOrder) (Ok (f x)) ≡ Ok (f n)) (sym same) here
+    let test : comes_after before n ≡ true = after_test before n after in
+    let there : cond (comes_after before n) (Ok (f n)) (Err ParentOrder) ≡ Ok (f n) = rw test refl in
+    subst (λ (x : ℕ). cond (comes_after before x) (Ok (f x)) (Err ParentOrder) ≡ Ok (f n)) (sym same) there
 
 length_passes : (k n left size : ℕ) → k ≡ n → n ≤ 65536 → size + 4 + n ≤ 1048576
     → cond (ltb 65536 k) (Err TransactionTooLong) (cond (ltb 1048576 (size + 4 + k)) (Err BodyTooLong) (Ok (AtTransaction k left (size + 4 + k)))) ≡ Ok (AtTransaction n left (size + 4 + n))

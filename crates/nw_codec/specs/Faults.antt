@@ -1,5 +1,5 @@
 -- The first fault of a text, by the fields that it is read in.
-use Rattle.std.specs.Prelude.{◌≡◌, ◌≢◌, ℕ, zero, suc, ◌+◌, ◌*◌, ◌==◌, nat_lt, nat_le, false, List, [], ◌∷◌, ◌++◌, length, take, slice_index, MatchBool, MatchOption, Option, Some, None, Result, Ok, Err, if◌then◌else◌}
+use Rattle.std.specs.Prelude.{◌≡◌, ◌≢◌, ℕ, zero, suc, ◌+◌, ◌*◌, ◌==◌, nat_lt, Bool, true, List, [], ◌∷◌, ◌++◌, length, take, slice_index, MatchBool, MatchOption, Option, Some, None, Result, Ok, Err, if◌then◌else◌}
 use Rattle.std.specs.List.{flat_map}
 use Rattle.std.specs.Option.{option_map_or}
 use Rattle.std.specs.Int.{from_be_bytes, w16, w32}
@@ -52,6 +52,10 @@ number16 field = from_be_bytes w16 field
 abbrev pub number32 : List ℕ → ℕ
 number32 field = from_be_bytes w32 field
 
+-- an author is greater than the one before, if there is one
+abbrev pub comes_after : Option ℕ → ℕ → Bool
+comes_after before author = option_map_or (λ b. nat_lt b author) before true
+
 -- what a whole field leads to, or the fault of its test
 abbrev pub after_field : Stage → List ℕ → Result Stage DecodeError
 after_field AtTag field = if slice_index field 0 == 1 then Ok AtVersion else Err Tag
@@ -62,8 +66,7 @@ after_field AtParentCount field =
     if nat_lt 100 (number16 field) then Err TooManyParents
     else Ok (at_parents (number16 field) None (11 + 34 * number16 field))
 after_field (AtParentAuthor more before size) field =
-    if option_map_or (λ b. nat_le (number16 field) b) before false then Err ParentOrder
-    else Ok (AtParentDigest more (number16 field) size)
+    if comes_after before (number16 field) then Ok (AtParentDigest more (number16 field) size) else Err ParentOrder
 after_field (AtParentDigest more author size) field = Ok (at_parents more (Some author) size)
 after_field (AtTransactionCount size) field =
     if nat_lt 1024 (number16 field) then Err TooManyTransactions

@@ -6,6 +6,7 @@
 
 mod block;
 mod certificate;
+mod decode;
 mod encode;
 mod error;
 mod laws;
