@@ -1,10 +1,17 @@
-//! Bytes as values.
-ghost use Rattle.std.specs.Prelude.{◌≡◌, ℕ, ◌+◌, ◌*◌, ◌<◌, ◌≤◌, [], length, take, drop, MatchResult, Some, None};
+//! Bytes as values: a first pass finds the first fault, and a second one builds the value.
+ghost use Rattle.std.specs.Prelude.{◌≡◌, ℕ, ◌+◌, ◌*◌, ◌^◌, ◌<◌, ◌≤◌, List, [], ◌++◌, length, take, drop, MatchResult, IfOk, Some, None};
+ghost use Rattle.std.specs.Int.{to_be_bytes, w16};
+ghost use Rattle.nw_codec.specs.declared.block.Ref.{Ref as ParentRef};
 ghost use Rattle.nw_codec.specs.declared.error.DecodeError.TheVariants.{Short};
 ghost use Rattle.nw_codec.specs.Faults.{AtTag, AtVersion, AtParentCount, AtParentAuthor, AtTransactionCount, AtTransactionLength, AtSignature, AtEnd, at_parents, at_transactions, comes_after, Reaches, FaultFrom, IsWhole, IsFirstFault};
+ghost use Rattle.nw_codec.specs.Grammar.{round_bytes, parent_bytes, transaction_bytes};
+ghost use Rattle.nw_codec.specs.Spelled.{Spells, IsSpelled, BeginsWithParents, BeginsWithTransactions};
+ghost use Rattle.nw_codec.specs.Typed.{IsRef};
 
-use crate::DecodeError;
+use crate::{Block, DecodeError, Message, Ref, Signature};
 use crate::limits::{MAX_BODY, MAX_PARENTS, MAX_TRANSACTION, MAX_TRANSACTIONS};
+use nw_digest::{Digest, NoMemory, Round, Sequence};
+use std::alloc::Global;
 
 /// The field of `N` bytes at the front of the text, and the rest.
 fn field<const N: usize>(text: &[u8]) -> Result<(&[u8; N], &[u8]), DecodeError>
@@ -153,4 +160,71 @@ fn check_text(text: &[u8]) -> Result<(), DecodeError>
     let (count, rest) = check_transaction_count(rest)?;
     let rest = check_transactions(count, size + 2, rest)?;
     check_end(rest)
+}
+
+/// The first `N` bytes of the text, and the rest.
+fn front<const N: usize>(text: &[u8]) -> (&[u8; N], &[u8])
+    requires { N ≤ length text.now }
+    ensures front { result.0.now ≡ take N text.now }
+    ensures back { result.1.now ≡ drop N text.now }
+{
+    text.split_first_chunk::<N>().unwrap()
+}
+
+/// The number of two bytes at the front of the text, and the rest.
+fn number_of(text: &[u8]) -> (u16, &[u8])
+    requires { 2 ≤ length text.now }
+    ensures value { (n : ℕ) (rest : List ℕ) → n < 2 ^ 16 → text.now ≡ to_be_bytes w16 n ++ rest → result.0 ≡ n }
+    ensures back { result.1.now ≡ drop 2 text.now }
+{
+    let (bytes, rest) = front::<2>(text);
+    (u16::from_be_bytes(*bytes), rest)
+}
+
+/// The round of six bytes at the front of the text, and the rest.
+fn round_of(text: &[u8]) -> (Round, &[u8])
+    requires { 6 ≤ length text.now }
+    ensures value { (n : ℕ) (rest : List ℕ) → n < 2 ^ 48 → text.now ≡ round_bytes n ++ rest → result.0 ≡ n }
+    ensures back { result.1.now ≡ drop 6 text.now }
+{
+    let (bytes, rest) = front::<6>(text);
+    let [a, b, c, d, e, f] = *bytes;
+    let number = u64::from_be_bytes([0, 0, a, b, c, d, e, f]);
+    (Round::new(number).unwrap(), rest)
+}
+
+/// The parent at the front of the text, and the rest.
+fn parent_of(text: &[u8]) -> (Ref, &[u8])
+    requires { 34 ≤ length text.now }
+    ensures value { (parent : ParentRef) (rest : List ℕ) → IsRef parent → text.now ≡ parent_bytes parent ++ rest → result.0 ≡ parent }
+    ensures back { result.1.now ≡ drop 34 text.now }
+{
+    let (author, rest) = number_of(text);
+    let (digest, rest) = front::<32>(rest);
+    (
+        Ref {
+            author,
+            digest: Digest(*digest),
+        },
+        rest,
+    )
+}
+
+/// So many parents at the front of the text, and the rest.
+fn parents_of(
+    alloc: Global,
+    count: usize,
+    text: &[u8],
+) -> Result<(Sequence<Ref>, &[u8]), NoMemory>
+    requires { (parents : List ParentRef) × (rest : List ℕ) × (length parents ≡ count) × BeginsWithParents text.now parents rest }
+    ensures { IfOk result (λ x. (length x.0 ≡ count) × BeginsWithParents text.now x.0 x.1.now) }
+{
+    let mut parents = Vec::with_capacity(alloc, count)?;
+    let mut rest = text;
+    for _ in 0..count {
+        let (parent, after) = parent_of(rest);
+        parents.push(parent)?;
+        rest = after;
+    }
+    Ok((Sequence::new(parents), rest))
 }

@@ -1,4 +1,4 @@
-use Rattle.std.proofs.Common.{refl, ◌≤◌, ◌+◌, arith}
+use Rattle.std.proofs.Common.{refl, ◌≤◌, ◌+◌, length, arith}
 use Rattle.std.proofs.lemmas.List.{take_rest}
 use Rattle.nw_codec.specs.Faults.{AtTransactionLength, AtTransaction, at_transactions}
 use Rattle.nw_codec.specs.declared.error.DecodeError.TheVariants.{TransactionTooLong, BodyTooLong}
@@ -35,7 +35,8 @@ returns c more =
     let n = c.from_be_bytes-len.result in
     let size = c.args.size in
     let small : size + 4 + n ≤ 1048576 = omega arith in
+    let long : n ≤ length c.in_ok-len.rest.now = omega arith in
     let len = passed_as (AtTransactionLength more size) (AtTransaction n more (size + 4 + n)) 4 _ _ _ refl h.0 h.1 h.2 (rw (← c.from_be_bytes-len.ensures) (length_passes n more size (omega arith) small)) in
-    let bytes = passed (AtTransaction n more (size + 4 + n)) (at_transactions more (size + 4 + n)) n c.in_ok-len.rest.now refl (omega arith) refl in
+    let bytes = passed (AtTransaction n more (size + 4 + n)) (at_transactions more (size + 4 + n)) n c.in_ok-len.rest.now refl long refl in
     let whole = onward (AtTransactionLength more size) (AtTransaction n more (size + 4 + n)) (at_transactions more (size + 4 + n)) _ _ _ len bytes in
     (small, rw (take_rest c.in_ok-len.rest.now n) whole)
