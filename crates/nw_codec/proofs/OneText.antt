@@ -31,12 +31,12 @@ counted b fits =
       bytes = recursion_from_All (λ t. length t < 2 ^ 32) b.transactions (All-weaker (λ t. length t ≤ 65536) (λ t. length t < 2 ^ 32) (λ t low. omega arith) b.transactions fits.short_transactions);
     }
 
-same_ref : (p q : Ref) → p.author ≡ q.author → p.digest.0 ≡ q.digest.0 → p ≡ q
+pub same_ref : (p q : Ref) → p.author ≡ q.author → p.digest.0 ≡ q.digest.0 → p ≡ q
 same_ref p q e h =
     let make : ℕ → List ℕ → Ref = λ a d. record { author = a; digest = record { 0 = d } } in
     ap (λ (a : ℕ). make a p.digest.0) e ∙ ap (λ (d : List ℕ). make q.author d) h
 
-same_parents : (ps qs : List Ref) (x y : List ℕ) → length ps ≡ length qs → AllByRecursion IsRef ps → AllByRecursion IsRef qs → flat_map parent_bytes ps ++ x ≡ flat_map parent_bytes qs ++ y → (ps ≡ qs) × (x ≡ y)
+pub same_parents : (ps qs : List Ref) (x y : List ℕ) → length ps ≡ length qs → AllByRecursion IsRef ps → AllByRecursion IsRef qs → flat_map parent_bytes ps ++ x ≡ flat_map parent_bytes qs ++ y → (ps ≡ qs) × (x ≡ y)
 same_parents [] [] x y len left right e = (refl, e)
 same_parents [] (q ∷ qs) x y len left right e = absurd (omega (arith, len))
 same_parents (p ∷ ps) [] x y len left right e = absurd (omega (arith, len))
@@ -44,14 +44,14 @@ same_parents (p ∷ ps) (q ∷ qs) x y len left right e =
     let xs : List ℕ = flat_map parent_bytes ps ++ x in
     let ys : List ℕ = flat_map parent_bytes qs ++ y in
     let cut : to_be_bytes w16 p.author ++ (p.digest.0 ++ xs) ≡ to_be_bytes w16 q.author ++ (q.digest.0 ++ ys) =
-        sym (append_assoc (parent_bytes p) (flat_map parent_bytes ps) x ∙ append_assoc (to_be_bytes w16 p.author) p.digest.0 xs) ∙ e ∙ append_assoc (parent_bytes q) (flat_map parent_bytes qs) y ∙ append_assoc (to_be_bytes w16 q.author) q.digest.0 ys in
+    sym (append_assoc (parent_bytes p) (flat_map parent_bytes ps) x ∙ append_assoc (to_be_bytes w16 p.author) p.digest.0 xs) ∙ e ∙ append_assoc (parent_bytes q) (flat_map parent_bytes qs) y ∙ append_assoc (to_be_bytes w16 q.author) q.digest.0 ys in
     let first = same_start (to_be_bytes w16 p.author) (to_be_bytes w16 q.author) (p.digest.0 ++ xs) (q.digest.0 ++ ys) refl cut in
     let second = same_start p.digest.0 q.digest.0 xs ys (left.0.digest ∙ sym right.0.digest) first.1 in
     let others = same_parents ps qs x y (omega (arith, len)) left.1 right.1 second.1 in
     let one : p ≡ q = same_ref p q (same16 p.author q.author left.0.author right.0.author first.0) second.0 in
     (cc (one, others.0), others.1)
 
-same_transactions : (ts us : List (List ℕ)) (x y : List ℕ) → length ts ≡ length us → AllByRecursion (λ t. length t < 2 ^ 32) ts → AllByRecursion (λ t. length t < 2 ^ 32) us → flat_map transaction_bytes ts ++ x ≡ flat_map transaction_bytes us ++ y → (ts ≡ us) × (x ≡ y)
+pub same_transactions : (ts us : List (List ℕ)) (x y : List ℕ) → length ts ≡ length us → AllByRecursion (λ t. length t < 2 ^ 32) ts → AllByRecursion (λ t. length t < 2 ^ 32) us → flat_map transaction_bytes ts ++ x ≡ flat_map transaction_bytes us ++ y → (ts ≡ us) × (x ≡ y)
 same_transactions [] [] x y len left right e = (refl, e)
 same_transactions [] (u ∷ us) x y len left right e = absurd (omega (arith, len))
 same_transactions (t ∷ ts) [] x y len left right e = absurd (omega (arith, len))
@@ -59,20 +59,20 @@ same_transactions (t ∷ ts) (u ∷ us) x y len left right e =
     let xs : List ℕ = flat_map transaction_bytes ts ++ x in
     let ys : List ℕ = flat_map transaction_bytes us ++ y in
     let cut : to_be_bytes w32 (length t) ++ (t ++ xs) ≡ to_be_bytes w32 (length u) ++ (u ++ ys) =
-        sym (append_assoc (transaction_bytes t) (flat_map transaction_bytes ts) x ∙ append_assoc (to_be_bytes w32 (length t)) t xs) ∙ e ∙ append_assoc (transaction_bytes u) (flat_map transaction_bytes us) y ∙ append_assoc (to_be_bytes w32 (length u)) u ys in
+    sym (append_assoc (transaction_bytes t) (flat_map transaction_bytes ts) x ∙ append_assoc (to_be_bytes w32 (length t)) t xs) ∙ e ∙ append_assoc (transaction_bytes u) (flat_map transaction_bytes us) y ∙ append_assoc (to_be_bytes w32 (length u)) u ys in
     let first = same_start (to_be_bytes w32 (length t)) (to_be_bytes w32 (length u)) (t ++ xs) (u ++ ys) refl cut in
     let second = same_start t u xs ys (same32 (length t) (length u) left.0 right.0 first.0) first.1 in
     let others = same_transactions ts us x y (omega (arith, len)) left.1 right.1 second.1 in
     let one : t ≡ u = second.0 in
     (cc (one, others.0), others.1)
 
-same_block : (b c : Block) → b.author ≡ c.author → b.round ≡ c.round → b.parents ≡ c.parents → b.transactions ≡ c.transactions → b ≡ c
+pub same_block : (b c : Block) → b.author ≡ c.author → b.round ≡ c.round → b.parents ≡ c.parents → b.transactions ≡ c.transactions → b ≡ c
 same_block b c e0 e1 e2 e3 =
     let make : ℕ → ℕ → List Ref → List (List ℕ) → Block = λ a r ps ts. record { author = a; round = r; parents = ps; transactions = ts } in
     ap (λ (a : ℕ). make a b.round b.parents b.transactions) e0 ∙ ap (λ (r : ℕ). make c.author r b.parents b.transactions) e1
     ∙ ap (λ (ps : List Ref). make c.author c.round ps b.transactions) e2 ∙ ap (λ (ts : List (List ℕ)). make c.author c.round c.parents ts) e3
 
-same_signature : (s t : Signature) → s.0 ≡ t.0 → s ≡ t
+pub same_signature : (s t : Signature) → s.0 ≡ t.0 → s ≡ t
 same_signature s t e =
     let make : List ℕ → Signature = λ bytes. record { 0 = bytes } in
     ap make e
@@ -86,7 +86,7 @@ record IsSame (b c : Block) (s t : Signature) (x y : List ℕ) : Type 0 where
 same_counts : (b c : Block) (s t : Signature) (x y : List ℕ) → IsBlock b → IsBlock c → IsCounted b → IsCounted c → IsSignature s → IsSignature t
     → b.author ≡ c.author → b.round ≡ c.round
     → to_be_bytes w16 (length b.parents) ++ (flat_map parent_bytes b.parents ++ (to_be_bytes w16 (length b.transactions) ++ (flat_map transaction_bytes b.transactions ++ (s.0 ++ x))))
-      ≡ to_be_bytes w16 (length c.parents) ++ (flat_map parent_bytes c.parents ++ (to_be_bytes w16 (length c.transactions) ++ (flat_map transaction_bytes c.transactions ++ (t.0 ++ y))))
+    ≡ to_be_bytes w16 (length c.parents) ++ (flat_map parent_bytes c.parents ++ (to_be_bytes w16 (length c.transactions) ++ (flat_map transaction_bytes c.transactions ++ (t.0 ++ y))))
     → IsSame b c s t x y
 same_counts b c s t x y typed-b typed-c counted-b counted-c signed-s signed-t author round e =
     let count = same_start (to_be_bytes w16 (length b.parents)) (to_be_bytes w16 (length c.parents)) _ _ refl e in

@@ -346,18 +346,18 @@ message_from : (text rest body numbers items : List ℕ) (author round : ℕ) �
 message_from text rest body numbers items author round cut0 cut1 cut2 low_author low_round r =
     let b : Block = record { author = author; round = round; parents = r.parents; transactions = r.transactions } in
     let block-typed : IsBlock b = record {
-          author = low_author;
-          round = low_round;
-          parents = All-from_recursion IsRef r.parents r.typed_parents;
-          transactions = All-from_recursion AreBytes r.transactions r.typed_transactions;
-        } in
+      author = low_author;
+      round = low_round;
+      parents = All-from_recursion IsRef r.parents r.typed_parents;
+      transactions = All-from_recursion AreBytes r.transactions r.typed_transactions;
+    } in
     let block-fits : Fits b = record {
-          few_parents = r.few_parents;
-          in_order = increasing None (authors r.parents) r.order;
-          few_transactions = r.few_transactions;
-          short_transactions = All-from_recursion (λ t. length t ≤ 65536) r.transactions r.short;
-          short_body = r.small;
-        } in
+      few_parents = r.few_parents;
+      in_order = increasing None (authors r.parents) r.order;
+      few_transactions = r.few_transactions;
+      short_transactions = All-from_recursion (λ t. length t ≤ 65536) r.transactions r.short;
+      short_body = r.small;
+    } in
     record {
       found = messages.Block b r.signature;
       typed = (block-typed, r.signed);

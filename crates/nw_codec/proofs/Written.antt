@@ -52,9 +52,9 @@ written_parents (p ∷ ps) before size rest typed order =
     let cut : ((to_be_bytes w16 p.author ++ p.digest.0) ++ others) ++ rest ≡ to_be_bytes w16 p.author ++ (p.digest.0 ++ (others ++ rest)) = append_assoc (parent_bytes p) others rest ∙ append_assoc (to_be_bytes w16 p.author) p.digest.0 (others ++ rest) in
     let left : ℕ = length ps in
     let first : Reaches (AtParentAuthor left before size) (to_be_bytes w16 p.author ++ (p.digest.0 ++ (others ++ rest))) (AtParentDigest left p.author size) (p.digest.0 ++ (others ++ rest)) =
-        one_field (AtParentAuthor left before size) (AtParentDigest left p.author size) (to_be_bytes w16 p.author) (p.digest.0 ++ (others ++ rest)) refl (author_passes _ p.author before (λ n. AtParentDigest left n size) (again16 p.author typed.0.author) order.0) in
+    one_field (AtParentAuthor left before size) (AtParentDigest left p.author size) (to_be_bytes w16 p.author) (p.digest.0 ++ (others ++ rest)) refl (author_passes _ p.author before (λ n. AtParentDigest left n size) (again16 p.author typed.0.author) order.0) in
     let second : Reaches (AtParentDigest left p.author size) (p.digest.0 ++ (others ++ rest)) (at_parents left (Some p.author) size) (others ++ rest) =
-        one_field (AtParentDigest left p.author size) (at_parents left (Some p.author) size) p.digest.0 (others ++ rest) (ap Some (sym typed.0.digest)) refl in
+    one_field (AtParentDigest left p.author size) (at_parents left (Some p.author) size) p.digest.0 (others ++ rest) (ap Some (sym typed.0.digest)) refl in
     let third = written_parents ps (Some p.author) size rest typed.1 order.1 in
     let both = onward (AtParentDigest left p.author size) (at_parents (length ps) (Some p.author) size) (AtTransactionCount size) _ (others ++ rest) rest second third in
     let all = onward (AtParentAuthor left before size) (AtParentDigest left p.author size) (AtTransactionCount size) _ (p.digest.0 ++ (others ++ rest)) rest first both in
@@ -72,9 +72,9 @@ written_transactions (t ∷ ts) size rest low small =
     let more : ℕ = size + 4 + length t in
     let total : transactions_size (t ∷ ts) ≡ (4 + length t) + transactions_size ts = sum_by-cons (λ (x : List ℕ). 4 + length x) t ts in
     let first : Reaches (AtTransactionLength left size) (to_be_bytes w32 (length t) ++ (t ++ (others ++ rest))) (AtTransaction (length t) left more) (t ++ (others ++ rest)) =
-        one_field (AtTransactionLength left size) (AtTransaction (length t) left more) (to_be_bytes w32 (length t)) (t ++ (others ++ rest)) refl (length_passes _ (length t) left size (again32 (length t) (omega (arith, low.0))) low.0 (omega (arith, total, small))) in
+    one_field (AtTransactionLength left size) (AtTransaction (length t) left more) (to_be_bytes w32 (length t)) (t ++ (others ++ rest)) refl (length_passes _ (length t) left size (again32 (length t) (omega (arith, low.0))) low.0 (omega (arith, total, small))) in
     let second : Reaches (AtTransaction (length t) left more) (t ++ (others ++ rest)) (at_transactions left more) (others ++ rest) =
-        one_field (AtTransaction (length t) left more) (at_transactions left more) t (others ++ rest) refl refl in
+    one_field (AtTransaction (length t) left more) (at_transactions left more) t (others ++ rest) refl refl in
     let third = written_transactions ts more rest low.1 (omega (arith, total, small)) in
     let both = onward (AtTransaction (length t) left more) (at_transactions (length ts) more) AtSignature _ (others ++ rest) rest second third in
     let all = onward (AtTransactionLength left size) (AtTransaction (length t) left more) AtSignature _ (t ++ (others ++ rest)) rest first both in
@@ -109,10 +109,10 @@ written_block b s x typed signed fits =
     let q2 : Reaches AtAuthor r2 AtRound r3 = one_field AtAuthor AtRound (to_be_bytes w16 b.author) r3 refl refl in
     let q3 : Reaches AtRound r3 AtParentCount r4 = one_field AtRound AtParentCount (round_bytes b.round) r4 refl refl in
     let q4 : Reaches AtParentCount r4 (at_parents n None size) r5 =
-        one_field AtParentCount (at_parents n None size) (to_be_bytes w16 n) r5 refl (count_passes _ n 100 TooManyParents (λ c. at_parents c None (11 + 34 * c)) (again16 n (omega (arith, fits.few_parents))) fits.few_parents) in
+    one_field AtParentCount (at_parents n None size) (to_be_bytes w16 n) r5 refl (count_passes _ n 100 TooManyParents (λ c. at_parents c None (11 + 34 * c)) (again16 n (omega (arith, fits.few_parents))) fits.few_parents) in
     let q5 : Reaches (at_parents n None size) r5 (AtTransactionCount size) r6 = written_parents b.parents None size r6 (recursion_from_All IsRef b.parents typed.parents) (ascends (authors b.parents) fits.in_order) in
     let q6 : Reaches (AtTransactionCount size) r6 (at_transactions k (size + 2)) r7 =
-        one_field (AtTransactionCount size) (at_transactions k (size + 2)) (to_be_bytes w16 k) r7 refl (count_passes _ k 1024 TooManyTransactions (λ c. at_transactions c (size + 2)) (again16 k (omega (arith, fits.few_transactions))) fits.few_transactions) in
+    one_field (AtTransactionCount size) (at_transactions k (size + 2)) (to_be_bytes w16 k) r7 refl (count_passes _ k 1024 TooManyTransactions (λ c. at_transactions c (size + 2)) (again16 k (omega (arith, fits.few_transactions))) fits.few_transactions) in
     let q7 : Reaches (at_transactions k (size + 2)) r7 AtSignature r8 = written_transactions b.transactions (size + 2) r8 (recursion_from_All (λ t. length t ≤ 65536) b.transactions fits.short_transactions) (omega (arith, fits.short_body)) in
     let q8 : Reaches AtSignature r8 AtEnd x = one_field AtSignature AtEnd s.0 x (ap Some (sym signed.len)) refl in
     let p7 = onward (at_transactions k (size + 2)) AtSignature AtEnd r7 r8 x q7 q8 in

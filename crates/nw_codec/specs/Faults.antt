@@ -103,8 +103,8 @@ IsWhole text = IsGoodFront text AtEnd []
 abbrev pub StopsAt : Stage → List ℕ → DecodeError → Type 0
 StopsAt stage rest e =
     MatchOption (width stage)
-      ((rest ≢ []) × (e ≡ Trailing))
-      (λ w. MatchBool (nat_lt (length rest) w) (e ≡ Short) (after_field stage (take w rest) ≡ Err e))
+    ((rest ≢ []) × (e ≡ Trailing))
+    (λ w. MatchBool (nat_lt (length rest) w) (e ≡ Short) (after_field stage (take w rest) ≡ Err e))
 
 -- the fault behind the longest front of whole fields that pass, from this stage on
 abbrev pub FaultFrom : Stage → List ℕ → DecodeError → Type 0

@@ -1,15 +1,14 @@
 //! Bytes as values: a first pass finds the first fault, and a second one builds the value.
-ghost use Rattle.std.specs.Prelude.{◌≡◌, ℕ, ◌+◌, ◌*◌, ◌^◌, ◌<◌, ◌≤◌, List, [], ◌++◌, length, take, drop, MatchResult, IfOk, Some, None};
+ghost use Rattle.std.specs.Prelude.{◌≡◌, ◌≢◌, ◌↔◌, ℕ, ◌+◌, ◌*◌, ◌^◌, ◌<◌, ◌≤◌, List, [], ◌++◌, length, take, drop, MatchResult, IfOk, IsErrOf, Some, None};
 ghost use Rattle.std.specs.Int.{to_be_bytes, w16};
-ghost use Rattle.nw_codec.specs.declared.block.Ref.{Ref as ParentRef};
 ghost use Rattle.nw_codec.specs.declared.error.DecodeError.TheVariants.{Short};
 ghost use Rattle.nw_codec.specs.Faults.{AtTag, AtVersion, AtParentCount, AtParentAuthor, AtTransactionCount, AtTransactionLength, AtSignature, AtEnd, at_parents, at_transactions, comes_after, Reaches, FaultFrom, IsWhole, IsFirstFault};
 ghost use Rattle.nw_codec.specs.Grammar.{round_bytes, parent_bytes, transaction_bytes};
 ghost use Rattle.nw_codec.specs.Spelled.{Spells, IsSpelled, BeginsWithParents, BeginsWithTransactions};
 ghost use Rattle.nw_codec.specs.Typed.{IsRef};
 
-use crate::{Block, DecodeError, Message, Ref, Signature};
 use crate::limits::{MAX_BODY, MAX_PARENTS, MAX_TRANSACTION, MAX_TRANSACTIONS};
+use crate::{Block, DecodeError, Message, Ref, Signature};
 use nw_digest::{Digest, NoMemory, Round, Sequence};
 use std::alloc::Global;
 
@@ -196,7 +195,7 @@ fn round_of(text: &[u8]) -> (Round, &[u8])
 /// The parent at the front of the text, and the rest.
 fn parent_of(text: &[u8]) -> (Ref, &[u8])
     requires { 34 ≤ length text.now }
-    ensures value { (parent : ParentRef) (rest : List ℕ) → IsRef parent → text.now ≡ parent_bytes parent ++ rest → result.0 ≡ parent }
+    ensures value { (parent : Ref) (rest : List ℕ) → IsRef parent → text.now ≡ parent_bytes parent ++ rest → result.0 ≡ parent }
     ensures back { result.1.now ≡ drop 34 text.now }
 {
     let (author, rest) = number_of(text);
@@ -211,12 +210,8 @@ fn parent_of(text: &[u8]) -> (Ref, &[u8])
 }
 
 /// So many parents at the front of the text, and the rest.
-fn parents_of(
-    alloc: Global,
-    count: usize,
-    text: &[u8],
-) -> Result<(Sequence<Ref>, &[u8]), NoMemory>
-    requires { (parents : List ParentRef) × (rest : List ℕ) × (length parents ≡ count) × BeginsWithParents text.now parents rest }
+fn parents_of(alloc: Global, count: usize, text: &[u8]) -> Result<(Sequence<Ref>, &[u8]), NoMemory>
+    requires { (parents : List Ref) × (rest : List ℕ) × (length parents ≡ count) × BeginsWithParents text.now parents rest }
     ensures { IfOk result (λ x. (length x.0 ≡ count) × BeginsWithParents text.now x.0 x.1.now) }
 {
     let mut parents = Vec::with_capacity(alloc, count)?;
@@ -227,4 +222,70 @@ fn parents_of(
         rest = after;
     }
     Ok((Sequence::new(parents), rest))
+}
+
+/// The transaction at the front of the text, and the rest.
+fn transaction_of(alloc: Global, text: &[u8]) -> Result<(Sequence<u8>, &[u8]), NoMemory>
+    requires { (bytes : List ℕ) × (rest : List ℕ) × (length bytes ≤ 65536) × (text.now ≡ transaction_bytes bytes ++ rest) }
+    ensures { (bytes : List ℕ) (rest : List ℕ) → length bytes ≤ 65536 → text.now ≡ transaction_bytes bytes ++ rest → IfOk result (λ x. (x.0 ≡ bytes) × (x.1.now ≡ rest)) }
+{
+    let (len, rest) = front::<4>(text);
+    let (bytes, rest) = rest.split_at(u32::from_be_bytes(*len) as usize);
+    Ok((Sequence::new(Vec::from_slice(alloc, bytes)?), rest))
+}
+
+/// So many transactions at the front of the text, and the rest.
+fn transactions_of(
+    alloc: Global,
+    count: usize,
+    text: &[u8],
+) -> Result<(Sequence<Sequence<u8>>, &[u8]), NoMemory>
+    requires { (transactions : List (List ℕ)) × (rest : List ℕ) × (length transactions ≡ count) × BeginsWithTransactions text.now transactions rest }
+    ensures { IfOk result (λ x. (length x.0 ≡ count) × BeginsWithTransactions text.now x.0 x.1.now) }
+{
+    let mut transactions = Vec::with_capacity(alloc, count)?;
+    let mut rest = text;
+    for _ in 0..count {
+        let (transaction, after) = transaction_of(alloc, rest)?;
+        transactions.push(transaction)?;
+        rest = after;
+    }
+    Ok((Sequence::new(transactions), rest))
+}
+
+/// The message that the text spells.
+fn message_of(alloc: Global, text: &[u8]) -> Result<Message, NoMemory>
+    requires { IsSpelled text.now }
+    ensures { IfOk result (λ m. Spells text.now m) }
+{
+    let (_tag_and_version, rest) = front::<2>(text);
+    let (author, rest) = number_of(rest);
+    let (round, rest) = round_of(rest);
+    let (count, rest) = number_of(rest);
+    let (parents, rest) = parents_of(alloc, count as usize, rest)?;
+    let (count, rest) = number_of(rest);
+    let (transactions, rest) = transactions_of(alloc, count as usize, rest)?;
+    let (signature, _) = front::<64>(rest);
+    Ok(Message::Block {
+        block: Block {
+            author,
+            round,
+            parents,
+            transactions,
+        },
+        signature: Signature(*signature),
+    })
+}
+
+/// The message that the text spells. Its whole text is checked before memory is taken.
+///
+/// A text of no message is refused by its first fault in reading order; `NoMemory` is answered only of a message's
+/// text. The time taken is linear in the text.
+pub fn decode_message(alloc: Global, text: &[u8]) -> Result<Message, DecodeError>
+    ensures found { IfOk result (λ m. Spells text.now m) }
+    ensures fault { (e : DecodeError) → e ≢ DecodeError.NoMemory → (IsErrOf result e ↔ IsFirstFault text.now e) }
+    ensures memory { IsErrOf result DecodeError.NoMemory → IsSpelled text.now }
+{
+    check_text(text)?;
+    Ok(message_of(alloc, text)?)
 }

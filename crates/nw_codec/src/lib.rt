@@ -15,6 +15,7 @@ mod message;
 
 pub use block::{Block, Ref};
 pub use certificate::{Certificate, Seal, Signature};
+pub use decode::decode_message;
 pub use error::{DecodeError, EncodeError};
 pub use laws::{body_has_its_size, grammar_or_fault, one_text};
 pub use message::Message;
