@@ -1,6 +1,6 @@
 -- What an answer of the decoder says.
 use Rattle.std.proofs.Common.{◌≡◌, ◌≢◌, ◌↔◌, ℕ, List, Result, Ok, Err, sym, ap, ◌∙◌, subst}
-use Rattle.std.specs.Result.{IsErrOf, IsErrAnd}
+use Rattle.std.specs.Result.{IsErrOf, IsErrAnd, IfErr}
 use Rattle.nw_codec.specs.declared.message.Message.{Message}
 use Rattle.nw_codec.specs.declared.error.DecodeError.{DecodeError}
 use Rattle.nw_codec.specs.declared.error.DecodeError.TheVariants.{NoMemory}
@@ -8,6 +8,7 @@ use Rattle.nw_codec.specs.Faults.{AtTag, IsWhole, IsFirstFault}
 use Rattle.nw_codec.specs.Spelled.{IsSpelled}
 use Rattle.nw_codec.proofs.Fronts.{one_fault, not_both}
 use Rattle.nw_codec.proofs.Decided.{never_memory}
+use Rattle.nw_codec.proofs.Written.{spelled_is_whole}
 
 abbrev pub Says : List ℕ → Result Message DecodeError → Type 0
 Says text r = (e : DecodeError) → e ≢ NoMemory → (IsErrOf r e ↔ IsFirstFault text e)
@@ -41,3 +42,12 @@ says_found text m whole e other = (
   λ h. absurd (cc h),
   λ g. absurd (not_both AtTag text e whole g),
 )
+
+-- ---- what a message's text is answered
+
+pub fault_is_not_spelled : (text : List ℕ) (d : DecodeError) (r : Result Message DecodeError) → IsFirstFault text d → IsSpelled text → IfErr r (λ e. e ≡ NoMemory)
+fault_is_not_spelled text d r fault spelled = absurd (not_both AtTag text d (spelled_is_whole text spelled) fault)
+
+pub only_memory : (r : Result Message DecodeError) → IsErrAnd r (λ e. e ≡ NoMemory) → IfErr r (λ e. e ≡ NoMemory)
+only_memory (Ok m) is = absurd is
+only_memory (Err e) is = is

@@ -10,36 +10,61 @@ use Rattle.nw_codec.specs.declared.error.DecodeError.TheVariants.{Short, Trailin
 use Rattle.nw_codec.specs.Faults.{Stage, AtTag, AtVersion, AtAuthor, AtRound, AtParentCount, AtParentAuthor, AtParentDigest, AtTransactionCount, AtTransactionLength, AtTransaction, AtSignature, AtEnd, width, after_field, at_parents, at_transactions, number16, number32, comes_after, Reaches, StopsAt, FaultFrom}
 use Rattle.nw_codec.proofs.Fronts.{here, onward, passed, short, failed, trailing, later}
 
--- ---- want of memory is no fault of a text
+-- ---- a test gives neither Short, nor Trailing, nor want of memory
+
+record IsNoTest (x : DecodeError) : Type 0 where
+  tag : Tag ≢ x
+  version : Version ≢ x
+  parents : TooManyParents ≢ x
+  order : ParentOrder ≢ x
+  transactions : TooManyTransactions ≢ x
+  long : TransactionTooLong ≢ x
+  body : BodyTooLong ≢ x
+
+memory_is_no_test : IsNoTest NoMemory
+memory_is_no_test = record { tag = λ e. cc; version = λ e. cc; parents = λ e. cc; order = λ e. cc; transactions = λ e. cc; long = λ e. cc; body = λ e. cc }
+
+trailing_is_no_test : IsNoTest Trailing
+trailing_is_no_test = record { tag = λ e. cc; version = λ e. cc; parents = λ e. cc; order = λ e. cc; transactions = λ e. cc; long = λ e. cc; body = λ e. cc }
 
 abbrev Says : Result Stage DecodeError → DecodeError → Type 0
 Says r e = r ≡ Err e
 
-never_choice : (b : Bool) (d : DecodeError) (s : Stage) → d ≢ NoMemory → Says (cond b (Err d) (Ok s)) NoMemory → ⊥
-never_choice true d s other e = other (cc e)
-never_choice false d s other e = absurd cc
+abbrev failing : DecodeError → Result Stage DecodeError
+failing e = Err e
 
-never_else : (b : Bool) (d : DecodeError) (s : Stage) → d ≢ NoMemory → Says (cond b (Ok s) (Err d)) NoMemory → ⊥
-never_else true d s other e = absurd cc
-never_else false d s other e = other (cc e)
+failing_is : (d e : DecodeError) → failing d ≡ failing e → d ≡ e
+failing_is d e h = cc
 
-never_after : (stage : Stage) (field : List ℕ) → Says (after_field stage field) NoMemory → ⊥
-never_after AtTag field e = never_else (eqb (slice_index field 0) 1) Tag AtVersion (λ h. cc) e
-never_after AtVersion field e = never_else (eqb (slice_index field 0) 1) Version AtAuthor (λ h. cc) e
-never_after AtAuthor field e = absurd cc
-never_after AtRound field e = absurd cc
-never_after AtParentCount field e = never_choice (ltb 100 (number16 field)) TooManyParents (at_parents (number16 field) None (11 + 34 * number16 field)) (λ h. cc) e
-never_after (AtParentAuthor more before size) field e = never_else (comes_after before (number16 field)) ParentOrder (AtParentDigest more (number16 field) size) (λ h. cc) e
-never_after (AtParentDigest more author size) field e = absurd cc
-never_after (AtTransactionCount size) field e = never_choice (ltb 1024 (number16 field)) TooManyTransactions (at_transactions (number16 field) (size + 2)) (λ h. cc) e
-never_after (AtTransactionLength more size) field e = never_length (ltb 65536 (number32 field)) (ltb 1048576 (size + 4 + number32 field)) (AtTransaction (number32 field) more (size + 4 + number32 field)) e
-  where
-    never_length : (b c : Bool) (s : Stage) → Says (cond b (Err TransactionTooLong) (cond c (Err BodyTooLong) (Ok s))) NoMemory → ⊥
-    never_length true c s e = absurd cc
-    never_length false c s e = never_choice c BodyTooLong s (λ h. cc) e
-never_after (AtTransaction len more size) field e = absurd cc
-never_after AtSignature field e = absurd cc
-never_after AtEnd field e = absurd cc
+never_choice : (b : Bool) (d x : DecodeError) (s : Stage) → d ≢ x → Says (cond b (Err d) (Ok s)) x → ⊥
+never_choice true d x s other e = other (failing_is d x e)
+never_choice false d x s other e = absurd cc
+
+never_else : (b : Bool) (d x : DecodeError) (s : Stage) → d ≢ x → Says (cond b (Ok s) (Err d)) x → ⊥
+never_else true d x s other e = absurd cc
+never_else false d x s other e = other (failing_is d x e)
+
+never_length : (b c : Bool) (x : DecodeError) (s : Stage) → IsNoTest x → Says (cond b (Err TransactionTooLong) (cond c (Err BodyTooLong) (Ok s))) x → ⊥
+never_length true c x s t e = t.long (failing_is TransactionTooLong x e)
+never_length false c x s t e = never_choice c BodyTooLong x s t.body e
+
+never_after : (x : DecodeError) → IsNoTest x → (stage : Stage) (field : List ℕ) → Says (after_field stage field) x → ⊥
+never_after x t AtTag field e = never_else (eqb (slice_index field 0) 1) Tag x AtVersion t.tag e
+never_after x t AtVersion field e = never_else (eqb (slice_index field 0) 1) Version x AtAuthor t.version e
+never_after x t AtAuthor field e = absurd cc
+never_after x t AtRound field e = absurd cc
+never_after x t AtParentCount field e = never_choice (ltb 100 (number16 field)) TooManyParents x (at_parents (number16 field) None (11 + 34 * number16 field)) t.parents e
+never_after x t (AtParentAuthor more before size) field e = never_else (comes_after before (number16 field)) ParentOrder x (AtParentDigest more (number16 field) size) t.order e
+never_after x t (AtParentDigest more author size) field e = absurd cc
+never_after x t (AtTransactionCount size) field e = never_choice (ltb 1024 (number16 field)) TooManyTransactions x (at_transactions (number16 field) (size + 2)) t.transactions e
+never_after x t (AtTransactionLength more size) field e = never_length (ltb 65536 (number32 field)) (ltb 1048576 (size + 4 + number32 field)) x (AtTransaction (number32 field) more (size + 4 + number32 field)) t e
+never_after x t (AtTransaction len more size) field e = absurd cc
+never_after x t AtSignature field e = absurd cc
+never_after x t AtEnd field e = absurd cc
+
+never_by : (b : Bool) (x : DecodeError) → IsNoTest x → x ≢ Short → (stage : Stage) (field : List ℕ) → MatchBool b (x ≡ Short) (after_field stage field ≡ Err x) → ⊥
+never_by true x t other stage field h = other h
+never_by false x t other stage field h = never_after x t stage field h
 
 never_stops : (o : Option ℕ) (stage : Stage) (rest : List ℕ) → width stage ≡ o → StopsAt stage rest NoMemory → ⊥
 never_stops None stage rest wide p =
@@ -47,14 +72,18 @@ never_stops None stage rest wide p =
     absurd (cc (stop.1))
 never_stops (Some w) stage rest wide p =
     let stop : MatchBool (ltb (length rest) w) (NoMemory ≡ Short) (after_field stage (take w rest) ≡ Err NoMemory) = rw wide at p in
-    never_by (ltb (length rest) w) stage (take w rest) stop
-  where
-    never_by : (b : Bool) (stage : Stage) (field : List ℕ) → MatchBool b (NoMemory ≡ Short) (after_field stage field ≡ Err NoMemory) → ⊥
-    never_by true stage field h = absurd (cc h)
-    never_by false stage field h = never_after stage field h
+    never_by (ltb (length rest) w) NoMemory memory_is_no_test (λ e. cc) stage (take w rest) stop
 
 pub never_memory : (a : Stage) (s : List ℕ) → FaultFrom a s NoMemory → ⊥
 never_memory a s f = never_stops (width f.0) f.0 f.1 refl f.3
+
+trailing_stops : (o : Option ℕ) (stage : Stage) (rest : List ℕ) → width stage ≡ o → StopsAt stage rest Trailing → (o ≡ None) × (rest ≢ [])
+trailing_stops None stage rest wide p =
+    let stop : (rest ≢ []) × (Trailing ≡ Trailing) = rw wide at p in
+    (refl, stop.0)
+trailing_stops (Some w) stage rest wide p =
+    let stop : MatchBool (ltb (length rest) w) (Trailing ≡ Short) (after_field stage (take w rest) ≡ Err Trailing) = rw wide at p in
+    absurd (never_by (ltb (length rest) w) Trailing trailing_is_no_test (λ e. cc) stage (take w rest) stop)
 
 -- ---- each text is decided
 
@@ -173,3 +202,9 @@ decide (suc n) s text low = by_width n (decide n) s text low (width s) refl
 
 pub decided : (s : Stage) (text : List ℕ) → Decided s text
 decided s text = decide (suc (2 * length text + weight s)) s text (omega arith)
+
+-- Trailing stands behind a front that leads to the end
+pub behind_the_end : (a : Stage) (s : List ℕ) → FaultFrom a s Trailing → (rest : List ℕ) × Reaches a s AtEnd rest × (rest ≢ [])
+behind_the_end a s f =
+    let stop = trailing_stops (width f.0) f.0 f.1 refl f.3 in
+    (f.1, subst (λ (t : Stage). Reaches a s t f.1) (at_end f.0 stop.0) f.2, stop.1)

@@ -56,7 +56,7 @@ number32 field = from_be_bytes w32 field
 abbrev pub comes_after : Option ℕ → ℕ → Bool
 comes_after before author = option_map_or (λ b. nat_lt b author) before true
 
--- what a whole field leads to, or the fault of its test
+-- what a whole field leads to, or the fault of its test; no field comes at the end
 abbrev pub after_field : Stage → List ℕ → Result Stage DecodeError
 after_field AtTag field = if slice_index field 0 == 1 then Ok AtVersion else Err Tag
 after_field AtVersion field = if slice_index field 0 == 1 then Ok AtAuthor else Err Version
@@ -77,7 +77,7 @@ after_field (AtTransactionLength more size) field =
     else Ok (AtTransaction (number32 field) more (size + 4 + number32 field))
 after_field (AtTransaction len more size) field = Ok (at_transactions more size)
 after_field AtSignature field = Ok AtEnd
-after_field AtEnd field = Err Trailing
+after_field AtEnd field = Ok AtEnd
 
 -- these whole fields pass their tests one after another, and lead from one stage to the other
 abbrev pub Leads : Stage → List (List ℕ) → Stage → Type 0

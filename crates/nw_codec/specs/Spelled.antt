@@ -1,5 +1,5 @@
 -- The grammar: the texts of messages.
-use Rattle.std.specs.Prelude.{◌≡◌, ℕ, ◌≤◌, List, ◌++◌, length, All}
+use Rattle.std.specs.Prelude.{◌≡◌, ◌≢◌, ℕ, ◌≤◌, List, [], ◌++◌, length, All}
 use Rattle.std.specs.List.{flat_map}
 use Rattle.nw_codec.specs.declared.block.Ref.{Ref}
 use Rattle.nw_codec.specs.declared.message.Message.{Message}
@@ -16,6 +16,10 @@ pub record Spells (text : List ℕ) (m : Message) : Type 0 where
 -- some message has this text
 abbrev pub IsSpelled : List ℕ → Type 0
 IsSpelled text = (m : Message) × Spells text m
+
+-- bytes follow the text of a message
+abbrev pub GoesOn : List ℕ → Type 0
+GoesOn text = (front rest : List ℕ) × IsSpelled front × (rest ≢ []) × (text ≡ front ++ rest)
 
 -- the text begins with these parents, and this is the rest
 pub record BeginsWithParents (text : List ℕ) (parents : List Ref) (rest : List ℕ) : Type 0 where

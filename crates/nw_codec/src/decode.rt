@@ -1,5 +1,5 @@
 //! Bytes as values: a first pass finds the first fault, and a second one builds the value.
-ghost use Rattle.std.specs.Prelude.{◌≡◌, ◌≢◌, ◌↔◌, ℕ, ◌+◌, ◌*◌, ◌^◌, ◌<◌, ◌≤◌, List, [], ◌++◌, length, take, drop, MatchResult, IfOk, IsErrOf, Some, None};
+ghost use Rattle.std.specs.Prelude.{◌≡◌, ◌≢◌, ◌↔◌, ℕ, ◌+◌, ◌*◌, ◌^◌, ◌<◌, ◌≤◌, List, [], ◌++◌, length, take, drop, MatchResult, IfOk, IfErr, IsErrOf, Some, None};
 ghost use Rattle.std.specs.Int.{to_be_bytes, w16};
 ghost use Rattle.nw_codec.specs.declared.error.DecodeError.TheVariants.{Short};
 ghost use Rattle.nw_codec.specs.Faults.{AtTag, AtVersion, AtParentCount, AtParentAuthor, AtTransactionCount, AtTransactionLength, AtSignature, AtEnd, at_parents, at_transactions, comes_after, Reaches, FaultFrom, IsWhole, IsFirstFault};
@@ -285,7 +285,11 @@ pub fn decode_message(alloc: Global, text: &[u8]) -> Result<Message, DecodeError
     ensures found { IfOk result (λ m. Spells text.now m) }
     ensures fault { (e : DecodeError) → e ≢ DecodeError.NoMemory → (IsErrOf result e ↔ IsFirstFault text.now e) }
     ensures memory { IsErrOf result DecodeError.NoMemory → IsSpelled text.now }
+    ensures succeeds { IsSpelled text.now → IfErr result (λ e. e ≡ DecodeError.NoMemory) }
 {
     check_text(text)?;
     Ok(message_of(alloc, text)?)
 }
+
+#[cfg(test)]
+mod tests;

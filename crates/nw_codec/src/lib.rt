@@ -18,5 +18,5 @@ pub use certificate::{Certificate, Seal, Signature};
 pub use decode::decode_message;
 pub use encode::{block_digest, encode_body, encode_message};
 pub use error::{DecodeError, EncodeError};
-pub use laws::{body_has_its_size, grammar_or_fault, one_text};
+pub use laws::{body_has_its_size, grammar_or_fault, one_text, trailing_follows_a_message};
 pub use message::Message;
