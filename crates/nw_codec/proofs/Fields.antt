@@ -1,13 +1,11 @@
 -- What a check of one field answers, as the code reads it.
-use Rattle.std.proofs.Common.{◌≡◌, ◌≢◌, ℕ, suc, ◌+◌, ◌-◌, ◌*◌, ◌<◌, ◌≤◌, Bool, true, false, cond, eqb, leb, ltb, List, [], ◌∷◌, length, get_or, take, drop, Option, Some, None, Result, Ok, Err, refl, sym, ◌∙◌, subst, arith}
-use Rattle.std.specs.Int.{w16, w32, from_be_bytes}
-use Rattle.std.specs.Option.{option_map_or}
+use Rattle.std.proofs.Common.{◌≡◌, ◌≢◌, ℕ, suc, ◌+◌, ◌-◌, ◌<◌, ◌≤◌, Bool, true, false, cond, eqb, ltb, List, [], ◌∷◌, length, take, drop, Option, Some, Result, Ok, Err, refl, sym, ◌∙◌, subst, arith}
 use Rattle.std.specs.Result.{MatchResult, IsErrAnd}
 use Rattle.std.proofs.lemmas.Bool.{eq-eqb, ne_eqb, lt-ltb, le-ltb, eqb-true}
 use Rattle.std.proofs.lemmas.List.{nil_from_length}
 use Rattle.nw_codec.specs.declared.error.DecodeError.{DecodeError}
-use Rattle.nw_codec.specs.declared.error.DecodeError.TheVariants.{Short, Tag, Version, TooManyParents, ParentOrder, TooManyTransactions, TransactionTooLong, BodyTooLong}
-use Rattle.nw_codec.specs.Faults.{Stage, AtTag, AtVersion, AtAuthor, AtParentCount, AtParentAuthor, AtParentDigest, AtTransactionCount, AtTransactionLength, AtTransaction, width, after_field, at_parents, at_transactions, comes_after, Reaches, FaultFrom}
+use Rattle.nw_codec.specs.declared.error.DecodeError.TheVariants.{Short, ParentOrder, TransactionTooLong, BodyTooLong}
+use Rattle.nw_codec.specs.Faults.{Stage, AtTransaction, width, after_field, comes_after, Reaches, FaultFrom}
 use Rattle.nw_codec.proofs.Fronts.{passed, failed, short}
 
 -- the exit of a `?`

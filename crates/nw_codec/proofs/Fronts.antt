@@ -1,13 +1,13 @@
 -- Good fronts: how they are built, that a text has one place where it stops, and that it has one.
-use Rattle.std.proofs.Common.{◌≡◌, ◌≢◌, ℕ, zero, suc, ◌+◌, ◌-◌, ◌*◌, ◌<◌, ◌≤◌, ◌⊎◌, Bool, true, false, cond, ltb, List, [], ◌∷◌, ◌++◌, length, take, drop, Option, Some, None, Result, Ok, Err, refl, sym, ap, subst, ◌∙◌, append_assoc, arith, inl, inr}
+use Rattle.std.proofs.Common.{◌≡◌, ◌≢◌, ℕ, ◌<◌, ◌≤◌, Bool, true, false, ltb, List, [], ◌∷◌, ◌++◌, length, take, drop, Option, Some, None, Result, Ok, Err, refl, sym, ap, subst, ◌∙◌, append_assoc, arith}
 use Rattle.std.specs.List.{flat_map}
 use Rattle.std.specs.Option.{MatchOption}
 use Rattle.std.specs.Bool.{MatchBool}
-use Rattle.std.proofs.lemmas.Bool.{ltb-false, ltb-true, le-ltb, lt-ltb}
-use Rattle.std.proofs.lemmas.List.{append-nil, take_at, take-append-drop, length-append, length-take, length-drop}
+use Rattle.std.proofs.lemmas.Bool.{le-ltb, lt-ltb}
+use Rattle.std.proofs.lemmas.List.{append-nil, take_at, take-append-drop, length-append, length-take}
 use Rattle.nw_codec.specs.declared.error.DecodeError.{DecodeError}
-use Rattle.nw_codec.specs.declared.error.DecodeError.TheVariants.{Short, Trailing, Tag, Version, TooManyParents, ParentOrder, TooManyTransactions, TransactionTooLong, BodyTooLong, NoMemory}
-use Rattle.nw_codec.specs.Faults.{Stage, AtTag, AtVersion, AtAuthor, AtRound, AtParentCount, AtParentAuthor, AtParentDigest, AtTransactionCount, AtTransactionLength, AtTransaction, AtSignature, AtEnd, width, after_field, at_parents, at_transactions, Leads, Reaches, StopsAt, FaultFrom}
+use Rattle.nw_codec.specs.declared.error.DecodeError.TheVariants.{Short, Trailing}
+use Rattle.nw_codec.specs.Faults.{Stage, AtEnd, width, after_field, Leads, Reaches, StopsAt, FaultFrom}
 use Rattle.nw_codec.proofs.Pieces.{same_start}
 
 abbrev joined : List (List ℕ) → List ℕ

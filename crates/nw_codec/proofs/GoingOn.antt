@@ -1,10 +1,10 @@
 -- Trailing is the fault of the texts that go on behind a message.
-use Rattle.std.proofs.Common.{◌≡◌, ◌≢◌, ◌↔◌, ℕ, List, [], ◌++◌, refl, sym, ap, subst, ◌∙◌}
+use Rattle.std.proofs.Common.{◌≡◌, ◌↔◌, ℕ, List, ◌++◌, refl, sym, ap, subst, ◌∙◌}
 use Rattle.nw_codec.specs.declared.error.DecodeError.TheVariants.{Trailing}
 use Rattle.nw_codec.specs.Grammar.{message}
 use Rattle.nw_codec.specs.Typed.{AreBytes}
 use Rattle.nw_codec.specs.Faults.{AtTag, AtEnd, Reaches, IsFirstFault}
-use Rattle.nw_codec.specs.Spelled.{Spells, IsSpelled, GoesOn}
+use Rattle.nw_codec.specs.Spelled.{GoesOn}
 use Rattle.nw_codec.proofs.Decided.{behind_the_end}
 use Rattle.nw_codec.proofs.Fronts.{later, trailing}
 use Rattle.nw_codec.proofs.WholeTexts.{front_spells}

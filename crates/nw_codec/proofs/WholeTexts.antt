@@ -1,6 +1,6 @@
 -- A text that is whole fields to the end is that of a message within the limits.
-use Rattle.std.proofs.Common.{◌≡◌, ℕ, zero, suc, ◌+◌, ◌*◌, ◌^◌, ◌<◌, ◌≤◌, Bool, true, false, cond, eqb, leb, ltb, List, [], ◌∷◌, ◌++◌, length, get_or, take, drop, map, All, Option, Some, None, Result, Ok, Err, refl, sym, ap, subst, ◌∙◌, append_assoc, arith}
-use Rattle.std.specs.Int.{w16, w32, to_be_bytes, from_be_bytes}
+use Rattle.std.proofs.Common.{◌≡◌, ℕ, zero, suc, ◌+◌, ◌*◌, ◌^◌, ◌<◌, ◌≤◌, Bool, true, false, cond, eqb, ltb, List, [], ◌∷◌, ◌++◌, length, get_or, take, drop, Option, Some, None, Result, Ok, Err, refl, sym, ap, subst, ◌∙◌, append_assoc, arith}
+use Rattle.std.specs.Int.{w16, w32, to_be_bytes}
 use Rattle.std.specs.List.{flat_map, AllByRecursion}
 use Rattle.std.proofs.lemmas.Bool.{ltb-false, eqb-true}
 use Rattle.std.proofs.lemmas.List.{append-nil, take_at, drop_at}
@@ -17,9 +17,9 @@ use Rattle.nw_codec.specs.Grammar.{round_bytes, parent_bytes, transaction_bytes,
 use Rattle.nw_codec.specs.Fits.{authors, transactions_size, Fits, MessageFits}
 use Rattle.nw_codec.specs.Typed.{AreBytes, IsRef, IsBlock, IsSignature, IsMessage}
 use Rattle.nw_codec.specs.Faults.{Stage, AtTag, AtVersion, AtAuthor, AtRound, AtParentCount, AtParentAuthor, AtParentDigest, AtTransactionCount, AtTransactionLength, AtTransaction, AtSignature, AtEnd, width, after_field, at_parents, at_transactions, number16, number32, comes_after, Leads, Reaches}
-use Rattle.nw_codec.specs.Spelled.{Spells, IsSpelled}
+use Rattle.nw_codec.specs.Spelled.{IsSpelled}
 use Rattle.nw_codec.proofs.Pieces.{back16, below16, back32, round_of, back48, below48}
-use Rattle.nw_codec.proofs.Ascending.{IsAfter, Ascends, increasing, after_from_test}
+use Rattle.nw_codec.proofs.Ascending.{Ascends, increasing, after_from_test}
 use Rattle.nw_codec.proofs.Fronts.{here, one_end}
 use Rattle.nw_codec.proofs.Written.{message_is}
 

@@ -1,6 +1,6 @@
 -- The text of a message within the limits leads to the end.
-use Rattle.std.proofs.Common.{◌≡◌, ℕ, zero, suc, ◌+◌, ◌-◌, ◌*◌, ◌<◌, ◌≤◌, Bool, true, false, cond, eqb, leb, ltb, List, [], ◌∷◌, ◌++◌, length, map, All, Option, Some, None, Result, Ok, Err, refl, sym, ap, subst, ◌∙◌, append_assoc, arith}
-use Rattle.std.specs.Int.{w16, w32, to_be_bytes, from_be_bytes}
+use Rattle.std.proofs.Common.{◌≡◌, ℕ, ◌+◌, ◌*◌, ◌≤◌, true, false, cond, ltb, List, [], ◌∷◌, ◌++◌, length, Option, Some, None, Ok, Err, refl, sym, ap, subst, ◌∙◌, append_assoc, arith}
+use Rattle.std.specs.Int.{w16, w32, to_be_bytes}
 use Rattle.std.specs.List.{flat_map, AllByRecursion}
 use Rattle.std.proofs.lemmas.Bool.{le-ltb}
 use Rattle.std.proofs.lemmas.List.{append-nil}
@@ -15,9 +15,9 @@ use Rattle.nw_codec.specs.declared.error.DecodeError.{DecodeError}
 use Rattle.nw_codec.specs.declared.error.DecodeError.TheVariants.{TooManyParents, ParentOrder, TooManyTransactions, TransactionTooLong, BodyTooLong}
 use Rattle.nw_codec.specs.Grammar.{round_bytes, parent_bytes, transaction_bytes, body, message}
 use Rattle.nw_codec.specs.Fits.{authors, transactions_size, Fits, MessageFits}
-use Rattle.nw_codec.specs.Typed.{AreBytes, IsRef, IsBlock, IsSignature, IsMessage}
-use Rattle.nw_codec.specs.Faults.{Stage, AtTag, AtVersion, AtAuthor, AtRound, AtParentCount, AtParentAuthor, AtParentDigest, AtTransactionCount, AtTransactionLength, AtTransaction, AtSignature, AtEnd, width, after_field, at_parents, at_transactions, number16, number32, comes_after, Reaches}
-use Rattle.nw_codec.specs.Spelled.{Spells, IsSpelled}
+use Rattle.nw_codec.specs.Typed.{IsRef, IsBlock, IsSignature, IsMessage}
+use Rattle.nw_codec.specs.Faults.{Stage, AtTag, AtVersion, AtAuthor, AtRound, AtParentCount, AtParentAuthor, AtParentDigest, AtTransactionCount, AtTransactionLength, AtTransaction, AtSignature, AtEnd, at_parents, at_transactions, comes_after, Reaches}
+use Rattle.nw_codec.specs.Spelled.{IsSpelled}
 use Rattle.nw_codec.proofs.Pieces.{again16, again32}
 use Rattle.nw_codec.proofs.Ascending.{IsAfter, Ascends, ascends, after_test}
 use Rattle.nw_codec.proofs.Fronts.{here, onward, one_field}

@@ -1,4 +1,4 @@
-use Rattle.std.proofs.Common.{◌≡◌, ℕ, List, inl, inr}
+use Rattle.std.proofs.Common.{inl, inr}
 use Rattle.nw_codec.specs.Faults.{AtTag}
 use Rattle.nw_codec.proofs.Decided.{decided}
 use Rattle.nw_codec.proofs.Fronts.{not_both, one_fault}
