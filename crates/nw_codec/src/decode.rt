@@ -7,7 +7,7 @@ ghost use Rattle.nw_codec.specs.Grammar.{round_bytes, parent_bytes, transaction_
 ghost use Rattle.nw_codec.specs.Spelled.{Spells, IsSpelled, BeginsWithParents, BeginsWithTransactions};
 ghost use Rattle.nw_codec.specs.Typed.{IsRef};
 
-use crate::limits::{MAX_BODY, MAX_PARENTS, MAX_TRANSACTION, MAX_TRANSACTIONS};
+use crate::limits::{BLOCK_TAG, MAX_BODY, MAX_PARENTS, MAX_TRANSACTION, MAX_TRANSACTIONS, VERSION};
 use crate::{Block, DecodeError, Message, Ref, Signature};
 use nw_digest::{Digest, NoMemory, Round, Sequence};
 use std::alloc::Global;
@@ -24,7 +24,7 @@ fn check_tag(text: &[u8]) -> Result<&[u8], DecodeError>
     ensures { MatchResult result (λ rest. Reaches AtTag text.now AtVersion rest.now) (λ e. FaultFrom AtTag text.now e) }
 {
     let (tag, rest) = field::<1>(text)?;
-    if tag[0] != 1 {
+    if tag[0] != BLOCK_TAG {
         return Err(DecodeError::Tag);
     }
     Ok(rest)
@@ -35,7 +35,7 @@ fn check_head(text: &[u8]) -> Result<&[u8], DecodeError>
     ensures { MatchResult result (λ rest. Reaches AtVersion text.now AtParentCount rest.now) (λ e. FaultFrom AtVersion text.now e) }
 {
     let (version, rest) = field::<1>(text)?;
-    if version[0] != 1 {
+    if version[0] != VERSION {
         return Err(DecodeError::Version);
     }
     let (_author, rest) = field::<2>(rest)?;

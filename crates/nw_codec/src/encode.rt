@@ -4,7 +4,7 @@ ghost use Rattle.std.specs.List.{flat_map};
 ghost use Rattle.std.specs.Int.{to_be_bytes, w16};
 ghost use Rattle.sha2.specs.Sha256.{sha256};
 ghost use Rattle.nw_codec.specs.Grammar.{body, message, parent_bytes, transaction_bytes, round_bytes};
-ghost use Rattle.nw_codec.specs.Fits.{Fits, MessageFits, body_size};
+ghost use Rattle.nw_codec.specs.Fits.{Fits, MessageFits};
 
 use crate::limits::{BLOCK_TAG, VERSION};
 use crate::{Block, EncodeError, Message, Ref, Signature};
