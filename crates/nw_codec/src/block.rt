@@ -1,5 +1,9 @@
 //! Blocks of transactions, and references to blocks.
+ghost use Rattle.std.specs.Prelude.{◌≡◌, ◌↔◌, ◌+◌, ◌*◌, ◌<◌, ◌≤◌, IsTrue, All, length};
+ghost use Rattle.std.specs.List.Sorted.{IsStrictlyIncreasing};
+ghost use Rattle.nw_codec.specs.Fits.{Fits, authors, transactions_size, body_size};
 
+use crate::limits::{MAX_BODY, MAX_PARENTS, MAX_TRANSACTION, MAX_TRANSACTIONS};
 use nw_digest::{Digest, Round, Sequence};
 
 /// A reference to a parent: its author and its digest.
@@ -16,4 +20,53 @@ pub struct Block {
     pub round: Round,
     pub parents: Sequence<Ref>,
     pub transactions: Sequence<Sequence<u8>>,
+}
+
+impl Block {
+    /// Whether the limits and the strict order of the format hold: at most 100 parents, their authors strictly
+    /// ascending, at most 1,024 transactions of at most 65,536 bytes each, and a body of at most 1,048,576 bytes.
+    pub fn fits(&self) -> bool
+        ensures { IsTrue result ↔ Fits self.now }
+    {
+        let parents = self.parents.as_slice();
+        let transactions = self.transactions.as_slice();
+        parents.len() <= MAX_PARENTS
+            && is_ascending(parents)
+            && transactions.len() <= MAX_TRANSACTIONS
+            && are_short(transactions)
+            && 13 + 34 * parents.len() + size_of_all(transactions) <= MAX_BODY
+    }
+}
+
+/// Whether each author is greater than the one before.
+fn is_ascending(parents: &[Ref]) -> bool
+    ensures { IsTrue result ↔ IsStrictlyIncreasing (authors parents.now) }
+{
+    for i in 1..parents.len() {
+        if parents[i].author <= parents[i - 1].author {
+            return false;
+        }
+    }
+    true
+}
+
+/// Whether each transaction is within its limit.
+fn are_short(transactions: &[Sequence<u8>]) -> bool
+    ensures { IsTrue result ↔ All (λ t. length t ≤ 65536) transactions.now }
+{
+    transactions.iter().all(|transaction| transaction.as_slice().len() <= MAX_TRANSACTION)
+}
+
+/// How many bytes the transactions take in a body, each with its length before it.
+fn size_of_all(transactions: &[Sequence<u8>]) -> usize
+    requires few { length transactions.now ≤ 1024 }
+    requires short { All (λ t. length t ≤ 65536) transactions.now }
+    ensures size { result ≡ transactions_size transactions.now }
+    ensures small { result ≤ 1024 * 65540 }
+{
+    let mut size = 0;
+    for transaction in transactions {
+        size += 4 + transaction.as_slice().len();
+    }
+    size
 }

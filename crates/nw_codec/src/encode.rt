@@ -1,1 +1,148 @@
 //! Values as bytes.
+ghost use Rattle.std.specs.Prelude.{◌≡◌, ◌↔◌, ◌++◌, ◌<◌, ◌≤◌, ◌^◌, [], ◌∷◌, IfOk, OnOk, IsErrOf, All, List, ℕ, length};
+ghost use Rattle.std.specs.List.{flat_map};
+ghost use Rattle.std.specs.Int.{to_be_bytes, w16};
+ghost use Rattle.sha2.specs.Sha256.{sha256};
+ghost use Rattle.nw_codec.specs.Grammar.{body, message, parent_bytes, transaction_bytes, round_bytes};
+ghost use Rattle.nw_codec.specs.Fits.{Fits, MessageFits, body_size};
+
+use crate::limits::{BLOCK_TAG, VERSION};
+use crate::{Block, EncodeError, Message, Ref, Signature};
+use nw_digest::{Digest, Sequence};
+use sha2::Sha256;
+use std::alloc::{AllocError, Global};
+use std::convert::Infallible;
+
+/// What takes a text piece by piece.
+trait Sink {
+    /// Why a piece was not taken.
+    type Refusal: Drop;
+
+    // What was taken so far is this text.
+    ghost holds: { Self → List ℕ → Type 0 };
+
+    fn put(&mut self, piece: &[u8]) -> Result<(), Self::Refusal>
+        ensures { OnOk result ((text : List ℕ) → holds self.old text → holds self.new (text ++ piece.now)) };
+}
+
+impl Sink for Vec<u8> {
+    type Refusal = AllocError;
+
+    ghost holds = { λ v text. v.items ≡ text };
+
+    fn put(&mut self, piece: &[u8]) -> Result<(), AllocError> {
+        self.extend_from_slice(piece)
+    }
+}
+
+impl Sink for Sha256 {
+    type Refusal = Infallible;
+
+    ghost use Rattle.sha2.specs.Hashers.{Holds256};
+
+    ghost holds = { λ s text. Holds256 s text };
+
+    fn put(&mut self, piece: &[u8]) -> Result<(), Infallible> {
+        sha2::Digest::update(self, piece);
+        Ok(())
+    }
+}
+
+fn put_parents<S: Sink>(sink: &mut S, parents: &[Ref]) -> Result<(), S::Refusal>
+    ensures { OnOk result ((text : List ℕ) → S.holds sink.old text → S.holds sink.new (text ++ flat_map parent_bytes parents.now)) }
+{
+    for parent in parents {
+        sink.put(&parent.author.to_be_bytes())?;
+        sink.put(&parent.digest.0)?;
+    }
+    Ok(())
+}
+
+fn put_transactions<S: Sink>(sink: &mut S, transactions: &[Sequence<u8>]) -> Result<(), S::Refusal>
+    requires { All (λ t. length t ≤ 65536) transactions.now }
+    ensures { OnOk result ((text : List ℕ) → S.holds sink.old text → S.holds sink.new (text ++ flat_map transaction_bytes transactions.now)) }
+{
+    for transaction in transactions {
+        let bytes = transaction.as_slice();
+        sink.put(&(bytes.len() as u32).to_be_bytes())?;
+        sink.put(bytes)?;
+    }
+    Ok(())
+}
+
+/// The body of a block, field by field.
+#[tactic(auto, unfolding(crate::specs::Grammar::body))]
+fn put_body<S: Sink>(sink: &mut S, block: &Block) -> Result<(), S::Refusal>
+    requires { Fits block.now }
+    ensures { OnOk result ((text : List ℕ) → S.holds sink.old text → S.holds sink.new (text ++ body block.now)) }
+{
+    let parents = block.parents.as_slice();
+    let transactions = block.transactions.as_slice();
+    sink.put(&[VERSION])?;
+    sink.put(&block.author.to_be_bytes())?;
+    sink.put(&block.round.get().to_be_bytes()[2..])?;
+    sink.put(&(parents.len() as u16).to_be_bytes())?;
+    put_parents(sink, parents)?;
+    sink.put(&(transactions.len() as u16).to_be_bytes())?;
+    put_transactions(sink, transactions)
+}
+
+/// The SHA-256 digest of the block's body, which is fed in pieces and never built. It takes no memory.
+pub fn block_digest(block: &Block) -> Digest
+    requires { Fits block.now }
+    ensures { result.0 ≡ sha256 (body block.now) }
+{
+    let mut hasher = <Sha256 as sha2::Digest>::new();
+    match put_body(&mut hasher, block) {
+        Ok(()) => Digest(sha2::Digest::finalize(hasher)),
+        Err(never) => match never {},
+    }
+}
+
+/// The bytes of the block's body. `OverLimit` exactly where the block does not fit, else `NoMemory` where memory is refused.
+pub fn encode_body(alloc: Global, block: &Block) -> Result<Vec<u8>, EncodeError>
+    ensures text { IfOk result (λ v. v.items ≡ body block.now) }
+    ensures fits { OnOk result (Fits block.now) }
+    ensures over_limit { IsErrOf result EncodeError.OverLimit ↔ (Fits block.now → ⊥) }
+{
+    if !block.fits() {
+        return Err(EncodeError::OverLimit);
+    }
+    let mut text = Vec::new(alloc);
+    put_body(&mut text, block)?;
+    Ok(text)
+}
+
+/// The bytes of a block's message, for a block that fits.
+#[tactic(auto, unfolding(crate::specs::Grammar::message))]
+fn encode_block_message(
+    alloc: Global,
+    block: &Block,
+    signature: &Signature,
+) -> Result<Vec<u8>, EncodeError>
+    requires { Fits block.now }
+    ensures text { IfOk result (λ v. v.items ≡ message (Message.Block block.now signature.now)) }
+    ensures no_limit { IsErrOf result EncodeError.OverLimit → ⊥ }
+{
+    let mut text = Vec::new(alloc);
+    text.extend_from_slice(&[BLOCK_TAG])?;
+    put_body(&mut text, block)?;
+    text.extend_from_slice(&signature.0)?;
+    Ok(text)
+}
+
+/// The bytes of the message. `OverLimit` exactly where its block does not fit, else `NoMemory` where memory is refused.
+pub fn encode_message(alloc: Global, sent: &Message) -> Result<Vec<u8>, EncodeError>
+    ensures text { IfOk result (λ v. v.items ≡ message sent.now) }
+    ensures fits { OnOk result (MessageFits sent.now) }
+    ensures over_limit { IsErrOf result EncodeError.OverLimit ↔ (MessageFits sent.now → ⊥) }
+{
+    match sent {
+        Message::Block { block, signature } => {
+            if !block.fits() {
+                return Err(EncodeError::OverLimit);
+            }
+            encode_block_message(alloc, block, signature)
+        }
+    }
+}

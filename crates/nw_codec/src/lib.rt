@@ -13,5 +13,6 @@ mod message;
 
 pub use block::{Block, Ref};
 pub use certificate::{Certificate, Seal, Signature};
+pub use encode::{block_digest, encode_body, encode_message};
 pub use error::{DecodeError, EncodeError};
 pub use message::Message;

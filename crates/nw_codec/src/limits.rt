@@ -1,4 +1,9 @@
-//! The limits of the format.
+//! The constants and limits of the format.
+
+/// The first byte of a block's message.
+pub const BLOCK_TAG: u8 = 1;
+/// The first byte of a body.
+pub const VERSION: u8 = 1;
 
 /// How many parents a block names at most.
 pub const MAX_PARENTS: usize = 100;
