@@ -3,6 +3,8 @@ use Rattle.std.specs.Prelude.{ℕ, ◌+◌, ◌*◌, ◌≤◌, List, length, ma
 use Rattle.std.specs.List.Sorted.{IsStrictlyIncreasing}
 use Rattle.nw_codec.specs.declared.block.Ref.{Ref}
 use Rattle.nw_codec.specs.declared.block.Block.{Block}
+use Rattle.nw_codec.specs.declared.certificate.Seal.{Seal}
+use Rattle.nw_codec.specs.declared.certificate.Certificate.{Certificate}
 use Rattle.nw_codec.specs.declared.message.Message.{Message}
 use Rattle.nw_codec.specs.declared.message.Message.TheVariants as messages
 
@@ -27,3 +29,11 @@ pub record Fits (b : Block) : Type 0 where
 
 abbrev pub MessageFits : Message → Type 0
 MessageFits (messages.Block b s) = Fits b
+
+-- the members that sign, in the order of the certificate
+abbrev pub signers : List Seal → List ℕ
+signers votes = map (λ v. v.signer) votes
+
+pub record CertificateFits (c : Certificate) : Type 0 where
+  pub few_votes : length c.votes ≤ 100
+  pub votes_in_order : IsStrictlyIncreasing (signers c.votes)

@@ -1,5 +1,5 @@
 -- The bytes of a body and of a message. All numbers are unsigned, highest byte first.
-use Rattle.std.specs.Prelude.{ℕ, List, [], ◌∷◌, ◌++◌, length, drop}
+use Rattle.std.specs.Prelude.{ℕ, List, ◌∷◌, ◌++◌, length, drop}
 use Rattle.std.specs.List.{flat_map}
 use Rattle.std.specs.Int.{to_be_bytes, w16, w32, w64}
 use Rattle.nw_codec.specs.declared.block.Ref.{Ref}

@@ -42,12 +42,7 @@ impl Block {
 fn is_ascending(parents: &[Ref]) -> bool
     ensures { IsTrue result ↔ IsStrictlyIncreasing (authors parents.now) }
 {
-    for i in 1..parents.len() {
-        if parents[i].author <= parents[i - 1].author {
-            return false;
-        }
-    }
-    true
+    parents.is_sorted_by(|before, next| before.author < next.author)
 }
 
 /// Whether each transaction is within its limit.

@@ -1,4 +1,9 @@
 //! Certificates: a digest with the seals of members that vouch for it.
+ghost use Rattle.std.specs.Prelude.{◌↔◌, IsTrue};
+ghost use Rattle.std.specs.List.Sorted.{IsStrictlyIncreasing};
+ghost use Rattle.nw_codec.specs.Fits.{CertificateFits, signers};
+
+use crate::limits::MAX_VOTES;
 use nw_digest::{Digest, Round, Sequence};
 
 /// A signature of 64 bytes.
@@ -19,4 +24,55 @@ pub struct Certificate {
     pub round: Round,
     pub author: u16,
     pub votes: Sequence<Seal>,
+}
+
+impl Certificate {
+    /// Whether the limit and the strict order of the format hold: at most 100 votes, their signers strictly ascending.
+    pub fn fits(&self) -> bool
+        ensures { IsTrue result ↔ CertificateFits self.now }
+    {
+        let votes = self.votes.as_slice();
+        votes.len() <= MAX_VOTES && is_ascending(votes)
+    }
+}
+
+/// Whether each signer is greater than the one before.
+fn is_ascending(votes: &[Seal]) -> bool
+    ensures { IsTrue result ↔ IsStrictlyIncreasing (signers votes.now) }
+{
+    votes.is_sorted_by(|before, next| before.signer < next.signer)
+}
+
+#[cfg(test)]
+mod tests {
+    use super::*;
+    use std::test::Fail;
+
+    #[test]
+    fn signers_have_to_ascend(rt: HostRuntime) -> Result<(), Fail> {
+        let cases: [(&[u16], bool); 5] = [
+            (&[], true),
+            (&[0, 1, 2], true),
+            (&[0, 2, 2], false),
+            (&[2, 1], false),
+            (&[7; 101], false),
+        ];
+        for (signers, fits) in cases {
+            let mut votes = Vec::new(rt.alloc());
+            for signer in signers {
+                votes.push(Seal {
+                    signer: *signer,
+                    signature: Signature([0; 64]),
+                })?;
+            }
+            let certificate = Certificate {
+                digest: Digest([1; 32]),
+                round: Round::ZERO,
+                author: 0,
+                votes: Sequence::new(votes),
+            };
+            assert_eq!(rt; certificate.fits(), fits, "{signers:?}");
+        }
+        Ok(())
+    }
 }

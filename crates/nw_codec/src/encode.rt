@@ -108,9 +108,9 @@ pub fn encode_body(alloc: Global, block: &Block) -> Result<Vec<u8>, EncodeError>
     if !block.fits() {
         return Err(EncodeError::OverLimit);
     }
-    let mut text = Vec::new(alloc);
-    put_body(&mut text, block)?;
-    Ok(text)
+    let mut bytes = Vec::new(alloc);
+    put_body(&mut bytes, block)?;
+    Ok(bytes)
 }
 
 /// The bytes of a block's message, for a block that fits.
@@ -146,3 +146,6 @@ pub fn encode_message(alloc: Global, sent: &Message) -> Result<Vec<u8>, EncodeEr
         }
     }
 }
+
+#[cfg(test)]
+mod tests;

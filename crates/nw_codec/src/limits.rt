@@ -13,3 +13,5 @@ pub const MAX_TRANSACTIONS: usize = 1024;
 pub const MAX_TRANSACTION: usize = 65_536;
 /// How many bytes a body has at most.
 pub const MAX_BODY: usize = 1_048_576;
+/// How many votes a certificate has at most.
+pub const MAX_VOTES: usize = 100;

@@ -1,5 +1,5 @@
 use Rattle.std.proofs.Common.{[], ◌∷◌, ◌≡◌, ◌∙◌, refl}
-use Rattle.nw_codec.specs.Grammar.{body, message}
+use Rattle.nw_codec.specs.Grammar.{message}
 use Rattle.nw_codec.proofs.encode.encode_block_message.Goals as goal
 
 pub returns-clause-text : goal.returns-clause-text

@@ -1,0 +1,78 @@
+-- What a finite map answers is what the ordered map of its entries does.
+use Rattle.std.proofs.Common.{◌≡◌, ℕ, ◌+◌, Bool, true, false, List, [], ◌∷◌, length, Option, Some, None, cond, is_some, refl, ap, sym, ◌∙◌, add-one}
+use Rattle.std.specs.declared.cmp.Ordering.{Ordering}
+use Rattle.std.specs.declared.cmp.Ordering.TheVariants.{Less, Equal, Greater}
+use Rattle.std.specs.Ordering.{nat_cmp, is_eq, eq_by_cmp}
+use Rattle.std.specs.Cmp.{IsTotalOrder, eq_by_cmp_equiv}
+use Rattle.std.specs.Cmp.Lexicographic.{nat_list_cmp_total}
+use Rattle.std.specs.List.{AllByRecursion}
+use Rattle.std.specs.List.Sorted.{IsStrictlySortedBy}
+use Rattle.std.specs.Map.{lookup, keys_of}
+use Rattle.std.specs.BTreeMap.{is_at}
+use Rattle.std.specs.FinMap.{IsAntisymmetric, from_entries, get, insert, len, find, get-from_entries, get-insert, get_tied, len-insert, len-empty, same_map}
+use Rattle.std.proofs.lemmas.Cmp.{on_total, then_total, nat_cmp_total}
+use Rattle.std.proofs.lemmas.Map.Keys.{sorted_head, sorted_tail}
+use Rattle.std.proofs.lemmas.Map.Lookups.{exact_bytes, exact_unsigned, exact_pairs}
+use Rattle.nw_digest.specs.declared.digest.Digest.{Digest}
+use Rattle.nw_model.specs.State.{Slot, digest_cmp, slot_cmp}
+
+pub digests_total : IsTotalOrder digest_cmp
+digests_total = on_total (λ d. d.0) nat_list_cmp_total
+
+pub slots_total : IsTotalOrder slot_cmp
+slots_total = then_total (on_total (λ (s : Slot). s.0) nat_cmp_total) (on_total (λ (s : Slot). s.1) nat_cmp_total)
+
+pub digests_apart : IsAntisymmetric digest_cmp
+digests_apart a b e = let bytes : a.0 ≡ b.0 = exact_bytes a.0 b.0 e in ap (λ (xs : List ℕ). let d : Digest = record { 0 = xs } in d) bytes
+
+pub slots_apart : IsAntisymmetric slot_cmp
+slots_apart = exact_pairs nat_cmp nat_cmp exact_unsigned exact_unsigned
+
+tie : (r : Ordering) → is_eq r ≡ true → r ≡ Equal
+tie Less e = cc
+tie Equal e = refl
+tie Greater e = cc
+
+undone : {A : Type 0} (b : Bool) (v : A) (found : Option A) → (b ≡ true → found ≡ None) → cond b None (cond b (Some v) found) ≡ found
+undone true v found h = sym (h refl)
+undone false v found h = refl
+
+pub find_lookup : {K X : Type 0} (R : K → K → Ordering) (es : List (K × X)) (q : K) → find R q es ≡ lookup (is_at (R q)) es
+find_lookup R [] q = refl
+find_lookup R (e ∷ es) q = ap (cond (is_at (R q) e.0) (Some e.1)) (find_lookup R es q)
+
+find_below : {K X : Type 0} (R : K → K → Ordering) (k : K) (es : List (K × X)) → AllByRecursion (λ y. R k y ≡ Less) (keys_of es) → find R k es ≡ None
+find_below R k [] h = refl
+find_below R k (e ∷ es) h = ap (λ r. cond (is_eq r) (Some e.1) (find R k es)) h.0 ∙ find_below R k es h.1
+
+module _ {K X : Type 0} {R : K → K → Ordering} (o : IsTotalOrder R) where
+  pub get_lookup : (es : List (K × X)) (q : K) → get (from_entries {R = R} es) q ≡ lookup (is_at (R q)) es
+  get_lookup es q = get-from_entries o es q ∙ find_lookup R es q
+
+  pub len_sorted : (es : List (K × X)) → IsStrictlySortedBy R (keys_of es) → len (from_entries {R = R} es) ≡ length es
+  len_sorted [] s = len-empty R X
+  len_sorted (e ∷ es) s =
+      let absent : get (from_entries {R = R} es) e.0 ≡ None = get-from_entries o es e.0 ∙ find_below R e.0 es (sorted_head R e.0 (keys_of es) s) in
+      len-insert o (from_entries es) e.0 e.1
+      ∙ ap (λ found. cond (is_some found) (len (from_entries {R = R} es)) (len (from_entries {R = R} es) + 1)) absent
+      ∙ ap (λ n. n + 1) (len_sorted es (sorted_tail R e.0 (keys_of es) s))
+      ∙ add-one (length es)
+
+  -- after a write at a key
+  pub inserted : IsAntisymmetric R → (m n : List (K × X)) (k : K) (v : X)
+      → ((q : K) → lookup (is_at (R q)) n ≡ cond (is_at (R k) q) (Some v) (lookup (is_at (R q)) m)) → from_entries {R = R} n ≡ insert (from_entries m) k v
+  inserted same m n k v is = same_map o same _ _ (λ q.
+      get_lookup n q ∙ is q
+      ∙ ap (λ b. cond b (Some v) (lookup (is_at (R q)) m)) ((eq_by_cmp_equiv o).symm k q)
+      ∙ ap (cond (eq_by_cmp R q k) (Some v)) (sym (get_lookup m q))
+      ∙ sym (get-insert o (from_entries m) k v q))
+
+  -- after a write at a new key, and its removal
+  pub restored : IsAntisymmetric R → (m n p : List (K × X)) (k : K) (v : X) → get (from_entries {R = R} m) k ≡ None
+      → ((q : K) → lookup (is_at (R q)) n ≡ cond (is_at (R k) q) (Some v) (lookup (is_at (R q)) m))
+      → ((q : K) → lookup (is_at (R q)) p ≡ cond (is_at (R k) q) None (lookup (is_at (R q)) n))
+      → from_entries {R = R} p ≡ from_entries m
+  restored same m n p k v none put cut = same_map o same _ _ (λ q.
+      get_lookup p q ∙ cut q ∙ ap (cond (is_at (R k) q) None) (put q)
+      ∙ undone (is_at (R k) q) v (lookup (is_at (R q)) m) (λ t. sym (get_lookup m q) ∙ get_tied o (from_entries m) k q (tie (R k q) t) ∙ none)
+      ∙ sym (get_lookup m q))

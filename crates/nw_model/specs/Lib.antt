@@ -1,0 +1,3 @@
+pub mod State
+pub mod Step
+pub mod History

@@ -1,0 +1,86 @@
+-- What each call answers, and what it leaves.
+use Rattle.std.specs.Prelude.{◌≡◌, ◌==◌, ◌&&◌, ℕ, ◌+◌, Bool, false, not, nat_lt, nat_le, Option, Some, None, is_some, option_and_then, if◌then◌else◌, refl}
+use Rattle.std.specs.Coded.{Coded, code_by, coded×, coded_ℕ}
+use Rattle.std.specs.Option.{option_map_or}
+use Rattle.std.specs.FinMap.{get, insert, len}
+use Rattle.nw_digest.specs.declared.digest.Digest.{Digest}
+use Rattle.nw_codec.specs.Same.{same_block, same_bytes}
+use Rattle.nw_codec.specs.declared.block.Block.{Block}
+use Rattle.nw_model.specs.State.{State, Slot, block_slot, certificate_slot, coded_state}
+use Rattle.nw_model.specs.declared.call.Call.{Call}
+use Rattle.nw_model.specs.declared.call.Call.TheVariants as call
+use Rattle.nw_model.specs.declared.reply.WriteReply.{WriteReply}
+use Rattle.nw_model.specs.declared.reply.WriteReply.TheVariants as write
+use Rattle.nw_model.specs.declared.reply.Reply.{Reply}
+use Rattle.nw_model.specs.declared.reply.Reply.TheVariants as reply
+
+-- how many blocks are kept at most, and how many rounds are taken from the garbage round on
+pub record Bounds : Type 0 where
+  pub blocks : ℕ
+  pub window : ℕ
+
+-- the tables of a store: its state, and the bounds under which it takes its steps
+pub record Tables : Type 0 where
+  pub bounds : Bounds
+  pub state : State
+
+-- how tables are told apart from others
+abbrev pub coded_tables : Coded Tables
+coded_tables =
+    code_by (ℕ × (ℕ × State)) (coded× coded_ℕ (coded× coded_ℕ coded_state))
+    (λ t. (t.bounds.blocks, (t.bounds.window, t.state)))
+    (λ p. record { bounds = record { blocks = p.0; window = p.1.0 }; state = p.1.1 }) (λ _. refl)
+
+-- the two slots are one
+abbrev pub is_slot : Slot → Slot → Bool
+is_slot a b = (a.0 == b.0) && (a.1 == b.1)
+
+-- the two digests are one
+abbrev pub is_digest : Digest → Digest → Bool
+is_digest a b = same_bytes a.0 b.0
+
+-- there is a value, and its slot is another
+abbrev pub is_elsewhere : {X : Type 0} → (X → Slot) → Option X → Slot → Bool
+is_elsewhere slot_of found slot = option_map_or (λ x. not (is_slot (slot_of x) slot)) found false
+
+-- the first digest of the slot, where it is another and this one is not certified
+abbrev pub rival : State → Digest → Slot → Option Digest
+rival s d slot = if is_some (get s.certificates d) then None else option_and_then (λ first. if is_digest first d then None else Some first) (get s.firsts slot)
+
+-- the replies to a write, in the order in which they are tested
+abbrev pub write_reply : Bounds → State → Digest → Block → WriteReply
+write_reply bounds s d b =
+    if nat_lt b.round s.floor then write.Collected s.floor
+    else if nat_le (s.floor + bounds.window) b.round then write.TooFar
+    else if option_map_or (same_block b) (get s.blocks d) false then write.Held
+    else if is_some (get s.blocks d) then write.Clash
+    else if is_elsewhere certificate_slot (get s.certificates d) (block_slot b) then write.Misfit
+    else option_map_or write.Equivocates (rival s d (block_slot b))
+    (if nat_le bounds.blocks (len s.blocks) then write.Full else write.Stored (not (is_some (get s.firsts (block_slot b)))))
+
+-- the block stands under the digest, which is the first of the block's slot where there is a vote
+abbrev pub with_block : State → Digest → Block → Bool → State
+with_block s d b vote = record s {
+  blocks = insert s.blocks d b;
+  firsts = if vote then insert s.firsts (block_slot b) d else s.firsts;
+}
+
+-- a write changes the state where its reply is Stored
+abbrev pub after_write : State → Digest → Block → WriteReply → State
+after_write s d b (write.Stored vote) = with_block s d b vote
+after_write s d b other = s
+
+-- what a call leaves
+abbrev pub after : Bounds → State → Call → State
+after bounds s (call.Write d b) = after_write s d b (write_reply bounds s d b)
+after bounds s (call.Read d) = s
+
+-- the reply to each call
+abbrev pub IsReply : Bounds → State → Call → Reply → Type 0
+IsReply bounds s (call.Write d b) (reply.Write r) = r ≡ write_reply bounds s d b
+IsReply bounds s (call.Read d) (reply.Read r) = r ≡ get s.blocks d
+IsReply bounds s asked other = ⊥
+
+-- two replies to one call at one state are equal
+abbrev pub StepIsAFunction : Type 0
+StepIsAFunction = (bounds : Bounds) (s : State) (asked : Call) (one other : Reply) → IsReply bounds s asked one → IsReply bounds s asked other → one ≡ other

@@ -1,0 +1,13 @@
+//! What a history records.
+use crate::{Call, Reply};
+
+/// One call of a session and its reply.
+#[derive(Debug, Drop)]
+pub struct Event {
+    /// The session's id.
+    pub session: u16,
+    /// Which call of its session it is, counted from 1.
+    pub number: u32,
+    pub call: Call,
+    pub reply: Reply,
+}
