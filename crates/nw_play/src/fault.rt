@@ -1,6 +1,8 @@
 //! Why a script ends before its end, and why a line is not played.
 ghost use Rattle.std.specs.Prelude.{◌≡◌};
 
+use crate::stub::BookFault;
+use nw_codec::{DecodeError, EncodeError};
 use nw_digest::NoMemory;
 use std::alloc::{AllocError, AllocFailed};
 use thiserror::Error;
@@ -70,5 +72,32 @@ impl<T: Drop> From<AllocFailed<T>> for LineFault {
 impl From<NoMemory> for LineFault {
     fn from(_error: NoMemory) -> LineFault {
         LineFault::NoMemory
+    }
+}
+
+impl From<EncodeError> for LineFault {
+    fn from(error: EncodeError) -> LineFault {
+        match error {
+            EncodeError::OverLimit => LineFault::Bad,
+            EncodeError::NoMemory => LineFault::NoMemory,
+        }
+    }
+}
+
+impl From<DecodeError> for LineFault {
+    fn from(error: DecodeError) -> LineFault {
+        match error {
+            DecodeError::NoMemory => LineFault::NoMemory,
+            _ => LineFault::Bad,
+        }
+    }
+}
+
+impl From<BookFault> for LineFault {
+    fn from(error: BookFault) -> LineFault {
+        match error {
+            BookFault::BadLimits => LineFault::Bad,
+            BookFault::NoMemory => LineFault::NoMemory,
+        }
     }
 }

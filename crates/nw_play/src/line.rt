@@ -1,6 +1,7 @@
 //! A line of a script.
 
 use crate::fault::LineFault;
+use crate::stub::Limits;
 use crate::word::{Name, list, number, transaction};
 use nw_digest::Round;
 use std::alloc::Global;
@@ -13,12 +14,7 @@ pub enum Line<'a> {
     /// `committee v1 <members>`
     Committee { members: u32 },
     /// `limits <blocks> <events> <window> <sessions>`
-    Limits {
-        blocks: u32,
-        events: u32,
-        window: u32,
-        sessions: u32,
-    },
+    Limits(Limits),
     /// A line that prints an answer.
     Request(Request<'a>),
 }
@@ -126,12 +122,12 @@ fn committee<'a>(words: &mut Words<'a>) -> Result<Line<'a>, LineFault> {
 }
 
 fn limits<'a>(words: &mut Words<'a>) -> Result<Line<'a>, LineFault> {
-    Ok(Line::Limits {
+    Ok(Line::Limits(Limits {
         blocks: words.limit()?,
         events: words.limit()?,
         window: words.limit()?,
         sessions: words.limit()?,
-    })
+    }))
 }
 
 fn block<'a>(alloc: Global, words: &mut Words<'a>) -> Result<Request<'a>, LineFault> {
