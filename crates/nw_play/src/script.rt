@@ -1,4 +1,5 @@
 //! A whole script.
+ghost use Rattle.std.specs.Prelude.{◌<◌, length, IfSome, IsErr};
 
 use crate::fault::{LineFault, PlayFault};
 use crate::input::read_script;
@@ -15,7 +16,9 @@ pub fn play<R: Read + Drop, W: Write + Drop>(
     alloc: Global,
     mut reader: R,
     writer: W,
-) -> Result<(), PlayFault> {
+) -> Result<(), PlayFault>
+    ensures { IfSome (R.remaining reader) (λ bytes. 1048576 < length bytes → IsErr result) }
+{
     let script = read_script(alloc, &mut reader)?;
     let mut out = BufWriter::new(alloc, writer).map_err(|_| PlayFault::NoMemory)?;
     let played = play_script(alloc, script.as_slice(), &mut out);
