@@ -1,15 +1,82 @@
--- The pieces of a body, put one behind the other.
-use Rattle.std.proofs.Common.{◌≡◌, ℕ, List, [], ◌∷◌, ◌++◌, length, append_assoc}
-use Rattle.std.specs.List.{flat_map}
-use Rattle.std.specs.Int.{to_be_bytes, w16}
-use Rattle.nw_codec.specs.declared.block.Ref.{Ref}
-use Rattle.nw_codec.specs.declared.block.Block.{Block}
-use Rattle.nw_codec.specs.Grammar.{body, round_bytes, parent_bytes, transaction_bytes}
+-- Lists that are cut at known lengths, and numbers as bytes.
+use Rattle.std.proofs.Common.{◌≡◌, ℕ, zero, suc, ◌+◌, ◌^◌, ◌/◌, ◌%◌, ◌<◌, ◌≤◌, List, [], ◌∷◌, ◌++◌, length, get_or, take, drop, All, refl, sym, ap, ◌∙◌, arith, inl, inr}
+use Rattle.std.specs.Int.{w16, w32, w64, to_be_bytes, from_be_bytes}
+use Rattle.std.proofs.lemmas.Bool.{cases_lt}
+use Rattle.std.proofs.lemmas.List.{get_or_past}
+use Rattle.std.proofs.lemmas.Nat.{be_bytes_2, be_bytes_4, be_bytes_8, from_be_bytes-to_be_bytes_2, from_be_bytes-to_be_bytes_4, from_be_bytes-to_be_bytes_8}
+use Rattle.nw_codec.specs.Typed.{AreBytes}
+use Rattle.nw_codec.specs.Grammar.{round_bytes}
 
-pub pieces_of_body : (text : List ℕ) (b : Block) (author round parents_count : List ℕ) (parents : List Ref) (transactions_count : List ℕ) (transactions : List (List ℕ))
-    → author ≡ to_be_bytes w16 b.author → round ≡ round_bytes b.round
-    → parents_count ≡ to_be_bytes w16 (length parents) → parents ≡ b.parents
-    → transactions_count ≡ to_be_bytes w16 (length transactions) → transactions ≡ b.transactions
-    → ((((((text ++ 1 ∷ []) ++ author) ++ round) ++ parents_count) ++ flat_map parent_bytes parents) ++ transactions_count) ++ flat_map transaction_bytes transactions ≡ text ++ body b
-unfolding body
-pieces_of_body text b author round parents_count parents transactions_count transactions a r pc p tc t = rw (a, r, pc, p, tc, t) (simp append_assoc)
+-- two lists that begin with pieces of one length begin with the same piece
+pub same_start : {A : Type 0} (a b x y : List A) → length a ≡ length b → a ++ x ≡ b ++ y → (a ≡ b) × (x ≡ y)
+same_start [] [] x y l e = (refl, e)
+same_start [] (d ∷ b) x y l e = absurd (omega (arith, l))
+same_start (c ∷ a) [] x y l e = absurd (omega (arith, l))
+same_start (c ∷ a) (d ∷ b) x y l e =
+    let heads : c ≡ d = cc in
+    let tails : a ++ x ≡ b ++ y = cc in
+    let both = same_start a b x y (omega (arith, l)) tails in
+    (cc (heads, both.0), both.1)
+
+pub byte_below : (bytes : List ℕ) → AreBytes bytes → (i : ℕ) → get_or bytes i 0 < 256
+byte_below bytes h i =
+    elim (cases_lt i (length bytes)) [
+      | inl lt ↦ h i 0 lt
+      | inr le ↦ let past = get_or_past bytes i 0 le in rw past (omega arith)
+    ]
+
+-- numbers of 16 bits
+
+pub back16 : (bytes : List ℕ) → length bytes ≡ 2 → AreBytes bytes → to_be_bytes w16 (from_be_bytes w16 bytes) ≡ bytes
+back16 bytes len h = be_bytes_2 bytes _ len (byte_below bytes h) refl
+
+pub again16 : (n : ℕ) → n < 2 ^ 16 → from_be_bytes w16 (to_be_bytes w16 n) ≡ n
+again16 n lt = from_be_bytes-to_be_bytes_2 n lt
+
+pub below16 : (bytes : List ℕ) → AreBytes bytes → from_be_bytes w16 bytes < 2 ^ 16
+below16 bytes h = omega (arith, byte_below bytes h 0, byte_below bytes h 1)
+
+pub same16 : (m n : ℕ) → m < 2 ^ 16 → n < 2 ^ 16 → to_be_bytes w16 m ≡ to_be_bytes w16 n → m ≡ n
+same16 m n low high e = sym (again16 m low) ∙ ap (from_be_bytes w16) e ∙ again16 n high
+
+-- numbers of 32 bits
+
+pub back32 : (bytes : List ℕ) → length bytes ≡ 4 → AreBytes bytes → to_be_bytes w32 (from_be_bytes w32 bytes) ≡ bytes
+back32 bytes len h = be_bytes_4 bytes _ len (byte_below bytes h) refl
+
+pub again32 : (n : ℕ) → n < 2 ^ 32 → from_be_bytes w32 (to_be_bytes w32 n) ≡ n
+again32 n lt = from_be_bytes-to_be_bytes_4 n lt
+
+pub same32 : (m n : ℕ) → m < 2 ^ 32 → n < 2 ^ 32 → to_be_bytes w32 m ≡ to_be_bytes w32 n → m ≡ n
+same32 m n low high e = sym (again32 m low) ∙ ap (from_be_bytes w32) e ∙ again32 n high
+
+-- rounds
+
+-- the number of six bytes
+abbrev pub round_of : List ℕ → ℕ
+round_of bytes = from_be_bytes w64 (0 ∷ 0 ∷ bytes)
+
+padded : (bytes : List ℕ) → AreBytes bytes → (i : ℕ) → get_or (0 ∷ 0 ∷ bytes) i 0 < 256
+padded bytes h zero = omega arith
+padded bytes h (suc zero) = omega arith
+padded bytes h (suc (suc i)) = byte_below bytes h i
+
+pub back48 : (bytes : List ℕ) → length bytes ≡ 6 → AreBytes bytes → round_bytes (round_of bytes) ≡ bytes
+back48 bytes len h =
+    let whole : to_be_bytes w64 (round_of bytes) ≡ 0 ∷ 0 ∷ bytes = be_bytes_8 (0 ∷ 0 ∷ bytes) _ (omega (arith, len)) (padded bytes h) refl in
+    ap (λ (x : List ℕ). drop 2 x) whole
+
+pub below48 : (bytes : List ℕ) → AreBytes bytes → round_of bytes < 2 ^ 48
+below48 bytes h = omega (arith, byte_below bytes h 0, byte_below bytes h 1, byte_below bytes h 2, byte_below bytes h 3, byte_below bytes h 4, byte_below bytes h 5)
+
+high_bytes : (n : ℕ) → n < 2 ^ 48 → to_be_bytes w64 n ≡ 0 ∷ 0 ∷ round_bytes n
+high_bytes n lt =
+    let seventh : n / 256 ^ 7 % 256 ≡ 0 = omega arith in
+    let sixth : n / 256 ^ 6 % 256 ≡ 0 = omega arith in
+    rw (seventh, sixth) refl
+
+pub again48 : (n : ℕ) → n < 2 ^ 48 → round_of (round_bytes n) ≡ n
+again48 n lt = ap (from_be_bytes w64) (sym (high_bytes n lt)) ∙ from_be_bytes-to_be_bytes_8 n (omega arith)
+
+pub same48 : (m n : ℕ) → m < 2 ^ 48 → n < 2 ^ 48 → round_bytes m ≡ round_bytes n → m ≡ n
+same48 m n low high e = sym (again48 m low) ∙ ap round_of e ∙ again48 n high

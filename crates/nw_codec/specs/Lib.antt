@@ -2,3 +2,5 @@ pub mod Grammar
 pub mod Fits
 pub mod Same
 pub mod Typed
+pub mod Faults
+pub mod Spelled

@@ -6,13 +6,17 @@
 
 mod block;
 mod certificate;
+mod decode;
 mod encode;
 mod error;
+mod laws;
 mod limits;
 mod message;
 
 pub use block::{Block, Ref};
 pub use certificate::{Certificate, Seal, Signature};
+pub use decode::decode_message;
 pub use encode::{block_digest, encode_body, encode_message};
 pub use error::{DecodeError, EncodeError};
+pub use laws::{body_has_its_size, grammar_or_fault, one_text};
 pub use message::Message;

@@ -4,7 +4,7 @@ use Rattle.std.specs.FinMap.{FinMap, insert}
 use Rattle.nw_digest.specs.declared.digest.Digest.{Digest}
 use Rattle.nw_codec.specs.declared.block.Block.{Block}
 use Rattle.nw_model.specs.State.{State, block_slot, digest_cmp, slot_cmp}
-use Rattle.nw_model.specs.Step.{Tables, with_block}
+use Rattle.nw_model.specs.Step.{with_block}
 
 pub held : (s : State) (blocks : FinMap digest_cmp Block) (d : Digest) (b : Block) → blocks ≡ insert s.blocks d b → record s { blocks = blocks } ≡ with_block s d b false
 held s blocks d b e = λ i. record s { blocks = e i }
@@ -12,11 +12,6 @@ held s blocks d b e = λ i. record s { blocks = e i }
 pub held_first : (s : State) (blocks : FinMap digest_cmp Block) (firsts : FinMap slot_cmp Digest) (d : Digest) (b : Block)
     → blocks ≡ insert s.blocks d b → firsts ≡ insert s.firsts (block_slot b) d → record s { blocks = blocks; firsts = firsts } ≡ with_block s d b true
 held_first s blocks firsts d b e f = λ i. record s { blocks = e i; firsts = f i }
-
--- tables whose maps are as they were
-pub held_same : (t : Tables) (blocks : FinMap digest_cmp Block) (firsts : FinMap slot_cmp Digest)
-    → blocks ≡ t.state.blocks → firsts ≡ t.state.firsts → record t { state = record (t.state) { blocks = blocks; firsts = firsts } } ≡ t
-held_same t blocks firsts e f = λ i. record t { state = record (t.state) { blocks = e i; firsts = f i } }
 
 pub absent : {A : Type 0} (found : Option A) → IsNone found → found ≡ None
 absent None h = refl

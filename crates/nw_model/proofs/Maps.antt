@@ -2,14 +2,14 @@
 use Rattle.std.proofs.Common.{◌≡◌, ℕ, ◌+◌, Bool, true, false, List, [], ◌∷◌, length, Option, Some, None, cond, is_some, refl, ap, sym, ◌∙◌, add-one}
 use Rattle.std.specs.declared.cmp.Ordering.{Ordering}
 use Rattle.std.specs.declared.cmp.Ordering.TheVariants.{Less, Equal, Greater}
-use Rattle.std.specs.Ordering.{nat_cmp, is_eq, eq_by_cmp}
+use Rattle.std.specs.Ordering.{nat_cmp, is_eq, eq_by_cmp, match_ordering}
 use Rattle.std.specs.Cmp.{IsTotalOrder, eq_by_cmp_equiv}
 use Rattle.std.specs.Cmp.Lexicographic.{nat_list_cmp_total}
 use Rattle.std.specs.List.{AllByRecursion}
 use Rattle.std.specs.List.Sorted.{IsStrictlySortedBy}
 use Rattle.std.specs.Map.{lookup, keys_of}
-use Rattle.std.specs.BTreeMap.{is_at}
-use Rattle.std.specs.FinMap.{IsAntisymmetric, from_entries, get, insert, len, find, get-from_entries, get-insert, get_tied, len-insert, len-empty, same_map}
+use Rattle.std.specs.BTreeMap.{is_at, insert_entry}
+use Rattle.std.specs.FinMap.{IsAntisymmetric, from_entries, get, insert, len, find, get-from_entries, get-insert, len-insert, len-empty, same_map}
 use Rattle.std.proofs.lemmas.Cmp.{on_total, then_total, nat_cmp_total}
 use Rattle.std.proofs.lemmas.Map.Keys.{sorted_head, sorted_tail}
 use Rattle.std.proofs.lemmas.Map.Lookups.{exact_bytes, exact_unsigned, exact_pairs}
@@ -33,9 +33,15 @@ tie Less e = cc
 tie Equal e = refl
 tie Greater e = cc
 
-undone : {A : Type 0} (b : Bool) (v : A) (found : Option A) → (b ≡ true → found ≡ None) → cond b None (cond b (Some v) found) ≡ found
-undone true v found h = sym (h refl)
-undone false v found h = refl
+replaced : {A : Type 0} (b : Bool) (v old : A) (found : Option A) → cond b (Some v) found ≡ cond b (Some v) (cond b (Some old) found)
+replaced true v old found = refl
+replaced false v old found = refl
+
+apart : {A : Type 0} (a b : Bool) (v old : A) (found : Option A) → (a ≡ true → b ≡ true → ⊥) → cond a (Some old) (cond b (Some v) found) ≡ cond b (Some v) (cond a (Some old) found)
+apart true true v old found h = absurd (h refl refl)
+apart true false v old found h = refl
+apart false true v old found h = refl
+apart false false v old found h = refl
 
 pub find_lookup : {K X : Type 0} (R : K → K → Ordering) (es : List (K × X)) (q : K) → find R q es ≡ lookup (is_at (R q)) es
 find_lookup R [] q = refl
@@ -67,12 +73,23 @@ module _ {K X : Type 0} {R : K → K → Ordering} (o : IsTotalOrder R) where
       ∙ ap (cond (eq_by_cmp R q k) (Some v)) (sym (get_lookup m q))
       ∙ sym (get-insert o (from_entries m) k v q))
 
-  -- after a write at a new key, and its removal
-  pub restored : IsAntisymmetric R → (m n p : List (K × X)) (k : K) (v : X) → get (from_entries {R = R} m) k ≡ None
-      → ((q : K) → lookup (is_at (R q)) n ≡ cond (is_at (R k) q) (Some v) (lookup (is_at (R q)) m))
-      → ((q : K) → lookup (is_at (R q)) p ≡ cond (is_at (R k) q) None (lookup (is_at (R q)) n))
-      → from_entries {R = R} p ≡ from_entries m
-  restored same m n p k v none put cut = same_map o same _ _ (λ q.
-      get_lookup p q ∙ cut q ∙ ap (cond (is_at (R k) q) None) (put q)
-      ∙ undone (is_at (R k) q) v (lookup (is_at (R q)) m) (λ t. sym (get_lookup m q) ∙ get_tied o (from_entries m) k q (tie (R k q) t) ∙ none)
-      ∙ sym (get_lookup m q))
+  -- what stands at a key after a write to the entries
+  pub lookup_put : IsAntisymmetric R → (es : List (K × X)) (k : K) (v : X) (q : K)
+      → lookup (is_at (R q)) (insert_entry R es k v) ≡ cond (is_at (R k) q) (Some v) (lookup (is_at (R q)) es)
+  lookup_put same [] k v q = ap (λ b. cond b (Some v) None) ((eq_by_cmp_equiv o).symm q k)
+  lookup_put same (e ∷ es) k v q = by (lookup_put same es k v q) (R k e.0) refl
+    where
+      by : lookup (is_at (R q)) (insert_entry R es k v) ≡ cond (is_at (R k) q) (Some v) (lookup (is_at (R q)) es) → (r : Ordering) → R k e.0 ≡ r
+          → lookup (is_at (R q)) (match_ordering r ((k, v) ∷ e ∷ es) ((e.0, v) ∷ es) (e ∷ insert_entry R es k v)) ≡ cond (is_at (R k) q) (Some v) (lookup (is_at (R q)) (e ∷ es))
+      by rest Less is = ap (λ b. cond b (Some v) (lookup (is_at (R q)) (e ∷ es))) ((eq_by_cmp_equiv o).symm q k)
+      by rest Equal is =
+          let one : is_at (R q) e.0 ≡ is_at (R k) q = ap (λ x. is_at (R q) x) (sym (same k e.0 is)) ∙ (eq_by_cmp_equiv o).symm q k in
+          rw (one) (replaced (is_at (R k) q) v e.1 (lookup (is_at (R q)) es))
+      by rest Greater is =
+          ap (cond (is_at (R q) e.0) (Some e.1)) rest
+          ∙ apart (is_at (R q) e.0) (is_at (R k) q) v e.1 (lookup (is_at (R q)) es)
+          (λ at_e at_k. let here : R k e.0 ≡ Equal = ap (λ x. R k x) (sym (same q e.0 (tie (R q e.0) at_e))) ∙ tie (R k q) at_k in cc)
+
+  -- the entries after a write, as a finite map
+  pub put_entries : IsAntisymmetric R → (m n : List (K × X)) (k : K) (v : X) → n ≡ insert_entry R m k v → from_entries {R = R} n ≡ insert (from_entries m) k v
+  put_entries same m n k v is = inserted same m n k v (λ q. ap (lookup (is_at (R q))) is ∙ lookup_put same m k v q)

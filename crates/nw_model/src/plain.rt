@@ -1,8 +1,9 @@
 //! A slow store over ordered maps.
-ghost use Rattle.std.specs.Prelude.{◌≡◌, IfOk, OnOk, OnErr, IsNone, IsTrue, true};
+ghost use Rattle.std.specs.Prelude.{◌≡◌, IfOk, OnOk, OnErr, IsNone, IsTrue, true, if◌then◌else◌};
 ghost use Rattle.std.specs.Option.{option_copied};
+ghost use Rattle.std.specs.BTreeMap.{get, insert_entry, IsUnchanged};
 ghost use Rattle.std.specs.FinMap as map;
-ghost use Rattle.nw_model.specs.State.{opening, block_slot, certificate_slot};
+ghost use Rattle.nw_model.specs.State.{Slot, opening, block_slot, certificate_slot, digest_cmp, slot_cmp};
 ghost use Rattle.nw_model.specs.Step.{IsReply, after, write_reply, is_elsewhere, rival, with_block};
 
 use crate::{Call, Reply, WriteReply};
@@ -10,6 +11,7 @@ use nw_codec::{Block, Certificate};
 use nw_digest::{Digest, NoMemory, Round, Shared};
 use std::alloc::Global;
 use std::collections::BTreeMap;
+use std::collections::btree_map::Entry;
 use std::marker::Model;
 
 /// A slow store over ordered maps, which shows what each call means. Contracts see its state, and the bounds under which
@@ -206,13 +208,30 @@ impl Plain {
     {
         let held = block.get();
         let slot = (held.round, held.author);
-        self.firsts.insert(slot, digest)?;
-        match self.blocks.insert(digest, block) {
-            Ok(_) => Ok(()),
-            Err(_) => {
-                self.firsts.remove(&slot);
-                Err(NoMemory)
-            }
+        insert_both(&mut self.blocks, digest, block, &mut self.firsts, slot)
+    }
+}
+
+/// Puts the block under the digest, and the digest under the slot. Room for both is made before either map changes.
+fn insert_both(
+    blocks: &mut BTreeMap<Digest, Shared<Block>>,
+    digest: Digest,
+    block: Shared<Block>,
+    firsts: &mut BTreeMap<(Round, u16), Digest>,
+    slot: (Round, u16),
+) -> Result<(), NoMemory>
+    requires { IsNone (get slot_cmp firsts.old slot) }
+    ensures both { OnOk result ((blocks.new.entries ≡ insert_entry digest_cmp blocks.old.entries digest block)
+        × (firsts.new.entries ≡ insert_entry slot_cmp firsts.old.entries slot digest)) }
+    ensures same_blocks { OnErr result (IsUnchanged blocks.old blocks.new) }
+    ensures same_firsts { OnErr result (IsUnchanged firsts.old firsts.new) }
+{
+    match firsts.entry(slot)? {
+        Entry::Occupied(_) => unreachable!(),
+        Entry::Vacant(place) => {
+            blocks.insert(digest, block)?;
+            place.insert_entry(digest);
+            Ok(())
         }
     }
 }

@@ -1,6 +1,6 @@
 use Rattle.std.proofs.Common.{ℕ, List, refl, subst, take, drop, rules}
 use Rattle.std.proofs.lemmas.Result.{on_ok_weaker}
-use Rattle.nw_codec.proofs.Pieces.{pieces_of_body}
+use Rattle.nw_codec.proofs.BodyPieces.{pieces_of_body}
 use Rattle.nw_codec.proofs.encode.put_body.Goals as goal
 
 pub returns : goal.returns

@@ -1,0 +1,126 @@
+-- A text has one message, and no message's text begins another's.
+use Rattle.std.proofs.Common.{◌≡◌, ℕ, ◌+◌, ◌^◌, ◌<◌, ◌≤◌, List, [], ◌∷◌, ◌++◌, length, All, refl, sym, ap, ◌∙◌, append_assoc, arith}
+use Rattle.std.specs.Int.{w16, w32, to_be_bytes}
+use Rattle.std.specs.List.{flat_map, AllByRecursion}
+use Rattle.std.proofs.lemmas.List.Elements.{recursion_from_All, All-weaker}
+use Rattle.nw_codec.specs.declared.block.Ref.{Ref}
+use Rattle.nw_codec.specs.declared.block.Block.{Block}
+use Rattle.nw_codec.specs.declared.certificate.Signature.{Signature}
+use Rattle.nw_codec.specs.declared.message.Message.{Message}
+use Rattle.nw_codec.specs.declared.message.Message.TheVariants as messages
+use Rattle.nw_codec.specs.Grammar.{round_bytes, parent_bytes, transaction_bytes, message}
+use Rattle.nw_codec.specs.Fits.{Fits, MessageFits}
+use Rattle.nw_codec.specs.Typed.{IsRef, IsBlock, IsSignature, IsMessage}
+use Rattle.nw_codec.specs.Spelled.{Spells}
+use Rattle.nw_codec.proofs.Pieces.{same_start, same16, same32, same48}
+use Rattle.nw_codec.proofs.Written.{message_is}
+
+-- the counts fit their fields
+pub record IsCounted (b : Block) : Type 0 where
+  pub parents : length b.parents < 2 ^ 16
+  pub transactions : length b.transactions < 2 ^ 16
+  pub bytes : AllByRecursion (λ t. length t < 2 ^ 32) b.transactions
+
+pub counted : (b : Block) → Fits b → IsCounted b
+counted b fits =
+    let few : length b.parents ≤ 100 = fits.few_parents in
+    let some : length b.transactions ≤ 1024 = fits.few_transactions in
+    record {
+      parents = omega (arith, few);
+      transactions = omega (arith, some);
+      bytes = recursion_from_All (λ t. length t < 2 ^ 32) b.transactions (All-weaker (λ t. length t ≤ 65536) (λ t. length t < 2 ^ 32) (λ t low. omega arith) b.transactions fits.short_transactions);
+    }
+
+pub same_ref : (p q : Ref) → p.author ≡ q.author → p.digest.0 ≡ q.digest.0 → p ≡ q
+same_ref p q e h =
+    let make : ℕ → List ℕ → Ref = λ a d. record { author = a; digest = record { 0 = d } } in
+    ap (λ (a : ℕ). make a p.digest.0) e ∙ ap (λ (d : List ℕ). make q.author d) h
+
+pub same_parents : (ps qs : List Ref) (x y : List ℕ) → length ps ≡ length qs → AllByRecursion IsRef ps → AllByRecursion IsRef qs → flat_map parent_bytes ps ++ x ≡ flat_map parent_bytes qs ++ y → (ps ≡ qs) × (x ≡ y)
+same_parents [] [] x y len left right e = (refl, e)
+same_parents [] (q ∷ qs) x y len left right e = absurd (omega (arith, len))
+same_parents (p ∷ ps) [] x y len left right e = absurd (omega (arith, len))
+same_parents (p ∷ ps) (q ∷ qs) x y len left right e =
+    let xs : List ℕ = flat_map parent_bytes ps ++ x in
+    let ys : List ℕ = flat_map parent_bytes qs ++ y in
+    let cut : to_be_bytes w16 p.author ++ (p.digest.0 ++ xs) ≡ to_be_bytes w16 q.author ++ (q.digest.0 ++ ys) =
+    sym (append_assoc (parent_bytes p) (flat_map parent_bytes ps) x ∙ append_assoc (to_be_bytes w16 p.author) p.digest.0 xs) ∙ e ∙ append_assoc (parent_bytes q) (flat_map parent_bytes qs) y ∙ append_assoc (to_be_bytes w16 q.author) q.digest.0 ys in
+    let first = same_start (to_be_bytes w16 p.author) (to_be_bytes w16 q.author) (p.digest.0 ++ xs) (q.digest.0 ++ ys) refl cut in
+    let second = same_start p.digest.0 q.digest.0 xs ys (left.0.digest ∙ sym right.0.digest) first.1 in
+    let others = same_parents ps qs x y (omega (arith, len)) left.1 right.1 second.1 in
+    let one : p ≡ q = same_ref p q (same16 p.author q.author left.0.author right.0.author first.0) second.0 in
+    (cc (one, others.0), others.1)
+
+pub same_transactions : (ts us : List (List ℕ)) (x y : List ℕ) → length ts ≡ length us → AllByRecursion (λ t. length t < 2 ^ 32) ts → AllByRecursion (λ t. length t < 2 ^ 32) us → flat_map transaction_bytes ts ++ x ≡ flat_map transaction_bytes us ++ y → (ts ≡ us) × (x ≡ y)
+same_transactions [] [] x y len left right e = (refl, e)
+same_transactions [] (u ∷ us) x y len left right e = absurd (omega (arith, len))
+same_transactions (t ∷ ts) [] x y len left right e = absurd (omega (arith, len))
+same_transactions (t ∷ ts) (u ∷ us) x y len left right e =
+    let xs : List ℕ = flat_map transaction_bytes ts ++ x in
+    let ys : List ℕ = flat_map transaction_bytes us ++ y in
+    let cut : to_be_bytes w32 (length t) ++ (t ++ xs) ≡ to_be_bytes w32 (length u) ++ (u ++ ys) =
+    sym (append_assoc (transaction_bytes t) (flat_map transaction_bytes ts) x ∙ append_assoc (to_be_bytes w32 (length t)) t xs) ∙ e ∙ append_assoc (transaction_bytes u) (flat_map transaction_bytes us) y ∙ append_assoc (to_be_bytes w32 (length u)) u ys in
+    let first = same_start (to_be_bytes w32 (length t)) (to_be_bytes w32 (length u)) (t ++ xs) (u ++ ys) refl cut in
+    let second = same_start t u xs ys (same32 (length t) (length u) left.0 right.0 first.0) first.1 in
+    let others = same_transactions ts us x y (omega (arith, len)) left.1 right.1 second.1 in
+    let one : t ≡ u = second.0 in
+    (cc (one, others.0), others.1)
+
+pub same_block : (b c : Block) → b.author ≡ c.author → b.round ≡ c.round → b.parents ≡ c.parents → b.transactions ≡ c.transactions → b ≡ c
+same_block b c e0 e1 e2 e3 =
+    let make : ℕ → ℕ → List Ref → List (List ℕ) → Block = λ a r ps ts. record { author = a; round = r; parents = ps; transactions = ts } in
+    ap (λ (a : ℕ). make a b.round b.parents b.transactions) e0 ∙ ap (λ (r : ℕ). make c.author r b.parents b.transactions) e1
+    ∙ ap (λ (ps : List Ref). make c.author c.round ps b.transactions) e2 ∙ ap (λ (ts : List (List ℕ)). make c.author c.round c.parents ts) e3
+
+pub same_signature : (s t : Signature) → s.0 ≡ t.0 → s ≡ t
+same_signature s t e =
+    let make : List ℕ → Signature = λ bytes. record { 0 = bytes } in
+    ap make e
+
+-- the pieces of two laid out messages, one after another
+record IsSame (b c : Block) (s t : Signature) (x y : List ℕ) : Type 0 where
+  block : b ≡ c
+  signature : s ≡ t
+  rest : x ≡ y
+
+same_counts : (b c : Block) (s t : Signature) (x y : List ℕ) → IsBlock b → IsBlock c → IsCounted b → IsCounted c → IsSignature s → IsSignature t
+    → b.author ≡ c.author → b.round ≡ c.round
+    → to_be_bytes w16 (length b.parents) ++ (flat_map parent_bytes b.parents ++ (to_be_bytes w16 (length b.transactions) ++ (flat_map transaction_bytes b.transactions ++ (s.0 ++ x))))
+    ≡ to_be_bytes w16 (length c.parents) ++ (flat_map parent_bytes c.parents ++ (to_be_bytes w16 (length c.transactions) ++ (flat_map transaction_bytes c.transactions ++ (t.0 ++ y))))
+    → IsSame b c s t x y
+same_counts b c s t x y typed-b typed-c counted-b counted-c signed-s signed-t author round e =
+    let count = same_start (to_be_bytes w16 (length b.parents)) (to_be_bytes w16 (length c.parents)) _ _ refl e in
+    let parents = same_parents b.parents c.parents _ _ (same16 (length b.parents) (length c.parents) counted-b.parents counted-c.parents count.0) (recursion_from_All IsRef b.parents typed-b.parents) (recursion_from_All IsRef c.parents typed-c.parents) count.1 in
+    let number = same_start (to_be_bytes w16 (length b.transactions)) (to_be_bytes w16 (length c.transactions)) _ _ refl parents.1 in
+    let transactions = same_transactions b.transactions c.transactions _ _ (same16 (length b.transactions) (length c.transactions) counted-b.transactions counted-c.transactions number.0) counted-b.bytes counted-c.bytes number.1 in
+    let signature = same_start s.0 t.0 x y (signed-s.len ∙ sym signed-t.len) transactions.1 in
+    record {
+      block = same_block b c author round parents.0 transactions.0;
+      signature = same_signature s t signature.0;
+      rest = signature.1;
+    }
+
+same_pieces : (b c : Block) (s t : Signature) (x y : List ℕ) → IsBlock b → IsBlock c → IsCounted b → IsCounted c → IsSignature s → IsSignature t
+    → message (messages.Block b s) ++ x ≡ message (messages.Block c t) ++ y → IsSame b c s t x y
+same_pieces b c s t x y typed-b typed-c counted-b counted-c signed-s signed-t e =
+    let cut = sym (message_is b s x) ∙ e ∙ message_is c t y in
+    let tag = same_start (1 ∷ []) (1 ∷ []) _ _ refl cut in
+    let version = same_start (1 ∷ []) (1 ∷ []) _ _ refl tag.1 in
+    let author = same_start (to_be_bytes w16 b.author) (to_be_bytes w16 c.author) _ _ refl version.1 in
+    let round = same_start (round_bytes b.round) (round_bytes c.round) _ _ refl author.1 in
+    same_counts b c s t x y typed-b typed-c counted-b counted-c signed-s signed-t (same16 b.author c.author typed-b.author typed-c.author author.0) (same48 b.round c.round typed-b.round typed-c.round round.0) round.1
+
+abbrev pub CountsFit : Message → Type 0
+CountsFit (messages.Block b s) = IsCounted b
+
+pub same_message : (m n : Message) (x y : List ℕ) → IsMessage m → IsMessage n → CountsFit m → CountsFit n → message m ++ x ≡ message n ++ y → (m ≡ n) × (x ≡ y)
+same_message (messages.Block b s) (messages.Block c t) x y typed-m typed-n counted-m counted-n e =
+    let same = same_pieces b c s t x y typed-m.0 typed-n.0 counted-m counted-n typed-m.1 typed-n.1 e in
+    (cc (same.block, same.signature), same.rest)
+
+pub counts_fit : (m : Message) → MessageFits m → CountsFit m
+counts_fit (messages.Block b s) fits = counted b fits
+
+pub one_message : (a b x y : List ℕ) (m n : Message) → Spells a m → Spells b n → a ++ x ≡ b ++ y → (m ≡ n) × (x ≡ y)
+one_message a b x y m n p q e =
+    same_message m n x y p.typed q.typed (counts_fit m p.fits) (counts_fit n q.fits) (ap (λ (t : List ℕ). t ++ x) (sym p.bytes) ∙ e ∙ ap (λ (t : List ℕ). t ++ y) q.bytes)

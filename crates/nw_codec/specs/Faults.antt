@@ -1,0 +1,114 @@
+-- The first fault of a text, by the fields that it is read in.
+use Rattle.std.specs.Prelude.{◌≡◌, ◌≢◌, ℕ, zero, suc, ◌+◌, ◌*◌, ◌==◌, nat_lt, Bool, true, List, [], ◌∷◌, ◌++◌, length, take, slice_index, MatchBool, MatchOption, Option, Some, None, Result, Ok, Err, if◌then◌else◌}
+use Rattle.std.specs.List.{flat_map}
+use Rattle.std.specs.Option.{option_map_or}
+use Rattle.std.specs.Int.{from_be_bytes, w16, w32}
+use Rattle.nw_codec.specs.declared.error.DecodeError.{DecodeError}
+use Rattle.nw_codec.specs.declared.error.DecodeError.TheVariants.{Short, Trailing, Tag, Version, TooManyParents, ParentOrder, TooManyTransactions, TransactionTooLong, BodyTooLong}
+
+-- which field comes next, and what later tests need: how many parents or transactions follow this one, the parent's author before, the bytes of the body so far
+pub data Stage : Type 0 where
+  AtTag : Stage
+  AtVersion : Stage
+  AtAuthor : Stage
+  AtRound : Stage
+  AtParentCount : Stage
+  AtParentAuthor : (more : ℕ) (before : Option ℕ) (size : ℕ) → Stage
+  AtParentDigest : (more author size : ℕ) → Stage
+  AtTransactionCount : (size : ℕ) → Stage
+  AtTransactionLength : (more size : ℕ) → Stage
+  AtTransaction : (len more size : ℕ) → Stage
+  AtSignature : Stage
+  AtEnd : Stage
+
+-- how many bytes the next field has; none comes at the end
+abbrev pub width : Stage → Option ℕ
+width AtTag = Some 1
+width AtVersion = Some 1
+width AtAuthor = Some 2
+width AtRound = Some 6
+width AtParentCount = Some 2
+width (AtParentAuthor more before size) = Some 2
+width (AtParentDigest more author size) = Some 32
+width (AtTransactionCount size) = Some 2
+width (AtTransactionLength more size) = Some 4
+width (AtTransaction len more size) = Some len
+width AtSignature = Some 64
+width AtEnd = None
+
+-- before the first of so many parents, or behind the last one
+abbrev pub at_parents : ℕ → Option ℕ → ℕ → Stage
+at_parents zero before size = AtTransactionCount size
+at_parents (suc more) before size = AtParentAuthor more before size
+
+-- before the first of so many transactions, or behind the last one
+abbrev pub at_transactions : ℕ → ℕ → Stage
+at_transactions zero size = AtSignature
+at_transactions (suc more) size = AtTransactionLength more size
+
+abbrev pub number16 : List ℕ → ℕ
+number16 field = from_be_bytes w16 field
+
+abbrev pub number32 : List ℕ → ℕ
+number32 field = from_be_bytes w32 field
+
+-- an author is greater than the one before, if there is one
+abbrev pub comes_after : Option ℕ → ℕ → Bool
+comes_after before author = option_map_or (λ b. nat_lt b author) before true
+
+-- what a whole field leads to, or the fault of its test
+abbrev pub after_field : Stage → List ℕ → Result Stage DecodeError
+after_field AtTag field = if slice_index field 0 == 1 then Ok AtVersion else Err Tag
+after_field AtVersion field = if slice_index field 0 == 1 then Ok AtAuthor else Err Version
+after_field AtAuthor field = Ok AtRound
+after_field AtRound field = Ok AtParentCount
+after_field AtParentCount field =
+    if nat_lt 100 (number16 field) then Err TooManyParents
+    else Ok (at_parents (number16 field) None (11 + 34 * number16 field))
+after_field (AtParentAuthor more before size) field =
+    if comes_after before (number16 field) then Ok (AtParentDigest more (number16 field) size) else Err ParentOrder
+after_field (AtParentDigest more author size) field = Ok (at_parents more (Some author) size)
+after_field (AtTransactionCount size) field =
+    if nat_lt 1024 (number16 field) then Err TooManyTransactions
+    else Ok (at_transactions (number16 field) (size + 2))
+after_field (AtTransactionLength more size) field =
+    if nat_lt 65536 (number32 field) then Err TransactionTooLong
+    else if nat_lt 1048576 (size + 4 + number32 field) then Err BodyTooLong
+    else Ok (AtTransaction (number32 field) more (size + 4 + number32 field))
+after_field (AtTransaction len more size) field = Ok (at_transactions more size)
+after_field AtSignature field = Ok AtEnd
+after_field AtEnd field = Err Trailing
+
+-- these whole fields pass their tests one after another, and lead from one stage to the other
+abbrev pub Leads : Stage → List (List ℕ) → Stage → Type 0
+Leads from [] to = from ≡ to
+Leads from (field ∷ fields) to =
+    (width from ≡ Some (length field)) × (next : Stage) × (after_field from field ≡ Ok next) × Leads next fields to
+
+-- whole fields at the front of the text lead from one stage to the other; this is the rest
+pub record Reaches (from : Stage) (text : List ℕ) (to : Stage) (rest : List ℕ) : Type 0 where
+  pub fields : List (List ℕ)
+  pub leads : Leads from fields to
+  pub whole : text ≡ flat_map (λ field. field) fields ++ rest
+
+-- a front of the text is whole fields of a message that pass, up to this stage
+abbrev pub IsGoodFront : List ℕ → Stage → List ℕ → Type 0
+IsGoodFront text stage rest = Reaches AtTag text stage rest
+
+-- the text is whole fields of a message, to the end
+abbrev pub IsWhole : List ℕ → Type 0
+IsWhole text = IsGoodFront text AtEnd []
+
+-- what is wrong with the rest: bytes stand behind the end, the next field is not whole, or its test fails
+abbrev pub StopsAt : Stage → List ℕ → DecodeError → Type 0
+StopsAt stage rest e =
+    MatchOption (width stage)
+    ((rest ≢ []) × (e ≡ Trailing))
+    (λ w. MatchBool (nat_lt (length rest) w) (e ≡ Short) (after_field stage (take w rest) ≡ Err e))
+
+-- the fault behind the longest front of whole fields that pass, from this stage on
+abbrev pub FaultFrom : Stage → List ℕ → DecodeError → Type 0
+FaultFrom from text e = (stage : Stage) × (rest : List ℕ) × Reaches from text stage rest × StopsAt stage rest e
+
+abbrev pub IsFirstFault : List ℕ → DecodeError → Type 0
+IsFirstFault text e = FaultFrom AtTag text e
