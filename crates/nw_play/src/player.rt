@@ -3,10 +3,11 @@
 use crate::fault::LineFault;
 use crate::line::{Line, Request};
 use crate::print::{Answer, Written};
-use crate::stub::{Book, Command, Limits, NoStep, decode_message};
+use crate::stub::{Book, Command, Limits, NoStep};
 use crate::word::Name;
 use nw_codec::{
-    Block, EncodeError, Message, Ref, Signature, block_digest, encode_body, encode_message,
+    Block, EncodeError, Message, Ref, Signature, block_digest, decode_message, encode_body,
+    encode_message,
 };
 use nw_digest::{Digest, Sequence, Shared, digest_of};
 use nw_model::{Reply, WriteReply};

@@ -1,6 +1,6 @@
-//! Stands for nw_model, nw_book and decode_message until they land.
-use nw_codec::{Block, DecodeError, Message, Ref, Signature, block_digest};
-use nw_digest::{Digest, NoMemory, Round, Sequence, Shared};
+//! Stands for nw_book until it lands.
+use nw_codec::{Block, block_digest};
+use nw_digest::{Digest, NoMemory, Shared};
 use nw_model::{Reply, WriteReply};
 use std::alloc::Global;
 use std::collections::BTreeMap;
@@ -111,65 +111,4 @@ impl Book {
         self.firsts.insert(slot, digest).map_err(|_| NoMemory)?;
         Ok(WriteReply::Stored { vote: true })
     }
-}
-
-fn be(text: &[u8], at: &mut usize, count: usize) -> u64 {
-    let mut value = 0u64;
-    for _ in 0..count {
-        value = value
-            .wrapping_mul(256)
-            .wrapping_add(u64::from(text.get(*at).copied().unwrap_or(0)));
-        *at = at.saturating_add(1);
-    }
-    value
-}
-
-fn bytes(alloc: Global, text: &[u8], at: &mut usize, count: usize) -> Result<Vec<u8>, DecodeError> {
-    let mut all = Vec::new(alloc);
-    for _ in 0..count {
-        all.push(text.get(*at).copied().unwrap_or(0))
-            .map_err(|_| DecodeError::NoMemory)?;
-        *at = at.saturating_add(1);
-    }
-    Ok(all)
-}
-
-pub fn decode_message(alloc: Global, text: &[u8]) -> Result<Message, DecodeError> {
-    let mut at = 2;
-    let author = (be(text, &mut at, 2) & 0xffff) as u16;
-    let round = Round::new(be(text, &mut at, 6)).ok_or(DecodeError::Tag)?;
-    let count = be(text, &mut at, 2);
-    let mut parents = Vec::new(alloc);
-    for _ in 0..count {
-        let author = (be(text, &mut at, 2) & 0xffff) as u16;
-        let mut digest = [0u8; 32];
-        let read = bytes(alloc, text, &mut at, 32)?;
-        for (to, from) in digest.iter_mut().zip(read.as_slice()) {
-            *to = *from;
-        }
-        parents
-            .push(Ref {
-                author,
-                digest: Digest(digest),
-            })
-            .map_err(|_| DecodeError::NoMemory)?;
-    }
-    let count = be(text, &mut at, 2);
-    let mut transactions = Vec::new(alloc);
-    for _ in 0..count {
-        let length = be(text, &mut at, 4) as usize;
-        let bytes = bytes(alloc, text, &mut at, length)?;
-        transactions
-            .push(Sequence::new(bytes))
-            .map_err(|_| DecodeError::NoMemory)?;
-    }
-    Ok(Message::Block {
-        block: Block {
-            author,
-            round,
-            parents: Sequence::new(parents),
-            transactions: Sequence::new(transactions),
-        },
-        signature: Signature([0; 64]),
-    })
 }
