@@ -1,0 +1,44 @@
+-- A history with one more event.
+use Rattle.std.proofs.Common.{◌≡◌, ℕ, ◌+◌, ◌<◌, Bool, true, false, cond, List, [], ◌∷◌, ◌++◌, length, refl, arith, append-nil, length-append}
+use Rattle.std.proofs.lemmas.Bool.{eqb-true}
+use Rattle.std.specs.Prelude.{◌==◌}
+use Rattle.std.proofs.lemmas.List.Elements.{All-push, filter-append}
+use Rattle.nw_model.specs.State.{State, opening}
+use Rattle.nw_model.specs.Step.{Bounds, after, IsReply}
+use Rattle.nw_model.specs.History.{AreReplies, AreNumbered, IsKeyed, IsLegal, replay, events_of}
+use Rattle.nw_model.specs.declared.event.Event.{Event}
+
+pub replay_last : (b : Bounds) (s : State) (es : List Event) (e : Event) → replay b s (es ++ e ∷ []) ≡ after b (replay b s es) e.call
+replay_last b s [] e = refl
+replay_last b s (x ∷ es) e = replay_last b (after b s x.call) es e
+
+replies_last : (b : Bounds) (s : State) (es : List Event) (e : Event) → AreReplies b s es → IsReply b (replay b s es) e.call e.reply → AreReplies b s (es ++ e ∷ [])
+replies_last b s [] e h is = (is, tt)
+replies_last b s (x ∷ es) e h is = (h.0, replies_last b (after b s x.call) es e h.1 is)
+
+numbered_last : (n : ℕ) (es : List Event) (e : Event) → AreNumbered n es → e.number ≡ n + length es → AreNumbered n (es ++ e ∷ [])
+numbered_last n [] e h is = (omega arith, tt)
+numbered_last n (x ∷ es) e h is = (h.0, numbered_last (n + 1) es e h.1 (omega arith))
+
+pub events_of_last : (session : ℕ) (es : List Event) (e : Event) → events_of session (es ++ e ∷ []) ≡ events_of session es ++ cond (e.session == session) (e ∷ []) []
+events_of_last session es e = filter-append (λ (x : Event). x.session == session) es (e ∷ [])
+
+numbered_one : (b : Bool) (es : List Event) (e : Event) → AreNumbered 1 es → (b ≡ true → e.number ≡ length es + 1) → AreNumbered 1 (es ++ cond b (e ∷ []) [])
+numbered_one true es e h is = numbered_last 1 es e h (omega (arith, is refl))
+numbered_one false es e h is = rw append-nil h
+
+same_session : (e : Event) (session : ℕ) → (e.session == session) ≡ true → e.session ≡ session
+same_session e session t = eqb-true e.session session t
+
+-- a legal history with one more event, whose reply is the step's and whose number is its session's next
+pub legal_last : (b : Bounds) (most sessions : ℕ) (es : List Event) (e : Event) → IsLegal b most sessions es
+    → IsReply b (replay b opening es) e.call e.reply → e.session < sessions → e.number ≡ length (events_of e.session es) + 1 → length es < most → IsKeyed e.call
+    → IsLegal b most sessions (es ++ e ∷ [])
+legal_last b most sessions es e h reply below number room keyed = record {
+  replies = replies_last b opening es e h.replies reply;
+  numbered = λ session. rw (events_of_last session es e) (numbered_one (e.session == session) (events_of session es) e (h.numbered session)
+      (λ t. let same : e.session ≡ session = same_session e session t in rw (← same) number));
+  sessions = All-push (λ (x : Event). x.session < sessions) es e h.sessions below;
+  short = omega (arith, length-append es (e ∷ []));
+  keyed = All-push (λ (x : Event). IsKeyed x.call) es e h.keyed keyed;
+}

@@ -1,0 +1,70 @@
+-- The tables and the counts after one more event.
+use Rattle.std.proofs.Common.{◌≡◌, ◌≢◌, ℕ, ◌+◌, ◌<◌, Bool, true, false, cond, List, [], ◌∷◌, ◌++◌, length, set, get_or, refl, ap, sym, ◌∙◌, arith, length-append, length-set, get_or-set_same, get_or-set_other}
+use Rattle.std.specs.Prelude.{◌==◌}
+use Rattle.std.proofs.lemmas.Bool.{eqb-true, eqb-false}
+use Rattle.std.proofs.lemmas.Grind.{get_or_default_zero}
+use Rattle.nw_model.specs.State.{opening}
+use Rattle.nw_model.specs.Step.{Tables, after, IsReply}
+use Rattle.nw_model.specs.History.{IsKeyed, events_of}
+use Rattle.nw_model.specs.declared.call.Call.{Call}
+use Rattle.nw_model.specs.declared.event.Event.{Event}
+use Rattle.nw_model.specs.declared.reply.Reply.{Reply}
+use Rattle.nw_book.specs.declared.command.Command.{Command}
+use Rattle.nw_book.specs.declared.command.Command.TheVariants as command
+use Rattle.nw_book.specs.Command.{call_of}
+use Rattle.nw_book.specs.Story.{Story, IsLegalStory, IsInTurn, HasRoom, AreCounts, StandFor, bounds_of, state_of, tables_of, with_event}
+use Rattle.nw_book.proofs.Longer.{replay_last, events_of_last, legal_last}
+
+-- what a command writes stands under its own digest
+keyed_of : (asked : Command) → IsKeyed (call_of asked)
+keyed_of (command.Write b) = refl
+keyed_of (command.Read d) = tt
+
+-- the event of a command in its turn keeps the history legal
+pub legal_next : (t : Tables) (counts : List ℕ) (s : Story) (session number : ℕ) (asked : Command) (called : Call) (reply : Reply) (e : Event)
+    → StandFor t counts s → IsInTurn s session number → HasRoom s → called ≡ call_of asked → IsReply t.bounds t.state called reply
+    → e ≡ record { session = session; number = number; call = called; reply = reply } → IsLegalStory (with_event s e)
+legal_next t counts s session number asked called reply e h turn room call_is reply_is event_is =
+    let is : IsReply (bounds_of s.limits) (state_of s) called reply = rw h.state at reply_is in
+    let keyed : IsKeyed called = rw call_is (keyed_of asked) in
+    rw event_is (legal_last (bounds_of s.limits) s.limits.events s.limits.sessions s.events (record { session = session; number = number; call = called; reply = reply })
+    h.legal is turn.session_below turn.number_next room keyed)
+
+one_more : (b : Bool) (es : List Event) (e : Event) → length (es ++ cond b (e ∷ []) []) ≡ length es + cond b 1 0
+one_more true es e = length-append es (e ∷ [])
+one_more false es e = length-append es []
+
+counted : (counts : List ℕ) (i k : ℕ) → i < length counts → k < length counts → (b : Bool) → (i == k) ≡ b
+    → get_or (set counts i (get_or counts i 0 + 1)) k 0 ≡ get_or counts k 0 + cond b 1 0
+counted counts i k below in_range true t = let same : i ≡ k = eqb-true i k t in rw (← same) (get_or-set_same counts i (get_or counts i 0 + 1) 0 below)
+counted counts i k below in_range false t =
+    let apart : k ≢ i = λ e. eqb-false i k t (sym e) in rw get_or-set_other (omega arith)
+
+-- the counts with one more event of the session
+pub counts_next : (counts : List ℕ) (s : Story) (e : Event) → AreCounts counts s → e.session < length counts
+    → AreCounts (set counts e.session (get_or counts e.session 0 + 1)) (with_event s e)
+counts_next counts s e h below = record {
+  sessions = length-set counts e.session (get_or counts e.session 0 + 1) ∙ h.sessions;
+  each = λ k in_range.
+      let inside : k < length counts = omega (arith, length-set counts e.session (get_or counts e.session 0 + 1)) in
+      counted counts e.session k below inside (e.session == k) refl
+      ∙ ap (λ n. n + cond (e.session == k) 1 0) (h.each k inside)
+      ∙ sym (one_more (e.session == k) (events_of k s.events) e)
+      ∙ ap length (sym (events_of_last k s.events e));
+}
+
+-- tables and counts that take the step of an event stand for the history with it
+pub stand_next : (t u : Tables) (counts : List ℕ) (s n : Story) (e : Event) (session place count : ℕ) → StandFor t counts s → IsLegalStory (with_event s e)
+    → session < s.limits.sessions → e.session ≡ session → place ≡ session → count ≡ get_or counts place count
+    → n ≡ with_event s e → u ≡ record t { state = after t.bounds t.state e.call } → StandFor u (set counts place (count + 1)) n
+stand_next t u counts s n e session place count h legal below own here value story_is tables_is =
+    let inside : e.session < length counts = omega (arith, h.counted.sessions) in
+    let same : place ≡ e.session = here ∙ sym own in
+    let number : count ≡ get_or counts e.session 0 = value ∙ ap (λ i. get_or counts i count) same ∙ get_or_default_zero counts e.session count inside in
+    rw (story_is, same, number) (record {
+      in_range = h.in_range;
+      legal = legal;
+      state = tables_is ∙ ap (λ (v : Tables). record v { state = after v.bounds v.state e.call }) h.state
+          ∙ ap (λ x. record (tables_of s) { state = x }) (sym (replay_last (bounds_of s.limits) opening s.events e));
+      counted = counts_next counts s e h.counted inside;
+    })

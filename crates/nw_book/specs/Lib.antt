@@ -1,0 +1,4 @@
+pub mod Limits
+pub mod Story
+pub mod Command
+pub mod Takes

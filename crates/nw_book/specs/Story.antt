@@ -1,0 +1,54 @@
+-- A history with the limits under which it is legal.
+use Rattle.std.specs.Prelude.{◌≡◌, ℕ, ◌+◌, ◌<◌, List, [], ◌∷◌, ◌++◌, length, slice_index}
+use Rattle.nw_model.specs.State.{State, opening}
+use Rattle.nw_model.specs.Step.{Bounds, Tables}
+use Rattle.nw_model.specs.History.{IsLegal, replay, events_of}
+use Rattle.nw_model.specs.declared.event.Event.{Event}
+use Rattle.nw_book.specs.declared.limits.Limits.{Limits}
+use Rattle.nw_book.specs.Limits.{AreInRange}
+
+-- a list of events, and limits
+pub record Story : Type 0 where
+  pub limits : Limits
+  pub events : List Event
+
+-- the bounds under which the tables take their steps
+abbrev pub bounds_of : Limits → Bounds
+bounds_of l = record { blocks = l.blocks; window = l.window }
+
+-- the history is legal under the limits
+abbrev pub IsLegalStory : Story → Type 0
+IsLegalStory s = IsLegal (bounds_of s.limits) s.limits.events s.limits.sessions s.events
+
+-- the state after the history
+abbrev pub state_of : Story → State
+state_of s = replay (bounds_of s.limits) opening s.events
+
+-- the tables after the history
+abbrev pub tables_of : Story → Tables
+tables_of s = record { bounds = bounds_of s.limits; state = state_of s }
+
+-- the history with one more event, under the same limits
+abbrev pub with_event : Story → Event → Story
+with_event s e = record { limits = s.limits; events = s.events ++ e ∷ [] }
+
+-- the session is below its limit, and the number is one more than its events so far
+pub record IsInTurn (s : Story) (session number : ℕ) : Type 0 where
+  pub session_below : session < s.limits.sessions
+  pub number_next : number ≡ length (events_of session s.events) + 1
+
+-- fewer events than the limit allows
+abbrev pub HasRoom : Story → Type 0
+HasRoom s = length s.events < s.limits.events
+
+-- the list has the number of events of each session, by session
+pub record AreCounts (counts : List ℕ) (s : Story) : Type 0 where
+  pub sessions : length counts ≡ s.limits.sessions
+  pub each : (session : ℕ) → session < length counts → slice_index counts session ≡ length (events_of session s.events)
+
+-- the tables and the counts are those after the history, whose limits are in their ranges
+pub record StandFor (tables : Tables) (counts : List ℕ) (s : Story) : Type 0 where
+  pub in_range : AreInRange s.limits
+  pub legal : IsLegalStory s
+  pub state : tables ≡ tables_of s
+  pub counted : AreCounts counts s

@@ -1,0 +1,23 @@
+//! A history that grows, and fronts of it that never change.
+//!
+//! Its contract: a step that the book takes adds one event to a legal history, and the answer carries the history up to
+//! and with that event; a step that it refuses changes nothing. It stands on `nw_model` for what is legal, and on
+//! `nw_codec` for the digest of a block.
+#![tactic(auto)]
+
+mod book;
+mod command;
+mod error;
+mod front;
+mod history;
+mod limits;
+
+pub use book::{Book, Done};
+pub use command::Command;
+pub use error::{BookError, NoStep};
+pub use front::Front;
+pub use history::History;
+pub use limits::Limits;
+
+#[cfg(test)]
+mod tests;
