@@ -1,7 +1,7 @@
 //! Why a script ends before its end, and why a line is not played.
 ghost use Rattle.std.specs.Prelude.{◌≡◌};
 
-use crate::stub::BookFault;
+use nw_book::BookError;
 use nw_codec::{DecodeError, EncodeError};
 use nw_digest::NoMemory;
 use std::alloc::{AllocError, AllocFailed};
@@ -93,11 +93,11 @@ impl From<DecodeError> for LineFault {
     }
 }
 
-impl From<BookFault> for LineFault {
-    fn from(error: BookFault) -> LineFault {
+impl From<BookError> for LineFault {
+    fn from(error: BookError) -> LineFault {
         match error {
-            BookFault::BadLimits => LineFault::Bad,
-            BookFault::NoMemory => LineFault::NoMemory,
+            BookError::BadLimits => LineFault::Bad,
+            BookError::NoMemory => LineFault::NoMemory,
         }
     }
 }

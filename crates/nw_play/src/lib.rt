@@ -10,7 +10,6 @@ mod line;
 mod player;
 mod print;
 mod script;
-mod stub;
 mod word;
 
 pub use fault::PlayFault;

@@ -1,8 +1,8 @@
 //! A line of a script.
 
 use crate::fault::LineFault;
-use crate::stub::Limits;
 use crate::word::{Name, list, number, transaction};
+use nw_book::Limits;
 use nw_digest::Round;
 use std::alloc::Global;
 

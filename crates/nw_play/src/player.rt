@@ -1,10 +1,11 @@
 //! Lines, played on a book.
+ghost use Rattle.nw_book.specs.Command.{CommandFits};
 
 use crate::fault::LineFault;
 use crate::line::{Line, Request};
 use crate::print::{Answer, Written};
-use crate::stub::{Book, Command, Limits, NoStep};
 use crate::word::Name;
+use nw_book::{Book, Command, Limits, NoStep};
 use nw_codec::{
     Block, EncodeError, Message, Ref, Signature, block_digest, decode_message, encode_body,
     encode_message,
@@ -215,7 +216,9 @@ impl<'a> Player<'a> {
     }
 
     // The reply to the next call of session 0, or `None` where the history is full.
-    fn step(&mut self, alloc: Global, command: &Command) -> Result<Option<Reply>, LineFault> {
+    fn step(&mut self, alloc: Global, command: &Command) -> Result<Option<Reply>, LineFault>
+        requires { CommandFits command.now }
+    {
         let next = self.next.checked_add(1).ok_or(LineFault::Bad)?;
         match self.book.step(alloc, 0, self.next, command) {
             Ok(done) => {

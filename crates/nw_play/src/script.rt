@@ -33,8 +33,8 @@ pub fn play<R: Read + Drop, W: Write + Drop>(
 
 fn play_script<W: Write>(alloc: Global, script: &[u8], out: &mut W) -> Result<(), PlayFault> {
     let played = play_lines(alloc, script, out);
-    if let Err(PlayFault::BadLine { line }) = played {
-        writeln!(out, "line {line} bad").map_err(|_| PlayFault::Write)?;
+    if let Err(fault @ PlayFault::BadLine { .. }) = played {
+        writeln!(out, "{fault}").map_err(|_| PlayFault::Write)?;
     }
     played
 }
