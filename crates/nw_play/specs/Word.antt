@@ -1,0 +1,27 @@
+-- The words of a script, as lists of bytes.
+use Rattle.std.specs.Prelude.{ℕ, ◌≡◌, ◌≢◌, ◌≤◌, ◌||◌, Bool, true, List, length, slice_index}
+use Rattle.std.specs.Char.{is_ascii_lowercase, is_ascii_digit}
+use Rattle.std.specs.List.{AllPass}
+
+-- `a` to `z`, or `0` to `9`
+abbrev pub is_word_byte : ℕ → Bool
+is_word_byte b = is_ascii_lowercase b || is_ascii_digit b
+
+-- 1 to 16 letters and digits, a letter first
+pub record IsName (word : List ℕ) : Type 0 where
+  pub not_empty : 1 ≤ length word
+  pub short : length word ≤ 16
+  pub letter_first : is_ascii_lowercase (slice_index word 0) ≡ true
+  pub letters_and_digits : AllPass is_word_byte word
+
+-- 1 to 64 letters and digits
+pub record IsWord (word : List ℕ) : Type 0 where
+  pub not_empty : 1 ≤ length word
+  pub short : length word ≤ 64
+  pub letters_and_digits : AllPass is_word_byte word
+
+-- neither a plus sign nor a zero before other digits comes first
+pub record IsPlain (word : List ℕ) : Type 0 where
+  pub not_empty : 1 ≤ length word
+  pub unsigned : slice_index word 0 ≢ 43
+  pub no_leading_zero : slice_index word 0 ≡ 48 → length word ≡ 1

@@ -1,0 +1,29 @@
+//! Reading a whole script.
+ghost use Rattle.std.specs.Prelude.{◌≡◌, ◌≤◌, IfOk, IfSome, vec_len};
+
+use crate::PlayFault;
+use std::alloc::Global;
+use std::io::{ErrorKind, Read};
+
+/// How many bytes a script has at most.
+pub const MAX_SCRIPT: usize = 1_048_576;
+
+/// All that the reader gives up to its end: at most 1,048,576 bytes, for which it is asked at most 1,048,577 times.
+/// A read that was interrupted is asked again.
+pub fn read_script<R: Read>(alloc: Global, reader: &mut R) -> Result<Vec<u8>, PlayFault>
+    ensures within { IfOk result (λ script. vec_len script ≤ 1048576) }
+    ensures whole { IfOk result (λ script. IfSome (R.remaining reader.old) (λ bytes. script.items ≡ bytes)) }
+{
+    let mut script = Vec::new(alloc);
+    let mut chunk = [0u8; 4096];
+    for _ in 0..MAX_SCRIPT + 1 {
+        match reader.read(&mut chunk) {
+            Ok(0) => return Ok(script),
+            Ok(count) if count > MAX_SCRIPT - script.len() => return Err(PlayFault::TooLong),
+            Ok(count) => script.extend_from_slice(&chunk[..count])?,
+            Err(error) if error.kind() == ErrorKind::Interrupted => {}
+            Err(_) => return Err(PlayFault::Read),
+        }
+    }
+    Err(PlayFault::TooLong)
+}

@@ -1,0 +1,95 @@
+//! The words of a line.
+ghost use Rattle.std.specs.Prelude.{◌≡◌, ◌<◌, ◌^◌, ◌↔◌, ℕ, Some, IsSome, IfSome, IsTrue};
+ghost use Rattle.std.specs.Fmt.{decimal};
+ghost use Rattle.std.specs.List.{AllPass};
+ghost use Rattle.nw_play.specs.Word.{IsName, IsPlain, IsWord, is_word_byte};
+
+use crate::fault::LineFault;
+use std::alloc::Global;
+use std::fmt;
+
+/// A name: 1 to 16 bytes of `a` to `z` and `0` to `9`, a letter first.
+#[derive(Clone, Copy, Debug, PartialEq, Eq, PartialOrd, Ord)]
+pub struct Name<'a> {
+    text: &'a str,
+}
+
+impl<'a> Name<'a> {
+    /// The name that the word is, or `None` where it is not one.
+    pub fn new(word: &'a str) -> Option<Name<'a>>
+        ensures found { IsSome result ↔ IsName word.now }
+        ensures value { IfSome result (λ name. name.text.now ≡ word.now) }
+    {
+        is_name(word.as_bytes()).then_some(Name { text: word })
+    }
+}
+
+impl fmt::Display for Name<'_> {
+    fn fmt<W: fmt::Write>(&self, f: &mut fmt::Formatter<W>) -> fmt::Result {
+        write!(f, "{}", self.text)
+    }
+}
+
+fn is_name(word: &[u8]) -> bool
+    ensures { IsTrue result ↔ IsName word.now }
+{
+    !word.is_empty() && word.len() <= 16 && word[0].is_ascii_lowercase() && are_word_bytes(word)
+}
+
+/// The transaction that the word is, 1 to 64 bytes of `a` to `z` and `0` to `9`, or `None` where it is not one.
+pub fn transaction(word: &str) -> Option<&str>
+    ensures found { IsSome result ↔ IsWord word.now }
+    ensures value { IfSome result (λ bytes. bytes.now ≡ word.now) }
+{
+    is_transaction(word.as_bytes()).then_some(word)
+}
+
+fn is_transaction(word: &[u8]) -> bool
+    ensures { IsTrue result ↔ IsWord word.now }
+{
+    !word.is_empty() && word.len() <= 64 && are_word_bytes(word)
+}
+
+fn are_word_bytes(bytes: &[u8]) -> bool
+    ensures { IsTrue result ↔ AllPass is_word_byte bytes.now }
+{
+    bytes
+        .iter()
+        .all(|byte| byte.is_ascii_lowercase() || byte.is_ascii_digit())
+}
+
+/// The number that the word spells, decimal and without leading zeros, or `None` where it spells none below 2^64.
+pub fn number(word: &str) -> Option<u64>
+    ensures spelled { IfSome result (λ n. word.now ≡ decimal n) }
+    ensures found { (n : ℕ) → n < 2 ^ 64 → word.now ≡ decimal n → result ≡ Some n }
+{
+    if is_plain(word.as_bytes()) {
+        word.parse().ok()
+    } else {
+        None
+    }
+}
+
+// Without the plus sign and the leading zeros that `parse` takes as well.
+fn is_plain(word: &[u8]) -> bool
+    ensures { IsTrue result ↔ IsPlain word.now }
+{
+    !word.is_empty() && word[0] != b'+' && (word[0] != b'0' || word.len() == 1)
+}
+
+/// The elements of a list: of words parted by commas, or none of `-`. Each word must be an element, or the list is bad.
+pub fn list<'a, T: Drop, F: Fn(&'a str) -> Option<T>>(
+    alloc: Global,
+    text: &'a str,
+    element: F,
+) -> Result<Vec<T>, LineFault>
+    requires { F.IsAlwaysCallable element }
+{
+    let mut elements = Vec::new(alloc);
+    if text != "-" {
+        for word in text.split(',') {
+            elements.push(element(word).ok_or(LineFault::Bad)?)?;
+        }
+    }
+    Ok(elements)
+}
