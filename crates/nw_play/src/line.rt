@@ -7,7 +7,7 @@ use nw_digest::Round;
 use std::alloc::Global;
 
 /// What a line says, before it is known whether it can be played there.
-#[derive(Debug, PartialEq, Eq, Drop)]
+#[derive(Debug, Drop)]
 pub enum Line<'a> {
     /// An empty line or a comment.
     Skipped,
@@ -20,7 +20,7 @@ pub enum Line<'a> {
 }
 
 /// A line that prints an answer.
-#[derive(Debug, PartialEq, Eq, Drop)]
+#[derive(Debug, Drop)]
 pub enum Request<'a> {
     /// `block <name> <author> <round> <parents> <words>`
     Block {

@@ -191,6 +191,7 @@ impl<'a> Player<'a> {
         Ok(Answer::Bound { name, body })
     }
 
+    // A bound block fits, so it has a message, whose text is decoded. A write is answered by the reply to a write.
     fn write(&mut self, alloc: Global, name: Name<'a>) -> Result<Answer<'a>, LineFault> {
         let text = encode_message(alloc, &self.bound(name)?.message)?;
         let Message::Block { block, .. } = decode_message(alloc, text.as_slice())?;
@@ -215,7 +216,7 @@ impl<'a> Player<'a> {
         }
     }
 
-    // The reply to the next call of session 0, or `None` where the history is full.
+    // The reply to the next call of session 0, or `None` where the history is full. Each number is in turn.
     fn step(&mut self, alloc: Global, command: &Command) -> Result<Option<Reply>, LineFault>
         requires { CommandFits command.now }
     {
@@ -231,7 +232,7 @@ impl<'a> Player<'a> {
         }
     }
 
-    // The reply to a write of the name, with the first name of a digest in its place.
+    // The reply to a write of the name, with the first name of a digest in its place: each digest that is held has one.
     fn written(&self, name: Name<'a>, reply: WriteReply) -> Result<Answer<'a>, LineFault> {
         let reply = match reply {
             WriteReply::Collected(floor) => Written::Collected(floor),
