@@ -40,7 +40,12 @@ mod tests {
     #[test]
     fn each_outcome_has_its_status(rt: HostRuntime) {
         assert_eq!(rt; status(Ok(())), 0);
-        for fault in [PlayFault::Read, PlayFault::Write, PlayFault::TooLong, PlayFault::NoMemory] {
+        for fault in [
+            PlayFault::Read,
+            PlayFault::Write,
+            PlayFault::TooLong,
+            PlayFault::NoMemory,
+        ] {
             assert_eq!(rt; status(Err(fault)), 1, "{fault}");
         }
         assert_eq!(rt; status(Err(PlayFault::BadLine { line: 3 })), 2);
