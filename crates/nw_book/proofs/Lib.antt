@@ -1,2 +1,4 @@
 pub mod Longer
 pub mod Stands
+pub mod Opened
+pub mod Making

@@ -4,7 +4,7 @@ use Rattle.std.proofs.lemmas.Bool.{eqb-true}
 use Rattle.std.specs.Prelude.{◌==◌}
 use Rattle.std.proofs.lemmas.List.Elements.{All-push, filter-append}
 use Rattle.nw_model.specs.State.{State, opening}
-use Rattle.nw_model.specs.Step.{Bounds, after, IsReply}
+use Rattle.nw_model.specs.Step.{Bounds, after, IsReply, IsShort}
 use Rattle.nw_model.specs.History.{AreReplies, AreNumbered, IsKeyed, IsLegal, replay, events_of}
 use Rattle.nw_model.specs.declared.event.Event.{Event}
 
@@ -12,9 +12,9 @@ pub replay_last : (b : Bounds) (s : State) (es : List Event) (e : Event) → rep
 replay_last b s [] e = refl
 replay_last b s (x ∷ es) e = replay_last b (after b s x.call) es e
 
-replies_last : (b : Bounds) (s : State) (es : List Event) (e : Event) → AreReplies b s es → IsReply b (replay b s es) e.call e.reply → AreReplies b s (es ++ e ∷ [])
-replies_last b s [] e h is = (is, tt)
-replies_last b s (x ∷ es) e h is = (h.0, replies_last b (after b s x.call) es e h.1 is)
+replies_last : (b : Bounds) (s : State) (es : List Event) (e : Event) → AreReplies b s es → IsReply b (replay b s es) e.call e.reply → IsShort e.reply → AreReplies b s (es ++ e ∷ [])
+replies_last b s [] e h is short = (is, short, tt)
+replies_last b s (x ∷ es) e h is short = (h.0, h.1, replies_last b (after b s x.call) es e h.2 is short)
 
 numbered_last : (n : ℕ) (es : List Event) (e : Event) → AreNumbered n es → e.number ≡ n + length es → AreNumbered n (es ++ e ∷ [])
 numbered_last n [] e h is = (omega arith, tt)
@@ -32,10 +32,10 @@ same_session e session t = eqb-true e.session session t
 
 -- a legal history with one more event, whose reply is the step's and whose number is its session's next
 pub legal_last : (b : Bounds) (most sessions : ℕ) (es : List Event) (e : Event) → IsLegal b most sessions es
-    → IsReply b (replay b opening es) e.call e.reply → e.session < sessions → e.number ≡ length (events_of e.session es) + 1 → length es < most → IsKeyed e.call
+    → IsReply b (replay b opening es) e.call e.reply → IsShort e.reply → e.session < sessions → e.number ≡ length (events_of e.session es) + 1 → length es < most → IsKeyed e.call
     → IsLegal b most sessions (es ++ e ∷ [])
-legal_last b most sessions es e h reply below number room keyed = record {
-  replies = replies_last b opening es e h.replies reply;
+legal_last b most sessions es e h reply short below number room keyed = record {
+  replies = replies_last b opening es e h.replies reply short;
   numbered = λ session. rw (events_of_last session es e) (numbered_one (e.session == session) (events_of session es) e (h.numbered session)
       (λ t. let same : e.session ≡ session = same_session e session t in rw (← same) number));
   sessions = All-push (λ (x : Event). x.session < sessions) es e h.sessions below;

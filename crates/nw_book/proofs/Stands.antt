@@ -3,12 +3,15 @@ use Rattle.std.proofs.Common.{◌≡◌, ◌≢◌, ℕ, ◌+◌, ◌<◌, Bool,
 use Rattle.std.specs.Prelude.{◌==◌}
 use Rattle.std.proofs.lemmas.Bool.{eqb-true, eqb-false}
 use Rattle.std.proofs.lemmas.Grind.{get_or_default_zero}
-use Rattle.nw_model.specs.State.{opening}
-use Rattle.nw_model.specs.Step.{Tables, after, IsReply}
+use Rattle.nw_model.specs.State.{State, opening}
+use Rattle.nw_model.specs.Step.{Bounds, Tables, after, IsReply, IsShort}
 use Rattle.nw_model.specs.History.{IsKeyed, events_of}
+use Rattle.nw_digest.specs.declared.digest.Digest.{Digest}
 use Rattle.nw_model.specs.declared.call.Call.{Call}
+use Rattle.nw_model.specs.declared.call.Call.TheVariants as calls
 use Rattle.nw_model.specs.declared.event.Event.{Event}
 use Rattle.nw_model.specs.declared.reply.Reply.{Reply}
+use Rattle.nw_model.specs.declared.reply.Reply.TheVariants as reply
 use Rattle.nw_book.specs.declared.command.Command.{Command}
 use Rattle.nw_book.specs.declared.command.Command.TheVariants as command
 use Rattle.nw_book.specs.Command.{call_of}
@@ -18,17 +21,36 @@ use Rattle.nw_book.proofs.Longer.{replay_last, events_of_last, legal_last}
 -- what a command writes stands under its own digest
 keyed_of : (asked : Command) → IsKeyed (call_of asked)
 keyed_of (command.Write b) = refl
+keyed_of (command.Certify c) = tt
+keyed_of (command.Certificate d) = tt
 keyed_of (command.Read d) = tt
 
+-- the reply to a command is no list
+short_of : (bounds : Bounds) (s : State) (asked : Command) (given : Reply) → IsReply bounds s (call_of asked) given → IsShort given
+short_of bounds s (command.Write b) (reply.List blocks) is = is
+short_of bounds s (command.Certify c) (reply.List blocks) is = is
+short_of bounds s (command.Certificate d) (reply.List blocks) is = is
+short_of bounds s (command.Read d) (reply.List blocks) is = is
+short_of bounds s asked other is = tt
+
+-- the event of a call in its turn, with a reply that is no list, keeps the history legal
+pub legal_any : (t : Tables) (counts : List ℕ) (s : Story) (session number : ℕ) (called : Call) (given : Reply) (e : Event)
+    → StandFor t counts s → IsInTurn s session number → HasRoom s → IsKeyed called → IsReply (bounds_of s.limits) (state_of s) called given → IsShort given
+    → e ≡ record { session = session; number = number; call = called; reply = given } → IsLegalStory (with_event s e)
+legal_any t counts s session number called given e h turn room keyed is short event_is =
+    rw event_is (legal_last (bounds_of s.limits) s.limits.events s.limits.sessions s.events (record { session = session; number = number; call = called; reply = given })
+    h.legal is short turn.session_below turn.number_next room keyed)
+
 -- the event of a command in its turn keeps the history legal
-pub legal_next : (t : Tables) (counts : List ℕ) (s : Story) (session number : ℕ) (asked : Command) (called : Call) (reply : Reply) (e : Event)
-    → StandFor t counts s → IsInTurn s session number → HasRoom s → called ≡ call_of asked → IsReply t.bounds t.state called reply
-    → e ≡ record { session = session; number = number; call = called; reply = reply } → IsLegalStory (with_event s e)
-legal_next t counts s session number asked called reply e h turn room call_is reply_is event_is =
-    let is : IsReply (bounds_of s.limits) (state_of s) called reply = rw h.state at reply_is in
+pub legal_next : (t : Tables) (counts : List ℕ) (s : Story) (session number : ℕ) (asked : Command) (called : Call) (given : Reply) (e : Event)
+    → StandFor t counts s → IsInTurn s session number → HasRoom s → called ≡ call_of asked → IsReply t.bounds t.state called given
+    → e ≡ record { session = session; number = number; call = called; reply = given } → IsLegalStory (with_event s e)
+legal_next t counts s session number asked called given e h turn room call_is reply_is event_is =
+    let is : IsReply (bounds_of s.limits) (state_of s) called given = rw h.state at reply_is in
+    let asked_is : IsReply (bounds_of s.limits) (state_of s) (call_of asked) given = rw call_is at is in
+    let short : IsShort given = short_of (bounds_of s.limits) (state_of s) asked given asked_is in
     let keyed : IsKeyed called = rw call_is (keyed_of asked) in
-    rw event_is (legal_last (bounds_of s.limits) s.limits.events s.limits.sessions s.events (record { session = session; number = number; call = called; reply = reply })
-    h.legal is turn.session_below turn.number_next room keyed)
+    legal_any t counts s session number called given e h turn room keyed is short event_is
 
 one_more : (b : Bool) (es : List Event) (e : Event) → length (es ++ cond b (e ∷ []) []) ≡ length es + cond b 1 0
 one_more true es e = length-append es (e ∷ [])
@@ -68,3 +90,12 @@ stand_next t u counts s n e session place count h legal below own here value sto
           ∙ ap (λ x. record (tables_of s) { state = x }) (sym (replay_last (bounds_of s.limits) opening s.events e));
       counted = counts_next counts s e h.counted inside;
     })
+
+-- a reply to a call after the history is one at tables that stand for it
+pub reply_at : (t : Tables) (counts : List ℕ) (s : Story) (asked : Call) (given : Reply) → StandFor t counts s → IsReply (bounds_of s.limits) (state_of s) asked given
+    → IsReply t.bounds t.state asked given
+reply_at t counts s asked given h is = rw h.state is
+
+-- a causal read leaves the tables as they are
+pub causal_leaves : (t : Tables) (called : Call) (d : Digest) → called ≡ calls.Causal d → t ≡ record t { state = after t.bounds t.state called }
+causal_leaves t called d e = rw e refl

@@ -1,4 +1,6 @@
 pub mod Limits
 pub mod Story
+pub mod Ticket
 pub mod Command
 pub mod Takes
+pub mod Run

@@ -5,6 +5,8 @@ use Rattle.nw_model.specs.Step.{Bounds, Tables}
 use Rattle.nw_model.specs.History.{IsLegal, replay, events_of}
 use Rattle.nw_model.specs.declared.event.Event.{Event}
 use Rattle.nw_book.specs.declared.limits.Limits.{Limits}
+use Rattle.nw_book.specs.declared.error.NoStep.{NoStep}
+use Rattle.nw_book.specs.declared.error.NoStep.TheVariants as refusals
 use Rattle.nw_book.specs.Limits.{AreInRange}
 
 -- a list of events, and limits
@@ -37,9 +39,19 @@ pub record IsInTurn (s : Story) (session number : ℕ) : Type 0 where
   pub session_below : session < s.limits.sessions
   pub number_next : number ≡ length (events_of session s.events) + 1
 
+-- the number of the session's next call
+abbrev pub next_number : Story → ℕ → ℕ
+next_number s session = length (events_of session s.events) + 1
+
 -- fewer events than the limit allows
 abbrev pub HasRoom : Story → Type 0
 HasRoom s = length s.events < s.limits.events
+
+-- why a call of the session with the number takes no step: it is out of turn; else there is no room in the history; else memory was refused
+abbrev pub IsRefusal : Story → ℕ → ℕ → NoStep → Type 0
+IsRefusal s session number refusals.OutOfTurn = IsInTurn s session number → ⊥
+IsRefusal s session number refusals.HistoryFull = IsInTurn s session number × (HasRoom s → ⊥)
+IsRefusal s session number refusals.NoMemory = IsInTurn s session number × HasRoom s
 
 -- the list has the number of events of each session, by session
 pub record AreCounts (counts : List ℕ) (s : Story) : Type 0 where

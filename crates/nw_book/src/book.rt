@@ -1,13 +1,16 @@
 //! Books: a history, and the tables that its calls leave.
-ghost use Rattle.std.specs.Prelude.{◌≡◌, ◌↔◌, [], IsTrue, IfOk, OnOk, OnErr};
-ghost use Rattle.std.specs.Result.{IsErrOf};
+ghost use Rattle.std.specs.Prelude.{◌≡◌, ◌↔◌, [], IsTrue, IfOk, IfErr, OnOk, OnErr};
+ghost use Rattle.std.specs.Result.{IsErrOf, MatchResult};
+ghost use Rattle.nw_model.specs.Step.{IsReply, IsShort};
+ghost use Rattle.nw_model.specs.View.{Shows};
 ghost use Rattle.nw_book.specs.Limits.{AreInRange};
-ghost use Rattle.nw_book.specs.Story.{IsLegalStory, IsInTurn, HasRoom};
+ghost use Rattle.nw_book.specs.Story.{IsLegalStory, IsInTurn, HasRoom, IsRefusal, next_number, bounds_of, state_of, with_event};
+ghost use Rattle.nw_book.specs.Ticket.{Opens, causal_event};
 ghost use Rattle.nw_book.specs.Command.{CommandFits, call_of};
 
-use crate::{BookError, Command, Front, History, Limits, NoStep};
-use nw_digest::Shared;
-use nw_model::{Event, Plain, Reply};
+use crate::{BookError, Command, Front, History, Limits, NoStep, Ticket};
+use nw_digest::{Digest, NoMemory, Shared};
+use nw_model::{Call, CausalReply, Event, Plain, Reply, View};
 use std::alloc::Global;
 use std::marker::Model;
 
@@ -39,7 +42,7 @@ impl Model for Book {
 }
 
 impl Book {
-    ghost use Rattle.nw_book.specs.Takes.{Takes};
+    ghost use Rattle.nw_book.specs.Takes.{Takes, Refuses};
 
     /// A book with an empty history. `BadLimits` exactly where a limit is outside its range, else `NoMemory` where memory
     /// is refused.
@@ -86,12 +89,7 @@ impl Book {
         ensures no_memory { IsErrOf result NoStep.NoMemory → IsInTurn self.old session number × HasRoom self.old }
         ensures unchanged { OnErr result (self.new ≡ self.old) }
     {
-        if !self.is_in_turn(session, number) {
-            return Err(NoStep::OutOfTurn);
-        }
-        if !self.has_room() {
-            return Err(NoStep::HistoryFull);
-        }
+        self.may_step(session, number)?;
         let call = command.call()?;
         let reply = self.tables.reply(&call)?;
         let event = Event {
@@ -105,6 +103,113 @@ impl Book {
         let reply = self.history.record(&mut self.tables, event)?;
         self.calls[usize::from(session)] += 1;
         Ok(Done { reply, front })
+    }
+
+    /// Takes the step of a session's causal read, its calls numbered from 1, and records it.
+    ///
+    /// Where the block and its certified ancestors can be listed, the history gets the reply `Ready`, and the ticket gives the
+    /// list at any later time. Else the answer's reply says why: `Unknown`, `Uncertified` or `Incomplete`.
+    ///
+    /// It is refused as a step is: `OutOfTurn` exactly where it is not the turn of this number of the session, else
+    /// `HistoryFull` exactly where the history has as many events as its limit, else `NoMemory` where memory is refused. A
+    /// refusal changes nothing.
+    pub fn open(
+        &mut self,
+        alloc: Global,
+        session: u16,
+        number: u32,
+        digest: Digest,
+    ) -> Result<Result<Ticket, Done>, NoStep>
+        ensures answered { IfOk result (λ answer. MatchResult answer (Opens self.old self.new session number digest) (Refuses self.old self.new session number digest)) }
+        ensures in_turn { OnOk result (IsInTurn self.old session number × HasRoom self.old) }
+        ensures out_of_turn { IsErrOf result NoStep.OutOfTurn ↔ (IsInTurn self.old session number → ⊥) }
+        ensures full { IsErrOf result NoStep.HistoryFull ↔ (IsInTurn self.old session number × (HasRoom self.old → ⊥)) }
+        ensures no_memory { IsErrOf result NoStep.NoMemory → IsInTurn self.old session number × HasRoom self.old }
+        ensures unchanged { OnErr result (self.new ≡ self.old) }
+    {
+        self.may_step(session, number)?;
+        match self.freeze_for(digest)? {
+            Ok(view) => {
+                let front = self.record_causal(alloc, session, number, digest, Reply::Ready)?;
+                Ok(Ok(Ticket::new(digest, front, view)))
+            }
+            Err(refusal) => {
+                let reply = Reply::Causal(refusal);
+                let front = self.record_causal(alloc, session, number, digest, reply)?;
+                let reply = Reply::Causal(refusal);
+                Ok(Err(Done { reply, front }))
+            }
+        }
+    }
+
+    /// A view of what is complete after the history, where the block under the digest is; else why it is not given.
+    fn freeze_for(&self, digest: Digest) -> Result<Result<View, CausalReply>, NoMemory>
+        ensures { IfOk result (λ frozen. MatchResult frozen
+            (λ view. IsReply (bounds_of self.now.limits) (state_of self.now) (Call.Causal digest) Reply.Ready × Shows view (state_of self.now))
+            (λ refusal. IsReply (bounds_of self.now.limits) (state_of self.now) (Call.Causal digest) (Reply.Causal refusal))) }
+    {
+        self.tables.freeze_for(digest)
+    }
+
+    /// Records a causal read in its turn, which leaves the tables as they are. The front is the history with it.
+    fn record_causal(
+        &mut self,
+        alloc: Global,
+        session: u16,
+        number: u32,
+        digest: Digest,
+        reply: Reply,
+    ) -> Result<Front, NoMemory>
+        requires turn { IsInTurn self.old session number }
+        requires room { HasRoom self.old }
+        requires reply { IsReply (bounds_of self.old.limits) (state_of self.old) (Call.Causal digest) reply }
+        requires short { IsShort reply }
+        ensures history { OnOk result (self.new ≡ with_event self.old (causal_event session number digest reply)) }
+        ensures front { IfOk result (λ front. front ≡ self.new) }
+        ensures legal { OnOk result (IsLegalStory self.new) }
+        ensures unchanged { OnErr result (self.new ≡ self.old) }
+    {
+        let call = Call::Causal(digest);
+        let event = Event {
+            session,
+            number,
+            call,
+            reply,
+        };
+        let event = Shared::new(alloc, event)?;
+        let front = self.history.front_with(alloc, &event)?;
+        self.history.append(event)?;
+        let place = usize::from(session);
+        self.calls[place] += 1;
+        Ok(front)
+    }
+
+    /// The number of the session's next call, where it may take a step; else why not.
+    pub(crate) fn next_number(&self, session: u16) -> Result<u32, NoStep>
+        ensures number { IfOk result (λ number. number ≡ next_number self.now session) }
+        ensures refused { IfErr result (IsRefusal self.now session (next_number self.now session)) }
+        ensures taken { OnOk result (IsInTurn self.now session (next_number self.now session) × HasRoom self.now) }
+    {
+        match self.calls.get(usize::from(session)) {
+            None => Err(NoStep::OutOfTurn),
+            Some(_) if !self.has_room() => Err(NoStep::HistoryFull),
+            Some(calls) => Ok(*calls + 1),
+        }
+    }
+
+    /// Whether a call of the session with the number may take a step; else why not.
+    fn may_step(&self, session: u16, number: u32) -> Result<(), NoStep>
+        ensures taken { OnOk result (IsInTurn self.now session number × HasRoom self.now) }
+        ensures refused { IfErr result (IsRefusal self.now session number) }
+        ensures no_memory { IsErrOf result NoStep.NoMemory → ⊥ }
+    {
+        if !self.is_in_turn(session, number) {
+            return Err(NoStep::OutOfTurn);
+        }
+        if !self.has_room() {
+            return Err(NoStep::HistoryFull);
+        }
+        Ok(())
     }
 
     /// Whether the session is below its limit and the number is one more than its events so far.

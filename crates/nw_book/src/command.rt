@@ -2,15 +2,19 @@
 ghost use Rattle.std.specs.Prelude.{◌≡◌, IfOk};
 ghost use Rattle.nw_book.specs.Command.{CommandFits, call_of};
 
-use nw_codec::{Block, block_digest};
+use nw_codec::{Block, Certificate, block_digest};
 use nw_digest::{Digest, NoMemory, Shared};
 use nw_model::Call;
 
-/// What a session asks. A block to be written fits the format (`Block::fits`).
+/// What a session asks. A block to be written and a certificate fit the format (`Block::fits`, `Certificate::fits`).
 #[derive(Debug, Drop)]
 pub enum Command {
     /// Store the block under its digest.
     Write(Shared<Block>),
+    /// Keep the certificate of a digest.
+    Certify(Shared<Certificate>),
+    /// The certificate that is kept for the digest.
+    Certificate(Digest),
     /// The block that is held under the digest.
     Read(Digest),
 }
@@ -26,6 +30,8 @@ impl Command {
                 let digest = block_digest(block.get());
                 Ok(Call::Write(digest, block.try_clone()?))
             }
+            Command::Certify(certificate) => Ok(Call::Certify(certificate.try_clone()?)),
+            Command::Certificate(digest) => Ok(Call::Certificate(*digest)),
             Command::Read(digest) => Ok(Call::Read(*digest)),
         }
     }

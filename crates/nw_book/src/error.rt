@@ -49,3 +49,14 @@ impl From<NoMemory> for NoStep {
         NoStep::NoMemory
     }
 }
+
+impl From<AllocError> for NoStep {
+    ghost use Rattle.std.specs.Prelude.{◌≡◌};
+    ghost use Rattle.nw_book.specs.declared.error.NoStep.TheVariants as refusal;
+
+    ghost from_gives = { λ _ e. e ≡ refusal.NoMemory };
+
+    fn from(_error: AllocError) -> NoStep {
+        NoStep::NoMemory
+    }
+}

@@ -78,7 +78,7 @@ impl History {
         requires { IsLegalStory (with_event self.now event.now) }
         ensures { IfOk result (λ front. front ≡ with_event self.now event.now) }
     {
-        let mut events = Vec::new(alloc);
+        let mut events = Vec::with_capacity(alloc, self.events.len() + 1)?;
         for held in &self.events {
             events.push(held.try_clone()?)?;
         }
@@ -104,5 +104,15 @@ impl History {
         let reply = tables.call(&event.get().call)?;
         self.events.push_reserved(event);
         Ok(reply)
+    }
+
+    /// Records the event of a call that leaves the tables as they are.
+    pub(crate) fn append(&mut self, event: Shared<Event>) -> Result<(), NoMemory>
+        requires { IsLegalStory (with_event self.old event) }
+        ensures history { OnOk result (self.new ≡ with_event self.old event) }
+        ensures unchanged { OnErr result (self.new ≡ self.old) }
+    {
+        self.events.push(event)?;
+        Ok(())
     }
 }

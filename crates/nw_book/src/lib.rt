@@ -1,7 +1,8 @@
 //! A history that grows, and fronts of it that never change.
 //!
 //! Its contract: a step that the book takes adds one event to a legal history, and the answer carries the history up to
-//! and with that event; a step that it refuses changes nothing. It stands on `nw_model` for what is legal, and on
+//! and with that event; a step that it refuses changes nothing. A causal read is opened by a step of its own, and its
+//! ticket gives the list of that step at any later time. It stands on `nw_model` for what is legal, and on
 //! `nw_codec` for the digest of a block.
 #![tactic(auto)]
 
@@ -11,6 +12,8 @@ mod error;
 mod front;
 mod history;
 mod limits;
+mod run;
+mod ticket;
 
 pub use book::{Book, Done};
 pub use command::Command;
@@ -18,6 +21,8 @@ pub use error::{BookError, NoStep};
 pub use front::Front;
 pub use history::History;
 pub use limits::Limits;
+pub use run::{Answer, Cause, Move, Run, Stop};
+pub use ticket::Ticket;
 
 #[cfg(test)]
 mod tests;

@@ -8,6 +8,9 @@ use nw_model::{Call, Reply, WriteReply};
 use std::alloc::Global;
 use std::test::Fail;
 
+mod causal;
+mod diamond;
+
 fn limits(blocks: u32, events: u32, window: u32, sessions: u32) -> Limits {
     Limits {
         blocks,

@@ -1,10 +1,11 @@
--- A state with one more block.
+-- A state with one more block or certificate.
 use Rattle.std.proofs.Common.{◌≡◌, true, false, Option, Some, None, IsNone, refl}
 use Rattle.std.specs.FinMap.{FinMap, insert}
 use Rattle.nw_digest.specs.declared.digest.Digest.{Digest}
 use Rattle.nw_codec.specs.declared.block.Block.{Block}
+use Rattle.nw_codec.specs.declared.certificate.Certificate.{Certificate}
 use Rattle.nw_model.specs.State.{State, block_slot, digest_cmp, slot_cmp}
-use Rattle.nw_model.specs.Step.{with_block}
+use Rattle.nw_model.specs.Step.{with_block, with_certificate}
 
 pub held : (s : State) (blocks : FinMap digest_cmp Block) (d : Digest) (b : Block) → blocks ≡ insert s.blocks d b → record s { blocks = blocks } ≡ with_block s d b false
 held s blocks d b e = λ i. record s { blocks = e i }
@@ -12,6 +13,9 @@ held s blocks d b e = λ i. record s { blocks = e i }
 pub held_first : (s : State) (blocks : FinMap digest_cmp Block) (firsts : FinMap slot_cmp Digest) (d : Digest) (b : Block)
     → blocks ≡ insert s.blocks d b → firsts ≡ insert s.firsts (block_slot b) d → record s { blocks = blocks; firsts = firsts } ≡ with_block s d b true
 held_first s blocks firsts d b e f = λ i. record s { blocks = e i; firsts = f i }
+
+pub held_certificate : (s : State) (certificates : FinMap digest_cmp Certificate) (c : Certificate) → certificates ≡ insert s.certificates c.digest c → record s { certificates = certificates } ≡ with_certificate s c
+held_certificate s certificates c e = λ i. record s { certificates = e i }
 
 pub absent : {A : Type 0} (found : Option A) → IsNone found → found ≡ None
 absent None h = refl

@@ -1,16 +1,21 @@
 -- What each call answers, and what it leaves.
-use Rattle.std.specs.Prelude.{◌≡◌, ◌==◌, ◌&&◌, ℕ, ◌+◌, Bool, false, not, nat_lt, nat_le, Option, Some, None, is_some, option_and_then, if◌then◌else◌, refl}
+use Rattle.std.specs.Prelude.{◌≡◌, ◌==◌, ◌&&◌, ℕ, ◌+◌, Bool, false, not, nat_lt, nat_le, List, Option, Some, None, IsSome, is_some, option_and_then, find, if◌then◌else◌, refl}
 use Rattle.std.specs.Coded.{Coded, code_by, coded×, coded_ℕ}
 use Rattle.std.specs.Option.{option_map_or}
-use Rattle.std.specs.FinMap.{get, insert, len}
+use Rattle.std.specs.FinMap.{get, insert, len, keys}
 use Rattle.nw_digest.specs.declared.digest.Digest.{Digest}
 use Rattle.nw_codec.specs.Same.{same_block, same_bytes}
 use Rattle.nw_codec.specs.declared.block.Block.{Block}
+use Rattle.nw_codec.specs.declared.certificate.Certificate.{Certificate}
 use Rattle.nw_model.specs.State.{State, Slot, block_slot, certificate_slot, coded_state}
+use Rattle.nw_model.specs.Paths.{IsComplete, IsCausalList}
 use Rattle.nw_model.specs.declared.call.Call.{Call}
 use Rattle.nw_model.specs.declared.call.Call.TheVariants as call
 use Rattle.nw_model.specs.declared.reply.WriteReply.{WriteReply}
 use Rattle.nw_model.specs.declared.reply.WriteReply.TheVariants as write
+use Rattle.nw_model.specs.declared.reply.CertifyReply.{CertifyReply}
+use Rattle.nw_model.specs.declared.reply.CertifyReply.TheVariants as certify
+use Rattle.nw_model.specs.declared.reply.CausalReply.TheVariants as causal
 use Rattle.nw_model.specs.declared.reply.Reply.{Reply}
 use Rattle.nw_model.specs.declared.reply.Reply.TheVariants as reply
 
@@ -70,17 +75,76 @@ abbrev pub after_write : State → Digest → Block → WriteReply → State
 after_write s d b (write.Stored vote) = with_block s d b vote
 after_write s d b other = s
 
+-- whether this digest is certified for the slot
+abbrev pub is_certified_for : State → Slot → Digest → Bool
+is_certified_for s slot d = option_map_or (λ c. is_slot (certificate_slot c) slot) (get s.certificates d) false
+
+-- the digest that is certified for the slot, if there is one
+abbrev pub certified_digest : State → Slot → Option Digest
+certified_digest s slot = find (is_certified_for s slot) (keys s.certificates)
+
+-- the replies to a certificate, in the order in which they are tested
+abbrev pub certify_reply : Bounds → State → Certificate → CertifyReply
+certify_reply bounds s c =
+    if nat_lt c.round s.floor then certify.Collected s.floor
+    else if nat_le (s.floor + bounds.window) c.round then certify.TooFar
+    else if is_certified_for s (certificate_slot c) c.digest then certify.Already
+    else if is_some (get s.certificates c.digest) then certify.Misfit
+    else if is_elsewhere block_slot (get s.blocks c.digest) (certificate_slot c) then certify.Misfit
+    else option_map_or certify.Conflict (certified_digest s (certificate_slot c))
+    (if nat_le bounds.blocks (len s.certificates) then certify.Full else certify.Certified)
+
+-- the certificate stands under its digest
+abbrev pub with_certificate : State → Certificate → State
+with_certificate s c = record s { certificates = insert s.certificates c.digest c }
+
+-- a certificate changes the state where its reply is Certified
+abbrev pub after_certify : State → Certificate → CertifyReply → State
+after_certify s c certify.Certified = with_certificate s c
+after_certify s c other = s
+
 -- what a call leaves
 abbrev pub after : Bounds → State → Call → State
 after bounds s (call.Write d b) = after_write s d b (write_reply bounds s d b)
-after bounds s (call.Read d) = s
+after bounds s (call.Certify c) = after_certify s c (certify_reply bounds s c)
+after bounds s other = s
+
+-- the replies to a causal read; Ready stands for the list
+abbrev pub IsCausalReply : State → Digest → Reply → Type 0
+IsCausalReply s d (reply.Causal causal.Unknown) = get s.blocks d ≡ None
+IsCausalReply s d (reply.Causal causal.Uncertified) = IsSome (get s.blocks d) × (get s.certificates d ≡ None)
+IsCausalReply s d (reply.Causal causal.Incomplete) = IsSome (get s.blocks d) × IsSome (get s.certificates d) × (IsComplete s d → ⊥)
+IsCausalReply s d reply.Ready = IsComplete s d
+IsCausalReply s d (reply.List blocks) = IsComplete s d × IsCausalList s d blocks
+IsCausalReply s d (reply.Write r) = ⊥
+IsCausalReply s d (reply.Certify r) = ⊥
+IsCausalReply s d (reply.Certificate r) = ⊥
+IsCausalReply s d (reply.Read r) = ⊥
 
 -- the reply to each call
 abbrev pub IsReply : Bounds → State → Call → Reply → Type 0
 IsReply bounds s (call.Write d b) (reply.Write r) = r ≡ write_reply bounds s d b
+IsReply bounds s (call.Certify c) (reply.Certify r) = r ≡ certify_reply bounds s c
+IsReply bounds s (call.Certificate d) (reply.Certificate r) = r ≡ get s.certificates d
 IsReply bounds s (call.Read d) (reply.Read r) = r ≡ get s.blocks d
+IsReply bounds s (call.Causal d) r = IsCausalReply s d r
 IsReply bounds s asked other = ⊥
 
--- two replies to one call at one state are equal
+-- a reply that a history may record: no list
+abbrev pub IsShort : Reply → Type 0
+IsShort (reply.List blocks) = ⊥
+IsShort other = Unit {0}
+
+-- the reply as a history records it: Ready in place of a list
+abbrev pub shortened : Reply → Reply
+shortened (reply.List blocks) = reply.Ready
+shortened other = other
+
+-- the two replies are one, but that Ready may stand for the list
+pub record AreOneReply (one other : Reply) : Type 0 where
+  pub short : shortened one ≡ shortened other
+  pub list : (blocks others : List Block) → one ≡ reply.List blocks → other ≡ reply.List others → blocks ≡ others
+
+-- two replies to one call at one state are one
 abbrev pub StepIsAFunction : Type 0
-StepIsAFunction = (bounds : Bounds) (s : State) (asked : Call) (one other : Reply) → IsReply bounds s asked one → IsReply bounds s asked other → one ≡ other
+StepIsAFunction = (bounds : Bounds) (s : State) (asked : Call) (one other : Reply) → IsReply bounds s asked one → IsReply bounds s asked other → AreOneReply one other

@@ -9,12 +9,19 @@ mod event;
 mod laws;
 mod plain;
 mod reply;
+mod view;
+mod walks;
 
 pub use call::Call;
 pub use event::Event;
-pub use laws::step_is_a_function;
+pub use laws::{
+    a_causal_list_contains_those_of_its_blocks, a_legal_history_leaves_a_sound_state,
+    ancestors_in_a_view_are_the_states, step_is_a_function,
+};
 pub use plain::Plain;
-pub use reply::{Reply, WriteReply};
+pub use reply::{CausalReply, CertifyReply, Reply, WriteReply};
+pub use view::View;
+pub use walks::walk;
 
 #[cfg(test)]
 mod tests;

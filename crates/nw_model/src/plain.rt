@@ -1,14 +1,17 @@
 //! A slow store over ordered maps.
-ghost use Rattle.std.specs.Prelude.{◌≡◌, IfOk, OnOk, OnErr, IsNone, IsTrue, true, if◌then◌else◌};
+ghost use Rattle.std.specs.Prelude.{◌≡◌, ◌↔◌, ◌≤◌, ℕ, IfOk, OnOk, OnErr, IsNone, None, IsTrue, true, false, All, if◌then◌else◌};
 ghost use Rattle.std.specs.Option.{option_copied};
+ghost use Rattle.std.specs.Result.{MatchResult};
 ghost use Rattle.std.specs.BTreeMap.{get, insert_entry, IsUnchanged};
 ghost use Rattle.std.specs.FinMap as map;
 ghost use Rattle.nw_model.specs.State.{Slot, opening, block_slot, certificate_slot, digest_cmp, slot_cmp};
-ghost use Rattle.nw_model.specs.Step.{IsReply, after, write_reply, is_elsewhere, rival, with_block};
+ghost use Rattle.nw_model.specs.Paths.{IsComplete};
+ghost use Rattle.nw_model.specs.View.{Shows, AreComplete, AddsIfComplete, HasParent};
+ghost use Rattle.nw_model.specs.Step.{IsReply, IsCausalReply, after, write_reply, certify_reply, certified_digest, is_elsewhere, rival, with_block, with_certificate};
 
-use crate::{Call, Reply, WriteReply};
-use nw_codec::{Block, Certificate};
-use nw_digest::{Digest, NoMemory, Round, Shared};
+use crate::{Call, CausalReply, CertifyReply, Reply, View, WriteReply, walk};
+use nw_codec::{Block, Certificate, Ref};
+use nw_digest::{Digest, NoMemory, Round, Sequence, Shared};
 use std::alloc::Global;
 use std::collections::BTreeMap;
 use std::collections::btree_map::Entry;
@@ -21,13 +24,17 @@ pub struct Plain {
     blocks: BTreeMap<Digest, Shared<Block>>,
     certificates: BTreeMap<Digest, Shared<Certificate>>,
     firsts: BTreeMap<(Round, u16), Digest>,
+    /// The digest that is certified for each round and author.
+    certified: BTreeMap<(Round, u16), Digest>,
     floor: Round,
     most: u32,
     window: u32,
+    alloc: Global,
 }
 
 impl Model for Plain {
     ghost use Rattle.std.specs.FinMap as map;
+    ghost use Rattle.nw_model.specs.Sound.{IsKept};
     ghost use Rattle.nw_model.specs.Step.{Tables, coded_tables};
 
     ghost Value = { Tables };
@@ -38,6 +45,10 @@ impl Model for Plain {
       bounds = record { blocks = p.most; window = p.window };
       state = record { blocks = map.from_entries p.blocks.entries; certificates = map.from_entries p.certificates.entries; firsts = map.from_entries p.firsts.entries; floor = p.floor };
     } };
+
+    ghost invariant = { λ p. IsKept
+        (record { blocks = map.from_entries p.blocks.entries; certificates = map.from_entries p.certificates.entries; firsts = map.from_entries p.firsts.entries; floor = p.floor })
+        (map.from_entries p.certified.entries) };
 }
 
 impl Plain {
@@ -51,9 +62,11 @@ impl Plain {
             blocks: BTreeMap::new(alloc),
             certificates: BTreeMap::new(alloc),
             firsts: BTreeMap::new(alloc),
+            certified: BTreeMap::new(alloc),
             floor: Round::ZERO,
             most: blocks,
             window,
+            alloc,
         }
     }
 
@@ -67,10 +80,14 @@ impl Plain {
         ensures unchanged { OnErr result (self.new ≡ self.old) }
     {
         let reply = self.reply(call)?;
-        if let (Call::Write(digest, block), Reply::Write(WriteReply::Stored { vote })) = (
-            call, &reply,
-        ) {
-            self.store(*digest, block.try_clone()?, *vote)?;
+        match (call, &reply) {
+            (Call::Write(digest, block), Reply::Write(WriteReply::Stored { vote })) => {
+                self.store(*digest, block.try_clone()?, *vote)?;
+            }
+            (Call::Certify(certificate), Reply::Certify(CertifyReply::Certified)) => {
+                self.certify(certificate.try_clone()?)?;
+            }
+            _ => {}
         }
         Ok(reply)
     }
@@ -83,7 +100,12 @@ impl Plain {
             Call::Write(digest, block) => {
                 Ok(Reply::Write(self.write_reply(digest, block.get())))
             }
+            Call::Certify(certificate) => {
+                Ok(Reply::Certify(self.certify_reply(certificate.get())))
+            }
+            Call::Certificate(digest) => Ok(Reply::Certificate(self.read_certificate(digest)?)),
             Call::Read(digest) => Ok(Reply::Read(self.read(digest)?)),
+            Call::Causal(digest) => self.causal_reply(*digest),
         }
     }
 
@@ -153,6 +175,137 @@ impl Plain {
         }
     }
 
+    /// A view of the complete blocks, where the block under the digest is complete; else why it is not given.
+    pub fn freeze_for(&self, digest: Digest) -> Result<Result<View, CausalReply>, NoMemory>
+        ensures { IfOk result (λ frozen. MatchResult frozen
+            (λ view. IsComplete self.now.state digest × Shows view self.now.state)
+            (λ refusal. IsCausalReply self.now.state digest (Reply.Causal refusal))) }
+    {
+        if self.block(&digest).is_none() {
+            return Ok(Err(CausalReply::Unknown));
+        }
+        if self.certificate(&digest).is_none() {
+            return Ok(Err(CausalReply::Uncertified));
+        }
+        let complete = self.complete_blocks()?;
+        if !complete.contains_key(&digest) {
+            return Ok(Err(CausalReply::Incomplete));
+        }
+        Ok(Ok(View::new(complete, self.floor)))
+    }
+
+    /// The complete blocks. Certified digests are taken by round, so that a block's parents come before it.
+    fn complete_blocks(&self) -> Result<BTreeMap<Digest, Shared<Block>>, NoMemory>
+        ensures { IfOk result (λ complete. AreComplete self.now.state (map.from_entries complete.entries)) }
+    {
+        let mut complete = BTreeMap::new(self.alloc);
+        for (_slot, digest) in self.certified.iter() {
+            self.add_if_complete(&mut complete, digest)?;
+        }
+        Ok(complete)
+    }
+
+    /// Adds the block that is held under the digest where it is of the garbage round, or has its parents among the others.
+    fn add_if_complete(
+        &self,
+        complete: &mut BTreeMap<Digest, Shared<Block>>,
+        digest: &Digest,
+    ) -> Result<(), NoMemory>
+        ensures { OnOk result (AddsIfComplete self.now.state (map.from_entries complete.old.entries) (map.from_entries complete.new.entries) digest.now) }
+    {
+        if let Some(block) = self.blocks.get(digest) {
+            let held = block.get();
+            if held.round <= self.floor || has_parents(complete, held) {
+                complete.insert(*digest, block.try_clone()?)?;
+            }
+        }
+        Ok(())
+    }
+
+    /// The reply that a causal read would get now, with its list.
+    fn causal_reply(&self, digest: Digest) -> Result<Reply, NoMemory>
+        ensures { IfOk result (IsCausalReply self.now.state digest) }
+    {
+        match self.freeze_for(digest)? {
+            Err(refusal) => Ok(Reply::Causal(refusal)),
+            Ok(view) => {
+                let blocks = walk(self.alloc, &view, digest)?;
+                Ok(Reply::List(Sequence::new(blocks)))
+            }
+        }
+    }
+
+    /// The certificate that is held for the digest.
+    fn read_certificate(&self, digest: &Digest) -> Result<Option<Shared<Certificate>>, NoMemory>
+        ensures { IfOk result (λ found. found ≡ map.get self.now.state.certificates digest.now) }
+    {
+        match self.certificates.get(digest) {
+            None => Ok(None),
+            Some(certificate) => Ok(Some(certificate.try_clone()?)),
+        }
+    }
+
+    /// The reply that a certificate would get now.
+    fn certify_reply(&self, certificate: &Certificate) -> CertifyReply
+        ensures { result ≡ certify_reply self.now.bounds self.now.state certificate.now }
+    {
+        let slot = (certificate.round, certificate.author);
+        if certificate.round < self.floor {
+            return CertifyReply::Collected(self.floor);
+        }
+        if certificate.round.get() >= self.floor.get() + u64::from(self.window) {
+            return CertifyReply::TooFar;
+        }
+        if let Some(held) = self.certificate(&certificate.digest) {
+            return if (held.round, held.author) == slot {
+                CertifyReply::Already
+            } else {
+                CertifyReply::Misfit
+            };
+        }
+        if let Some(block) = self.block(&certificate.digest) {
+            if (block.round, block.author) != slot {
+                return CertifyReply::Misfit;
+            }
+        }
+        if let Some(other) = self.certified_digest(slot) {
+            return CertifyReply::Conflict(other);
+        }
+        if self.kept() >= self.most as usize {
+            return CertifyReply::Full;
+        }
+        CertifyReply::Certified
+    }
+
+    /// The digest that is certified for the slot.
+    fn certified_digest(&self, slot: (Round, u16)) -> Option<Digest>
+        ensures { result ≡ certified_digest self.now.state slot }
+    {
+        self.certified.get(&slot).copied()
+    }
+
+    /// Keeps the certificate.
+    fn certify(&mut self, certificate: Shared<Certificate>) -> Result<(), NoMemory>
+        requires absent { IsNone (map.get self.old.state.certificates certificate.digest) }
+        requires open { certified_digest self.old.state (certificate_slot certificate) ≡ None }
+        requires misfit { is_elsewhere block_slot (map.get self.old.state.blocks certificate.digest) (certificate_slot certificate) ≡ false }
+        requires kept { self.old.state.floor ≤ certificate.round }
+        ensures state { OnOk result (self.new.state ≡ with_certificate self.old.state certificate) }
+        ensures bounds { self.new.bounds ≡ self.old.bounds }
+        ensures unchanged { OnErr result (self.new ≡ self.old) }
+    {
+        let held = certificate.get();
+        let digest = held.digest;
+        let slot = (held.round, held.author);
+        insert_both(
+            &mut self.certificates,
+            digest,
+            certificate,
+            &mut self.certified,
+            slot,
+        )
+    }
+
     fn block(&self, digest: &Digest) -> Option<&Block>
         ensures { option_copied result ≡ map.get self.now.state.blocks digest.now }
     {
@@ -183,10 +336,18 @@ impl Plain {
         self.blocks.len()
     }
 
+    fn kept(&self) -> usize
+        ensures { result ≡ map.len self.now.state.certificates }
+    {
+        self.certificates.len()
+    }
+
     /// Puts the block under the digest, which is the first of the block's slot where there is a vote.
     fn store(&mut self, digest: Digest, block: Shared<Block>, vote: bool) -> Result<(), NoMemory>
         requires absent { IsNone (map.get self.old.state.blocks digest) }
         requires open { IsTrue vote → IsNone (map.get self.old.state.firsts (block_slot block)) }
+        requires misfit { is_elsewhere certificate_slot (map.get self.old.state.certificates digest) (block_slot block) ≡ false }
+        requires kept { self.old.state.floor ≤ block.round }
         ensures state { OnOk result (self.new.state ≡ with_block self.old.state digest block vote) }
         ensures bounds { self.new.bounds ≡ self.old.bounds }
         ensures unchanged { OnErr result (self.new ≡ self.old) }
@@ -202,6 +363,8 @@ impl Plain {
     fn store_first(&mut self, digest: Digest, block: Shared<Block>) -> Result<(), NoMemory>
         requires absent { IsNone (map.get self.old.state.blocks digest) }
         requires open { IsNone (map.get self.old.state.firsts (block_slot block)) }
+        requires misfit { is_elsewhere certificate_slot (map.get self.old.state.certificates digest) (block_slot block) ≡ false }
+        requires kept { self.old.state.floor ≤ block.round }
         ensures state { OnOk result (self.new.state ≡ with_block self.old.state digest block true) }
         ensures bounds { self.new.bounds ≡ self.old.bounds }
         ensures unchanged { OnErr result (self.new ≡ self.old) }
@@ -212,26 +375,50 @@ impl Plain {
     }
 }
 
-/// Puts the block under the digest, and the digest under the slot. Room for both is made before either map changes.
-fn insert_both(
-    blocks: &mut BTreeMap<Digest, Shared<Block>>,
+/// Puts the value under the digest, and the digest under the slot. Room for both is made before either map changes.
+fn insert_both<T: Drop>(
+    held: &mut BTreeMap<Digest, T>,
     digest: Digest,
-    block: Shared<Block>,
-    firsts: &mut BTreeMap<(Round, u16), Digest>,
+    value: T,
+    slots: &mut BTreeMap<(Round, u16), Digest>,
     slot: (Round, u16),
 ) -> Result<(), NoMemory>
-    requires { IsNone (get slot_cmp firsts.old slot) }
-    ensures both { OnOk result ((blocks.new.entries ≡ insert_entry digest_cmp blocks.old.entries digest block)
-        × (firsts.new.entries ≡ insert_entry slot_cmp firsts.old.entries slot digest)) }
-    ensures same_blocks { OnErr result (IsUnchanged blocks.old blocks.new) }
-    ensures same_firsts { OnErr result (IsUnchanged firsts.old firsts.new) }
+    requires { IsNone (get slot_cmp slots.old slot) }
+    ensures both { OnOk result ((held.new.entries ≡ insert_entry digest_cmp held.old.entries digest value)
+        × (slots.new.entries ≡ insert_entry slot_cmp slots.old.entries slot digest)) }
+    ensures same_held { OnErr result (IsUnchanged held.old held.new) }
+    ensures same_slots { OnErr result (IsUnchanged slots.old slots.new) }
 {
-    match firsts.entry(slot)? {
+    match slots.entry(slot)? {
         Entry::Occupied(_) => unreachable!(),
         Entry::Vacant(place) => {
-            blocks.insert(digest, block)?;
+            held.insert(digest, value)?;
             place.insert_entry(digest);
             Ok(())
+        }
+    }
+}
+
+/// Whether each parent of the block is among these blocks, with the named author and in the round before.
+fn has_parents(blocks: &BTreeMap<Digest, Shared<Block>>, block: &Block) -> bool
+    ensures { IsTrue result ↔ All (HasParent (map.from_entries blocks.now.entries) block.now.round) block.now.parents }
+{
+    block
+        .parents
+        .as_slice()
+        .iter()
+        .all(|reference| has_parent(blocks, block.round, reference))
+}
+
+/// Whether the named parent of a block of this round is among these blocks, with the named author and in the round before.
+fn has_parent(blocks: &BTreeMap<Digest, Shared<Block>>, round: Round, reference: &Ref) -> bool
+    ensures { IsTrue result ↔ HasParent (map.from_entries blocks.now.entries) round reference.now }
+{
+    match blocks.get(&reference.digest) {
+        None => false,
+        Some(parent) => {
+            let parent = parent.get();
+            parent.author == reference.author && parent.round.get() + 1 == round.get()
         }
     }
 }

@@ -1,8 +1,9 @@
 //! What a store answers.
 ghost use Rattle.std.specs.Prelude.{◌≡◌, IfOk};
 
-use nw_codec::Block;
-use nw_digest::{Digest, NoMemory, Round, Shared};
+use nw_codec::{Block, Certificate};
+use nw_digest::{Digest, NoMemory, Round, Sequence, Shared};
+use std::alloc::Global;
 
 /// The reply to a write. Only `Stored` changes the store.
 #[derive(Clone, Copy, Debug, PartialEq, Eq)]
@@ -28,24 +29,86 @@ pub enum WriteReply {
     },
 }
 
+/// The reply to a certificate. Only `Certified` changes the store.
+#[derive(Clone, Copy, Debug, PartialEq, Eq)]
+pub enum CertifyReply {
+    /// The certificate's round is below the garbage round, which is given.
+    Collected(Round),
+    /// The certificate's round is not below the garbage round and the window together.
+    TooFar,
+    /// The digest is certified for the same round and author.
+    Already,
+    /// The digest is certified for another round or author, or its block has another.
+    Misfit,
+    /// Another digest, which is given, is certified for the round and author.
+    Conflict(Digest),
+    /// As many certificates are kept as the limit allows.
+    Full,
+    /// The certificate is kept from now on.
+    Certified,
+}
+
+/// Why a causal read gives no list.
+#[derive(Clone, Copy, Debug, PartialEq, Eq)]
+pub enum CausalReply {
+    /// No block is held under the digest.
+    Unknown,
+    /// The block is held, and the digest is not certified.
+    Uncertified,
+    /// The block is held and certified, and on some way down from it a parent is missing or not certified.
+    Incomplete,
+}
+
 /// The reply to a call.
 #[derive(Debug, Drop)]
 pub enum Reply {
     /// To a write.
     Write(WriteReply),
+    /// To a certificate.
+    Certify(CertifyReply),
+    /// To the call for a certificate: the one that is kept for the digest, if there is one.
+    Certificate(Option<Shared<Certificate>>),
     /// To a read: the block that is held under the digest, if there is one.
     Read(Option<Shared<Block>>),
+    /// To a causal read that gets no list.
+    Causal(CausalReply),
+    /// To a causal read whose list can be walked from now on. A history has it in place of the list.
+    Ready,
+    /// To a causal read: the block and its certified ancestors, strictly ascending by round and author.
+    List(Sequence<Shared<Block>>),
 }
 
 impl Reply {
-    /// The same reply, with one more owner of its block.
-    pub fn try_clone(&self) -> Result<Reply, NoMemory>
+    /// The same reply, with one more owner of what it gives.
+    pub fn try_clone(&self, alloc: Global) -> Result<Reply, NoMemory>
         ensures { IfOk result (λ copy. copy ≡ self.now) }
     {
         Ok(match self {
             Reply::Write(reply) => Reply::Write(*reply),
+            Reply::Certify(reply) => Reply::Certify(*reply),
+            Reply::Certificate(None) => Reply::Certificate(None),
+            Reply::Certificate(Some(certificate)) => {
+                Reply::Certificate(Some(certificate.try_clone()?))
+            }
             Reply::Read(None) => Reply::Read(None),
             Reply::Read(Some(block)) => Reply::Read(Some(block.try_clone()?)),
+            Reply::Causal(reply) => Reply::Causal(*reply),
+            Reply::Ready => Reply::Ready,
+            Reply::List(blocks) => Reply::List(clone_all(alloc, blocks)?),
         })
     }
+}
+
+/// The same list, with one more owner of each block.
+fn clone_all(
+    alloc: Global,
+    blocks: &Sequence<Shared<Block>>,
+) -> Result<Sequence<Shared<Block>>, NoMemory>
+    ensures { IfOk result (λ copy. copy ≡ blocks.now) }
+{
+    let mut copy = Vec::with_capacity(alloc, blocks.as_slice().len())?;
+    for block in blocks.as_slice() {
+        copy.push(block.try_clone()?)?;
+    }
+    Ok(Sequence::new(copy))
 }

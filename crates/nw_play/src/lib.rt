@@ -4,9 +4,11 @@
 //! writer fails, and what counts as a name, a number and a word. It stands on `nw_book` and `nw_codec`, and on `hex`.
 #![tactic(auto)]
 
+mod calls;
 mod fault;
 mod input;
 mod line;
+mod names;
 mod player;
 mod print;
 mod script;

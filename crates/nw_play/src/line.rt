@@ -1,7 +1,7 @@
 //! A line of a script.
 
 use crate::fault::LineFault;
-use crate::word::{Name, list, number, transaction};
+use crate::word::{Name, list, member, number, transaction};
 use nw_book::Limits;
 use nw_digest::Round;
 use std::alloc::Global;
@@ -40,6 +40,22 @@ pub enum Request<'a> {
     Write(Name<'a>),
     /// `read <name>`
     Read(Name<'a>),
+    /// `certify <name> <signers>`
+    Certify {
+        name: Name<'a>,
+        signers: Vec<u16>,
+    },
+    /// `certificate <name>`
+    Certificate(Name<'a>),
+    /// `causal <name>`
+    Causal(Name<'a>),
+    /// `open <ticket> <name>`
+    Open {
+        ticket: Name<'a>,
+        name: Name<'a>,
+    },
+    /// `walk <ticket>`
+    Walk(Name<'a>),
 }
 
 /// The line that the bytes spell. It is bad where they are not ASCII, or no line of the grammar.
@@ -61,6 +77,11 @@ pub fn parse_line(alloc: Global, bytes: &[u8]) -> Result<Line<'_>, LineFault> {
         "hash" => Line::Request(Request::Hash(hashed(words.next()?)?)),
         "write" => Line::Request(Request::Write(words.name()?)),
         "read" => Line::Request(Request::Read(words.name()?)),
+        "certify" => Line::Request(certify(alloc, &mut words)?),
+        "certificate" => Line::Request(Request::Certificate(words.name()?)),
+        "causal" => Line::Request(Request::Causal(words.name()?)),
+        "open" => Line::Request(open(&mut words)?),
+        "walk" => Line::Request(Request::Walk(words.name()?)),
         _ => return Err(LineFault::Bad),
     };
     words.end()?;
@@ -133,10 +154,24 @@ fn limits<'a>(words: &mut Words<'a>) -> Result<Line<'a>, LineFault> {
 fn block<'a>(alloc: Global, words: &mut Words<'a>) -> Result<Request<'a>, LineFault> {
     Ok(Request::Block {
         name: words.name()?,
-        author: u16::try_from(words.number()?).map_err(|_| LineFault::Bad)?,
+        author: member(words.next()?).ok_or(LineFault::Bad)?,
         round: Round::new(words.number()?).ok_or(LineFault::Bad)?,
         parents: list(alloc, words.next()?, Name::new)?,
         transactions: list(alloc, words.next()?, transaction)?,
+    })
+}
+
+fn certify<'a>(alloc: Global, words: &mut Words<'a>) -> Result<Request<'a>, LineFault> {
+    Ok(Request::Certify {
+        name: words.name()?,
+        signers: list(alloc, words.next()?, member)?,
+    })
+}
+
+fn open<'a>(words: &mut Words<'a>) -> Result<Request<'a>, LineFault> {
+    Ok(Request::Open {
+        ticket: words.name()?,
+        name: words.name()?,
     })
 }
 

@@ -1,20 +1,20 @@
 //! Lines, played on a book.
-ghost use Rattle.nw_book.specs.Command.{CommandFits};
 
+use crate::calls::{Calls, Opened};
 use crate::fault::LineFault;
 use crate::line::{Line, Request};
-use crate::print::{Answer, Written};
+use crate::names::Names;
+use crate::print::{Answer, Certified, Written};
 use crate::word::Name;
-use nw_book::{Book, Command, Limits, NoStep};
+use nw_book::{Command, Limits, Ticket};
 use nw_codec::{
-    Block, EncodeError, Message, Ref, Signature, block_digest, decode_message, encode_body,
+    Block, Certificate, Message, Seal, Signature, block_digest, decode_message, encode_body,
     encode_message,
 };
-use nw_digest::{Digest, Sequence, Shared, digest_of};
-use nw_model::{Reply, WriteReply};
+use nw_digest::{Sequence, Shared, digest_of};
+use nw_model::{CertifyReply, Reply, WriteReply};
 use std::alloc::Global;
 use std::collections::BTreeMap;
-use std::collections::btree_map::Entry;
 
 // The limits of a script without a line of its own for them.
 const DEFAULT_LIMITS: Limits = Limits {
@@ -27,7 +27,7 @@ const DEFAULT_LIMITS: Limits = Limits {
 // How many members a committee has for now.
 const MEMBERS: u32 = 1;
 
-// Until blocks are signed.
+// Until votes are signed.
 const UNSIGNED: Signature = Signature([0; 64]);
 
 // Which lines may come.
@@ -38,30 +38,13 @@ enum Stage {
     Requests,
 }
 
-// What a name stands for.
-#[derive(Drop)]
-struct Bound {
-    message: Message,
-    digest: Digest,
-}
-
-impl Bound {
-    fn block(&self) -> &Block {
-        match &self.message {
-            Message::Block { block, .. } => block,
-        }
-    }
-}
-
-/// A script that is being played: its book, and its names.
+/// A script that is being played: its calls, and its names.
 #[derive(Drop)]
 pub struct Player<'a> {
     stage: Stage,
-    book: Book,
-    // The number of the next call of session 0.
-    next: u32,
-    bound: BTreeMap<Name<'a>, Bound>,
-    first_names: BTreeMap<Digest, Name<'a>>,
+    calls: Calls,
+    names: Names<'a>,
+    tickets: BTreeMap<Name<'a>, Ticket>,
 }
 
 impl<'a> Player<'a> {
@@ -69,10 +52,9 @@ impl<'a> Player<'a> {
     pub fn new(alloc: Global) -> Result<Player<'a>, LineFault> {
         Ok(Player {
             stage: Stage::Committee,
-            book: Book::new(alloc, DEFAULT_LIMITS)?,
-            next: 1,
-            bound: BTreeMap::new(alloc),
-            first_names: BTreeMap::new(alloc),
+            calls: Calls::new(alloc, DEFAULT_LIMITS)?,
+            names: Names::new(alloc),
+            tickets: BTreeMap::new(alloc),
         })
     }
 
@@ -96,7 +78,7 @@ impl<'a> Player<'a> {
                 if self.stage != Stage::Limits {
                     return Err(LineFault::Bad);
                 }
-                self.book = Book::new(alloc, limits)?;
+                self.calls = Calls::new(alloc, limits)?;
                 self.stage = Stage::Requests;
                 Ok(None)
             }
@@ -119,24 +101,27 @@ impl<'a> Player<'a> {
                 parents,
                 transactions,
             } => {
-                if self.bound.contains_key(&name) {
+                if self.names.is_bound(name) {
                     return Err(LineFault::Bad);
                 }
                 let block = Block {
                     author,
                     round,
-                    parents: self.parents(alloc, &parents)?,
+                    parents: self.names.references(alloc, &parents)?,
                     transactions: copied(alloc, &transactions)?,
                 };
-                self.define(alloc, name, block)
+                match self.names.bind(alloc, name, block)? {
+                    None => Ok(Answer::OverLimit(name)),
+                    Some(body) => Ok(Answer::Bound { name, body }),
+                }
             }
             Request::Body(name) => {
-                let text = encode_body(alloc, self.bound(name)?.block())?;
+                let text = encode_body(alloc, self.names.bound(name)?.block())?;
                 let hex = hex::encode(alloc, text.as_slice())?;
                 Ok(Answer::Bytes { name, hex })
             }
             Request::Digest(name) => {
-                let hex = hex::encode(alloc, self.bound(name)?.digest.0.as_slice())?;
+                let hex = hex::encode(alloc, self.names.bound(name)?.digest.0.as_slice())?;
                 Ok(Answer::Bytes { name, hex })
             }
             Request::Hash(word) => {
@@ -145,94 +130,131 @@ impl<'a> Player<'a> {
             }
             Request::Write(name) => self.write(alloc, name),
             Request::Read(name) => self.read(alloc, name),
+            Request::Certify { name, signers } => self.certify(alloc, name, &signers),
+            Request::Certificate(name) => self.certificate(alloc, name),
+            Request::Causal(name) => self.causal(alloc, name),
+            Request::Open { ticket, name } => self.open(alloc, ticket, name),
+            Request::Walk(ticket) => self.walk(alloc, ticket),
         }
-    }
-
-    fn bound(&self, name: Name<'a>) -> Result<&Bound, LineFault> {
-        self.bound.get(&name).ok_or(LineFault::Bad)
-    }
-
-    // References to the blocks of the names.
-    fn parents(&self, alloc: Global, names: &[Name<'a>]) -> Result<Sequence<Ref>, LineFault> {
-        let mut parents = Vec::new(alloc);
-        for name in names {
-            let parent = self.bound(*name)?;
-            parents.push(Ref {
-                author: parent.block().author,
-                digest: parent.digest,
-            })?;
-        }
-        Ok(Sequence::new(parents))
-    }
-
-    // Binds the name to the block if it fits.
-    fn define(
-        &mut self,
-        alloc: Global,
-        name: Name<'a>,
-        block: Block,
-    ) -> Result<Answer<'a>, LineFault> {
-        let body = match encode_body(alloc, &block) {
-            Ok(text) => text.len(),
-            Err(EncodeError::OverLimit) => return Ok(Answer::OverLimit(name)),
-            Err(EncodeError::NoMemory) => return Err(LineFault::NoMemory),
-        };
-        let digest = block_digest(&block);
-        let message = Message::Block {
-            block,
-            signature: UNSIGNED,
-        };
-        let first = self.first_names.entry(digest)?;
-        match self.bound.entry(name)? {
-            Entry::Occupied(_) => return Err(LineFault::Bad),
-            Entry::Vacant(free) => free.insert(Bound { message, digest }),
-        };
-        first.or_insert(name);
-        Ok(Answer::Bound { name, body })
     }
 
     // A bound block fits, so it has a message, whose text is decoded. A write is answered by the reply to a write.
     fn write(&mut self, alloc: Global, name: Name<'a>) -> Result<Answer<'a>, LineFault> {
-        let text = encode_message(alloc, &self.bound(name)?.message)?;
+        let text = encode_message(alloc, &self.names.bound(name)?.message)?;
         let Message::Block { block, .. } = decode_message(alloc, text.as_slice())?;
         let command = Command::Write(Shared::new(alloc, block)?);
-        match &self.step(alloc, &command)? {
+        match &self.calls.step(alloc, &command)? {
             Some(Reply::Write(reply)) => self.written(name, *reply),
-            Some(Reply::Read(_)) => Err(LineFault::Bad),
+            Some(_) => Err(LineFault::Bad),
             None => Ok(Answer::HistoryFull),
         }
     }
 
     fn read(&mut self, alloc: Global, name: Name<'a>) -> Result<Answer<'a>, LineFault> {
-        let command = Command::Read(self.bound(name)?.digest);
-        match self.step(alloc, &command)? {
+        let command = Command::Read(self.names.bound(name)?.digest);
+        match self.calls.step(alloc, &command)? {
             Some(Reply::Read(Some(block))) => {
                 let body = encode_body(alloc, block.get())?.len();
                 Ok(Answer::Found { name, body })
             }
             Some(Reply::Read(None)) => Ok(Answer::Unknown(name)),
-            Some(Reply::Write(_)) => Err(LineFault::Bad),
+            Some(_) => Err(LineFault::Bad),
             None => Ok(Answer::HistoryFull),
         }
     }
 
-    // The reply to the next call of session 0, or `None` where the history is full. Each number is in turn.
-    fn step(&mut self, alloc: Global, command: &Command) -> Result<Option<Reply>, LineFault>
-        requires { CommandFits command.now }
-    {
-        let next = self.next.checked_add(1).ok_or(LineFault::Bad)?;
-        match self.book.step(alloc, 0, self.next, command) {
-            Ok(done) => {
-                self.next = next;
-                Ok(Some(done.reply))
-            }
-            Err(NoStep::HistoryFull) => Ok(None),
-            Err(NoStep::NoMemory) => Err(LineFault::NoMemory),
-            Err(NoStep::OutOfTurn) => Err(LineFault::Bad),
+    fn certify(
+        &mut self,
+        alloc: Global,
+        name: Name<'a>,
+        signers: &[u16],
+    ) -> Result<Answer<'a>, LineFault> {
+        let bound = self.names.bound(name)?;
+        let certificate = Certificate {
+            digest: bound.digest,
+            round: bound.block().round,
+            author: bound.block().author,
+            votes: votes(alloc, signers)?,
+        };
+        if !certificate.fits() {
+            return Ok(Answer::OverLimit(name));
+        }
+        let command = Command::Certify(Shared::new(alloc, certificate)?);
+        match &self.calls.step(alloc, &command)? {
+            Some(Reply::Certify(reply)) => self.certified(name, *reply),
+            Some(_) => Err(LineFault::Bad),
+            None => Ok(Answer::HistoryFull),
         }
     }
 
-    // The reply to a write of the name, with the first name of a digest in its place: each digest that is held has one.
+    fn certificate(&mut self, alloc: Global, name: Name<'a>) -> Result<Answer<'a>, LineFault> {
+        let command = Command::Certificate(self.names.bound(name)?.digest);
+        match self.calls.step(alloc, &command)? {
+            Some(Reply::Certificate(Some(certificate))) => {
+                let signers = signers(alloc, certificate.get().votes.as_slice())?;
+                Ok(Answer::Signers { name, signers })
+            }
+            Some(Reply::Certificate(None)) => Ok(Answer::NoCertificate(name)),
+            Some(_) => Err(LineFault::Bad),
+            None => Ok(Answer::HistoryFull),
+        }
+    }
+
+    fn causal(&mut self, alloc: Global, name: Name<'a>) -> Result<Answer<'a>, LineFault> {
+        let digest = self.names.bound(name)?.digest;
+        match self.calls.open(alloc, digest)? {
+            Opened::Ready(ticket) => self.listed(alloc, name, &ticket),
+            Opened::Refused(reply) => Ok(Answer::NotReady { name, reply }),
+            Opened::HistoryFull => Ok(Answer::HistoryFull),
+        }
+    }
+
+    fn open(
+        &mut self,
+        alloc: Global,
+        ticket: Name<'a>,
+        name: Name<'a>,
+    ) -> Result<Answer<'a>, LineFault> {
+        let digest = self.names.bound(name)?.digest;
+        if self.tickets.contains_key(&ticket) {
+            return Err(LineFault::Bad);
+        }
+        match self.calls.open(alloc, digest)? {
+            Opened::Ready(opened) => {
+                self.tickets.insert(ticket, opened)?;
+                Ok(Answer::Ready(ticket))
+            }
+            Opened::Refused(reply) => Ok(Answer::NotReady {
+                name: ticket,
+                reply,
+            }),
+            Opened::HistoryFull => Ok(Answer::HistoryFull),
+        }
+    }
+
+    fn walk(&self, alloc: Global, ticket: Name<'a>) -> Result<Answer<'a>, LineFault> {
+        let opened = self.tickets.get(&ticket).ok_or(LineFault::Bad)?;
+        self.listed(alloc, ticket, opened)
+    }
+
+    // The names of the ticket's list. Its blocks fit, since only such blocks are written.
+    fn listed(
+        &self,
+        alloc: Global,
+        name: Name<'a>,
+        ticket: &Ticket,
+    ) -> Result<Answer<'a>, LineFault> {
+        let mut blocks = Vec::new(alloc);
+        for block in &ticket.walk(alloc)? {
+            if !block.get().fits() {
+                return Err(LineFault::Bad);
+            }
+            blocks.push(self.names.first_name(&block_digest(block.get()))?)?;
+        }
+        Ok(Answer::Listed { name, blocks })
+    }
+
+    // The reply to a write of the name, with the first name of a digest in its place.
     fn written(&self, name: Name<'a>, reply: WriteReply) -> Result<Answer<'a>, LineFault> {
         let reply = match reply {
             WriteReply::Collected(floor) => Written::Collected(floor),
@@ -241,13 +263,28 @@ impl<'a> Player<'a> {
             WriteReply::Clash => Written::Clash,
             WriteReply::Misfit => Written::Misfit,
             WriteReply::Equivocates(digest) => {
-                let first = self.first_names.get(&digest).ok_or(LineFault::Bad)?;
-                Written::Equivocates(*first)
+                Written::Equivocates(self.names.first_name(&digest)?)
             }
             WriteReply::Full => Written::Full,
             WriteReply::Stored { vote } => Written::Stored { vote },
         };
         Ok(Answer::Written { name, reply })
+    }
+
+    // The reply to a certificate of the name, with the first name of a digest in its place.
+    fn certified(&self, name: Name<'a>, reply: CertifyReply) -> Result<Answer<'a>, LineFault> {
+        let reply = match reply {
+            CertifyReply::Collected(floor) => Certified::Collected(floor),
+            CertifyReply::TooFar => Certified::TooFar,
+            CertifyReply::Already => Certified::Already,
+            CertifyReply::Misfit => Certified::Misfit,
+            CertifyReply::Conflict(digest) => {
+                Certified::Conflict(self.names.first_name(&digest)?)
+            }
+            CertifyReply::Full => Certified::Full,
+            CertifyReply::Certified => Certified::Certified,
+        };
+        Ok(Answer::Certified { name, reply })
     }
 }
 
@@ -258,4 +295,24 @@ fn copied(alloc: Global, words: &[&str]) -> Result<Sequence<Sequence<u8>>, LineF
         transactions.push(Sequence::new(word.as_bytes().to_vec(alloc)?))?;
     }
     Ok(Sequence::new(transactions))
+}
+
+// The seals of the signers, in this order.
+fn votes(alloc: Global, signers: &[u16]) -> Result<Sequence<Seal>, LineFault> {
+    let mut votes = Vec::with_capacity(alloc, signers.len())?;
+    for signer in signers {
+        votes.push(Seal {
+            signer: *signer,
+            signature: UNSIGNED,
+        })?;
+    }
+    Ok(Sequence::new(votes))
+}
+
+fn signers(alloc: Global, votes: &[Seal]) -> Result<Vec<u16>, LineFault> {
+    let mut signers = Vec::with_capacity(alloc, votes.len())?;
+    for seal in votes {
+        signers.push(seal.signer)?;
+    }
+    Ok(signers)
 }

@@ -2,25 +2,62 @@
 
 use crate::word::Name;
 use nw_digest::Round;
+use nw_model::CausalReply;
 use std::fmt;
 
 /// The answer to a request, which is printed on a line of its own.
 #[derive(Debug, Drop)]
 pub enum Answer<'a> {
     /// A block was bound, whose body has so many bytes.
-    Bound { name: Name<'a>, body: usize },
+    Bound {
+        name: Name<'a>,
+        body: usize,
+    },
     /// A block is over a limit or out of order, and was not bound.
     OverLimit(Name<'a>),
     /// Bytes of a block in hex.
-    Bytes { name: Name<'a>, hex: String },
+    Bytes {
+        name: Name<'a>,
+        hex: String,
+    },
     /// A digest of a word in hex.
     Hash(String),
     /// The reply to a write.
-    Written { name: Name<'a>, reply: Written<'a> },
+    Written {
+        name: Name<'a>,
+        reply: Written<'a>,
+    },
     /// A read found a block, whose body has so many bytes.
-    Found { name: Name<'a>, body: usize },
+    Found {
+        name: Name<'a>,
+        body: usize,
+    },
     /// A read found no block.
     Unknown(Name<'a>),
+    /// The reply to a certificate.
+    Certified {
+        name: Name<'a>,
+        reply: Certified<'a>,
+    },
+    /// The signers of the certificate that is kept.
+    Signers {
+        name: Name<'a>,
+        signers: Vec<u16>,
+    },
+    /// No certificate is kept.
+    NoCertificate(Name<'a>),
+    /// A causal read gives no list.
+    NotReady {
+        name: Name<'a>,
+        reply: CausalReply,
+    },
+    /// A ticket is ready to be walked.
+    Ready(Name<'a>),
+    /// The names of the blocks of a causal list, of a block or a ticket.
+    Listed {
+        name: Name<'a>,
+        blocks: Vec<Name<'a>>,
+    },
     /// The history has no room for the call.
     HistoryFull,
 }
@@ -35,8 +72,45 @@ impl fmt::Display for Answer<'_> {
             Answer::Written { name, reply } => write!(f, "{name} {reply}"),
             Answer::Found { name, body } => write!(f, "{name} found {body}"),
             Answer::Unknown(name) => write!(f, "{name} unknown"),
+            Answer::Certified { name, reply } => write!(f, "{name} {reply}"),
+            Answer::Signers { name, signers } => {
+                write!(f, "{name} certified by ")?;
+                write_list(f, signers.as_slice())
+            }
+            Answer::NoCertificate(name) => write!(f, "{name} none"),
+            Answer::NotReady { name, reply } => write!(f, "{name} {}", word_of(*reply)),
+            Answer::Ready(ticket) => write!(f, "{ticket} ready"),
+            Answer::Listed { name, blocks } => {
+                write!(f, "{name} causal")?;
+                for block in blocks {
+                    write!(f, " {block}")?;
+                }
+                Ok(())
+            }
             Answer::HistoryFull => write!(f, "refused history full"),
         }
+    }
+}
+
+// Numbers parted by commas, or the dash of an empty list.
+fn write_list<W: fmt::Write>(f: &mut fmt::Formatter<W>, numbers: &[u16]) -> fmt::Result {
+    match numbers {
+        [] => write!(f, "-"),
+        [first, others @ ..] => {
+            write!(f, "{first}")?;
+            for number in others {
+                write!(f, ",{number}")?;
+            }
+            Ok(())
+        }
+    }
+}
+
+fn word_of(reply: CausalReply) -> &'static str {
+    match reply {
+        CausalReply::Unknown => "unknown",
+        CausalReply::Uncertified => "uncertified",
+        CausalReply::Incomplete => "incomplete",
     }
 }
 
@@ -65,6 +139,32 @@ impl fmt::Display for Written<'_> {
             Written::Full => write!(f, "full"),
             Written::Stored { vote: true } => write!(f, "stored vote"),
             Written::Stored { vote: false } => write!(f, "stored"),
+        }
+    }
+}
+
+/// The reply to a certificate. A digest is printed by the first name that was bound to its block.
+#[derive(Clone, Copy, Debug, PartialEq, Eq)]
+pub enum Certified<'a> {
+    Collected(Round),
+    TooFar,
+    Already,
+    Misfit,
+    Conflict(Name<'a>),
+    Full,
+    Certified,
+}
+
+impl fmt::Display for Certified<'_> {
+    fn fmt<W: fmt::Write>(&self, f: &mut fmt::Formatter<W>) -> fmt::Result {
+        match self {
+            Certified::Collected(floor) => write!(f, "collected {}", floor.get()),
+            Certified::TooFar => write!(f, "too far"),
+            Certified::Already => write!(f, "already"),
+            Certified::Misfit => write!(f, "misfit"),
+            Certified::Conflict(other) => write!(f, "conflict {other}"),
+            Certified::Full => write!(f, "full"),
+            Certified::Certified => write!(f, "certified"),
         }
     }
 }

@@ -9,7 +9,7 @@ struct Case {
     prints: &'static str,
 }
 
-const PLAYED: [Case; 14] = [
+const PLAYED: [Case; 23] = [
     Case {
         shows: "a block is written and read",
         script: "committee v1 1\nblock a 0 0 - x\nwrite a\nread a\n",
@@ -80,10 +80,55 @@ const PLAYED: [Case; 14] = [
         script: "committee v1 1",
         prints: "",
     },
+    Case {
+        shows: "a causal read is incomplete until its parent is certified, and a ticket is walked after a further write",
+        script: "committee v1 1\nblock a 0 0 - -\nblock b 0 1 a -\nwrite b\ncertify b 0\ncausal b\nwrite a\ncausal b\ncertify a 0\nopen t b\nblock c 0 2 b -\nwrite c\nwalk t\ncertificate b\n",
+        prints: "block a 13\nblock b 47\nb stored vote\nb certified\nb incomplete\na stored vote\nb incomplete\na certified\nt ready\nblock c 47\nc stored vote\nt causal a b\nb certified by 0\n",
+    },
+    Case {
+        shows: "an equivocating block is stored once it is certified, and the other's certificate conflicts",
+        script: "committee v1 1\nblock a 0 0 - x\nblock e 0 0 - y\nwrite a\nwrite e\ncertify e 0\nwrite e\ncertify a 0\n",
+        prints: "block a 18\nblock e 18\na stored vote\ne equivocates a\ne certified\ne stored\na conflict e\n",
+    },
+    Case {
+        shows: "a block that is not held has no causal list, and no certificate is kept",
+        script: "committee v1 1\nblock a 0 0 - -\nread a\ncausal a\ncertificate a\n",
+        prints: "block a 13\na unknown\na unknown\na none\n",
+    },
+    Case {
+        shows: "a held block is uncertified, and a later round is too far",
+        script: "committee v1 1\nlimits 16 16 4 1\nblock c0 0 0 - -\nblock c1 0 1 c0 -\nblock c2 0 2 c1 -\nblock c3 0 3 c2 -\nblock c4 0 4 c3 -\nwrite c3\nwrite c4\ncausal c3\n",
+        prints: "block c0 13\nblock c1 47\nblock c2 47\nblock c3 47\nblock c4 47\nc3 stored vote\nc4 too far\nc3 uncertified\n",
+    },
+    Case {
+        shows: "a certificate is kept once, with its signers",
+        script: "committee v1 1\nblock a 0 0 - -\ncertify a 0,7,65535\ncertify a 1\ncertificate a\nblock b 1 0 - -\ncertify b -\ncertificate b\n",
+        prints: "block a 13\na certified\na already\na certified by 0,7,65535\nblock b 13\nb certified\nb certified by -\n",
+    },
+    Case {
+        shows: "signers out of order, or one twice, are over the limit",
+        script: "committee v1 1\nblock a 0 0 - -\ncertify a 1,0\ncertify a 0,0\ncertificate a\n",
+        prints: "block a 13\na refused over limit\na refused over limit\na none\n",
+    },
+    Case {
+        shows: "certificates have the limits of blocks",
+        script: "committee v1 1\nlimits 1 16 4 1\nblock a 0 0 - -\nblock b 0 1 a -\nblock c 0 4 b -\ncertify a 0\ncertify b 0\ncertify c 0\n",
+        prints: "block a 13\nblock b 47\nblock c 47\na certified\nb full\nc too far\n",
+    },
+    Case {
+        shows: "the name of a ticket that is not ready stays free, and each list has the first name of a digest",
+        script: "committee v1 1\nblock a 0 0 - -\nblock same 0 0 - -\nopen t a\nwrite same\nopen t a\ncertify a 0\nopen t same\nwalk t\nwalk t\ncausal same\n",
+        prints: "block a 13\nblock same 13\nt unknown\nsame stored vote\nt uncertified\na certified\nt ready\nt causal a\nt causal a\nsame causal a\n",
+    },
+    Case {
+        shows: "a full history takes no causal read",
+        script: "committee v1 1\nlimits 16 2 4 1\nblock a 0 0 - -\nwrite a\ncertify a 0\ncausal a\nopen t a\ncertify a 0\ncertificate a\n",
+        prints: "block a 13\na stored vote\na certified\nrefused history full\nrefused history full\nrefused history full\nrefused history full\n",
+    },
 ];
 
 // Lines that are bad behind a committee and a block `a`.
-const BAD: [(&str, &str); 44] = [
+const BAD: [(&str, &str); 52] = [
     ("an unknown request", "frob a"),
     ("two spaces", "body  a"),
     ("a space in front", " body a"),
@@ -133,8 +178,16 @@ const BAD: [(&str, &str); 44] = [
     ("hash of a capital", "hash X"),
     ("a second committee", "committee v1 1"),
     ("limits behind a request", "limits 16 16 4 1"),
-    ("a later request: certify", "certify a 0"),
-    ("a later request: causal", "causal a"),
+    ("a name that is not bound, in certify", "certify b 0"),
+    ("certify without signers", "certify a"),
+    ("a signer over 65535", "certify a 65536"),
+    ("a list of signers that ends in a comma", "certify a 0,"),
+    ("a name that is not bound, in certificate", "certificate b"),
+    ("a name that is not bound, in causal", "causal b"),
+    ("a name that is not bound, in open", "open t b"),
+    ("open without a ticket", "open a"),
+    ("a ticket that is not bound", "walk t"),
+    ("a block in place of a ticket", "walk a"),
     ("a later request: status", "status"),
     ("a later form of write", "write a 0"),
 ];
@@ -370,6 +423,16 @@ impl Write for Page {
 }
 
 // Shows most where memory is refused, as by `rt try --test --fail-alloc N`.
+#[test]
+fn a_ticket_is_bound_once(rt: HostRuntime) -> Result<(), Fail> {
+    let script = "committee v1 1\nblock a 0 0 - -\nwrite a\ncertify a 0\nopen a a\nopen a a\n";
+    let (outcome, printed) = played(&rt, script.as_bytes())?;
+    assert_eq!(rt; outcome, Err(PlayFault::BadLine { line: 6 }));
+    let prints = "block a 13\na stored vote\na certified\na ready\nline 6 bad\n";
+    assert_eq!(rt; printed.as_slice(), prints.as_bytes());
+    Ok(())
+}
+
 #[test]
 fn a_play_without_memory_prints_a_front(rt: HostRuntime) {
     let mut page = Page {

@@ -70,6 +70,14 @@ pub fn number(word: &str) -> Option<u64>
     }
 }
 
+/// The number of a member that the word spells, or `None` where it spells none up to 65,535.
+pub fn member(word: &str) -> Option<u16>
+    ensures spelled { IfSome result (λ n. word.now ≡ decimal n) }
+    ensures found { (n : ℕ) → n < 2 ^ 16 → word.now ≡ decimal n → result ≡ Some n }
+{
+    u16::try_from(number(word)?).ok()
+}
+
 // Without the plus sign and the leading zeros that `parse` takes as well.
 fn is_plain(word: &[u8]) -> bool
     ensures { IsTrue result ↔ IsPlain word.now }

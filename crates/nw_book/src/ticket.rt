@@ -1,0 +1,81 @@
+//! Tickets: causal reads that are walked later.
+ghost use Rattle.std.specs.Prelude.{◌≡◌, IfOk};
+ghost use Rattle.nw_model.specs.Step.{IsReply};
+ghost use Rattle.nw_model.specs.View.{Shows};
+ghost use Rattle.nw_model.specs.declared.call.Call.TheVariants as Call;
+ghost use Rattle.nw_model.specs.declared.reply.Reply.TheVariants as Reply;
+ghost use Rattle.nw_book.specs.Story.{bounds_of, state_of};
+ghost use Rattle.nw_book.specs.Ticket.{IsTicket, IsTicketWith};
+
+use crate::Front;
+use nw_codec::Block;
+use nw_digest::{Digest, NoMemory, Shared};
+use nw_model::{View, walk};
+use std::alloc::Global;
+use std::marker::Model;
+
+/// A causal read that was opened: its list can be walked at any time, as often as is liked, and is always the list of the
+/// step that opened it, whatever is stored later. Contracts see the digest and the front.
+#[derive(Drop)]
+pub struct Ticket {
+    digest: Digest,
+    front: Front,
+    view: View,
+}
+
+impl Model for Ticket {
+    ghost use Rattle.nw_book.specs.Ticket.{Given, IsTicketWith};
+
+    ghost Value = { Given };
+
+    ghost view = { λ t. record { digest = t.digest; front = t.front } };
+
+    ghost invariant = { λ t. IsTicketWith (record { digest = t.digest; front = t.front }) t.view };
+}
+
+impl Ticket {
+    /// The ticket for the digest at the front, over a view of what is complete there.
+    pub(crate) fn new(digest: Digest, front: Front, view: View) -> Ticket
+        requires { IsTicketWith (record { digest = digest; front = front }) view }
+        ensures { result ≡ record { digest = digest; front = front } }
+    {
+        Ticket {
+            digest,
+            front,
+            view,
+        }
+    }
+
+    /// The digest whose list is walked.
+    pub fn digest(&self) -> Digest
+        ensures digest { result ≡ self.now.digest }
+        ensures ticket { IsTicket self.now }
+    {
+        self.digest
+    }
+
+    /// The history up to and with the call that opened the read.
+    pub fn front(&self) -> &Front
+        ensures front { result.now ≡ self.now.front }
+        ensures ticket { IsTicket self.now }
+    {
+        &self.front
+    }
+
+    /// The blocks that are complete after the front, as they were then.
+    pub fn view(&self) -> &View
+        ensures shows { Shows result.now (state_of self.now.front) }
+        ensures ticket { IsTicket self.now }
+    {
+        &self.view
+    }
+
+    /// The list of the causal read that was opened: the block and its certified ancestors, strictly ascending by round and
+    /// author. `NoMemory` where memory is refused; it may then be asked again.
+    pub fn walk(&self, alloc: Global) -> Result<Vec<Shared<Block>>, NoMemory>
+        ensures list { IfOk result (λ blocks. IsReply (bounds_of self.now.front.limits) (state_of self.now.front) (Call.Causal self.now.digest) (Reply.List blocks.items)) }
+        ensures ticket { IsTicket self.now }
+    {
+        walk(alloc, &self.view, self.digest)
+    }
+}

@@ -1,0 +1,201 @@
+-- Finding the complete blocks, slot by slot.
+use Rattle.std.proofs.Common.{◌≡◌, ◌↔◌, ◌⊎◌, ℕ, ◌+◌, ◌<◌, Bool, true, false, List, [], ◌∷◌, Option, Some, None, IsSome, cond, get_or, refl, ap, sym, ◌∙◌, subst, arith, inl, inr}
+use Rattle.std.specs.declared.cmp.Ordering.TheVariants.{Less}
+use Rattle.std.specs.Ordering.{eq_by_cmp, nat_cmp, ordering_then}
+use Rattle.std.specs.Cmp.{eq_by_cmp_equiv}
+use Rattle.std.specs.List.{AllByRecursion}
+use Rattle.std.specs.List.Sorted.{IsStrictlySortedBy}
+use Rattle.std.specs.FinMap.{FinMap, get, insert, empty, from_entries, get-empty, get-insert}
+use Rattle.std.specs.Map.{lookup, keys_of}
+use Rattle.std.specs.BTreeMap.{is_at}
+use Rattle.std.proofs.lemmas.Map.Keys.{sorted_head, sorted_tail}
+use Rattle.nw_digest.specs.declared.digest.Digest.{Digest}
+use Rattle.nw_codec.specs.declared.block.Block.{Block}
+use Rattle.nw_codec.specs.declared.certificate.Certificate.{Certificate}
+use Rattle.nw_model.specs.State.{State, Slot, block_slot, certificate_slot, digest_cmp, slot_cmp}
+use Rattle.nw_model.specs.Paths.{IsStanding, IsComplete}
+use Rattle.nw_model.specs.Sound.{IsSound, IsIndex}
+use Rattle.nw_model.specs.View.{IsCompletedBy, AddsIfComplete, AreComplete}
+use Rattle.nw_model.proofs.Maps.{find_lookup, find_below, get_lookup, digests_total, slots_total, slots_apart}
+use Rattle.nw_model.proofs.Kept.{same_digest, after_insert, at_insert, tie}
+use Rattle.nw_model.proofs.Complete.{one_block, complete_from_parents, parents_complete}
+use Rattle.std.proofs.lemmas.Bool.{cases_lt}
+
+-- the slots that are left, in order, and the complete blocks of the others
+pub record SoFar (s : State) (left : List (Slot × Digest)) (complete : FinMap digest_cmp Block) : Type 0 where
+  pub sorted : IsStrictlySortedBy slot_cmp (keys_of left)
+  pub indexed : (q : Slot) (d : Digest) → lookup (is_at (slot_cmp q)) left ≡ Some d → (c : Certificate) × (get s.certificates d ≡ Some c) × (certificate_slot c ≡ q)
+  pub blocks : (d : Digest) (b : Block) → (get complete d ≡ Some b) ↔ ((get s.blocks d ≡ Some b) × IsComplete s d × (lookup (is_at (slot_cmp (block_slot b))) left ≡ None))
+
+-- ---- slots in order
+
+none_some : {X : Type 0} (x : X) → None ≡ Some x → ⊥
+none_some x e = cc
+
+below_all : (q x : Slot) (ks : List Slot) → slot_cmp q x ≡ Less → AllByRecursion (λ y. slot_cmp x y ≡ Less) ks → AllByRecursion (λ y. slot_cmp q y ≡ Less) ks
+below_all q x [] less all = tt
+below_all q x (k ∷ ks) less all = (slots_total.trans q x k less all.0, below_all q x ks less all.1)
+
+-- a slot below the first that is left is not left
+not_left : (q x : Slot) (d : Digest) (left : List (Slot × Digest)) → slot_cmp q x ≡ Less → IsStrictlySortedBy slot_cmp (keys_of ((x, d) ∷ left)) → lookup (is_at (slot_cmp q)) ((x, d) ∷ left) ≡ None
+not_left q x d left less sorted =
+    sym (find_lookup slot_cmp ((x, d) ∷ left) q) ∙ find_below slot_cmp q ((x, d) ∷ left) (less, below_all q x (keys_of left) less (sorted_head slot_cmp x (keys_of left) sorted))
+
+-- the first slot that is left is not left again
+not_again : (x : Slot) (left : List (Slot × Digest)) (d : Digest) → IsStrictlySortedBy slot_cmp (keys_of ((x, d) ∷ left)) → lookup (is_at (slot_cmp x)) left ≡ None
+not_again x left d sorted = sym (find_lookup slot_cmp left x) ∙ find_below slot_cmp x left (sorted_head slot_cmp x (keys_of left) sorted)
+
+-- the first slot that is left is found
+at_itself : (x : Slot) (d : Digest) (next : List (Slot × Digest)) → lookup (is_at (slot_cmp x)) ((x, d) ∷ next) ≡ Some d
+at_itself x d next = ap (λ b. cond b (Some d) (lookup (is_at (slot_cmp x)) next)) ((eq_by_cmp_equiv slots_total).refl x)
+
+-- what is not left with the first is not left without it
+not_behind : (q x : Slot) (d : Digest) (next : List (Slot × Digest)) → lookup (is_at (slot_cmp q)) ((x, d) ∷ next) ≡ None → lookup (is_at (slot_cmp q)) next ≡ None
+not_behind q x d next none = by (is_at (slot_cmp q) x) none
+  where
+    by : (b : Bool) → cond b (Some d) (lookup (is_at (slot_cmp q)) next) ≡ None → lookup (is_at (slot_cmp q)) next ≡ None
+    by true e = absurd (none_some d (sym e))
+    by false e = e
+
+-- what is not left without the first is the first, or not left with it
+first_or_not : (q x : Slot) (d : Digest) (next : List (Slot × Digest)) → lookup (is_at (slot_cmp q)) next ≡ None → (q ≡ x) ⊎ (lookup (is_at (slot_cmp q)) ((x, d) ∷ next) ≡ None)
+first_or_not q x d next none = by (is_at (slot_cmp q) x) refl
+  where
+    by : (b : Bool) → is_at (slot_cmp q) x ≡ b → (q ≡ x) ⊎ (lookup (is_at (slot_cmp q)) ((x, d) ∷ next) ≡ None)
+    by true at = inl (slots_apart q x (tie (slot_cmp q x) at))
+    by false at = inr (ap (λ b. cond b (Some d) (lookup (is_at (slot_cmp q)) next)) at ∙ none)
+
+-- what is left behind the first is left with it
+found_behind : (q x : Slot) (d e : Digest) (next : List (Slot × Digest)) → IsStrictlySortedBy slot_cmp (keys_of ((x, d) ∷ next)) → lookup (is_at (slot_cmp q)) next ≡ Some e → lookup (is_at (slot_cmp q)) ((x, d) ∷ next) ≡ Some e
+found_behind q x d e next sorted found = by (is_at (slot_cmp q) x) refl
+  where
+    by : (b : Bool) → is_at (slot_cmp q) x ≡ b → lookup (is_at (slot_cmp q)) ((x, d) ∷ next) ≡ Some e
+    by true at =
+        let same : q ≡ x = slots_apart q x (tie (slot_cmp q x) at) in
+        absurd (none_some e (sym (not_again x next d sorted) ∙ ap (λ (y : Slot). lookup (is_at (slot_cmp y)) next) (sym same) ∙ found))
+    by false at = ap (λ b. cond b (Some d) (lookup (is_at (slot_cmp q)) next)) at ∙ found
+
+-- a value stays where another is written, or the same
+stays : (m : FinMap digest_cmp Block) (k : Digest) (v : Block) (q : Digest) (x : Block) → get m q ≡ Some x → (q ≡ k → v ≡ x) → get (insert m k v) q ≡ Some x
+stays m k v q x at same = get-insert digests_total m k v q ∙ by (eq_by_cmp digest_cmp q k) refl
+  where
+    by : (b : Bool) → eq_by_cmp digest_cmp q k ≡ b → cond b (Some v) (get m q) ≡ Some x
+    by true e = ap Some (same (same_digest q k e))
+    by false e = at
+
+-- ---- one slot
+
+earlier : (a b m n : ℕ) → a + 1 ≡ m → slot_cmp (a, b) (m, n) ≡ Less
+earlier a b m n e = ap (λ o. ordering_then o (nat_cmp b n)) (less a m (omega (arith, e)))
+  where
+    less : (x y : ℕ) → x < y → nat_cmp x y ≡ Less
+    less x y lt = grind arith
+
+module _ (s : State) (x : Slot) (d : Digest) (next : List (Slot × Digest)) (old : FinMap digest_cmp Block) (sound : IsSound s) (far : SoFar s ((x, d) ∷ next) old) where
+  -- the certificate of the slot
+  certified : (c : Certificate) × (get s.certificates d ≡ Some c) × (certificate_slot c ≡ x)
+  certified = far.indexed x d (at_itself x d next)
+
+  stands : (b : Block) → get s.blocks d ≡ Some b → IsStanding s d b
+  stands b at = (at, subst IsSome (sym certified.1) refl)
+
+  its_slot : (b : Block) → get s.blocks d ≡ Some b → block_slot b ≡ x
+  its_slot b at = sound.one_slot d b certified.0 at certified.1 ∙ certified.2
+
+  -- a complete block of the slot is the one that is looked at
+  only_one : (e : Digest) (b : Block) → get s.blocks e ≡ Some b → IsComplete s e → block_slot b ≡ x → e ≡ d
+  only_one e b at whole same =
+      let c = some_of whole.stands.1.1 in
+      sound.one_certificate e d c.0 certified.0 c.1 certified.1 (sym (sound.one_slot e b c.0 at c.1) ∙ same ∙ sym certified.2)
+    where
+      some_of : {X : Type 0} {found : Option X} → IsSome found → (y : X) × (found ≡ Some y)
+      some_of {found = Some y} h = (y, refl)
+      some_of {found = None} h = absurd cc
+
+  completes : (b : Block) → get s.blocks d ≡ Some b → IsCompletedBy s old b → IsComplete s d
+  completes b at (inl low) = complete_from_parents s d b sound (stands b at) (inl low)
+  completes b at (inr parents) = complete_from_parents s d b sound (stands b at) (inr (λ k r lt.
+      let p = parents k r lt in
+      let held = (far.blocks (get_or b.parents k r).digest p.0).0 p.1 in
+      ((p.0, (held.0, held.1.stands.1.1), p.2, p.3), held.1)))
+
+  completed : (b : Block) → get s.blocks d ≡ Some b → IsComplete s d → IsCompletedBy s old b
+  completed b at whole = elim (cases_lt s.floor b.round) [
+    | inl above ↦ inr (λ k r lt.
+        let both = parents_complete s d b whole (stands b at) above k r lt in
+        let p = both.0 in
+        let less : slot_cmp (block_slot p.0) x ≡ Less = subst (λ (y : Slot). slot_cmp (block_slot p.0) y ≡ Less) (its_slot b at) (earlier p.0.round p.0.author b.round b.author p.3) in
+        (p.0, (far.blocks (get_or b.parents k r).digest p.0).1 (p.1.0, both.1, not_left (block_slot p.0) x d next less far.sorted), p.2, p.3))
+    | inr low ↦ inl low
+  ]
+
+  -- the block is new, or was there
+  gives : (new : FinMap digest_cmp Block) → AddsIfComplete s old new d → (e : Digest) (b : Block) → get new e ≡ Some b → ((e ≡ d) × (get s.blocks d ≡ Some b) × IsComplete s d) ⊎ (get old e ≡ Some b)
+  gives new (inl (none, same)) e b at = inr (ap (λ m. get m e) (sym same) ∙ at)
+  gives new (inr (c, held, inr (never, same))) e b at = inr (ap (λ m. get m e) (sym same) ∙ at)
+  gives new (inr (c, held, inl (how, put))) e b at = elim (after_insert old d c e b (ap (λ m. get m e) (sym put) ∙ at)) [
+    | inl here ↦ inl (here.0, held ∙ ap Some here.1, completes c held how)
+    | inr there ↦ inr there
+  ]
+
+  -- what was there still is
+  keeps : (new : FinMap digest_cmp Block) → AddsIfComplete s old new d → (e : Digest) (b : Block) → get s.blocks e ≡ Some b → get old e ≡ Some b → get new e ≡ Some b
+  keeps new (inl (none, same)) e b held at = ap (λ m. get m e) same ∙ at
+  keeps new (inr (c, here, inr (never, same))) e b held at = ap (λ m. get m e) same ∙ at
+  keeps new (inr (c, here, inl (how, put))) e b held at = ap (λ m. get m e) put ∙ stays old d c e b at (λ one. one_block c b here (ap (get s.blocks) (sym one) ∙ held))
+
+  -- the slot's block is there where it is complete
+  adds : (new : FinMap digest_cmp Block) → AddsIfComplete s old new d → (b : Block) → get s.blocks d ≡ Some b → IsComplete s d → get new d ≡ Some b
+  adds new (inl (none, same)) b held whole = absurd (none_some b (sym none ∙ held))
+  adds new (inr (c, here, inr (never, same))) b held whole = absurd (never (completed c here whole))
+  adds new (inr (c, here, inl (how, put))) b held whole = ap (λ m. get m d) put ∙ at_insert old d c ∙ sym here ∙ held
+
+  -- one slot fewer is left
+  pub one_fewer : (new : FinMap digest_cmp Block) → AddsIfComplete s old new d → SoFar s next new
+  one_fewer new added = record {
+    sorted = sorted_tail slot_cmp x (keys_of next) far.sorted;
+    indexed = λ q e found. far.indexed q e (found_behind q x d e next far.sorted found);
+    blocks = λ e b. (
+      λ at. elim (gives new added e b at) [
+        | inl here ↦ (
+          ap (get s.blocks) here.0 ∙ here.1,
+          subst (IsComplete s) (sym here.0) here.2,
+          ap (λ (y : Slot). lookup (is_at (slot_cmp y)) next) (its_slot b here.1) ∙ not_again x next d far.sorted,
+        )
+        | inr there ↦ let was = (far.blocks e b).0 there in (was.0, was.1, not_behind (block_slot b) x d next was.2)
+      ],
+      λ (held, whole, none). elim (first_or_not (block_slot b) x d next none) [
+        | inl here ↦
+            let one : e ≡ d = only_one e b held whole here in
+            ap (get new) one ∙ adds new added b (ap (get s.blocks) (sym one) ∙ held) (subst (IsComplete s) one whole)
+        | inr behind ↦ keeps new added e b held ((far.blocks e b).1 (held, whole, behind))
+      ],
+    );
+  }
+
+-- ---- all slots
+
+-- at the start no block is found, and all slots are left
+pub all_left : (s : State) (entries : List (Slot × Digest)) → IsSound s → IsIndex s.certificates (from_entries entries) → IsStrictlySortedBy slot_cmp (keys_of entries) → SoFar s entries empty
+all_left s entries sound indexed sorted = record {
+  sorted = sorted;
+  indexed = λ q d found. (indexed q d).0 (get_lookup slots_total entries q ∙ found);
+  blocks = λ d b. (
+    λ at. absurd (none_some b (sym (get-empty digest_cmp d) ∙ at)),
+    λ (held, whole, none).
+        let c = some_of whole.stands.1.1 in
+        let listed = (indexed (block_slot b) d).1 (c.0, c.1, sym (sound.one_slot d b c.0 held c.1)) in
+        absurd (none_some d (sym none ∙ sym (get_lookup slots_total entries (block_slot b)) ∙ listed)),
+  );
+}
+  where
+    some_of : {X : Type 0} {found : Option X} → IsSome found → (y : X) × (found ≡ Some y)
+    some_of {found = Some y} h = (y, refl)
+    some_of {found = None} h = absurd cc
+
+-- at the end the complete blocks are found
+pub none_left : (s : State) (complete : FinMap digest_cmp Block) → SoFar s [] complete → AreComplete s complete
+none_left s complete far d b = (
+  λ at. let was = (far.blocks d b).0 at in (was.0, was.1),
+  λ (held, whole). (far.blocks d b).1 (held, whole, refl),
+)

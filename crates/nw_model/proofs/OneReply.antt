@@ -1,0 +1,108 @@
+-- One reply to each call.
+use Rattle.std.proofs.Common.{◌≡◌, ◌⊎◌, List, Option, Some, None, IsSome, refl, ap, sym, ◌∙◌, subst, inl, inr}
+use Rattle.std.specs.FinMap.{get}
+use Rattle.nw_digest.specs.declared.digest.Digest.{Digest}
+use Rattle.nw_codec.specs.declared.block.Block.{Block}
+use Rattle.nw_codec.specs.declared.certificate.Certificate.{Certificate}
+use Rattle.nw_model.specs.State.{State}
+use Rattle.nw_model.specs.Paths.{IsAncestor, IsComplete, IsCausalList}
+use Rattle.nw_model.specs.Step.{Bounds, IsReply, IsCausalReply, AreOneReply, StepIsAFunction, shortened, write_reply, certify_reply}
+use Rattle.nw_model.specs.declared.call.Call.{Call}
+use Rattle.nw_model.specs.declared.call.Call.TheVariants as call
+use Rattle.nw_model.specs.declared.reply.CausalReply.{CausalReply}
+use Rattle.nw_model.specs.declared.reply.CausalReply.TheVariants as causal
+use Rattle.nw_model.specs.declared.reply.Reply.{Reply}
+use Rattle.nw_model.specs.declared.reply.Reply.TheVariants as reply
+use Rattle.nw_model.proofs.Listed.{same_lists}
+
+-- equal replies are one
+equal_replies : (one other : Reply) → one ≡ other → AreOneReply one other
+equal_replies one other same = record {
+  short = ap shortened same;
+  list = λ blocks others is was. same_blocks blocks others (sym is ∙ same ∙ was);
+}
+  where
+    same_blocks : (blocks others : List Block) → reply.List blocks ≡ reply.List others → blocks ≡ others
+    same_blocks blocks others e = cc
+
+to_write : (bounds : Bounds) (s : State) (d : Digest) (b : Block) (r : Reply) → IsReply bounds s (call.Write d b) r → r ≡ reply.Write (write_reply bounds s d b)
+to_write bounds s d b (reply.Write w) is = ap reply.Write is
+to_write bounds s d b other is = absurd is
+
+to_certify : (bounds : Bounds) (s : State) (c : Certificate) (r : Reply) → IsReply bounds s (call.Certify c) r → r ≡ reply.Certify (certify_reply bounds s c)
+to_certify bounds s c (reply.Certify w) is = ap reply.Certify is
+to_certify bounds s c other is = absurd is
+
+to_certificate : (bounds : Bounds) (s : State) (d : Digest) (r : Reply) → IsReply bounds s (call.Certificate d) r → r ≡ reply.Certificate (get s.certificates d)
+to_certificate bounds s d (reply.Certificate w) is = ap reply.Certificate is
+to_certificate bounds s d other is = absurd is
+
+to_read : (bounds : Bounds) (s : State) (d : Digest) (r : Reply) → IsReply bounds s (call.Read d) r → r ≡ reply.Read (get s.blocks d)
+to_read bounds s d (reply.Read w) is = ap reply.Read is
+to_read bounds s d other is = absurd is
+
+-- ---- causal reads
+
+none_some : {X : Type 0} (found : Option X) → found ≡ None → IsSome found → ⊥
+none_some None none some = absurd cc
+none_some (Some x) none some = absurd cc
+
+some_is : {X : Type 0} (found : Option X) (x : X) → found ≡ Some x → IsSome found
+some_is None x e = absurd cc
+some_is (Some y) x e = refl
+
+-- a complete block gets its list
+complete_listed : (s : State) (d : Digest) (r : CausalReply) → IsComplete s d → IsCausalReply s d (reply.Causal r) → ⊥
+complete_listed s d causal.Unknown whole is = none_some (get s.blocks d) is (some_is (get s.blocks d) whole.stands.0 whole.stands.1.0)
+complete_listed s d causal.Uncertified whole is = none_some (get s.certificates d) is.1 whole.stands.1.1
+complete_listed s d causal.Incomplete whole is = is.2 whole
+
+-- there is one reason why there is no list
+one_reason : (s : State) (d : Digest) (one other : CausalReply) → IsCausalReply s d (reply.Causal one) → IsCausalReply s d (reply.Causal other) → one ≡ other
+one_reason s d causal.Unknown causal.Unknown is was = refl
+one_reason s d causal.Unknown causal.Uncertified is was = absurd (none_some (get s.blocks d) is was.0)
+one_reason s d causal.Unknown causal.Incomplete is was = absurd (none_some (get s.blocks d) is was.0)
+one_reason s d causal.Uncertified causal.Unknown is was = absurd (none_some (get s.blocks d) was is.0)
+one_reason s d causal.Uncertified causal.Uncertified is was = refl
+one_reason s d causal.Uncertified causal.Incomplete is was = absurd (none_some (get s.certificates d) is.1 was.1)
+one_reason s d causal.Incomplete causal.Unknown is was = absurd (none_some (get s.blocks d) was is.0)
+one_reason s d causal.Incomplete causal.Uncertified is was = absurd (none_some (get s.certificates d) was.1 is.1)
+one_reason s d causal.Incomplete causal.Incomplete is was = refl
+
+-- a causal read is answered by a reason, or by the list of a complete block
+reason_or_list : (s : State) (d : Digest) (r : Reply) → IsCausalReply s d r → ((why : CausalReply) × (r ≡ reply.Causal why)) ⊎ (IsComplete s d × (shortened r ≡ reply.Ready))
+reason_or_list s d (reply.Causal why) is = inl (why, refl)
+reason_or_list s d reply.Ready is = inr (is, refl)
+reason_or_list s d (reply.List blocks) is = inr (is.0, refl)
+reason_or_list s d (reply.Write r) is = absurd is
+reason_or_list s d (reply.Certify r) is = absurd is
+reason_or_list s d (reply.Certificate r) is = absurd is
+reason_or_list s d (reply.Read r) is = absurd is
+
+-- two replies to a causal read are one
+to_causal : (s : State) (d : Digest) (one other : Reply) → IsCausalReply s d one → IsCausalReply s d other → AreOneReply one other
+to_causal s d one other is was = record {
+  short = elim (reason_or_list s d one is) [
+    | inl here ↦ elim (reason_or_list s d other was) [
+      | inl there ↦
+          let same = one_reason s d here.0 there.0 (subst (λ r. IsCausalReply s d r) here.1 is) (subst (λ r. IsCausalReply s d r) there.1 was) in
+          ap shortened (here.1 ∙ ap reply.Causal same ∙ sym there.1)
+      | inr there ↦ absurd (complete_listed s d here.0 there.0 (subst (λ r. IsCausalReply s d r) here.1 is))
+    ]
+    | inr here ↦ elim (reason_or_list s d other was) [
+      | inl there ↦ absurd (complete_listed s d there.0 here.0 (subst (λ r. IsCausalReply s d r) there.1 was))
+      | inr there ↦ here.1 ∙ sym there.1
+    ]
+  ];
+  list = λ blocks others is_blocks is_others.
+      let one_list : IsComplete s d × IsCausalList s d blocks = subst (λ r. IsCausalReply s d r) is_blocks is in
+      let other_list : IsComplete s d × IsCausalList s d others = subst (λ r. IsCausalReply s d r) is_others was in
+      same_lists s.blocks (IsAncestor s d) blocks others one_list.1 other_list.1;
+}
+
+pub one_reply : StepIsAFunction
+one_reply bounds s (call.Write d b) one other is was = equal_replies one other (to_write bounds s d b one is ∙ sym (to_write bounds s d b other was))
+one_reply bounds s (call.Certify c) one other is was = equal_replies one other (to_certify bounds s c one is ∙ sym (to_certify bounds s c other was))
+one_reply bounds s (call.Certificate d) one other is was = equal_replies one other (to_certificate bounds s d one is ∙ sym (to_certificate bounds s d other was))
+one_reply bounds s (call.Read d) one other is was = equal_replies one other (to_read bounds s d one is ∙ sym (to_read bounds s d other was))
+one_reply bounds s (call.Causal d) one other is was = to_causal s d one other is was

@@ -1,0 +1,91 @@
+-- What a history leaves is sound.
+use Rattle.std.proofs.Common.{◌≡◌, ℕ, ◌≤◌, Bool, true, false, cond, List, [], ◌∷◌, Option, Some, None, refl, ap, arith}
+use Rattle.std.specs.Prelude.{nat_lt}
+use Rattle.std.specs.Option.{option_map_or}
+use Rattle.std.specs.FinMap.{get}
+use Rattle.nw_digest.specs.declared.digest.Digest.{Digest}
+use Rattle.nw_codec.specs.declared.block.Block.{Block}
+use Rattle.nw_codec.specs.declared.certificate.Certificate.{Certificate}
+use Rattle.nw_model.specs.State.{State, block_slot, certificate_slot, opening}
+use Rattle.nw_model.specs.Sound.{IsSound}
+use Rattle.nw_model.specs.Step.{Bounds, after, after_write, after_certify, write_reply, certify_reply, is_elsewhere, certified_digest}
+use Rattle.nw_model.specs.History.{replay}
+use Rattle.nw_model.specs.Laws.{LegalHistoriesLeaveSoundStates}
+use Rattle.nw_model.specs.declared.call.Call.{Call}
+use Rattle.nw_model.specs.declared.call.Call.TheVariants as call
+use Rattle.nw_model.specs.declared.event.Event.{Event}
+use Rattle.nw_model.specs.declared.reply.WriteReply.{WriteReply}
+use Rattle.nw_model.specs.declared.reply.WriteReply.TheVariants as write
+use Rattle.nw_model.specs.declared.reply.CertifyReply.{CertifyReply}
+use Rattle.nw_model.specs.declared.reply.CertifyReply.TheVariants as certify
+use Rattle.nw_model.proofs.Kept.{sound_with_block, sound_with_certificate, kept_opening}
+
+-- a value with this mark that is not the first branch's is the second's
+past : {X : Type 0} (mark : X → Bool) (test : Bool) (x rest r : X) → mark x ≡ false → mark r ≡ true → cond test x rest ≡ r → (test ≡ false) × (rest ≡ r)
+past mark true x rest r unmarked marked is = let same = ap mark is in absurd cc
+past mark false x rest r unmarked marked is = (refl, is)
+
+past_found : {X Y : Type 0} (mark : Y → Bool) (reply : X → Y) (found : Option X) (rest r : Y) → ((x : X) → mark (reply x) ≡ false) → mark r ≡ true → option_map_or reply found rest ≡ r → (found ≡ None) × (rest ≡ r)
+past_found mark reply None rest r unmarked marked is = (refl, is)
+past_found mark reply (Some x) rest r unmarked marked is = let same = ap mark is in let not_this = unmarked x in absurd cc
+
+not_below : (a b : ℕ) → nat_lt a b ≡ false → b ≤ a
+not_below a b e = grind arith
+
+-- ---- what is known where a block is stored, or a certificate kept
+
+abbrev is_stored : WriteReply → Bool
+is_stored (write.Stored vote) = true
+is_stored other = false
+
+abbrev is_kept : CertifyReply → Bool
+is_kept certify.Certified = true
+is_kept other = false
+
+stored : (bounds : Bounds) (s : State) (d : Digest) (b : Block) (vote : Bool) → write_reply bounds s d b ≡ write.Stored vote
+    → (s.floor ≤ b.round) × (is_elsewhere certificate_slot (get s.certificates d) (block_slot b) ≡ false)
+stored bounds s d b vote is =
+    let low = past is_stored (nat_lt b.round s.floor) (write.Collected s.floor) _ (write.Stored vote) refl refl is in
+    let far = past is_stored _ write.TooFar _ (write.Stored vote) refl refl low.1 in
+    let held = past is_stored _ write.Held _ (write.Stored vote) refl refl far.1 in
+    let clash = past is_stored _ write.Clash _ (write.Stored vote) refl refl held.1 in
+    let misfit = past is_stored _ write.Misfit _ (write.Stored vote) refl refl clash.1 in
+    (not_below b.round s.floor low.0, misfit.0)
+
+certified : (bounds : Bounds) (s : State) (c : Certificate) → certify_reply bounds s c ≡ certify.Certified
+    → (s.floor ≤ c.round) × (is_elsewhere block_slot (get s.blocks c.digest) (certificate_slot c) ≡ false) × (certified_digest s (certificate_slot c) ≡ None)
+certified bounds s c is =
+    let low = past is_kept (nat_lt c.round s.floor) (certify.Collected s.floor) _ certify.Certified refl refl is in
+    let far = past is_kept _ certify.TooFar _ certify.Certified refl refl low.1 in
+    let already = past is_kept _ certify.Already _ certify.Certified refl refl far.1 in
+    let misfit = past is_kept _ certify.Misfit _ certify.Certified refl refl already.1 in
+    let elsewhere = past is_kept _ certify.Misfit _ certify.Certified refl refl misfit.1 in
+    let conflict = past_found is_kept certify.Conflict (certified_digest s (certificate_slot c)) _ certify.Certified (λ _. refl) refl elsewhere.1 in
+    (not_below c.round s.floor low.0, elsewhere.0, conflict.0)
+
+-- ---- what each call leaves
+
+sound_after_write : (bounds : Bounds) (s : State) (d : Digest) (b : Block) (r : WriteReply) → IsSound s → write_reply bounds s d b ≡ r → IsSound (after_write s d b r)
+sound_after_write bounds s d b (write.Stored vote) sound is = let known = stored bounds s d b vote is in sound_with_block s d b vote sound known.1 known.0
+sound_after_write bounds s d b other sound is = sound
+
+sound_after_certify : (bounds : Bounds) (s : State) (c : Certificate) (r : CertifyReply) → IsSound s → certify_reply bounds s c ≡ r → IsSound (after_certify s c r)
+sound_after_certify bounds s c certify.Certified sound is = let known = certified bounds s c is in sound_with_certificate s c sound known.2 known.1 known.0
+sound_after_certify bounds s c other sound is = sound
+
+-- each call leaves a sound state sound
+pub sound_after : (bounds : Bounds) (s : State) (asked : Call) → IsSound s → IsSound (after bounds s asked)
+sound_after bounds s (call.Write d b) sound = sound_after_write bounds s d b (write_reply bounds s d b) sound refl
+sound_after bounds s (call.Certify c) sound = sound_after_certify bounds s c (certify_reply bounds s c) sound refl
+sound_after bounds s other sound = sound
+
+-- so do the calls of these events
+pub sound_replay : (bounds : Bounds) (s : State) (es : List Event) → IsSound s → IsSound (replay bounds s es)
+sound_replay bounds s [] sound = sound
+sound_replay bounds s (e ∷ es) sound = sound_replay bounds (after bounds s e.call) es (sound_after bounds s e.call sound)
+
+pub sound_opening : IsSound opening
+sound_opening = kept_opening.sound
+
+pub legal_sound : LegalHistoriesLeaveSoundStates
+legal_sound bounds most session_count es legal = sound_replay bounds opening es sound_opening

@@ -1,0 +1,25 @@
+-- Laws over the definitions.
+use Rattle.std.specs.Prelude.{◌↔◌, ℕ, List, All, Contains}
+use Rattle.nw_digest.specs.declared.digest.Digest.{Digest}
+use Rattle.nw_codec.specs.declared.block.Block.{Block}
+use Rattle.nw_model.specs.State.{State, opening}
+use Rattle.nw_model.specs.Paths.{IsAncestor, IsComplete, IsCausalList}
+use Rattle.nw_model.specs.View.{Frozen, IsAncestorIn, Shows}
+use Rattle.nw_model.specs.Sound.{IsSound}
+use Rattle.nw_model.specs.Step.{Bounds}
+use Rattle.nw_model.specs.History.{IsLegal, replay}
+use Rattle.nw_model.specs.declared.event.Event.{Event}
+
+-- what the calls of a legal history leave is sound: at most one digest is certified for a slot, and the block under it has that slot
+abbrev pub LegalHistoriesLeaveSoundStates : Type 0
+LegalHistoriesLeaveSoundStates = (bounds : Bounds) (most session_count : ℕ) (es : List Event) → IsLegal bounds most session_count es → IsSound (replay bounds opening es)
+
+-- where a view shows a sound state, a complete block has the same ancestors in both
+abbrev pub ViewsShowTheAncestors : Type 0
+ViewsShowTheAncestors = (v : Frozen) (s : State) (d : Digest) → IsSound s → Shows v s → IsComplete s d → (a : Digest) → IsAncestorIn v d a ↔ IsAncestor s d a
+
+-- each block of the causal list of a complete block is complete, and its own causal list is contained in that list
+abbrev pub CausalListsContainThoseOfTheirBlocks : Type 0
+CausalListsContainThoseOfTheirBlocks =
+    (s : State) (d : Digest) (blocks : List Block) → IsComplete s d → (listed : IsCausalList s d blocks) → (e : Digest) → Contains listed.digests e
+    → IsComplete s e × (few : List Block) × IsCausalList s e few × All (Contains blocks) few

@@ -1,0 +1,46 @@
+-- Finding the ancestors of a block, parents by parents.
+use Rattle.std.specs.Prelude.{◌≡◌, ◌<◌, ◌⊎◌, List, Some, All, Contains}
+use Rattle.std.specs.FinMap.{FinMap, get}
+use Rattle.nw_digest.specs.declared.digest.Digest.{Digest}
+use Rattle.nw_codec.specs.declared.block.Ref.{Ref}
+use Rattle.nw_codec.specs.declared.block.Block.{Block}
+use Rattle.nw_model.specs.State.{Slot, block_slot, slot_cmp}
+use Rattle.nw_model.specs.View.{Frozen, IsThere, IsParentIn, IsAncestorIn}
+
+-- the block under e is there, and takes the slot
+abbrev pub IsUnder : Frozen → Slot → Digest → Type 0
+IsUnder v slot e = (b : Block) × IsThere v e b × (block_slot b ≡ slot)
+
+-- each digest that was found is under the slot of its block
+abbrev pub AreUnder : Frozen → FinMap slot_cmp Digest → Type 0
+AreUnder v found = (slot : Slot) (e : Digest) → get found slot ≡ Some e → IsUnder v slot e
+
+-- e was found, under the slot of its block
+abbrev pub IsFound : Frozen → FinMap slot_cmp Digest → Digest → Type 0
+IsFound v found e = (b : Block) × (get v.blocks e ≡ Some b) × (get found (block_slot b) ≡ Some e)
+
+-- one of the references names e
+abbrev pub IsNamed : List Ref → Digest → Type 0
+IsNamed refs e = (r : Ref) × Contains refs r × (r.digest ≡ e)
+
+-- e is a parent of one of the digests
+abbrev pub IsParentOfAny : Frozen → List Digest → Digest → Type 0
+IsParentOfAny v digests e = (d : Digest) × Contains digests d × IsParentIn v d e
+
+-- the block of each digest is above the floor
+abbrev pub AreAbove : Frozen → List Digest → Type 0
+AreAbove v digests = All (λ d. (b : Block) × (get v.blocks d ≡ Some b) × (v.floor < b.round)) digests
+
+-- each digest with P is found, what is found anew is listed too, and nothing else is
+pub record Finds (v : Frozen) (P : Digest → Type 0) (old new : FinMap slot_cmp Digest) (listed more : List Digest) : Type 0 where
+  pub keeps : (slot : Slot) (e : Digest) → get old slot ≡ Some e → get new slot ≡ Some e
+  pub finds : (e : Digest) → P e → IsFound v new e
+  pub adds : (slot : Slot) (e : Digest) → get new slot ≡ Some e → (get old slot ≡ Some e) ⊎ (Contains more e × P e × IsUnder v slot e)
+  pub stays : (e : Digest) → Contains listed e → Contains more e
+  pub lists : (e : Digest) → Contains more e → Contains listed e ⊎ P e
+
+-- what was found are exactly the ancestors of d, each under the slot of its block
+pub record Reaches (v : Frozen) (d : Digest) (found : FinMap slot_cmp Digest) : Type 0 where
+  pub under : AreUnder v found
+  pub only : (slot : Slot) (e : Digest) → get found slot ≡ Some e → IsAncestorIn v d e
+  pub each : (e : Digest) → IsAncestorIn v d e → IsFound v found e

@@ -1,0 +1,57 @@
+//! Views: blocks as they were at one moment, with all that happened before them.
+ghost use Rattle.std.specs.Prelude.{◌≡◌};
+ghost use Rattle.std.specs.Option.{option_copied};
+ghost use Rattle.std.specs.FinMap as map;
+ghost use Rattle.nw_model.specs.View.{IsClosed};
+
+use nw_codec::Block;
+use nw_digest::{Digest, Round, Shared};
+use std::collections::BTreeMap;
+use std::marker::Model;
+
+/// Blocks under their digests, and a floor. Each parent of a block above the floor is there too, with the named author
+/// and in the round before, and no two blocks that are not below the floor share round and author.
+#[derive(Drop)]
+pub struct View {
+    blocks: BTreeMap<Digest, Shared<Block>>,
+    floor: Round,
+}
+
+impl Model for View {
+    ghost use Rattle.std.specs.FinMap as map;
+    ghost use Rattle.nw_model.specs.View.{Frozen, IsClosed, coded_frozen};
+
+    ghost Value = { Frozen };
+
+    ghost coded = { coded_frozen };
+
+    ghost view = { λ v. record { blocks = map.from_entries v.blocks.entries; floor = v.floor } };
+
+    ghost invariant = { λ v. IsClosed (record { blocks = map.from_entries v.blocks.entries; floor = v.floor }) };
+}
+
+impl View {
+    /// The view of these blocks. It takes no memory.
+    pub fn new(blocks: BTreeMap<Digest, Shared<Block>>, floor: Round) -> View
+        requires { IsClosed (record { blocks = map.from_entries blocks.entries; floor = floor }) }
+        ensures { result ≡ record { blocks = map.from_entries blocks.entries; floor = floor } }
+    {
+        View { blocks, floor }
+    }
+
+    /// The block under the digest.
+    pub fn get(&self, digest: &Digest) -> Option<&Shared<Block>>
+        ensures block { option_copied result ≡ map.get self.now.blocks digest.now }
+        ensures closed { IsClosed self.now }
+    {
+        self.blocks.get(digest)
+    }
+
+    /// The round below which nothing is asked for.
+    pub fn floor(&self) -> Round
+        ensures floor { result ≡ self.now.floor }
+        ensures closed { IsClosed self.now }
+    {
+        self.floor
+    }
+}

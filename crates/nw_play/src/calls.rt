@@ -1,0 +1,80 @@
+//! The calls of a script, all of session 0.
+ghost use Rattle.nw_book.specs.Command.{CommandFits};
+
+use crate::fault::LineFault;
+use nw_book::{Book, Command, Limits, NoStep, Ticket};
+use nw_digest::Digest;
+use nw_model::{CausalReply, Reply};
+use std::alloc::Global;
+
+/// A book, and the number of the next call of session 0.
+#[derive(Drop)]
+pub struct Calls {
+    book: Book,
+    next: u32,
+}
+
+/// What a causal read was answered.
+#[derive(Drop)]
+pub enum Opened {
+    Ready(Ticket),
+    Refused(CausalReply),
+    HistoryFull,
+}
+
+impl Calls {
+    /// No call yet, on an empty book with these limits.
+    pub fn new(alloc: Global, limits: Limits) -> Result<Calls, LineFault> {
+        Ok(Calls {
+            book: Book::new(alloc, limits)?,
+            next: 1,
+        })
+    }
+
+    /// The reply to the next call, or `None` where the history is full.
+    pub fn step(&mut self, alloc: Global, command: &Command) -> Result<Option<Reply>, LineFault>
+        requires { CommandFits command.now }
+    {
+        let next = self.next.checked_add(1).ok_or(LineFault::Bad)?;
+        match self.book.step(alloc, 0, self.next, command) {
+            Ok(done) => {
+                self.next = next;
+                Ok(Some(done.reply))
+            }
+            Err(refusal) => {
+                is_full(refusal)?;
+                Ok(None)
+            }
+        }
+    }
+
+    /// The answer to a causal read as the next call.
+    pub fn open(&mut self, alloc: Global, digest: Digest) -> Result<Opened, LineFault> {
+        let next = self.next.checked_add(1).ok_or(LineFault::Bad)?;
+        match self.book.open(alloc, 0, self.next, digest) {
+            Ok(answer) => {
+                self.next = next;
+                match answer {
+                    Ok(ticket) => Ok(Opened::Ready(ticket)),
+                    Err(done) => match done.reply {
+                        Reply::Causal(reply) => Ok(Opened::Refused(reply)),
+                        _ => Err(LineFault::Bad),
+                    },
+                }
+            }
+            Err(refusal) => {
+                is_full(refusal)?;
+                Ok(Opened::HistoryFull)
+            }
+        }
+    }
+}
+
+// A full history is an answer; another refusal ends the play. Each number is in turn.
+fn is_full(refusal: NoStep) -> Result<(), LineFault> {
+    match refusal {
+        NoStep::HistoryFull => Ok(()),
+        NoStep::NoMemory => Err(LineFault::NoMemory),
+        NoStep::OutOfTurn => Err(LineFault::Bad),
+    }
+}
