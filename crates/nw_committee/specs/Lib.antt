@@ -1,0 +1,2 @@
+pub mod Committee
+pub mod Laws

@@ -1,0 +1,21 @@
+//! Why a committee is not made.
+use nw_digest::NoMemory;
+use std::alloc::{AllocError, AllocFailed};
+use thiserror::Error;
+
+/// Why a committee is not made. The first that applies is answered, in the order in which the constructor names them.
+#[derive(Clone, Copy, Debug, PartialEq, Eq, Error)]
+pub enum CommitteeFault {
+    /// The number of members is not one that the constructor takes.
+    #[error("bad size")]
+    BadSize,
+    /// Two members have one key.
+    #[error("repeated key")]
+    RepeatedKey,
+    /// Memory was refused.
+    #[error("out of memory")]
+    NoMemory,
+    /// A weight is not 1 to 1,000,000.
+    #[error("bad weight")]
+    BadWeight,
+}

@@ -1,0 +1,16 @@
+//! Committees: the members of a mempool, their weights, and which of them reach the quorum.
+//!
+//! Its contract: the quorum is two thirds of the total weight, rounded down, and one more, and a list of members reaches it
+//! where the weights of the distinct members listed add up to at least that. It stands on `nw_digest` alone.
+#![tactic(auto)]
+
+mod committee;
+mod error;
+mod member;
+
+pub use committee::Committee;
+pub use error::CommitteeFault;
+pub use member::{Key, Member};
+
+#[cfg(test)]
+mod tests;
