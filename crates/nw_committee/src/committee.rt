@@ -70,3 +70,18 @@ impl Committee {
             .map(|member| member.weight)
     }
 }
+
+impl PartialEq for Committee {
+    ghost use Rattle.std.specs.Cmp.Lexicographic.{pointwise, lists_per};
+
+    ghost eq = { pointwise ⟦<Member as PartialEq>⟧.eq };
+
+    ghost use Rattle.std.specs.Cmp.Rules.{comparing};
+    ghost use Rattle.std.proofs.Common.{rules};
+
+    ghost laws = { lists_per (Prim.search (comparing, rules)) };
+
+    fn eq(&self, other: &Committee) -> bool {
+        self.members.as_slice() == other.members.as_slice()
+    }
+}
