@@ -1,0 +1,43 @@
+//! Chunks of a list.
+ghost use Rattle.std.specs.Prelude.{◌≡◌, ◌<◌, length, slice_get, Some};
+
+use nw_digest::Shared;
+use std::marker::Model;
+
+/// How many items a chunk has.
+pub const CHUNK: usize = 256;
+
+/// Items of a list that never change, as many as a chunk has. Contracts see the items.
+#[derive(Drop)]
+pub struct Chunk<T: Drop> {
+    items: Vec<Shared<T>>,
+}
+
+impl<T: Drop> Model for Chunk<T> {
+    ghost use Rattle.std.specs.Prelude.{◌≡◌, List, length};
+
+    ghost Value = { List T };
+
+    ghost view = { λ c. c.items.items };
+
+    ghost invariant = { λ c. length c.items.items ≡ 256 };
+}
+
+impl<T: Drop> Chunk<T> {
+    /// The chunk of these items. It takes no memory.
+    pub fn new(items: Vec<Shared<T>>) -> Chunk<T>
+        requires { length items.items ≡ 256 }
+        ensures { result ≡ items.items }
+    {
+        Chunk { items }
+    }
+
+    /// The item at the index.
+    pub fn item(&self, index: usize) -> &T
+        requires { index < 256 }
+        ensures item { slice_get self.now index ≡ Some result.now }
+        ensures whole { length self.now ≡ 256 }
+    {
+        self.items[index].get()
+    }
+}

@@ -1,0 +1,90 @@
+//! Lists that share all but their last item.
+ghost use Rattle.std.specs.Prelude.{◌≡◌, ◌∷◌, [], IfOk, slice_get, reverse};
+ghost use Rattle.std.specs.Option.{option_copied};
+
+use nw_digest::{NoMemory, Shared};
+use std::alloc::Global;
+use std::marker::Model;
+use std::sync::Arc;
+
+/// An item, and the items before it.
+#[derive(Drop)]
+struct Node<T: Drop> {
+    item: Shared<T>,
+    before: Option<Arc<Node<T>>>,
+}
+
+/// A list of shared items that never changes, and shares all but its last item with the list that it was made from. Contracts
+/// see the items, the last first.
+#[derive(Drop)]
+pub struct Trail<T: Drop> {
+    last: Option<Arc<Node<T>>>,
+}
+
+impl<T: Drop> Model for Trail<T> {
+    ghost use Rattle.std.specs.Prelude.{List};
+    ghost use Rattle.nw_chunks.specs.Trail.{items_to};
+
+    ghost Value = { List T };
+
+    ghost view = { λ t. items_to t.last };
+}
+
+impl<T: Drop> Trail<T> {
+    /// No items. It takes no memory.
+    pub fn new() -> Trail<T>
+        ensures { result ≡ [] }
+    {
+        Trail { last: None }
+    }
+
+    /// The same list, with one more owner of its last item.
+    pub fn try_clone(&self) -> Result<Trail<T>, NoMemory>
+        ensures { IfOk result (λ t. t ≡ self.now) }
+    {
+        match &self.last {
+            None => Ok(Trail { last: None }),
+            Some(node) => Ok(Trail {
+                last: Some(Arc::try_clone(node)?),
+            }),
+        }
+    }
+
+    /// The list with one more item, which comes last.
+    pub fn with(&self, alloc: Global, item: Shared<T>) -> Result<Trail<T>, NoMemory>
+        ensures { IfOk result (λ t. t ≡ item ∷ self.now) }
+    {
+        let before = self.try_clone()?.last;
+        Ok(Trail {
+            last: Some(Arc::new(alloc, Node { item, before })?),
+        })
+    }
+
+    /// The item so many places before the last one, or `None` where there is none.
+    pub fn back(&self, places: usize) -> Option<&T>
+        ensures { option_copied result ≡ slice_get self.now places }
+    {
+        let mut node = self.last.as_ref();
+        for _ in 0..places {
+            node = node?.before.as_ref();
+        }
+        match node {
+            None => None,
+            Some(node) => Some(node.item.get()),
+        }
+    }
+
+    /// The items in order, each with one more owner, with room for one more.
+    pub fn items(&self, alloc: Global, room: usize) -> Result<Vec<Shared<T>>, NoMemory>
+        ensures { IfOk result (λ items. items.items ≡ reverse self.now) }
+    {
+        let mut items = Vec::with_capacity(alloc, room)?;
+        let mut next = self.last.as_ref();
+        while let Some(node) = next {
+            items.push(node.item.try_clone()?)?;
+            next = node.before.as_ref();
+        }
+        items.reverse();
+        Ok(items)
+    }
+}
