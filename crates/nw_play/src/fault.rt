@@ -57,6 +57,15 @@ impl LineFault {
     }
 }
 
+impl From<nw_script::LineFault> for LineFault {
+    fn from(fault: nw_script::LineFault) -> LineFault {
+        match fault {
+            nw_script::LineFault::Bad => LineFault::Bad,
+            nw_script::LineFault::NoMemory => LineFault::NoMemory,
+        }
+    }
+}
+
 impl From<AllocError> for LineFault {
     fn from(_error: AllocError) -> LineFault {
         LineFault::NoMemory

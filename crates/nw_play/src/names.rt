@@ -1,9 +1,9 @@
 //! The names of blocks.
 
 use crate::fault::LineFault;
-use crate::word::Name;
 use nw_codec::{Block, EncodeError, Message, Ref, Signature, block_digest, encode_body};
 use nw_digest::{Digest, Sequence};
+use nw_script::Name;
 use std::alloc::Global;
 use std::collections::BTreeMap;
 use std::collections::btree_map::Entry;

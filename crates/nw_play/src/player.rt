@@ -2,10 +2,8 @@
 
 use crate::calls::{Calls, Opened};
 use crate::fault::LineFault;
-use crate::line::{Line, Request};
 use crate::names::Names;
 use crate::print::{Answer, Certified, Written};
-use crate::word::Name;
 use nw_book::{Command, Limits, Ticket};
 use nw_codec::{
     Block, Certificate, Message, Seal, Signature, block_digest, decode_message, encode_body,
@@ -13,6 +11,7 @@ use nw_codec::{
 };
 use nw_digest::{Sequence, Shared, digest_of};
 use nw_model::{CertifyReply, Reply, WriteReply};
+use nw_script::{BlockLine, CommitteeLine, LimitsLine, Line, Name, Request};
 use std::alloc::Global;
 use std::collections::BTreeMap;
 
@@ -67,8 +66,8 @@ impl<'a> Player<'a> {
     pub fn play(&mut self, alloc: Global, line: Line<'a>) -> Result<Option<Answer<'a>>, LineFault> {
         match line {
             Line::Skipped => Ok(None),
-            Line::Committee { members } => {
-                if self.stage != Stage::Committee || members != MEMBERS {
+            Line::Committee(line) => {
+                if self.stage != Stage::Committee || !is_playable(&line) {
                     return Err(LineFault::Bad);
                 }
                 self.stage = Stage::Limits;
@@ -78,7 +77,7 @@ impl<'a> Player<'a> {
                 if self.stage != Stage::Limits {
                     return Err(LineFault::Bad);
                 }
-                self.calls = Calls::new(alloc, limits)?;
+                self.calls = Calls::new(alloc, limits_of(limits))?;
                 self.stage = Stage::Requests;
                 Ok(None)
             }
@@ -94,27 +93,7 @@ impl<'a> Player<'a> {
 
     fn answer(&mut self, alloc: Global, request: Request<'a>) -> Result<Answer<'a>, LineFault> {
         match request {
-            Request::Block {
-                name,
-                author,
-                round,
-                parents,
-                transactions,
-            } => {
-                if self.names.is_bound(name) {
-                    return Err(LineFault::Bad);
-                }
-                let block = Block {
-                    author,
-                    round,
-                    parents: self.names.references(alloc, &parents)?,
-                    transactions: copied(alloc, &transactions)?,
-                };
-                match self.names.bind(alloc, name, block)? {
-                    None => Ok(Answer::OverLimit(name)),
-                    Some(body) => Ok(Answer::Bound { name, body }),
-                }
-            }
+            Request::Block(line) => self.block(alloc, &line),
             Request::Body(name) => {
                 let text = encode_body(alloc, self.names.bound(name)?.block())?;
                 let hex = hex::encode(alloc, text.as_slice())?;
@@ -128,13 +107,37 @@ impl<'a> Player<'a> {
                 let digest = digest_of(word.as_bytes());
                 Ok(Answer::Hash(hex::encode(alloc, digest.0.as_slice())?))
             }
-            Request::Write(name) => self.write(alloc, name),
+            Request::Write { name, signer: None } => self.write(alloc, name),
             Request::Read(name) => self.read(alloc, name),
             Request::Certify { name, signers } => self.certify(alloc, name, &signers),
             Request::Certificate(name) => self.certificate(alloc, name),
             Request::Causal(name) => self.causal(alloc, name),
             Request::Open { ticket, name } => self.open(alloc, ticket, name),
             Request::Walk(ticket) => self.walk(alloc, ticket),
+            // Until members sign.
+            Request::Write {
+                signer: Some(_),
+                ..
+            }
+            | Request::Valid { .. }
+            | Request::Gather { .. } => Err(LineFault::Bad),
+        }
+    }
+
+    fn block(&mut self, alloc: Global, line: &BlockLine<'a>) -> Result<Answer<'a>, LineFault> {
+        let name = line.name;
+        if self.names.is_bound(name) {
+            return Err(LineFault::Bad);
+        }
+        let block = Block {
+            author: line.author,
+            round: line.round,
+            parents: self.names.references(alloc, &line.parents)?,
+            transactions: copied(alloc, &line.transactions)?,
+        };
+        match self.names.bind(alloc, name, block)? {
+            None => Ok(Answer::OverLimit(name)),
+            Some(body) => Ok(Answer::Bound { name, body }),
         }
     }
 
@@ -285,6 +288,20 @@ impl<'a> Player<'a> {
             CertifyReply::Certified => Certified::Certified,
         };
         Ok(Answer::Certified { name, reply })
+    }
+}
+
+// Until members sign, there is one.
+fn is_playable(line: &CommitteeLine) -> bool {
+    matches!(line, CommitteeLine::Equal { members: MEMBERS })
+}
+
+fn limits_of(line: LimitsLine) -> Limits {
+    Limits {
+        blocks: line.blocks,
+        events: line.events,
+        window: line.window,
+        sessions: line.sessions,
     }
 }
 

@@ -1,8 +1,8 @@
 //! What is printed.
 
-use crate::word::Name;
 use nw_digest::Round;
 use nw_model::CausalReply;
+use nw_script::Name;
 use std::fmt;
 
 /// The answer to a request, which is printed on a line of its own.

@@ -3,8 +3,8 @@ ghost use Rattle.std.specs.Prelude.{◌<◌, length, IfSome, IsErr};
 
 use crate::fault::{LineFault, PlayFault};
 use crate::input::read_script;
-use crate::line::parse_line;
 use crate::player::Player;
+use nw_script::parse_line;
 use std::alloc::Global;
 use std::io::{BufWriter, Read, Write};
 
@@ -45,7 +45,7 @@ fn play_lines<W: Write>(alloc: Global, script: &[u8], out: &mut W) -> Result<(),
     let mut last = 1;
     for (line, text) in (1..=script.len() + 1).zip(script.split(|byte| *byte == b'\n')) {
         last = line;
-        let parsed = parse_line(alloc, text).map_err(|fault| fault.at(line))?;
+        let parsed = parse_line(alloc, text).map_err(|fault| LineFault::from(fault).at(line))?;
         let answer = player.play(alloc, parsed).map_err(|fault| fault.at(line))?;
         if let Some(answer) = answer {
             writeln!(out, "{answer}").map_err(|_| PlayFault::Write)?;

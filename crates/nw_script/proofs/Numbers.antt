@@ -5,7 +5,7 @@ use Rattle.std.specs.Str.Parse.{ParsesUnsigned}
 use Rattle.std.specs.Result.{result_ok}
 use Rattle.std.proofs.lemmas.Str.Parse.{numerals_by_value, tells_digits, parse_plain}
 use Rattle.std.proofs.lemmas.Fmt.{decimal_digit, first_decimal, decimal_nonempty, decimal-digits_value}
-use Rattle.nw_play.specs.Word.{IsPlain}
+use Rattle.nw_script.specs.Word.{IsPlain}
 
 -- a plain text that is a number is its decimal text
 pub spelled_by_parse : {E : Type 0} (word : List ℕ) (r : Result ℕ E) → ParsesUnsigned 64 10 word r → IsPlain word → IfSome (result_ok r) (λ n. word ≡ decimal n)

@@ -1,9 +1,9 @@
 use Rattle.std.proofs.Common.{◌≡◌, ◌∙◌, ap, false, subst, sym, true}
 use Rattle.std.specs.Result.{result_ok}
 use Rattle.std.proofs.lemmas.Fmt.{parse-decimal}
-use Rattle.nw_play.proofs.Numbers.{spelled_by_parse, IsPlain-decimal}
-use Rattle.nw_play.specs.Word.{IsPlain}
-use Rattle.nw_play.proofs.word.number.Goals as goal
+use Rattle.nw_script.proofs.Numbers.{spelled_by_parse, IsPlain-decimal}
+use Rattle.nw_script.specs.Word.{IsPlain}
+use Rattle.nw_script.proofs.word.number.Goals as goal
 
 pub returns-then-is_plain-clause-spelled : goal.returns-then-is_plain-clause-spelled
 returns-then-is_plain-clause-spelled c =

@@ -2,10 +2,8 @@
 ghost use Rattle.std.specs.Prelude.{◌≡◌, ◌<◌, ◌^◌, ◌↔◌, ℕ, Some, IsSome, IfSome, IsTrue};
 ghost use Rattle.std.specs.Fmt.{decimal};
 ghost use Rattle.std.specs.List.{AllPass};
-ghost use Rattle.nw_play.specs.Word.{IsName, IsPlain, IsWord, is_word_byte};
+ghost use Rattle.nw_script.specs.Word.{IsName, IsPlain, IsWord, is_word_byte};
 
-use crate::fault::LineFault;
-use std::alloc::Global;
 use std::fmt;
 
 /// A name: 1 to 16 bytes of `a` to `z` and `0` to `9`, a letter first.
@@ -78,26 +76,17 @@ pub fn member(word: &str) -> Option<u16>
     u16::try_from(number(word)?).ok()
 }
 
+/// The weight of a member, or another number below 2^32, that the word spells, or `None` where it spells none.
+pub fn weight(word: &str) -> Option<u32>
+    ensures spelled { IfSome result (λ n. word.now ≡ decimal n) }
+    ensures found { (n : ℕ) → n < 2 ^ 32 → word.now ≡ decimal n → result ≡ Some n }
+{
+    u32::try_from(number(word)?).ok()
+}
+
 // Without the plus sign and the leading zeros that `parse` takes as well.
 fn is_plain(word: &[u8]) -> bool
     ensures { IsTrue result ↔ IsPlain word.now }
 {
     !word.is_empty() && word[0] != b'+' && (word[0] != b'0' || word.len() == 1)
-}
-
-/// The elements of a list: of words parted by commas, or none of `-`. Each word must be an element, or the list is bad.
-pub fn list<'a, T: Drop, F: Fn(&'a str) -> Option<T>>(
-    alloc: Global,
-    text: &'a str,
-    element: F,
-) -> Result<Vec<T>, LineFault>
-    requires { F.IsAlwaysCallable element }
-{
-    let mut elements = Vec::new(alloc);
-    if text != "-" {
-        for word in text.split(',') {
-            elements.push(element(word).ok_or(LineFault::Bad)?)?;
-        }
-    }
-    Ok(elements)
 }

@@ -1,0 +1,188 @@
+//! A line of a script.
+
+use crate::LineFault;
+use crate::word::{Name, transaction};
+use crate::words::Words;
+use nw_digest::Round;
+use std::alloc::Global;
+
+/// What a line says, before it is known whether it can be played there.
+#[derive(Debug, Drop)]
+pub enum Line<'a> {
+    /// An empty line or a comment.
+    Skipped,
+    /// The members of the committee.
+    Committee(CommitteeLine),
+    /// `limits <blocks> <events> <window> <sessions>`
+    Limits(LimitsLine),
+    /// A line that prints an answer.
+    Request(Request<'a>),
+}
+
+/// The members of the committee.
+#[derive(Debug, Drop)]
+pub enum CommitteeLine {
+    /// `committee v1 <members>`: so many members of equal weight.
+    Equal { members: u32 },
+    /// `committee v2 <weights>`: a member for each weight.
+    Weighted { weights: Vec<u32> },
+}
+
+/// `limits <blocks> <events> <window> <sessions>`: the numbers as they stand, in range or not.
+#[derive(Clone, Copy, Debug, PartialEq, Eq)]
+pub struct LimitsLine {
+    /// How many blocks, and how many certificates, may stand.
+    pub blocks: u32,
+    /// How many events the history may have.
+    pub events: u32,
+    /// How many rounds are taken.
+    pub window: u32,
+    /// How many sessions there may be.
+    pub sessions: u32,
+}
+
+/// `block <name> <author> <round> <parents> <words>`: a block by the names of its parents, and its transactions.
+#[derive(Debug, Drop)]
+pub struct BlockLine<'a> {
+    pub name: Name<'a>,
+    pub author: u16,
+    pub round: Round,
+    pub parents: Vec<Name<'a>>,
+    pub transactions: Vec<&'a str>,
+}
+
+/// A line that prints an answer.
+#[derive(Debug, Drop)]
+pub enum Request<'a> {
+    /// `block <name> <author> <round> <parents> <words>`
+    Block(BlockLine<'a>),
+    /// `body <name>`
+    Body(Name<'a>),
+    /// `digest <name>`
+    Digest(Name<'a>),
+    /// `hash <word>`, without the `-` of the empty text
+    Hash(&'a str),
+    /// `write <name> [<signer>]`, signed by the author where no signer is named
+    Write { name: Name<'a>, signer: Option<u16> },
+    /// `read <name>`
+    Read(Name<'a>),
+    /// `certify <name> <signers>`
+    Certify { name: Name<'a>, signers: Vec<u16> },
+    /// `valid <name> <signers>`
+    Valid { name: Name<'a>, signers: Vec<u16> },
+    /// `gather <name> <signers>`
+    Gather { name: Name<'a>, signers: Vec<u16> },
+    /// `certificate <name>`
+    Certificate(Name<'a>),
+    /// `causal <name>`
+    Causal(Name<'a>),
+    /// `open <ticket> <name>`
+    Open { ticket: Name<'a>, name: Name<'a> },
+    /// `walk <ticket>`
+    Walk(Name<'a>),
+}
+
+/// The line that the bytes spell, without their line end. It is bad where they are not ASCII, or no line of the grammar.
+pub fn parse_line(alloc: Global, bytes: &[u8]) -> Result<Line<'_>, LineFault> {
+    if !bytes.is_ascii() {
+        return Err(LineFault::Bad);
+    }
+    let text = str::from_utf8(bytes).map_err(|_| LineFault::Bad)?;
+    if text.is_empty() || text.starts_with('#') {
+        return Ok(Line::Skipped);
+    }
+    let mut words = Words::new(text);
+    let line = match words.next()? {
+        "committee" => Line::Committee(committee(alloc, &mut words)?),
+        "limits" => Line::Limits(limits(&mut words)?),
+        keyword => Line::Request(read_request(alloc, keyword, &mut words)?),
+    };
+    if words.is_empty() {
+        Ok(line)
+    } else {
+        Err(LineFault::Bad)
+    }
+}
+
+// The request that begins with this word and goes on with these. Each kind of request has its arm here.
+fn read_request<'a>(
+    alloc: Global,
+    keyword: &str,
+    words: &mut Words<'a>,
+) -> Result<Request<'a>, LineFault> {
+    Ok(match keyword {
+        "block" => Request::Block(BlockLine {
+            name: words.name()?,
+            author: words.member()?,
+            round: words.round()?,
+            parents: words.names(alloc)?,
+            transactions: words.transactions(alloc)?,
+        }),
+        "body" => Request::Body(words.name()?),
+        "digest" => Request::Digest(words.name()?),
+        "hash" => Request::Hash(hashed(words.next()?)?),
+        "write" => Request::Write {
+            name: words.name()?,
+            signer: signer(words)?,
+        },
+        "read" => Request::Read(words.name()?),
+        "certify" => Request::Certify {
+            name: words.name()?,
+            signers: words.members(alloc)?,
+        },
+        "valid" => Request::Valid {
+            name: words.name()?,
+            signers: words.members(alloc)?,
+        },
+        "gather" => Request::Gather {
+            name: words.name()?,
+            signers: words.members(alloc)?,
+        },
+        "certificate" => Request::Certificate(words.name()?),
+        "causal" => Request::Causal(words.name()?),
+        "open" => Request::Open {
+            ticket: words.name()?,
+            name: words.name()?,
+        },
+        "walk" => Request::Walk(words.name()?),
+        _ => return Err(LineFault::Bad),
+    })
+}
+
+fn committee(alloc: Global, words: &mut Words<'_>) -> Result<CommitteeLine, LineFault> {
+    match words.next()? {
+        "v1" => Ok(CommitteeLine::Equal {
+            members: words.limit()?,
+        }),
+        "v2" => Ok(CommitteeLine::Weighted {
+            weights: words.weights(alloc)?,
+        }),
+        _ => Err(LineFault::Bad),
+    }
+}
+
+fn limits(words: &mut Words<'_>) -> Result<LimitsLine, LineFault> {
+    Ok(LimitsLine {
+        blocks: words.limit()?,
+        events: words.limit()?,
+        window: words.limit()?,
+        sessions: words.limit()?,
+    })
+}
+
+// The last word, where there is one more.
+fn signer(words: &mut Words<'_>) -> Result<Option<u16>, LineFault> {
+    if words.is_empty() {
+        Ok(None)
+    } else {
+        Ok(Some(words.member()?))
+    }
+}
+
+fn hashed(word: &str) -> Result<&str, LineFault> {
+    if word == "-" {
+        Ok("")
+    } else {
+        transaction(word).ok_or(LineFault::Bad)
+    }
+}

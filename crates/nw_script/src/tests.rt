@@ -1,0 +1,142 @@
+use super::*;
+use std::alloc::Global;
+use std::test::Fail;
+
+// Lines, and what they say as `{:?}` prints it.
+const LINES: [(&str, &str); 24] = [
+    ("", "Skipped"),
+    ("# a comment", "Skipped"),
+    ("committee v1 4", "Committee(Equal { members: 4 })"),
+    (
+        "committee v2 3,1,1,1",
+        "Committee(Weighted { weights: [3, 1, 1, 1] })",
+    ),
+    ("committee v2 -", "Committee(Weighted { weights: [] })"),
+    (
+        "limits 16 0 4 4294967295",
+        "Limits(LimitsLine { blocks: 16, events: 0, window: 4, sessions: 4294967295 })",
+    ),
+    (
+        "block b 65535 281474976710655 a0,a1 x,y",
+        "Request(Block(BlockLine { name: Name { text: \"b\" }, author: 65535, round: Round { number: 281474976710655 }, parents: [Name { text: \"a0\" }, Name { text: \"a1\" }], transactions: [\"x\", \"y\"] }))",
+    ),
+    (
+        "block a 0 0 - -",
+        "Request(Block(BlockLine { name: Name { text: \"a\" }, author: 0, round: Round { number: 0 }, parents: [], transactions: [] }))",
+    ),
+    ("body a", "Request(Body(Name { text: \"a\" }))"),
+    ("digest a", "Request(Digest(Name { text: \"a\" }))"),
+    ("hash abc", "Request(Hash(\"abc\"))"),
+    ("hash -", "Request(Hash(\"\"))"),
+    (
+        "write a",
+        "Request(Write { name: Name { text: \"a\" }, signer: None })",
+    ),
+    (
+        "write a 65535",
+        "Request(Write { name: Name { text: \"a\" }, signer: Some(65535) })",
+    ),
+    ("read a", "Request(Read(Name { text: \"a\" }))"),
+    (
+        "certify a 2,0,2",
+        "Request(Certify { name: Name { text: \"a\" }, signers: [2, 0, 2] })",
+    ),
+    (
+        "valid a -",
+        "Request(Valid { name: Name { text: \"a\" }, signers: [] })",
+    ),
+    (
+        "gather a 0,1,1,2,9",
+        "Request(Gather { name: Name { text: \"a\" }, signers: [0, 1, 1, 2, 9] })",
+    ),
+    (
+        "certificate a",
+        "Request(Certificate(Name { text: \"a\" }))",
+    ),
+    ("causal a", "Request(Causal(Name { text: \"a\" }))"),
+    (
+        "open t a",
+        "Request(Open { ticket: Name { text: \"t\" }, name: Name { text: \"a\" } })",
+    ),
+    ("walk t", "Request(Walk(Name { text: \"t\" }))"),
+    (
+        "read abcdefghijklmno1",
+        "Request(Read(Name { text: \"abcdefghijklmno1\" }))",
+    ),
+    (
+        "hash 0123456789012345678901234567890123456789012345678901234567890123",
+        "Request(Hash(\"0123456789012345678901234567890123456789012345678901234567890123\"))",
+    ),
+];
+
+// Lines that are none of a script.
+const BAD: [(&str, &str); 22] = [
+    ("a request with a word too few", "read"),
+    ("a request with a word too many", "read a a"),
+    ("two spaces", "read  a"),
+    ("a space at the end", "read a "),
+    ("an unknown request", "frob a"),
+    ("a committee of another kind", "committee v3 1"),
+    ("a committee of 01", "committee v1 01"),
+    ("a committee of 2^32", "committee v1 4294967296"),
+    ("a committee without weights", "committee v2"),
+    ("weights that end in a comma", "committee v2 1,"),
+    ("a weight of 2^32", "committee v2 4294967296"),
+    ("an empty list of weights", "committee v2 "),
+    ("a dash among weights", "committee v2 1,-"),
+    ("a signer over 65535", "write a 65536"),
+    ("a signer that is a name", "write a b"),
+    ("two signers", "write a 0 1"),
+    ("a signer that is an empty word", "write a "),
+    ("valid without signers", "valid a"),
+    ("valid with an empty word among its signers", "valid a 0,,1"),
+    ("gather without signers", "gather a"),
+    ("gather of a name that is none", "gather 1 0"),
+    ("a byte over 127", "read \u{e9}"),
+];
+
+fn parsed<'a>(alloc: Global, line: &'a str) -> Result<Line<'a>, LineFault> {
+    parse_line(alloc, line.as_bytes())
+}
+
+#[test]
+fn each_kind_of_line_is_read(rt: HostRuntime) -> Result<(), Fail> {
+    for (line, says) in &LINES {
+        let read = format!(in rt.alloc(); "{:?}", parsed(rt.alloc(), line)?)?;
+        assert_eq!(rt; read.as_str(), *says, "{line}");
+    }
+    Ok(())
+}
+
+#[test]
+fn a_line_of_no_kind_is_bad(rt: HostRuntime) {
+    for (shows, line) in &BAD {
+        match parsed(rt.alloc(), line) {
+            Err(LineFault::Bad) => {}
+            _ => panic!(rt; "{shows}"),
+        }
+    }
+}
+
+#[test]
+fn words_are_names_transactions_and_numbers(rt: HostRuntime) -> Result<(), Fail> {
+    let name = Name::new("b12").ok_or(LineFault::Bad)?;
+    assert_eq!(rt; format!(in rt.alloc(); "{name}")?.as_str(), "b12");
+    assert!(rt; Name::new("1b").is_none());
+    assert_eq!(rt; transaction("1b").map(|word| word.len()), Some(2));
+    assert_eq!(rt; number("18446744073709551615"), Some(u64::MAX));
+    assert_eq!(rt; member("65536"), None);
+    assert_eq!(rt; weight("4294967295"), Some(u32::MAX));
+    Ok(())
+}
+
+#[test]
+fn a_list_has_the_elements_between_its_commas(rt: HostRuntime) -> Result<(), Fail> {
+    assert_eq!(rt;
+        list(rt.alloc(), "7,2", weight)?.as_slice(),
+        [7, 2].as_slice()
+    );
+    assert!(rt; list(rt.alloc(), "-", weight)?.is_empty());
+    assert_eq!(rt; list(rt.alloc(), "", weight).err(), Some(LineFault::Bad));
+    Ok(())
+}

@@ -1,0 +1,85 @@
+//! The words of a line, one after another.
+
+use crate::LineFault;
+use crate::lists::list;
+use crate::word::{Name, member, number, transaction, weight};
+use nw_digest::Round;
+use std::alloc::Global;
+
+/// The words of a line that are not yet read, parted by one space. A line has at least one word, which may be empty.
+#[derive(Drop)]
+pub struct Words<'a> {
+    rest: Option<&'a str>,
+}
+
+impl<'a> Words<'a> {
+    /// The words of the line.
+    pub fn new(line: &'a str) -> Words<'a> {
+        Words { rest: Some(line) }
+    }
+
+    /// The next word. The line is bad where it has no more.
+    pub fn next(&mut self) -> Result<&'a str, LineFault> {
+        let text = self.rest.ok_or(LineFault::Bad)?;
+        match text.split_once(' ') {
+            Some((word, rest)) => {
+                self.rest = Some(rest);
+                Ok(word)
+            }
+            None => {
+                self.rest = None;
+                Ok(text)
+            }
+        }
+    }
+
+    /// Whether each word was read.
+    pub fn is_empty(&self) -> bool {
+        self.rest.is_none()
+    }
+
+    /// The next word, which must be a name.
+    pub fn name(&mut self) -> Result<Name<'a>, LineFault> {
+        Name::new(self.next()?).ok_or(LineFault::Bad)
+    }
+
+    /// The next word, which must be a number below 2^64.
+    pub fn number(&mut self) -> Result<u64, LineFault> {
+        number(self.next()?).ok_or(LineFault::Bad)
+    }
+
+    /// The next word, which must be a number below 2^32.
+    pub fn limit(&mut self) -> Result<u32, LineFault> {
+        weight(self.next()?).ok_or(LineFault::Bad)
+    }
+
+    /// The next word, which must be the number of a round.
+    pub fn round(&mut self) -> Result<Round, LineFault> {
+        Round::new(self.number()?).ok_or(LineFault::Bad)
+    }
+
+    /// The next word, which must be the number of a member.
+    pub fn member(&mut self) -> Result<u16, LineFault> {
+        member(self.next()?).ok_or(LineFault::Bad)
+    }
+
+    /// The next word, which must be a list of names.
+    pub fn names(&mut self, alloc: Global) -> Result<Vec<Name<'a>>, LineFault> {
+        list(alloc, self.next()?, Name::new)
+    }
+
+    /// The next word, which must be a list of members.
+    pub fn members(&mut self, alloc: Global) -> Result<Vec<u16>, LineFault> {
+        list(alloc, self.next()?, member)
+    }
+
+    /// The next word, which must be a list of weights.
+    pub fn weights(&mut self, alloc: Global) -> Result<Vec<u32>, LineFault> {
+        list(alloc, self.next()?, weight)
+    }
+
+    /// The next word, which must be a list of transactions.
+    pub fn transactions(&mut self, alloc: Global) -> Result<Vec<&'a str>, LineFault> {
+        list(alloc, self.next()?, transaction)
+    }
+}
