@@ -1,5 +1,5 @@
 -- What a history leaves is sound.
-use Rattle.std.proofs.Common.{◌≡◌, ℕ, ◌≤◌, Bool, true, false, cond, List, [], ◌∷◌, Option, Some, None, refl, ap, arith}
+use Rattle.std.proofs.Common.{◌≡◌, ℕ, ◌≤◌, Bool, true, false, cond, List, [], ◌∷◌, Option, Some, None, refl, ap, sym, subst, arith}
 use Rattle.std.specs.Prelude.{nat_lt}
 use Rattle.std.specs.Option.{option_map_or}
 use Rattle.std.specs.FinMap.{get}
@@ -9,7 +9,8 @@ use Rattle.nw_codec.specs.declared.certificate.Certificate.{Certificate}
 use Rattle.nw_model.specs.State.{State, block_slot, certificate_slot, opening}
 use Rattle.nw_model.specs.Sound.{IsSound}
 use Rattle.nw_model.specs.Step.{Bounds, after, after_write, after_certify, write_reply, certify_reply, is_elsewhere, certified_digest}
-use Rattle.nw_model.specs.History.{replay}
+use Rattle.nw_sig.specs.Signed.{Meaning}
+use Rattle.nw_model.specs.History.{Terms, IsBase, replay}
 use Rattle.nw_model.specs.Laws.{LegalHistoriesLeaveSoundStates}
 use Rattle.nw_model.specs.declared.call.Call.{Call}
 use Rattle.nw_model.specs.declared.call.Call.TheVariants as call
@@ -87,5 +88,9 @@ sound_replay bounds s (e ∷ es) sound = sound_replay bounds (after bounds s e.c
 pub sound_opening : IsSound opening
 sound_opening = kept_opening.sound
 
+-- so is a base
+pub sound_base : (accepts : Meaning) (terms : Terms) (base : State) → IsBase accepts terms base → IsSound base
+sound_base accepts terms base based = subst IsSound (sym based.left) (sound_replay terms.bounds opening based.earlier sound_opening)
+
 pub legal_sound : LegalHistoriesLeaveSoundStates
-legal_sound bounds most session_count es legal = sound_replay bounds opening es sound_opening
+legal_sound accepts terms base es legal = sound_replay terms.bounds base es (sound_base accepts terms base legal.based)

@@ -1,8 +1,9 @@
 -- Histories, and which of them are legal.
 use Rattle.std.specs.Prelude.{◌≡◌, ◌==◌, ℕ, ◌+◌, ◌<◌, ◌≤◌, List, [], ◌∷◌, length, All, filter}
-use Rattle.sha2.specs.Sha256.{sha256}
-use Rattle.nw_codec.specs.Grammar.{body}
+use Rattle.nw_committee.specs.declared.member.Member.{Member}
+use Rattle.nw_sig.specs.Signed.{Meaning}
 use Rattle.nw_model.specs.State.{State, opening}
+use Rattle.nw_model.specs.Checks.{digest_of, IsWellFormed, IsValid}
 use Rattle.nw_model.specs.Step.{Bounds, after, IsReply, IsShort}
 use Rattle.nw_model.specs.declared.call.Call.{Call}
 use Rattle.nw_model.specs.declared.call.Call.TheVariants as call
@@ -27,15 +28,31 @@ abbrev pub AreNumbered : ℕ → List Event → Type 0
 AreNumbered n [] = Unit {0}
 AreNumbered n (e ∷ es) = (e.number ≡ n) × AreNumbered (n + 1) es
 
--- what is written stands under its own digest
-abbrev pub IsKeyed : Call → Type 0
-IsKeyed (call.Write d b) = d.0 ≡ sha256 (body b)
-IsKeyed other = Unit {0}
+-- what is written stands under its own digest and is well formed, and what is certified is valid
+abbrev pub IsAdmitted : Meaning → List Member → Call → Type 0
+IsAdmitted accepts members (call.Write d b) = (d ≡ digest_of b) × IsWellFormed accepts members b
+IsAdmitted accepts members (call.Certify c) = IsValid accepts members c
+IsAdmitted accepts members other = Unit {0}
 
--- each reply is the step's, each session's calls are numbered from 1 on, sessions and events are within their limits, and what is written stands under its own digest
-pub record IsLegal (bounds : Bounds) (most session_count : ℕ) (es : List Event) : Type 0 where
-  pub replies : AreReplies bounds opening es
+-- what a history is legal under: the committee, the bounds of the tables, and how many events and sessions there are at most
+pub record Terms : Type 0 where
+  pub committee : List Member
+  pub bounds : Bounds
+  pub events : ℕ
+  pub sessions : ℕ
+
+-- where a history may start: the state that some events leave from the opening one, with the step's replies to admitted calls
+pub record IsBase (accepts : Meaning) (terms : Terms) (base : State) : Type 0 where
+  pub earlier : List Event
+  pub replies : AreReplies terms.bounds opening earlier
+  pub admitted : All (λ e. IsAdmitted accepts terms.committee e.call) earlier
+  pub left : base ≡ replay terms.bounds opening earlier
+
+-- from its base on each reply is the step's, each session's calls are numbered from 1 on, sessions and events are within their limits, and what is written and certified is admitted
+pub record IsLegal (accepts : Meaning) (terms : Terms) (base : State) (es : List Event) : Type 0 where
+  pub based : IsBase accepts terms base
+  pub replies : AreReplies terms.bounds base es
   pub numbered : (session : ℕ) → AreNumbered 1 (events_of session es)
-  pub sessions : All (λ e. e.session < session_count) es
-  pub short : length es ≤ most
-  pub keyed : All (λ e. IsKeyed e.call) es
+  pub sessions : All (λ e. e.session < terms.sessions) es
+  pub short : length es ≤ terms.events
+  pub admitted : All (λ e. IsAdmitted accepts terms.committee e.call) es

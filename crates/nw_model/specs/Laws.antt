@@ -2,17 +2,18 @@
 use Rattle.std.specs.Prelude.{◌↔◌, ℕ, List, All, Contains}
 use Rattle.nw_digest.specs.declared.digest.Digest.{Digest}
 use Rattle.nw_codec.specs.declared.block.Block.{Block}
-use Rattle.nw_model.specs.State.{State, opening}
+use Rattle.nw_sig.specs.Signed.{Meaning}
+use Rattle.nw_model.specs.State.{State}
 use Rattle.nw_model.specs.Paths.{IsAncestor, IsComplete, IsCausalList}
 use Rattle.nw_model.specs.View.{Frozen, IsAncestorIn, Shows}
 use Rattle.nw_model.specs.Sound.{IsSound}
-use Rattle.nw_model.specs.Step.{Bounds}
-use Rattle.nw_model.specs.History.{IsLegal, replay}
+use Rattle.nw_model.specs.History.{Terms, IsLegal, replay}
 use Rattle.nw_model.specs.declared.event.Event.{Event}
 
 -- what the calls of a legal history leave is sound: at most one digest is certified for a slot, and the block under it has that slot
 abbrev pub LegalHistoriesLeaveSoundStates : Type 0
-LegalHistoriesLeaveSoundStates = (bounds : Bounds) (most session_count : ℕ) (es : List Event) → IsLegal bounds most session_count es → IsSound (replay bounds opening es)
+LegalHistoriesLeaveSoundStates =
+    (accepts : Meaning) (terms : Terms) (base : State) (es : List Event) → IsLegal accepts terms base es → IsSound (replay terms.bounds base es)
 
 -- where a view shows a sound state, a complete block has the same ancestors in both
 abbrev pub ViewsShowTheAncestors : Type 0

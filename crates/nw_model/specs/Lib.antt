@@ -3,6 +3,7 @@ pub mod Paths
 pub mod View
 pub mod Search
 pub mod Sound
+pub mod Checks
 pub mod Step
 pub mod History
 pub mod Laws

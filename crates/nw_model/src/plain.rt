@@ -1,5 +1,5 @@
 //! A slow store over ordered maps.
-ghost use Rattle.std.specs.Prelude.{◌≡◌, ◌↔◌, ◌≤◌, ℕ, IfOk, OnOk, OnErr, IsNone, None, IsTrue, true, false, All, if◌then◌else◌};
+ghost use Rattle.std.specs.Prelude.{◌≡◌, ◌≢◌, ◌↔◌, ◌≤◌, ℕ, IfOk, OnOk, OnErr, IsNone, None, IsTrue, true, false, All, if◌then◌else◌};
 ghost use Rattle.std.specs.Option.{option_copied};
 ghost use Rattle.std.specs.Result.{MatchResult};
 ghost use Rattle.std.specs.BTreeMap.{get, insert_entry, IsUnchanged};
@@ -70,11 +70,12 @@ impl Plain {
         }
     }
 
-    /// Takes the step of the call and answers its reply.
+    /// Takes the step of the call and answers its reply: of a causal read of a complete digest its list, never `Ready`.
     ///
     /// Want of memory leaves the store as it was.
     pub fn call(&mut self, call: &Call) -> Result<Reply, NoMemory>
         ensures reply { IfOk result (λ reply. IsReply self.old.bounds self.old.state call.now reply) }
+        ensures listed { IfOk result (λ reply. reply ≢ Reply.Ready) }
         ensures state { OnOk result (self.new.state ≡ after self.old.bounds self.old.state call.now) }
         ensures bounds { self.new.bounds ≡ self.old.bounds }
         ensures unchanged { OnErr result (self.new ≡ self.old) }
@@ -92,9 +93,10 @@ impl Plain {
         Ok(reply)
     }
 
-    /// The reply that the call would get now.
+    /// The reply that the call would get now. A causal read of a complete digest gets its list, never `Ready`.
     pub fn reply(&self, call: &Call) -> Result<Reply, NoMemory>
-        ensures { IfOk result (IsReply self.now.bounds self.now.state call.now) }
+        ensures reply { IfOk result (IsReply self.now.bounds self.now.state call.now) }
+        ensures listed { IfOk result (λ reply. reply ≢ Reply.Ready) }
     {
         match call {
             Call::Write(digest, block) => {
@@ -224,7 +226,8 @@ impl Plain {
 
     /// The reply that a causal read would get now, with its list.
     fn causal_reply(&self, digest: Digest) -> Result<Reply, NoMemory>
-        ensures { IfOk result (IsCausalReply self.now.state digest) }
+        ensures reply { IfOk result (IsCausalReply self.now.state digest) }
+        ensures listed { IfOk result (λ reply. reply ≢ Reply.Ready) }
     {
         match self.freeze_for(digest)? {
             Err(refusal) => Ok(Reply::Causal(refusal)),

@@ -1,0 +1,103 @@
+//! Values that were checked.
+ghost use Rattle.std.specs.Prelude.{◌≡◌};
+ghost use Rattle.nw_model.specs.Checks.{digest_of, IsWellFormed, IsValid};
+
+use nw_codec::{Block, Certificate};
+use nw_committee::Committee;
+use nw_digest::{Digest, Shared};
+use nw_sig::Scheme;
+use std::marker::{Model, PhantomData};
+
+/// A block that is well formed under its committee and what the scheme `S` accepts. Contracts see the block and the
+/// committee.
+#[derive(Drop)]
+pub struct CheckedBlock<S: Scheme> {
+    block: Shared<Block>,
+    digest: Digest,
+    committee: Shared<Committee>,
+    scheme: PhantomData<S>,
+}
+
+impl<S: Scheme> Model for CheckedBlock<S> {
+    ghost use Rattle.std.specs.Prelude.{◌≡◌};
+    ghost use Rattle.nw_model.specs.Checks.{digest_of, IsWellFormed};
+    ghost use Rattle.nw_check.specs.Checked.{BlockUnder};
+
+    ghost Value = { BlockUnder };
+
+    ghost view = { λ c. record { block = c.block; committee = c.committee } };
+
+    ghost invariant = { λ c. IsWellFormed S.accepts c.committee c.block × (c.digest ≡ digest_of c.block) };
+}
+
+impl<S: Scheme> CheckedBlock<S> {
+    /// The block.
+    pub fn block(&self) -> &Shared<Block>
+        ensures block { result.now ≡ self.now.block }
+        ensures well_formed { IsWellFormed S.accepts self.now.committee self.now.block }
+    {
+        &self.block
+    }
+
+    /// The digest of the block: SHA-256 of its body.
+    pub fn digest(&self) -> Digest
+        ensures digest { result ≡ digest_of self.now.block }
+        ensures well_formed { IsWellFormed S.accepts self.now.committee self.now.block }
+    {
+        self.digest
+    }
+
+    /// The committee under which the block is well formed.
+    pub fn committee(&self) -> &Shared<Committee>
+        ensures committee { result.now ≡ self.now.committee }
+        ensures well_formed { IsWellFormed S.accepts self.now.committee self.now.block }
+    {
+        &self.committee
+    }
+}
+
+/// A certificate that is valid under its committee and what the scheme `S` accepts. Contracts see the certificate and the
+/// committee.
+#[derive(Drop)]
+pub struct CheckedCert<S: Scheme> {
+    certificate: Shared<Certificate>,
+    committee: Shared<Committee>,
+    scheme: PhantomData<S>,
+}
+
+impl<S: Scheme> Model for CheckedCert<S> {
+    ghost use Rattle.nw_model.specs.Checks.{IsValid};
+    ghost use Rattle.nw_check.specs.Checked.{CertificateUnder};
+
+    ghost Value = { CertificateUnder };
+
+    ghost view = { λ c. record { certificate = c.certificate; committee = c.committee } };
+
+    ghost invariant = { λ c. IsValid S.accepts c.committee c.certificate };
+}
+
+impl<S: Scheme> CheckedCert<S> {
+    /// The certificate.
+    pub fn certificate(&self) -> &Shared<Certificate>
+        ensures certificate { result.now ≡ self.now.certificate }
+        ensures valid { IsValid S.accepts self.now.committee self.now.certificate }
+    {
+        &self.certificate
+    }
+
+    /// The digest that the certificate is for.
+    pub fn digest(&self) -> Digest
+        ensures digest { result ≡ self.now.certificate.digest }
+        ensures valid { IsValid S.accepts self.now.committee self.now.certificate }
+    {
+        self.certificate.get().digest
+    }
+
+    /// The committee under which the certificate is valid.
+    pub fn committee(&self) -> &Shared<Committee>
+        ensures committee { result.now ≡ self.now.committee }
+        ensures valid { IsValid S.accepts self.now.committee self.now.certificate }
+    {
+        &self.committee
+    }
+}
