@@ -3,9 +3,10 @@ use Rattle.std.proofs.Common.{◌≡◌, ℕ, ◌+◌, ◌<◌, Bool, true, fals
 use Rattle.std.proofs.lemmas.Bool.{eqb-true}
 use Rattle.std.specs.Prelude.{◌==◌}
 use Rattle.std.proofs.lemmas.List.Elements.{All-push, filter-append}
-use Rattle.nw_model.specs.State.{State, opening}
+use Rattle.nw_sig.specs.Signed.{Meaning}
+use Rattle.nw_model.specs.State.{State}
 use Rattle.nw_model.specs.Step.{Bounds, after, IsReply, IsShort}
-use Rattle.nw_model.specs.History.{AreReplies, AreNumbered, IsKeyed, IsLegal, replay, events_of}
+use Rattle.nw_model.specs.History.{AreReplies, AreNumbered, IsAdmitted, Terms, IsLegal, replay, events_of}
 use Rattle.nw_model.specs.declared.event.Event.{Event}
 
 pub replay_last : (b : Bounds) (s : State) (es : List Event) (e : Event) → replay b s (es ++ e ∷ []) ≡ after b (replay b s es) e.call
@@ -31,14 +32,15 @@ same_session : (e : Event) (session : ℕ) → (e.session == session) ≡ true �
 same_session e session t = eqb-true e.session session t
 
 -- a legal history with one more event, whose reply is the step's and whose number is its session's next
-pub legal_last : (b : Bounds) (most sessions : ℕ) (es : List Event) (e : Event) → IsLegal b most sessions es
-    → IsReply b (replay b opening es) e.call e.reply → IsShort e.reply → e.session < sessions → e.number ≡ length (events_of e.session es) + 1 → length es < most → IsKeyed e.call
-    → IsLegal b most sessions (es ++ e ∷ [])
-legal_last b most sessions es e h reply short below number room keyed = record {
-  replies = replies_last b opening es e h.replies reply short;
+pub legal_last : (accepts : Meaning) (t : Terms) (base : State) (es : List Event) (e : Event) → IsLegal accepts t base es
+    → IsReply t.bounds (replay t.bounds base es) e.call e.reply → IsShort e.reply → e.session < t.sessions → e.number ≡ length (events_of e.session es) + 1
+    → length es < t.events → IsAdmitted accepts t.committee e.call → IsLegal accepts t base (es ++ e ∷ [])
+legal_last accepts t base es e h reply short below number room admitted = record {
+  based = h.based;
+  replies = replies_last t.bounds base es e h.replies reply short;
   numbered = λ session. rw (events_of_last session es e) (numbered_one (e.session == session) (events_of session es) e (h.numbered session)
       (λ t. let same : e.session ≡ session = same_session e session t in rw (← same) number));
-  sessions = All-push (λ (x : Event). x.session < sessions) es e h.sessions below;
+  sessions = All-push (λ (x : Event). x.session < t.sessions) es e h.sessions below;
   short = omega (arith, length-append es (e ∷ []));
-  keyed = All-push (λ (x : Event). IsKeyed x.call) es e h.keyed keyed;
+  admitted = All-push (λ (x : Event). IsAdmitted accepts t.committee x.call) es e h.admitted admitted;
 }

@@ -3,7 +3,8 @@ use Rattle.std.proofs.Common.{◌≡◌, ℕ, List, [], ◌∷◌, ◌++◌, Res
 use Rattle.std.specs.Prelude.{Vec, IfOk}
 use Rattle.nw_digest.specs.declared.digest.Digest.{Digest}
 use Rattle.nw_codec.specs.declared.block.Block.{Block}
-use Rattle.nw_model.specs.State.{State, opening}
+use Rattle.nw_sig.specs.Signed.{Meaning}
+use Rattle.nw_model.specs.State.{State}
 use Rattle.nw_model.specs.Sound.{IsSound}
 use Rattle.nw_model.specs.Paths.{IsComplete}
 use Rattle.nw_model.specs.View.{Frozen, Shows, IsThere, IsWalk}
@@ -14,7 +15,7 @@ use Rattle.nw_model.specs.declared.event.Event.{Event}
 use Rattle.nw_model.specs.declared.reply.Reply.TheVariants as replies
 use Rattle.nw_model.proofs.Replayed.{legal_sound}
 use Rattle.nw_model.proofs.Views.{complete_there, walk_is_causal}
-use Rattle.nw_book.specs.Story.{Story, IsLegalStory, bounds_of, state_of, with_event}
+use Rattle.nw_book.specs.Story.{Story, IsLegalStory, terms_of, bounds_of, state_of, with_event}
 use Rattle.nw_book.specs.Ticket.{Given, IsTicket, IsTicketWith, causal_event}
 use Rattle.nw_book.proofs.Longer.{replay_last}
 
@@ -24,47 +25,47 @@ reply_last b s [] e h = h.0
 reply_last b s (x ∷ es) e h = reply_last b (after b s x.call) es e h.2
 
 -- what a ticket is for is complete after its front
-pub ticket_complete : (t : Given) → IsTicket t → IsComplete (state_of t.front) t.digest
-ticket_complete t h =
+pub ticket_complete : (accepts : Meaning) (t : Given) → IsTicket accepts t → IsComplete (state_of t.front) t.digest
+ticket_complete accepts t h =
     let b : Bounds = bounds_of t.front.limits in
     let es : List Event = h.last.0 in
     let e : Event = causal_event h.last.1 h.last.2 t.digest replies.Ready in
-    let replies : AreReplies b opening (es ++ e ∷ []) = subst (AreReplies b opening) h.last.3 h.legal.replies in
-    let whole : IsComplete (replay b opening es) t.digest = reply_last b opening es e replies in
-    let same : replay b opening es ≡ state_of t.front = sym (ap (replay b opening) h.last.3 ∙ replay_last b opening es e) in
+    let replies : AreReplies b t.front.base (es ++ e ∷ []) = subst (AreReplies b t.front.base) h.last.3 h.legal.replies in
+    let whole : IsComplete (replay b t.front.base es) t.digest = reply_last b t.front.base es e replies in
+    let same : replay b t.front.base es ≡ state_of t.front = sym (ap (replay b t.front.base) h.last.3 ∙ replay_last b t.front.base es e) in
     subst (λ s. IsComplete s t.digest) same whole
 
 -- what a legal history leaves is sound
-pub story_sound : (s : Story) → IsLegalStory s → IsSound (state_of s)
-story_sound s legal = legal_sound (bounds_of s.limits) s.limits.events s.limits.sessions s.events legal
+pub story_sound : (accepts : Meaning) (s : Story) → IsLegalStory accepts s → IsSound (state_of s)
+story_sound accepts s legal = legal_sound accepts (terms_of s) s.base s.events legal
 
 -- what a ticket is for is in its view
-pub ticket_there : (t : Given) (v : Frozen) → IsTicketWith t v → (b : Block) × IsThere v t.digest b
-ticket_there t v h =
-    let whole : IsComplete (state_of t.front) t.digest = ticket_complete t h.ticket in
+pub ticket_there : (accepts : Meaning) (t : Given) (v : Frozen) → IsTicketWith accepts t v → (b : Block) × IsThere v t.digest b
+ticket_there accepts t v h =
+    let whole : IsComplete (state_of t.front) t.digest = ticket_complete accepts t h.ticket in
     let stands = whole.stands in
-    (stands.0, complete_there v (state_of t.front) t.digest stands.0 (story_sound t.front h.ticket.legal) h.shows whole stands.1)
+    (stands.0, complete_there v (state_of t.front) t.digest stands.0 (story_sound accepts t.front h.ticket.legal) h.shows whole stands.1)
 
 -- a walk in its view is the list of the read that was opened
-pub ticket_walk : (t : Given) (v : Frozen) (blocks : List Block) → IsTicketWith t v → IsWalk v t.digest blocks
+pub ticket_walk : (accepts : Meaning) (t : Given) (v : Frozen) (blocks : List Block) → IsTicketWith accepts t v → IsWalk v t.digest blocks
     → IsReply (bounds_of t.front.limits) (state_of t.front) (calls.Causal t.digest) (replies.List blocks)
-ticket_walk t v blocks h walk =
-    let whole : IsComplete (state_of t.front) t.digest = ticket_complete t h.ticket in
-    (whole, walk_is_causal v (state_of t.front) t.digest blocks (story_sound t.front h.ticket.legal) h.shows whole walk)
+ticket_walk accepts t v blocks h walk =
+    let whole : IsComplete (state_of t.front) t.digest = ticket_complete accepts t h.ticket in
+    (whole, walk_is_causal v (state_of t.front) t.digest blocks (story_sound accepts t.front h.ticket.legal) h.shows whole walk)
 
 -- the front that a causal read leaves, with a view of what is complete before it, makes a ticket
-pub opened : (old front : Story) (session number : ℕ) (d : Digest) (v : Frozen) → front ≡ with_event old (causal_event session number d replies.Ready) → IsLegalStory front
-    → Shows v (state_of old) → IsTicketWith (record { digest = d; front = front }) v
-opened old front session number d v is legal shows =
+pub opened : (accepts : Meaning) (old front : Story) (session number : ℕ) (d : Digest) (v : Frozen) → front ≡ with_event old (causal_event session number d replies.Ready) → IsLegalStory accepts front
+    → Shows v (state_of old) → IsTicketWith accepts (record { digest = d; front = front }) v
+opened accepts old front session number d v is legal shows =
     let e : Event = causal_event session number d replies.Ready in
-    let same : state_of front ≡ state_of old = ap state_of is ∙ replay_last (bounds_of old.limits) opening old.events e in
+    let same : state_of front ≡ state_of old = ap state_of is ∙ replay_last (bounds_of old.limits) old.base old.events e in
     record {
       ticket = record { legal = legal; last = (old.events, session, number, ap (λ (s : Story). s.events) is) };
       shows = subst (Shows v) (sym same) shows;
     }
 
 -- the same, of a walk that may be refused
-pub ticket_walks : {Z E : Type 0} (t : Given) (v : Frozen) (r : Result (Vec Block Z) E) → IsTicketWith t v → IfOk r (λ blocks. IsWalk v t.digest blocks.items)
+pub ticket_walks : {Z E : Type 0} (accepts : Meaning) (t : Given) (v : Frozen) (r : Result (Vec Block Z) E) → IsTicketWith accepts t v → IfOk r (λ blocks. IsWalk v t.digest blocks.items)
     → IfOk r (λ blocks. IsReply (bounds_of t.front.limits) (state_of t.front) (calls.Causal t.digest) (replies.List blocks.items))
-ticket_walks t v (Ok blocks) h walked = ticket_walk t v blocks.items h walked
-ticket_walks t v (Err e) h walked = tt
+ticket_walks accepts t v (Ok blocks) h walked = ticket_walk accepts t v blocks.items h walked
+ticket_walks accepts t v (Err e) h walked = tt

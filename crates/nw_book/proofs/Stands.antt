@@ -3,9 +3,10 @@ use Rattle.std.proofs.Common.{◌≡◌, ◌≢◌, ℕ, ◌+◌, ◌<◌, Bool,
 use Rattle.std.specs.Prelude.{◌==◌}
 use Rattle.std.proofs.lemmas.Bool.{eqb-true, eqb-false}
 use Rattle.std.proofs.lemmas.Grind.{get_or_default_zero}
-use Rattle.nw_model.specs.State.{State, opening}
+use Rattle.nw_sig.specs.Signed.{Meaning}
+use Rattle.nw_model.specs.State.{State}
 use Rattle.nw_model.specs.Step.{Bounds, Tables, after, IsReply, IsShort}
-use Rattle.nw_model.specs.History.{IsKeyed, events_of}
+use Rattle.nw_model.specs.History.{IsAdmitted, events_of}
 use Rattle.nw_digest.specs.declared.digest.Digest.{Digest}
 use Rattle.nw_model.specs.declared.call.Call.{Call}
 use Rattle.nw_model.specs.declared.call.Call.TheVariants as calls
@@ -15,18 +16,11 @@ use Rattle.nw_model.specs.declared.reply.Reply.TheVariants as reply
 use Rattle.nw_book.specs.declared.command.Command.{Command}
 use Rattle.nw_book.specs.declared.command.Command.TheVariants as command
 use Rattle.nw_book.specs.Command.{call_of}
-use Rattle.nw_book.specs.Story.{Story, IsLegalStory, IsInTurn, HasRoom, AreCounts, StandFor, bounds_of, state_of, tables_of, with_event}
+use Rattle.nw_book.specs.Story.{Story, IsLegalStory, IsInTurn, HasRoom, AreCounts, StandFor, terms_of, bounds_of, state_of, tables_of, with_event}
 use Rattle.nw_book.proofs.Longer.{replay_last, events_of_last, legal_last}
 
--- what a command writes stands under its own digest
-keyed_of : (asked : Command) → IsKeyed (call_of asked)
-keyed_of (command.Write b) = refl
-keyed_of (command.Certify c) = tt
-keyed_of (command.Certificate d) = tt
-keyed_of (command.Read d) = tt
-
 -- the reply to a command is no list
-short_of : (bounds : Bounds) (s : State) (asked : Command) (given : Reply) → IsReply bounds s (call_of asked) given → IsShort given
+short_of : {S : Type 0} (bounds : Bounds) (s : State) (asked : Command S) (given : Reply) → IsReply bounds s (call_of asked) given → IsShort given
 short_of bounds s (command.Write b) (reply.List blocks) is = is
 short_of bounds s (command.Certify c) (reply.List blocks) is = is
 short_of bounds s (command.Certificate d) (reply.List blocks) is = is
@@ -34,23 +28,23 @@ short_of bounds s (command.Read d) (reply.List blocks) is = is
 short_of bounds s asked other is = tt
 
 -- the event of a call in its turn, with a reply that is no list, keeps the history legal
-pub legal_any : (t : Tables) (counts : List ℕ) (s : Story) (session number : ℕ) (called : Call) (given : Reply) (e : Event)
-    → StandFor t counts s → IsInTurn s session number → HasRoom s → IsKeyed called → IsReply (bounds_of s.limits) (state_of s) called given → IsShort given
-    → e ≡ record { session = session; number = number; call = called; reply = given } → IsLegalStory (with_event s e)
-legal_any t counts s session number called given e h turn room keyed is short event_is =
-    rw event_is (legal_last (bounds_of s.limits) s.limits.events s.limits.sessions s.events (record { session = session; number = number; call = called; reply = given })
-    h.legal is short turn.session_below turn.number_next room keyed)
+pub legal_any : (accepts : Meaning) (t : Tables) (counts : List ℕ) (s : Story) (session number : ℕ) (called : Call) (given : Reply) (e : Event)
+    → StandFor accepts t counts s → IsInTurn s session number → HasRoom s → IsAdmitted accepts s.committee called → IsReply (bounds_of s.limits) (state_of s) called given → IsShort given
+    → e ≡ record { session = session; number = number; call = called; reply = given } → IsLegalStory accepts (with_event s e)
+legal_any accepts t counts s session number called given e h turn room admitted is short event_is =
+    rw event_is (legal_last accepts (terms_of s) s.base s.events (record { session = session; number = number; call = called; reply = given })
+    h.legal is short turn.session_below turn.number_next room admitted)
 
 -- the event of a command in its turn keeps the history legal
-pub legal_next : (t : Tables) (counts : List ℕ) (s : Story) (session number : ℕ) (asked : Command) (called : Call) (given : Reply) (e : Event)
-    → StandFor t counts s → IsInTurn s session number → HasRoom s → called ≡ call_of asked → IsReply t.bounds t.state called given
-    → e ≡ record { session = session; number = number; call = called; reply = given } → IsLegalStory (with_event s e)
-legal_next t counts s session number asked called given e h turn room call_is reply_is event_is =
+pub legal_next : {S : Type 0} (accepts : Meaning) (t : Tables) (counts : List ℕ) (s : Story) (session number : ℕ) (asked : Command S) (called : Call) (given : Reply) (e : Event)
+    → StandFor accepts t counts s → IsInTurn s session number → HasRoom s → IsAdmitted accepts s.committee (call_of asked) → called ≡ call_of asked → IsReply t.bounds t.state called given
+    → e ≡ record { session = session; number = number; call = called; reply = given } → IsLegalStory accepts (with_event s e)
+legal_next accepts t counts s session number asked called given e h turn room fit call_is reply_is event_is =
     let is : IsReply (bounds_of s.limits) (state_of s) called given = rw h.state at reply_is in
     let asked_is : IsReply (bounds_of s.limits) (state_of s) (call_of asked) given = rw call_is at is in
     let short : IsShort given = short_of (bounds_of s.limits) (state_of s) asked given asked_is in
-    let keyed : IsKeyed called = rw call_is (keyed_of asked) in
-    legal_any t counts s session number called given e h turn room keyed is short event_is
+    let admitted : IsAdmitted accepts s.committee called = rw call_is fit in
+    legal_any accepts t counts s session number called given e h turn room admitted is short event_is
 
 one_more : (b : Bool) (es : List Event) (e : Event) → length (es ++ cond b (e ∷ []) []) ≡ length es + cond b 1 0
 one_more true es e = length-append es (e ∷ [])
@@ -76,10 +70,10 @@ counts_next counts s e h below = record {
 }
 
 -- tables and counts that take the step of an event stand for the history with it
-pub stand_next : (t u : Tables) (counts : List ℕ) (s n : Story) (e : Event) (session place count : ℕ) → StandFor t counts s → IsLegalStory (with_event s e)
+pub stand_next : (accepts : Meaning) (t u : Tables) (counts : List ℕ) (s n : Story) (e : Event) (session place count : ℕ) → StandFor accepts t counts s → IsLegalStory accepts (with_event s e)
     → session < s.limits.sessions → e.session ≡ session → place ≡ session → count ≡ get_or counts place count
-    → n ≡ with_event s e → u ≡ record t { state = after t.bounds t.state e.call } → StandFor u (set counts place (count + 1)) n
-stand_next t u counts s n e session place count h legal below own here value story_is tables_is =
+    → n ≡ with_event s e → u ≡ record t { state = after t.bounds t.state e.call } → StandFor accepts u (set counts place (count + 1)) n
+stand_next accepts t u counts s n e session place count h legal below own here value story_is tables_is =
     let inside : e.session < length counts = omega (arith, h.counted.sessions) in
     let same : place ≡ e.session = here ∙ sym own in
     let number : count ≡ get_or counts e.session 0 = value ∙ ap (λ i. get_or counts i count) same ∙ get_or_default_zero counts e.session count inside in
@@ -87,14 +81,14 @@ stand_next t u counts s n e session place count h legal below own here value sto
       in_range = h.in_range;
       legal = legal;
       state = tables_is ∙ ap (λ (v : Tables). record v { state = after v.bounds v.state e.call }) h.state
-          ∙ ap (λ x. record (tables_of s) { state = x }) (sym (replay_last (bounds_of s.limits) opening s.events e));
+          ∙ ap (λ x. record (tables_of s) { state = x }) (sym (replay_last (bounds_of s.limits) s.base s.events e));
       counted = counts_next counts s e h.counted inside;
     })
 
 -- a reply to a call after the history is one at tables that stand for it
-pub reply_at : (t : Tables) (counts : List ℕ) (s : Story) (asked : Call) (given : Reply) → StandFor t counts s → IsReply (bounds_of s.limits) (state_of s) asked given
+pub reply_at : (accepts : Meaning) (t : Tables) (counts : List ℕ) (s : Story) (asked : Call) (given : Reply) → StandFor accepts t counts s → IsReply (bounds_of s.limits) (state_of s) asked given
     → IsReply t.bounds t.state asked given
-reply_at t counts s asked given h is = rw h.state is
+reply_at accepts t counts s asked given h is = rw h.state is
 
 -- a causal read leaves the tables as they are
 pub causal_leaves : (t : Tables) (called : Call) (d : Digest) → called ≡ calls.Causal d → t ≡ record t { state = after t.bounds t.state called }

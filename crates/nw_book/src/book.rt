@@ -1,53 +1,66 @@
 //! Books: a history, and the tables that its calls leave.
 ghost use Rattle.std.specs.Prelude.{◌≡◌, ◌↔◌, [], IsTrue, IfOk, IfErr, OnOk, OnErr};
 ghost use Rattle.std.specs.Result.{IsErrOf, MatchResult};
+ghost use Rattle.nw_model.specs.State.{opening};
 ghost use Rattle.nw_model.specs.Step.{IsReply, IsShort};
 ghost use Rattle.nw_model.specs.View.{Shows};
 ghost use Rattle.nw_book.specs.Limits.{AreInRange};
 ghost use Rattle.nw_book.specs.Story.{IsLegalStory, IsInTurn, HasRoom, IsRefusal, next_number, bounds_of, state_of, with_event};
 ghost use Rattle.nw_book.specs.Ticket.{Opens, causal_event};
-ghost use Rattle.nw_book.specs.Command.{CommandFits, call_of};
 
 use crate::{BookError, Command, Front, History, Limits, NoStep, Ticket};
+use nw_committee::Committee;
 use nw_digest::{Digest, NoMemory, Shared};
 use nw_model::{Call, CausalReply, Event, Plain, Reply, View};
+use nw_sig::Scheme;
 use std::alloc::Global;
 use std::marker::Model;
 
 /// An answer: the reply to a call, and the history up to and with that call.
-#[derive(Debug, Drop)]
-pub struct Done {
+#[derive(Drop)]
+pub struct Done<S: Scheme> {
     /// The reply to the call.
     pub reply: Reply,
     /// The history whose last event is the call with its reply.
-    pub front: Front,
+    pub front: Front<S>,
 }
 
-/// A history that grows, with the tables that its calls leave. Contracts see the history and its limits.
+/// A history that grows, with the tables that its calls leave, where `S` says which signatures are accepted. Contracts see
+/// the history, with its committee and limits.
 #[derive(Drop)]
-pub struct Book {
-    history: History,
+pub struct Book<S: Scheme> {
+    history: History<S>,
     tables: Plain,
     calls: Vec<u32>,
 }
 
-impl Model for Book {
+impl<S: Scheme> Model for Book<S> {
     ghost use Rattle.nw_book.specs.Story.{Story, StandFor};
 
     ghost Value = { Story };
 
+    ghost use Rattle.std.specs.Coded.{codes};
+    ghost use Rattle.nw_model.specs.State.{coded_state};
+
+    ghost coded = { Prim.hlevel (codes, coded_state) };
+
     ghost view = { λ b. b.history };
 
-    ghost invariant = { λ b. StandFor b.tables b.calls.items b.history };
+    ghost invariant = { λ b. StandFor S.accepts b.tables b.calls.items b.history };
 }
 
-impl Book {
+impl<S: Scheme> Book<S> {
+    ghost use Rattle.nw_book.specs.Command.{IsUnder, call_of};
     ghost use Rattle.nw_book.specs.Takes.{Takes, Refuses};
 
     /// A book with an empty history. `BadLimits` exactly where a limit is outside its range, else `NoMemory` where memory
     /// is refused.
-    pub fn new(alloc: Global, limits: Limits) -> Result<Book, BookError>
-        ensures empty { IfOk result (λ book. book ≡ record { limits = limits; events = [] }) }
+    pub fn new(
+        alloc: Global,
+        committee: Shared<Committee>,
+        limits: Limits,
+    ) -> Result<Book<S>, BookError>
+        ensures empty { IfOk result (λ book. book ≡ record { committee = committee; limits = limits; base = opening; events = [] }) }
         ensures in_range { OnOk result (AreInRange limits) }
         ensures bad_limits { IsErrOf result BookError.BadLimits ↔ (AreInRange limits → ⊥) }
         ensures no_memory { IsErrOf result BookError.NoMemory → AreInRange limits }
@@ -56,40 +69,41 @@ impl Book {
             return Err(BookError::BadLimits);
         }
         Ok(Book {
-            history: History::new(alloc, limits),
+            history: History::new(alloc, committee, limits),
             tables: Plain::new(alloc, limits.blocks, limits.window),
             calls: vec![in alloc; 0u32; limits.sessions as usize]?,
         })
     }
 
     /// The history so far.
-    pub fn history(&self) -> &History
+    pub fn history(&self) -> &History<S>
         ensures history { result.now ≡ self.now }
-        ensures legal { IsLegalStory self.now }
+        ensures legal { IsLegalStory S.accepts self.now }
     {
         &self.history
     }
 
     /// Takes the step of a session's call, its calls numbered from 1, and records it.
     ///
-    /// `OutOfTurn` exactly where it is not the turn of this number of the session, else `HistoryFull` exactly where the
-    /// history has as many events as its limit, else `NoMemory` where memory is refused. A refusal changes nothing.
+    /// `OutOfTurn` exactly where it is not the turn of this number of the session, else `OtherCommittee` exactly where what
+    /// is handed in was checked under another committee, else `HistoryFull` exactly where the history has as many events as
+    /// its limit, else `NoMemory` where memory is refused. A refusal changes nothing.
     pub fn step(
         &mut self,
         alloc: Global,
         session: u16,
         number: u32,
-        command: &Command,
-    ) -> Result<Done, NoStep>
-        requires { CommandFits command.now }
-        ensures taken { IfOk result (Takes self.old self.new session number (call_of command.now)) }
-        ensures in_turn { OnOk result (IsInTurn self.old session number × HasRoom self.old) }
+        command: &Command<S>,
+    ) -> Result<Done<S>, NoStep>
+        ensures taken { IfOk result (Takes S.accepts self.old self.new session number (call_of command.now)) }
+        ensures may { OnOk result (IsInTurn self.old session number × IsUnder self.old.committee command.now × HasRoom self.old) }
         ensures out_of_turn { IsErrOf result NoStep.OutOfTurn ↔ (IsInTurn self.old session number → ⊥) }
-        ensures full { IsErrOf result NoStep.HistoryFull ↔ (IsInTurn self.old session number × (HasRoom self.old → ⊥)) }
-        ensures no_memory { IsErrOf result NoStep.NoMemory → IsInTurn self.old session number × HasRoom self.old }
+        ensures other_committee { IsErrOf result NoStep.OtherCommittee ↔ (IsInTurn self.old session number × (IsUnder self.old.committee command.now → ⊥)) }
+        ensures full { IsErrOf result NoStep.HistoryFull ↔ (IsInTurn self.old session number × IsUnder self.old.committee command.now × (HasRoom self.old → ⊥)) }
+        ensures no_memory { IsErrOf result NoStep.NoMemory → IsInTurn self.old session number × IsUnder self.old.committee command.now × HasRoom self.old }
         ensures unchanged { OnErr result (self.new ≡ self.old) }
     {
-        self.may_step(session, number)?;
+        self.may_step(session, number, command)?;
         let call = command.call()?;
         let reply = self.tables.reply(&call)?;
         let event = Event {
@@ -119,15 +133,16 @@ impl Book {
         session: u16,
         number: u32,
         digest: Digest,
-    ) -> Result<Result<Ticket, Done>, NoStep>
-        ensures answered { IfOk result (λ answer. MatchResult answer (Opens self.old self.new session number digest) (Refuses self.old self.new session number digest)) }
-        ensures in_turn { OnOk result (IsInTurn self.old session number × HasRoom self.old) }
+    ) -> Result<Result<Ticket<S>, Done<S>>, NoStep>
+        ensures answered { IfOk result (λ answer. MatchResult answer (Opens S.accepts self.old self.new session number digest) (Refuses S.accepts self.old self.new session number digest)) }
+        ensures may { OnOk result (IsInTurn self.old session number × HasRoom self.old) }
         ensures out_of_turn { IsErrOf result NoStep.OutOfTurn ↔ (IsInTurn self.old session number → ⊥) }
+        ensures own_committee { IsErrOf result NoStep.OtherCommittee → ⊥ }
         ensures full { IsErrOf result NoStep.HistoryFull ↔ (IsInTurn self.old session number × (HasRoom self.old → ⊥)) }
         ensures no_memory { IsErrOf result NoStep.NoMemory → IsInTurn self.old session number × HasRoom self.old }
         ensures unchanged { OnErr result (self.new ≡ self.old) }
     {
-        self.may_step(session, number)?;
+        self.may_open(session, number)?;
         match self.freeze_for(digest)? {
             Ok(view) => {
                 let front = self.record_causal(alloc, session, number, digest, Reply::Ready)?;
@@ -159,14 +174,14 @@ impl Book {
         number: u32,
         digest: Digest,
         reply: Reply,
-    ) -> Result<Front, NoMemory>
+    ) -> Result<Front<S>, NoMemory>
         requires turn { IsInTurn self.old session number }
         requires room { HasRoom self.old }
         requires reply { IsReply (bounds_of self.old.limits) (state_of self.old) (Call.Causal digest) reply }
         requires short { IsShort reply }
         ensures history { OnOk result (self.new ≡ with_event self.old (causal_event session number digest reply)) }
         ensures front { IfOk result (λ front. front ≡ self.new) }
-        ensures legal { OnOk result (IsLegalStory self.new) }
+        ensures legal { OnOk result (IsLegalStory S.accepts self.new) }
         ensures unchanged { OnErr result (self.new ≡ self.old) }
     {
         let call = Call::Causal(digest);
@@ -184,23 +199,40 @@ impl Book {
         Ok(front)
     }
 
-    /// The number of the session's next call, where it may take a step; else why not.
+    /// The number of the session's next call; else why it takes no step, whatever it asks.
     pub(crate) fn next_number(&self, session: u16) -> Result<u32, NoStep>
         ensures number { IfOk result (λ number. number ≡ next_number self.now session) }
-        ensures refused { IfErr result (IsRefusal self.now session (next_number self.now session)) }
-        ensures taken { OnOk result (IsInTurn self.now session (next_number self.now session) × HasRoom self.now) }
+        ensures turn { OnOk result (IsInTurn self.now session (next_number self.now session)) }
+        ensures refused { IfErr result (λ why. (why ≡ NoStep.OutOfTurn) × (IsInTurn self.now session (next_number self.now session) → ⊥)) }
     {
         match self.calls.get(usize::from(session)) {
             None => Err(NoStep::OutOfTurn),
-            Some(_) if !self.has_room() => Err(NoStep::HistoryFull),
             Some(calls) => Ok(*calls + 1),
         }
     }
 
-    /// Whether a call of the session with the number may take a step; else why not.
-    fn may_step(&self, session: u16, number: u32) -> Result<(), NoStep>
+    /// Whether a call of the session with the number may take the step of the command; else why not. It takes no memory.
+    pub(crate) fn may_step(&self, session: u16, number: u32, command: &Command<S>) -> Result<(), NoStep>
+        ensures taken { OnOk result (IsInTurn self.now session number × IsUnder self.now.committee command.now × HasRoom self.now) }
+        ensures refused { IfErr result (IsRefusal self.now session number (IsUnder self.now.committee command.now)) }
+        ensures no_memory { IsErrOf result NoStep.NoMemory → ⊥ }
+    {
+        if !self.is_in_turn(session, number) {
+            return Err(NoStep::OutOfTurn);
+        }
+        if !command.is_under(self.history.committee().get()) {
+            return Err(NoStep::OtherCommittee);
+        }
+        if !self.has_room() {
+            return Err(NoStep::HistoryFull);
+        }
+        Ok(())
+    }
+
+    /// Whether a causal read of the session with the number may take a step; else why not. It takes no memory.
+    pub(crate) fn may_open(&self, session: u16, number: u32) -> Result<(), NoStep>
         ensures taken { OnOk result (IsInTurn self.now session number × HasRoom self.now) }
-        ensures refused { IfErr result (IsRefusal self.now session number) }
+        ensures refused { IfErr result (IsRefusal self.now session number (Unit {0})) }
         ensures no_memory { IsErrOf result NoStep.NoMemory → ⊥ }
     {
         if !self.is_in_turn(session, number) {

@@ -1,38 +1,59 @@
 //! What a session asks of a book.
-ghost use Rattle.std.specs.Prelude.{◌≡◌, IfOk};
-ghost use Rattle.nw_book.specs.Command.{CommandFits, call_of};
+ghost use Rattle.std.specs.Prelude.{◌≡◌, ◌↔◌, List, IfOk, IsTrue};
+ghost use Rattle.nw_committee.specs.declared.member.Member.{Member};
+ghost use Rattle.nw_model.specs.History.{IsAdmitted};
+ghost use Rattle.nw_book.specs.Command.{IsUnder, call_of};
 
-use nw_codec::{Block, Certificate, block_digest};
-use nw_digest::{Digest, NoMemory, Shared};
+use nw_check::{CheckedBlock, CheckedCert};
+use nw_committee::Committee;
+use nw_digest::{Digest, NoMemory};
 use nw_model::Call;
+use nw_sig::Scheme;
 
-/// What a session asks. A block to be written and a certificate fit the format (`Block::fits`, `Certificate::fits`).
-#[derive(Debug, Drop)]
-pub enum Command {
+/// What a session asks. What is written and certified was checked, under the value's committee.
+#[derive(Drop)]
+pub enum Command<S: Scheme> {
     /// Store the block under its digest.
-    Write(Shared<Block>),
+    Write(CheckedBlock<S>),
     /// Keep the certificate of a digest.
-    Certify(Shared<Certificate>),
+    Certify(CheckedCert<S>),
     /// The certificate that is kept for the digest.
     Certificate(Digest),
     /// The block that is held under the digest.
     Read(Digest),
 }
 
-impl Command {
+impl<S: Scheme> Command<S> {
     /// The call that is asked, in which a block stands under its digest.
     pub(crate) fn call(&self) -> Result<Call, NoMemory>
-        requires { CommandFits self.now }
-        ensures { IfOk result (λ call. call ≡ call_of self.now) }
+        ensures call { IfOk result (λ call. call ≡ call_of self.now) }
+        ensures admitted { (members : List Member) → IsUnder members self.now → IsAdmitted S.accepts members (call_of self.now) }
     {
         match self {
-            Command::Write(block) => {
-                let digest = block_digest(block.get());
-                Ok(Call::Write(digest, block.try_clone()?))
+            Command::Write(checked) => {
+                Ok(Call::Write(checked.digest(), checked.block().try_clone()?))
             }
-            Command::Certify(certificate) => Ok(Call::Certify(certificate.try_clone()?)),
+            Command::Certify(checked) => Ok(Call::Certify(checked.certificate().try_clone()?)),
             Command::Certificate(digest) => Ok(Call::Certificate(*digest)),
             Command::Read(digest) => Ok(Call::Read(*digest)),
         }
     }
+
+    /// Whether what is handed in was checked under this committee.
+    pub(crate) fn is_under(&self, committee: &Committee) -> bool
+        ensures { IsTrue result ↔ IsUnder committee.now self.now }
+    {
+        match self {
+            Command::Write(checked) => are_one(checked.committee().get(), committee),
+            Command::Certify(checked) => are_one(checked.committee().get(), committee),
+            Command::Certificate(_) | Command::Read(_) => true,
+        }
+    }
+}
+
+/// Whether the two committees have the same members, in the same order.
+fn are_one(one: &Committee, other: &Committee) -> bool
+    ensures { IsTrue result ↔ (one.now ≡ other.now) }
+{
+    one == other
 }

@@ -31,6 +31,9 @@ pub enum NoStep {
     /// The session is not below the limit of sessions, or the number is not one more than its events so far.
     #[error("out of turn")]
     OutOfTurn,
+    /// What is handed in was checked under another committee than the book's.
+    #[error("other committee")]
+    OtherCommittee,
     /// The history has as many events as the limit allows.
     #[error("history full")]
     HistoryFull,

@@ -1,47 +1,60 @@
 //! The history that grows.
 ghost use Rattle.std.specs.Prelude.{◌≡◌, ◌==◌, [], length, slice_get, IfOk, OnOk, OnErr};
 ghost use Rattle.std.specs.Option.{option_copied};
+ghost use Rattle.nw_model.specs.State.{opening};
 ghost use Rattle.nw_model.specs.Step.{Tables, IsReply, after};
 ghost use Rattle.nw_book.specs.Story.{IsLegalStory, with_event};
 
 use crate::{Front, Limits};
+use nw_committee::Committee;
 use nw_digest::{NoMemory, Sequence, Shared};
 use nw_model::{Event, Plain, Reply};
+use nw_sig::Scheme;
 use std::alloc::Global;
-use std::marker::Model;
+use std::marker::{Model, PhantomData};
 
-/// The legal history of a book, with the limits under which it is legal.
-#[derive(Debug, Drop)]
-pub struct History {
+/// The legal history of a book, with the committee and the limits under which it is legal.
+#[derive(Drop)]
+pub struct History<S: Scheme> {
+    committee: Shared<Committee>,
     limits: Limits,
     events: Vec<Shared<Event>>,
+    scheme: PhantomData<S>,
 }
 
-impl Model for History {
+impl<S: Scheme> Model for History<S> {
+    ghost use Rattle.nw_model.specs.State.{opening};
     ghost use Rattle.nw_book.specs.Story.{Story, IsLegalStory};
 
     ghost Value = { Story };
 
-    ghost view = { λ h. record { limits = h.limits; events = h.events.items } };
+    ghost use Rattle.std.specs.Coded.{codes};
+    ghost use Rattle.nw_model.specs.State.{coded_state};
 
-    ghost invariant = { λ h. IsLegalStory (record { limits = h.limits; events = h.events.items }) };
+    ghost coded = { Prim.hlevel (codes, coded_state) };
+
+    ghost view = { λ h. record { committee = h.committee; limits = h.limits; base = opening; events = h.events.items } };
+
+    ghost invariant = { λ h. IsLegalStory S.accepts (record { committee = h.committee; limits = h.limits; base = opening; events = h.events.items }) };
 }
 
-impl History {
+impl<S: Scheme> History<S> {
     /// The history without events. It takes no memory.
-    pub(crate) fn new(alloc: Global, limits: Limits) -> History
-        ensures { result ≡ record { limits = limits; events = [] } }
+    pub(crate) fn new(alloc: Global, committee: Shared<Committee>, limits: Limits) -> History<S>
+        ensures { result ≡ record { committee = committee; limits = limits; base = opening; events = [] } }
     {
         History {
+            committee,
             limits,
             events: Vec::new(alloc),
+            scheme: PhantomData,
         }
     }
 
     /// How many events it has.
     pub fn len(&self) -> usize
         ensures length { result ≡ length self.now.events }
-        ensures legal { IsLegalStory self.now }
+        ensures legal { IsLegalStory S.accepts self.now }
     {
         self.events.len()
     }
@@ -49,7 +62,7 @@ impl History {
     /// Whether it has no event.
     pub fn is_empty(&self) -> bool
         ensures empty { result ≡ (length self.now.events == 0) }
-        ensures legal { IsLegalStory self.now }
+        ensures legal { IsLegalStory S.accepts self.now }
     {
         self.events.is_empty()
     }
@@ -57,7 +70,7 @@ impl History {
     /// The event at the index, counted from 0, or `None` where it has no more than `index` events.
     pub fn event(&self, index: usize) -> Option<&Event>
         ensures event { option_copied result ≡ slice_get self.now.events index }
-        ensures legal { IsLegalStory self.now }
+        ensures legal { IsLegalStory S.accepts self.now }
     {
         match self.events.get(index) {
             None => None,
@@ -65,17 +78,25 @@ impl History {
         }
     }
 
+    /// The committee under which it is legal.
+    pub fn committee(&self) -> &Shared<Committee>
+        ensures committee { result.now ≡ self.now.committee }
+        ensures legal { IsLegalStory S.accepts self.now }
+    {
+        &self.committee
+    }
+
     /// The limits under which it is legal.
     pub fn limits(&self) -> Limits
         ensures limits { result ≡ self.now.limits }
-        ensures legal { IsLegalStory self.now }
+        ensures legal { IsLegalStory S.accepts self.now }
     {
         self.limits
     }
 
     /// The front that this history would have with one more event.
-    pub(crate) fn front_with(&self, alloc: Global, event: &Shared<Event>) -> Result<Front, NoMemory>
-        requires { IsLegalStory (with_event self.now event.now) }
+    pub(crate) fn front_with(&self, alloc: Global, event: &Shared<Event>) -> Result<Front<S>, NoMemory>
+        requires { IsLegalStory S.accepts (with_event self.now event.now) }
         ensures { IfOk result (λ front. front ≡ with_event self.now event.now) }
     {
         let mut events = Vec::with_capacity(alloc, self.events.len() + 1)?;
@@ -84,7 +105,7 @@ impl History {
         }
         events.push(event.try_clone()?)?;
         let events = Shared::new(alloc, Sequence::new(events))?;
-        Ok(Front::new(self.limits, events))
+        Ok(Front::new(self.committee.try_clone()?, self.limits, events))
     }
 
     /// Takes the step of the event's call in the tables, and records the event. Room for it is made first.
@@ -93,7 +114,7 @@ impl History {
         tables: &mut Plain,
         event: Shared<Event>,
     ) -> Result<Reply, NoMemory>
-        requires { IsLegalStory (with_event self.old event) }
+        requires { IsLegalStory S.accepts (with_event self.old event) }
         ensures reply { IfOk result (λ reply. IsReply tables.old.bounds tables.old.state event.call reply) }
         ensures tables { OnOk result (tables.new ≡ record tables.old { state = after tables.old.bounds tables.old.state event.call }) }
         ensures history { OnOk result (self.new ≡ with_event self.old event) }
@@ -108,7 +129,7 @@ impl History {
 
     /// Records the event of a call that leaves the tables as they are.
     pub(crate) fn append(&mut self, event: Shared<Event>) -> Result<(), NoMemory>
-        requires { IsLegalStory (with_event self.old event) }
+        requires { IsLegalStory S.accepts (with_event self.old event) }
         ensures history { OnOk result (self.new ≡ with_event self.old event) }
         ensures unchanged { OnErr result (self.new ≡ self.old) }
     {

@@ -2,23 +2,24 @@
 ghost use Rattle.std.specs.Prelude.{◌≡◌, ◌++◌, [], ◌∷◌, All, OnOk, OnErr, IfErr, List};
 ghost use Rattle.nw_book.specs.Story.{Story, IsRefusal, next_number};
 ghost use Rattle.nw_book.specs.Ticket.{Given};
-ghost use Rattle.nw_book.specs.Command.{CommandFits};
-ghost use Rattle.nw_book.specs.Run.{MoveFits, Makes, IsStop, IsRun};
+ghost use Rattle.nw_book.specs.Command.{IsUnder};
+ghost use Rattle.nw_book.specs.Run.{Makes, IsStop, IsRun};
 
 use crate::{Book, Command, Done, NoStep, Ticket};
 use nw_codec::Block;
 use nw_digest::{Digest, NoMemory, Sequence, Shared};
+use nw_sig::Scheme;
 use std::alloc::{AllocError, Global};
 
 /// One move of a run. The number of a call is the next of its session.
-#[derive(Debug, Drop)]
-pub enum Move {
+#[derive(Drop)]
+pub enum Move<S: Scheme> {
     /// The session asks this.
     Call {
         /// Which session.
         session: u16,
         /// What it asks.
-        command: Command,
+        command: Command<S>,
     },
     /// The session opens a causal read of the digest.
     Open {
@@ -35,10 +36,10 @@ pub enum Move {
 }
 
 /// What a move gets.
-#[derive(Debug, Drop)]
-pub enum Answer {
+#[derive(Drop)]
+pub enum Answer<S: Scheme> {
     /// To a call, and to a causal read that gives no list: the reply, and the history up to and with the call.
-    Done(Done),
+    Done(Done<S>),
     /// To a causal read: the run has one more ticket.
     Opened,
     /// To a walk: the list of the causal read that the ticket is for, whatever was stored since.
@@ -99,15 +100,15 @@ pub struct Stop {
 }
 
 /// What a run gave.
-#[derive(Debug, Drop)]
-pub struct Run {
+#[derive(Drop)]
+pub struct Run<S: Scheme> {
     /// The answers of the moves that were made, in order.
-    pub answers: Sequence<Answer>,
+    pub answers: Sequence<Answer<S>>,
     /// The first move that was not made, or `None` where all were.
     pub stop: Option<Stop>,
 }
 
-impl Book {
+impl<S: Scheme> Book<S> {
     ghost use Rattle.nw_book.specs.Command.{call_of};
     ghost use Rattle.nw_book.specs.Takes.{Takes};
 
@@ -116,9 +117,8 @@ impl Book {
     /// Each call and each causal read is a step, with the number that is its session's turn; it is not made where that step
     /// is refused. A walk is not made where the run has no such ticket, else where memory is refused. A move that is not
     /// made changes nothing.
-    pub fn run(&mut self, alloc: Global, moves: &[Move]) -> Run
-        requires { All MoveFits moves.now }
-        ensures { IsRun self.old moves.now result.answers result.stop self.new }
+    pub fn run(&mut self, alloc: Global, moves: &[Move<S>]) -> Run<S>
+        ensures { IsRun S.accepts self.old moves.now result.answers result.stop self.new }
     {
         let mut answers = Vec::new(alloc);
         let mut tickets = Vec::new(alloc);
@@ -141,12 +141,11 @@ impl Book {
     fn make(
         &mut self,
         alloc: Global,
-        next: &Move,
-        tickets: &mut Vec<Ticket>,
-        answers: &mut Vec<Answer>,
+        next: &Move<S>,
+        tickets: &mut Vec<Ticket<S>>,
+        answers: &mut Vec<Answer<S>>,
     ) -> Result<(), Cause>
-        requires { MoveFits next.now }
-        ensures made { OnOk result (Makes self.old tickets.old.items answers.old.items next.now self.new tickets.new.items answers.new.items) }
+        ensures made { OnOk result (Makes S.accepts self.old tickets.old.items answers.old.items next.now self.new tickets.new.items answers.new.items) }
         ensures refused { IfErr result (IsStop self.old tickets.old.items next.now) }
         ensures unchanged { OnErr result (self.new ≡ self.old) }
         ensures same_tickets { OnErr result (tickets.new.items ≡ tickets.old.items) }
@@ -168,17 +167,17 @@ impl Book {
         &mut self,
         alloc: Global,
         session: u16,
-        command: &Command,
-        answers: &mut Vec<Answer>,
+        command: &Command<S>,
+        answers: &mut Vec<Answer<S>>,
     ) -> Result<(), NoStep>
-        requires { CommandFits command.now }
-        ensures made { OnOk result ((done : Done) × Takes self.old self.new session (next_number self.old session) (call_of command.now) done
+        ensures made { OnOk result ((done : Done S) × Takes S.accepts self.old self.new session (next_number self.old session) (call_of command.now) done
             × (answers.new.items ≡ answers.old.items ++ Answer.Done done ∷ [])) }
-        ensures refused { IfErr result (IsRefusal self.old session (next_number self.old session)) }
+        ensures refused { IfErr result (IsRefusal self.old session (next_number self.old session) (IsUnder self.old.committee command.now)) }
         ensures unchanged { OnErr result (self.new ≡ self.old) }
         ensures same_answers { OnErr result (answers.new.items ≡ answers.old.items) }
     {
         let number = self.next_number(session)?;
+        self.may_step(session, number, command)?;
         answers.reserve(1)?;
         let done = self.step(alloc, session, number, command)?;
         answers.push_reserved(Answer::Done(done));
@@ -191,16 +190,17 @@ impl Book {
         alloc: Global,
         session: u16,
         digest: Digest,
-        tickets: &mut Vec<Ticket>,
-        answers: &mut Vec<Answer>,
+        tickets: &mut Vec<Ticket<S>>,
+        answers: &mut Vec<Answer<S>>,
     ) -> Result<(), NoStep>
-        ensures made { OnOk result (Makes self.old tickets.old.items answers.old.items (Move.Open session digest) self.new tickets.new.items answers.new.items) }
-        ensures refused { IfErr result (IsRefusal self.old session (next_number self.old session)) }
+        ensures made { OnOk result (Makes S.accepts self.old tickets.old.items answers.old.items (Move.Open session digest) self.new tickets.new.items answers.new.items) }
+        ensures refused { IfErr result (IsRefusal self.old session (next_number self.old session) (Unit {0})) }
         ensures unchanged { OnErr result (self.new ≡ self.old) }
         ensures same_tickets { OnErr result (tickets.new.items ≡ tickets.old.items) }
         ensures same_answers { OnErr result (answers.new.items ≡ answers.old.items) }
     {
         let number = self.next_number(session)?;
+        self.may_open(session, number)?;
         answers.reserve(1)?;
         tickets.reserve(1)?;
         match self.open(alloc, session, number, digest)? {
@@ -215,14 +215,14 @@ impl Book {
 }
 
 /// Walks the ticket with this number, and adds the answer.
-fn make_walk(
+fn make_walk<S: Scheme>(
     alloc: Global,
-    tickets: &[Ticket],
+    tickets: &[Ticket<S>],
     ticket: u32,
-    answers: &mut Vec<Answer>,
+    answers: &mut Vec<Answer<S>>,
 ) -> Result<(), Cause>
-    ensures made { OnOk result ((s : Story) → Makes s tickets.now answers.old.items (Move.Walk ticket) s tickets.now answers.new.items) }
-    ensures refused { IfErr result (λ cause. (s : Story) → IsStop s tickets.now (Move.Walk ticket) cause) }
+    ensures made { OnOk result ((s : Story) → Makes S.accepts s tickets.now answers.old.items (Move.Walk ticket) s tickets.now answers.new.items) }
+    ensures refused { IfErr result (λ cause. (s : Story) → IsStop {S = S} s tickets.now (Move.Walk ticket) cause) }
     ensures same_answers { OnErr result (answers.new.items ≡ answers.old.items) }
 {
     let Some(ticket) = tickets.get(ticket as usize) else {

@@ -11,32 +11,38 @@ use crate::Front;
 use nw_codec::Block;
 use nw_digest::{Digest, NoMemory, Shared};
 use nw_model::{View, walk};
+use nw_sig::Scheme;
 use std::alloc::Global;
 use std::marker::Model;
 
 /// A causal read that was opened: its list can be walked at any time, as often as is liked, and is always the list of the
 /// step that opened it, whatever is stored later. Contracts see the digest and the front.
 #[derive(Drop)]
-pub struct Ticket {
+pub struct Ticket<S: Scheme> {
     digest: Digest,
-    front: Front,
+    front: Front<S>,
     view: View,
 }
 
-impl Model for Ticket {
+impl<S: Scheme> Model for Ticket<S> {
     ghost use Rattle.nw_book.specs.Ticket.{Given, IsTicketWith};
 
     ghost Value = { Given };
 
+    ghost use Rattle.std.specs.Coded.{codes};
+    ghost use Rattle.nw_model.specs.State.{coded_state};
+
+    ghost coded = { Prim.hlevel (codes, coded_state) };
+
     ghost view = { λ t. record { digest = t.digest; front = t.front } };
 
-    ghost invariant = { λ t. IsTicketWith (record { digest = t.digest; front = t.front }) t.view };
+    ghost invariant = { λ t. IsTicketWith S.accepts (record { digest = t.digest; front = t.front }) t.view };
 }
 
-impl Ticket {
+impl<S: Scheme> Ticket<S> {
     /// The ticket for the digest at the front, over a view of what is complete there.
-    pub(crate) fn new(digest: Digest, front: Front, view: View) -> Ticket
-        requires { IsTicketWith (record { digest = digest; front = front }) view }
+    pub(crate) fn new(digest: Digest, front: Front<S>, view: View) -> Ticket<S>
+        requires { IsTicketWith S.accepts (record { digest = digest; front = front }) view }
         ensures { result ≡ record { digest = digest; front = front } }
     {
         Ticket {
@@ -49,15 +55,15 @@ impl Ticket {
     /// The digest whose list is walked.
     pub fn digest(&self) -> Digest
         ensures digest { result ≡ self.now.digest }
-        ensures ticket { IsTicket self.now }
+        ensures ticket { IsTicket S.accepts self.now }
     {
         self.digest
     }
 
     /// The history up to and with the call that opened the read.
-    pub fn front(&self) -> &Front
+    pub fn front(&self) -> &Front<S>
         ensures front { result.now ≡ self.now.front }
-        ensures ticket { IsTicket self.now }
+        ensures ticket { IsTicket S.accepts self.now }
     {
         &self.front
     }
@@ -65,7 +71,7 @@ impl Ticket {
     /// The blocks that are complete after the front, as they were then.
     pub fn view(&self) -> &View
         ensures shows { Shows result.now (state_of self.now.front) }
-        ensures ticket { IsTicket self.now }
+        ensures ticket { IsTicket S.accepts self.now }
     {
         &self.view
     }
@@ -74,7 +80,7 @@ impl Ticket {
     /// author. `NoMemory` where memory is refused; it may then be asked again.
     pub fn walk(&self, alloc: Global) -> Result<Vec<Shared<Block>>, NoMemory>
         ensures list { IfOk result (λ blocks. IsReply (bounds_of self.now.front.limits) (state_of self.now.front) (Call.Causal self.now.digest) (Reply.List blocks.items)) }
-        ensures ticket { IsTicket self.now }
+        ensures ticket { IsTicket S.accepts self.now }
     {
         walk(alloc, &self.view, self.digest)
     }

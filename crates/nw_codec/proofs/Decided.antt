@@ -5,8 +5,8 @@ use Rattle.std.specs.Bool.{MatchBool}
 use Rattle.std.proofs.lemmas.Bool.{ltb-false, ltb-true}
 use Rattle.std.proofs.lemmas.List.{length-drop}
 use Rattle.nw_codec.specs.declared.error.DecodeError.{DecodeError}
-use Rattle.nw_codec.specs.declared.error.DecodeError.TheVariants.{Short, Trailing, Tag, Version, TooManyParents, ParentOrder, TooManyTransactions, TransactionTooLong, BodyTooLong, NoMemory}
-use Rattle.nw_codec.specs.Faults.{Stage, AtTag, AtVersion, AtAuthor, AtRound, AtParentCount, AtParentAuthor, AtParentDigest, AtTransactionCount, AtTransactionLength, AtTransaction, AtSignature, AtEnd, width, after_field, at_parents, at_transactions, number16, number32, comes_after, Reaches, StopsAt, FaultFrom}
+use Rattle.nw_codec.specs.declared.error.DecodeError.TheVariants.{Short, Trailing, Tag, Version, TooManyParents, ParentOrder, TooManyTransactions, TransactionTooLong, BodyTooLong, TooManyVotes, VoteOrder, NoMemory}
+use Rattle.nw_codec.specs.Faults.{Stage, AtTag, AtVersion, AtAuthor, AtRound, AtParentCount, AtParentAuthor, AtParentDigest, AtTransactionCount, AtTransactionLength, AtTransaction, AtSignature, OfCertificate, OfVote, AtDigest, AtSubjectRound, AtSubjectAuthor, AtVoteCount, AtSigner, AtSealSignature, AtEnd, width, after_field, at_parents, at_transactions, at_seals, number16, number32, comes_after, Reaches, StopsAt, FaultFrom}
 use Rattle.nw_codec.proofs.Fronts.{here, onward, passed, short, failed, trailing, later}
 
 -- ---- a test gives neither Short, nor Trailing, nor want of memory
@@ -19,12 +19,14 @@ record IsNoTest (x : DecodeError) : Type 0 where
   transactions : TooManyTransactions ≢ x
   long : TransactionTooLong ≢ x
   body : BodyTooLong ≢ x
+  votes : TooManyVotes ≢ x
+  vote_order : VoteOrder ≢ x
 
 memory_is_no_test : IsNoTest NoMemory
-memory_is_no_test = record { tag = λ e. cc; version = λ e. cc; parents = λ e. cc; order = λ e. cc; transactions = λ e. cc; long = λ e. cc; body = λ e. cc }
+memory_is_no_test = record { tag = λ e. cc; version = λ e. cc; parents = λ e. cc; order = λ e. cc; transactions = λ e. cc; long = λ e. cc; body = λ e. cc; votes = λ e. cc; vote_order = λ e. cc }
 
 trailing_is_no_test : IsNoTest Trailing
-trailing_is_no_test = record { tag = λ e. cc; version = λ e. cc; parents = λ e. cc; order = λ e. cc; transactions = λ e. cc; long = λ e. cc; body = λ e. cc }
+trailing_is_no_test = record { tag = λ e. cc; version = λ e. cc; parents = λ e. cc; order = λ e. cc; transactions = λ e. cc; long = λ e. cc; body = λ e. cc; votes = λ e. cc; vote_order = λ e. cc }
 
 abbrev Says : Result Stage DecodeError → DecodeError → Type 0
 Says r e = r ≡ Err e
@@ -47,8 +49,13 @@ never_length : (b c : Bool) (x : DecodeError) (s : Stage) → IsNoTest x → Say
 never_length true c x s t e = t.long (failing_is TransactionTooLong x e)
 never_length false c x s t e = never_choice c BodyTooLong x s t.body e
 
+never_tag : (a b c : Bool) (x : DecodeError) (r s t : Stage) → Tag ≢ x → Says (cond a (Ok r) (cond b (Ok s) (cond c (Ok t) (Err Tag)))) x → ⊥
+never_tag true b c x r s t other e = absurd cc
+never_tag false true c x r s t other e = absurd cc
+never_tag false false c x r s t other e = never_else c Tag x t other e
+
 never_after : (x : DecodeError) → IsNoTest x → (stage : Stage) (field : List ℕ) → Says (after_field stage field) x → ⊥
-never_after x t AtTag field e = never_else (eqb (slice_index field 0) 1) Tag x AtVersion t.tag e
+never_after x t AtTag field e = never_tag (eqb (slice_index field 0) 1) (eqb (slice_index field 0) 2) (eqb (slice_index field 0) 3) x AtVersion (AtDigest OfCertificate) (AtDigest OfVote) t.tag e
 never_after x t AtVersion field e = never_else (eqb (slice_index field 0) 1) Version x AtAuthor t.version e
 never_after x t AtAuthor field e = absurd cc
 never_after x t AtRound field e = absurd cc
@@ -59,6 +66,12 @@ never_after x t (AtTransactionCount size) field e = never_choice (ltb 1024 (numb
 never_after x t (AtTransactionLength more size) field e = never_length (ltb 65536 (number32 field)) (ltb 1048576 (size + 4 + number32 field)) x (AtTransaction (number32 field) more (size + 4 + number32 field)) t e
 never_after x t (AtTransaction len more size) field e = absurd cc
 never_after x t AtSignature field e = absurd cc
+never_after x t (AtDigest kind) field e = absurd cc
+never_after x t (AtSubjectRound kind) field e = absurd cc
+never_after x t (AtSubjectAuthor kind) field e = absurd cc
+never_after x t AtVoteCount field e = never_choice (ltb 100 (number16 field)) TooManyVotes x (at_seals (number16 field) None) t.votes e
+never_after x t (AtSigner more before) field e = never_else (comes_after before (number16 field)) VoteOrder x (AtSealSignature more (number16 field)) t.vote_order e
+never_after x t (AtSealSignature more signer) field e = absurd cc
 never_after x t AtEnd field e = absurd cc
 
 never_by : (b : Bool) (x : DecodeError) → IsNoTest x → x ≢ Short → (stage : Stage) (field : List ℕ) → MatchBool b (x ≡ Short) (after_field stage field ≡ Err x) → ⊥
@@ -99,6 +112,12 @@ weight (AtParentDigest more author size) = 0
 weight (AtTransactionCount size) = 0
 weight (AtTransactionLength more size) = 0
 weight AtSignature = 0
+weight (AtDigest kind) = 0
+weight (AtSubjectRound kind) = 0
+weight (AtSubjectAuthor kind) = 0
+weight AtVoteCount = 0
+weight (AtSigner more before) = 0
+weight (AtSealSignature more signer) = 0
 weight AtEnd = 0
 
 weight_low : (s : Stage) → weight s ≤ 1
@@ -114,6 +133,12 @@ weight_low (AtParentDigest more author size) = omega arith
 weight_low (AtTransactionCount size) = omega arith
 weight_low (AtTransactionLength more size) = omega arith
 weight_low AtSignature = omega arith
+weight_low (AtDigest kind) = omega arith
+weight_low (AtSubjectRound kind) = omega arith
+weight_low (AtSubjectAuthor kind) = omega arith
+weight_low AtVoteCount = omega arith
+weight_low (AtSigner more before) = omega arith
+weight_low (AtSealSignature more signer) = omega arith
 weight_low AtEnd = omega arith
 
 light : (n size : ℕ) → weight (at_transactions n size) ≡ 0
@@ -146,6 +171,12 @@ falls (AtTransaction len more size) t w field e h =
     let none : weight t ≡ 0 = subst (λ (x : Stage). weight x ≡ 0) (going_is _ _ h) (light more size) in
     omega (arith, none)
 falls AtSignature t w field e h = let k : 64 ≡ w = cc in omega (arith, weight_low t, k)
+falls (AtDigest kind) t w field e h = let k : 32 ≡ w = cc in omega (arith, weight_low t, k)
+falls (AtSubjectRound kind) t w field e h = let k : 6 ≡ w = cc in omega (arith, weight_low t, k)
+falls (AtSubjectAuthor kind) t w field e h = let k : 2 ≡ w = cc in omega (arith, weight_low t, k)
+falls AtVoteCount t w field e h = let k : 2 ≡ w = cc in omega (arith, weight_low t, k)
+falls (AtSigner more before) t w field e h = let k : 2 ≡ w = cc in omega (arith, weight_low t, k)
+falls (AtSealSignature more signer) t w field e h = let k : 64 ≡ w = cc in omega (arith, weight_low t, k)
 falls AtEnd t w field e h = absurd cc
 
 at_end : (s : Stage) → width s ≡ None → s ≡ AtEnd
@@ -160,6 +191,12 @@ at_end (AtTransactionCount size) e = absurd cc
 at_end (AtTransactionLength more size) e = absurd cc
 at_end (AtTransaction len more size) e = absurd cc
 at_end AtSignature e = absurd cc
+at_end (AtDigest kind) e = absurd cc
+at_end (AtSubjectRound kind) e = absurd cc
+at_end (AtSubjectAuthor kind) e = absurd cc
+at_end AtVoteCount e = absurd cc
+at_end (AtSigner more before) e = absurd cc
+at_end (AtSealSignature more signer) e = absurd cc
 at_end AtEnd e = refl
 
 abbrev pub Decided : Stage → List ℕ → Type 0

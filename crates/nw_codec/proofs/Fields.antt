@@ -1,11 +1,11 @@
 -- What a check of one field answers, as the code reads it.
-use Rattle.std.proofs.Common.{◌≡◌, ◌≢◌, ℕ, suc, ◌+◌, ◌-◌, ◌<◌, ◌≤◌, Bool, true, false, cond, eqb, ltb, List, [], ◌∷◌, length, take, drop, Option, Some, Result, Ok, Err, refl, sym, ◌∙◌, subst, arith}
+use Rattle.std.proofs.Common.{◌≡◌, ◌≢◌, ℕ, suc, ◌+◌, ◌-◌, ◌<◌, ◌≤◌, Bool, true, false, cond, eqb, ltb, List, [], ◌∷◌, length, take, drop, Option, Some, Result, Ok, Err, refl, sym, ap, ◌∙◌, subst, arith}
 use Rattle.std.specs.Result.{MatchResult, IsErrAnd}
 use Rattle.std.proofs.lemmas.Bool.{eq-eqb, ne_eqb, lt-ltb, le-ltb, eqb-true}
 use Rattle.std.proofs.lemmas.List.{nil_from_length}
 use Rattle.nw_codec.specs.declared.error.DecodeError.{DecodeError}
-use Rattle.nw_codec.specs.declared.error.DecodeError.TheVariants.{Short, ParentOrder, TransactionTooLong, BodyTooLong}
-use Rattle.nw_codec.specs.Faults.{Stage, AtTransaction, width, after_field, comes_after, Reaches, FaultFrom}
+use Rattle.nw_codec.specs.declared.error.DecodeError.TheVariants.{Short, Tag, TransactionTooLong, BodyTooLong}
+use Rattle.nw_codec.specs.Faults.{Stage, AtTransaction, width, after_tag, after_field, comes_after, Reaches, FaultFrom}
 use Rattle.nw_codec.proofs.Fronts.{passed, failed, short}
 
 -- the exit of a `?`
@@ -39,11 +39,21 @@ high_fails n high s d e = let test = lt-ltb high n e in rw test refl
 pub short_as : (a : Stage) (w : ℕ) (text : List ℕ) (d : DecodeError) → width a ≡ Some w → length text < w → d ≡ Short → FaultFrom a text d
 short_as a w text d wide few e = rw e (short a w text wide few)
 
-pub order_passes : (before : Option ℕ) (n : ℕ) (s : Stage) → comes_after before n ≡ true → cond (comes_after before n) (Ok s) (Err ParentOrder) ≡ Ok s
-order_passes before n s test = rw test refl
+pub order_passes : (before : Option ℕ) (n : ℕ) (s : Stage) (d : DecodeError) → comes_after before n ≡ true → cond (comes_after before n) (Ok s) (Err d) ≡ Ok s
+order_passes before n s d test = rw test refl
 
-pub order_fails : (before : Option ℕ) (n : ℕ) (s : Stage) → comes_after before n ≡ false → cond (comes_after before n) (Ok s) (Err ParentOrder) ≡ Err ParentOrder
-order_fails before n s test = rw test refl
+pub order_fails : (before : Option ℕ) (n : ℕ) (s : Stage) (d : DecodeError) → comes_after before n ≡ false → cond (comes_after before n) (Ok s) (Err d) ≡ Err d
+order_fails before n s d test = rw test refl
+
+pub tag_passes : (n tag : ℕ) (s : Stage) → n ≡ tag → after_tag tag ≡ Ok s → after_tag n ≡ Ok s
+tag_passes n tag s e passes = ap after_tag e ∙ passes
+
+pub tag_fails : (n : ℕ) → (n ≡ 1 → ⊥) → (n ≡ 2 → ⊥) → (n ≡ 3 → ⊥) → after_tag n ≡ Err Tag
+tag_fails n one two three =
+    let first = ne_eqb n 1 one in
+    let second = ne_eqb n 2 two in
+    let third = ne_eqb n 3 three in
+    rw (first, second, third) refl
 
 pub length_passes : (n more size : ℕ) → n ≤ 65536 → size + 4 + n ≤ 1048576
     → cond (ltb 65536 n) (Err TransactionTooLong) (cond (ltb 1048576 (size + 4 + n)) (Err BodyTooLong) (Ok (AtTransaction n more (size + 4 + n)))) ≡ Ok (AtTransaction n more (size + 4 + n))

@@ -1,4 +1,4 @@
--- A text that a message spells, cut into its fields.
+-- A text that is a block's, cut into its fields.
 use Rattle.std.proofs.Common.{◌≡◌, ℕ, ◌^◌, ◌<◌, ◌≤◌, List, [], ◌∷◌, ◌++◌, length, All, refl, sym, subst, ◌∙◌, arith}
 use Rattle.std.specs.List.{flat_map, AllByRecursion}
 use Rattle.std.specs.Int.{w16, to_be_bytes}
@@ -12,9 +12,10 @@ use Rattle.nw_codec.specs.declared.message.Message.TheVariants as messages
 use Rattle.nw_codec.specs.Grammar.{round_bytes, parent_bytes, transaction_bytes, message}
 use Rattle.nw_codec.specs.Fits.{Fits}
 use Rattle.nw_codec.specs.Typed.{IsRef, IsBlock, IsSignature}
-use Rattle.nw_codec.specs.Spelled.{Spells, IsSpelled, BeginsWithParents, BeginsWithTransactions}
-use Rattle.nw_codec.proofs.Written.{message_is}
-use Rattle.nw_codec.proofs.OneText.{same_parents, same_transactions, same_block, same_signature}
+use Rattle.nw_codec.specs.Spelled.{Spells, IsBlockText, BeginsWithParents, BeginsWithTransactions}
+use Rattle.nw_codec.proofs.WrittenBlock.{block_message_is}
+use Rattle.nw_codec.proofs.OneText.{same_parents, same_transactions, same_block}
+use Rattle.nw_codec.proofs.OneVote.{same_signature}
 
 -- what stands from the transactions on, from their count on, and so forth
 pub record IsLaid (text : List ℕ) : Type 0 where
@@ -40,8 +41,8 @@ pub record IsLaid (text : List ℕ) : Type 0 where
   pub transactions : at_transactions ≡ flat_map transaction_bytes block.transactions ++ at_signature
   pub end : at_signature ≡ signature.0 ++ []
 
-laid_message : (text : List ℕ) (m : Message) → Spells text m → IsLaid text
-laid_message text (messages.Block b s) spells = record {
+laid_block : (text : List ℕ) (b : Block) (s : Signature) → Spells text (messages.Block b s) → IsLaid text
+laid_block text b s spells = record {
   block = b;
   signature = s;
   typed = spells.typed.0;
@@ -55,7 +56,7 @@ laid_message text (messages.Block b s) spells = record {
   at_transaction_count = _;
   at_transactions = _;
   at_signature = s.0 ++ [];
-  head = spells.bytes ∙ sym (append-nil (message (messages.Block b s))) ∙ message_is b s [];
+  head = spells.bytes ∙ sym (append-nil (message (messages.Block b s))) ∙ block_message_is b s [];
   author = refl;
   round = refl;
   parent_count = refl;
@@ -65,8 +66,8 @@ laid_message text (messages.Block b s) spells = record {
   end = refl;
 }
 
-pub laid : (text : List ℕ) → IsSpelled text → IsLaid text
-laid text h = laid_message text h.0 h.1
+pub laid : (text : List ℕ) → IsBlockText text → IsLaid text
+laid text h = laid_block text h.0 h.1 h.2
 
 -- ---- what is read is the block's own
 

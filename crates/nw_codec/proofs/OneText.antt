@@ -6,6 +6,8 @@ use Rattle.std.proofs.lemmas.List.Elements.{recursion_from_All, All-weaker}
 use Rattle.nw_codec.specs.declared.block.Ref.{Ref}
 use Rattle.nw_codec.specs.declared.block.Block.{Block}
 use Rattle.nw_codec.specs.declared.certificate.Signature.{Signature}
+use Rattle.nw_codec.specs.declared.certificate.Certificate.{Certificate}
+use Rattle.nw_codec.specs.declared.vote.Vote.{Vote}
 use Rattle.nw_codec.specs.declared.message.Message.{Message}
 use Rattle.nw_codec.specs.declared.message.Message.TheVariants as messages
 use Rattle.nw_codec.specs.Grammar.{round_bytes, parent_bytes, transaction_bytes, message}
@@ -13,7 +15,9 @@ use Rattle.nw_codec.specs.Fits.{Fits, MessageFits}
 use Rattle.nw_codec.specs.Typed.{IsRef, IsBlock, IsSignature, IsMessage}
 use Rattle.nw_codec.specs.Spelled.{Spells}
 use Rattle.nw_codec.proofs.Pieces.{same_start, same16, same32, same48}
-use Rattle.nw_codec.proofs.Written.{message_is}
+use Rattle.nw_codec.proofs.WrittenBlock.{block_message_is}
+use Rattle.nw_codec.proofs.WrittenVotes.{certificate_message_is, vote_message_is}
+use Rattle.nw_codec.proofs.OneVote.{same_signature, same_certificate, same_vote}
 
 -- the counts fit their fields
 pub record IsCounted (b : Block) : Type 0 where
@@ -72,11 +76,6 @@ same_block b c e0 e1 e2 e3 =
     ap (λ (a : ℕ). make a b.round b.parents b.transactions) e0 ∙ ap (λ (r : ℕ). make c.author r b.parents b.transactions) e1
     ∙ ap (λ (ps : List Ref). make c.author c.round ps b.transactions) e2 ∙ ap (λ (ts : List (List ℕ)). make c.author c.round c.parents ts) e3
 
-pub same_signature : (s t : Signature) → s.0 ≡ t.0 → s ≡ t
-same_signature s t e =
-    let make : List ℕ → Signature = λ bytes. record { 0 = bytes } in
-    ap make e
-
 -- the pieces of two laid out messages, one after another
 record IsSame (b c : Block) (s t : Signature) (x y : List ℕ) : Type 0 where
   block : b ≡ c
@@ -103,7 +102,7 @@ same_counts b c s t x y typed-b typed-c counted-b counted-c signed-s signed-t au
 same_pieces : (b c : Block) (s t : Signature) (x y : List ℕ) → IsBlock b → IsBlock c → IsCounted b → IsCounted c → IsSignature s → IsSignature t
     → message (messages.Block b s) ++ x ≡ message (messages.Block c t) ++ y → IsSame b c s t x y
 same_pieces b c s t x y typed-b typed-c counted-b counted-c signed-s signed-t e =
-    let cut = sym (message_is b s x) ∙ e ∙ message_is c t y in
+    let cut = sym (block_message_is b s x) ∙ e ∙ block_message_is c t y in
     let tag = same_start (1 ∷ []) (1 ∷ []) _ _ refl cut in
     let version = same_start (1 ∷ []) (1 ∷ []) _ _ refl tag.1 in
     let author = same_start (to_be_bytes w16 b.author) (to_be_bytes w16 c.author) _ _ refl version.1 in
@@ -112,14 +111,50 @@ same_pieces b c s t x y typed-b typed-c counted-b counted-c signed-s signed-t e 
 
 abbrev pub CountsFit : Message → Type 0
 CountsFit (messages.Block b s) = IsCounted b
+CountsFit (messages.Certificate c) = length c.votes < 2 ^ 16
+CountsFit (messages.Vote v) = Unit {0}
+
+-- the tag of a message, and what stands behind it
+record Begins (m : Message) (x : List ℕ) (tag : ℕ) : Type 0 where
+  behind : List ℕ
+  whole : message m ++ x ≡ tag ∷ behind
+
+block_begins : (b : Block) (s : Signature) (x : List ℕ) → Begins (messages.Block b s) x 1
+block_begins b s x = record { behind = _; whole = block_message_is b s x }
+
+certificate_begins : (c : Certificate) (x : List ℕ) → Begins (messages.Certificate c) x 2
+certificate_begins c x = record { behind = _; whole = certificate_message_is c x }
+
+vote_begins : (v : Vote) (x : List ℕ) → Begins (messages.Vote v) x 3
+vote_begins v x = record { behind = _; whole = vote_message_is v x }
+
+first_is : (a b : ℕ) (x y : List ℕ) → a ∷ x ≡ b ∷ y → a ≡ b
+first_is a b x y e = cc
+
+one_tag : (m n : Message) (x y : List ℕ) (a b : ℕ) → Begins m x a → Begins n y b → message m ++ x ≡ message n ++ y → a ≡ b
+one_tag m n x y a b p q e = first_is a b p.behind q.behind (sym p.whole ∙ e ∙ q.whole)
 
 pub same_message : (m n : Message) (x y : List ℕ) → IsMessage m → IsMessage n → CountsFit m → CountsFit n → message m ++ x ≡ message n ++ y → (m ≡ n) × (x ≡ y)
 same_message (messages.Block b s) (messages.Block c t) x y typed-m typed-n counted-m counted-n e =
     let same = same_pieces b c s t x y typed-m.0 typed-n.0 counted-m counted-n typed-m.1 typed-n.1 e in
     (cc (same.block, same.signature), same.rest)
+same_message (messages.Certificate c) (messages.Certificate d) x y typed-m typed-n counted-m counted-n e =
+    let same = same_certificate c d x y typed-m typed-n counted-m counted-n e in
+    (ap messages.Certificate same.0, same.1)
+same_message (messages.Vote v) (messages.Vote w) x y typed-m typed-n counted-m counted-n e =
+    let same = same_vote v w x y typed-m typed-n e in
+    (ap messages.Vote same.0, same.1)
+same_message (messages.Block b s) (messages.Certificate d) x y typed-m typed-n counted-m counted-n e = absurd (omega (arith, one_tag _ _ x y 1 2 (block_begins b s x) (certificate_begins d y) e))
+same_message (messages.Block b s) (messages.Vote w) x y typed-m typed-n counted-m counted-n e = absurd (omega (arith, one_tag _ _ x y 1 3 (block_begins b s x) (vote_begins w y) e))
+same_message (messages.Certificate c) (messages.Block d t) x y typed-m typed-n counted-m counted-n e = absurd (omega (arith, one_tag _ _ x y 2 1 (certificate_begins c x) (block_begins d t y) e))
+same_message (messages.Certificate c) (messages.Vote w) x y typed-m typed-n counted-m counted-n e = absurd (omega (arith, one_tag _ _ x y 2 3 (certificate_begins c x) (vote_begins w y) e))
+same_message (messages.Vote v) (messages.Block d t) x y typed-m typed-n counted-m counted-n e = absurd (omega (arith, one_tag _ _ x y 3 1 (vote_begins v x) (block_begins d t y) e))
+same_message (messages.Vote v) (messages.Certificate d) x y typed-m typed-n counted-m counted-n e = absurd (omega (arith, one_tag _ _ x y 3 2 (vote_begins v x) (certificate_begins d y) e))
 
 pub counts_fit : (m : Message) → MessageFits m → CountsFit m
 counts_fit (messages.Block b s) fits = counted b fits
+counts_fit (messages.Certificate c) fits = let few : length c.votes ≤ 100 = fits.few_votes in omega (arith, few)
+counts_fit (messages.Vote v) fits = tt
 
 pub one_message : (a b x y : List ℕ) (m n : Message) → Spells a m → Spells b n → a ++ x ≡ b ++ y → (m ≡ n) × (x ≡ y)
 one_message a b x y m n p q e =

@@ -4,9 +4,14 @@ use Rattle.std.specs.List.{flat_map}
 use Rattle.std.specs.Option.{option_map_or}
 use Rattle.std.specs.Int.{from_be_bytes, w16, w32}
 use Rattle.nw_codec.specs.declared.error.DecodeError.{DecodeError}
-use Rattle.nw_codec.specs.declared.error.DecodeError.TheVariants.{Short, Trailing, Tag, Version, TooManyParents, ParentOrder, TooManyTransactions, TransactionTooLong, BodyTooLong}
+use Rattle.nw_codec.specs.declared.error.DecodeError.TheVariants.{Short, Trailing, Tag, Version, TooManyParents, ParentOrder, TooManyTransactions, TransactionTooLong, BodyTooLong, TooManyVotes, VoteOrder}
 
--- which field comes next, and what later tests need: how many parents or transactions follow this one, the parent's author before, the bytes of the body so far
+-- which messages have a subject
+pub data Kind : Type 0 where
+  OfCertificate : Kind
+  OfVote : Kind
+
+-- which field comes next, and what later tests need: how many parents, transactions or seals follow this one, the parent's author or the seal's signer before, the bytes of the body so far
 pub data Stage : Type 0 where
   AtTag : Stage
   AtVersion : Stage
@@ -19,6 +24,12 @@ pub data Stage : Type 0 where
   AtTransactionLength : (more size : ℕ) → Stage
   AtTransaction : (len more size : ℕ) → Stage
   AtSignature : Stage
+  AtDigest : (kind : Kind) → Stage
+  AtSubjectRound : (kind : Kind) → Stage
+  AtSubjectAuthor : (kind : Kind) → Stage
+  AtVoteCount : Stage
+  AtSigner : (more : ℕ) (before : Option ℕ) → Stage
+  AtSealSignature : (more signer : ℕ) → Stage
   AtEnd : Stage
 
 -- how many bytes the next field has; none comes at the end
@@ -34,6 +45,12 @@ width (AtTransactionCount size) = Some 2
 width (AtTransactionLength more size) = Some 4
 width (AtTransaction len more size) = Some len
 width AtSignature = Some 64
+width (AtDigest kind) = Some 32
+width (AtSubjectRound kind) = Some 6
+width (AtSubjectAuthor kind) = Some 2
+width AtVoteCount = Some 2
+width (AtSigner more before) = Some 2
+width (AtSealSignature more signer) = Some 64
 width AtEnd = None
 
 -- before the first of so many parents, or behind the last one
@@ -46,19 +63,37 @@ abbrev pub at_transactions : ℕ → ℕ → Stage
 at_transactions zero size = AtSignature
 at_transactions (suc more) size = AtTransactionLength more size
 
+-- before the first of so many seals, or behind the last one
+abbrev pub at_seals : ℕ → Option ℕ → Stage
+at_seals zero before = AtEnd
+at_seals (suc more) before = AtSigner more before
+
+-- a certificate counts its seals, and a vote has one
+abbrev pub behind_subject : Kind → Stage
+behind_subject OfCertificate = AtVoteCount
+behind_subject OfVote = AtSigner 0 None
+
 abbrev pub number16 : List ℕ → ℕ
 number16 field = from_be_bytes w16 field
 
 abbrev pub number32 : List ℕ → ℕ
 number32 field = from_be_bytes w32 field
 
--- an author is greater than the one before, if there is one
+-- an author or signer is greater than the one before, if there is one
 abbrev pub comes_after : Option ℕ → ℕ → Bool
 comes_after before author = option_map_or (λ b. nat_lt b author) before true
 
+-- the field that a tag announces
+abbrev pub after_tag : ℕ → Result Stage DecodeError
+after_tag tag =
+    if tag == 1 then Ok AtVersion
+    else if tag == 2 then Ok (AtDigest OfCertificate)
+    else if tag == 3 then Ok (AtDigest OfVote)
+    else Err Tag
+
 -- what a whole field leads to, or the fault of its test; no field comes at the end
 abbrev pub after_field : Stage → List ℕ → Result Stage DecodeError
-after_field AtTag field = if slice_index field 0 == 1 then Ok AtVersion else Err Tag
+after_field AtTag field = after_tag (slice_index field 0)
 after_field AtVersion field = if slice_index field 0 == 1 then Ok AtAuthor else Err Version
 after_field AtAuthor field = Ok AtRound
 after_field AtRound field = Ok AtParentCount
@@ -77,6 +112,15 @@ after_field (AtTransactionLength more size) field =
     else Ok (AtTransaction (number32 field) more (size + 4 + number32 field))
 after_field (AtTransaction len more size) field = Ok (at_transactions more size)
 after_field AtSignature field = Ok AtEnd
+after_field (AtDigest kind) field = Ok (AtSubjectRound kind)
+after_field (AtSubjectRound kind) field = Ok (AtSubjectAuthor kind)
+after_field (AtSubjectAuthor kind) field = Ok (behind_subject kind)
+after_field AtVoteCount field =
+    if nat_lt 100 (number16 field) then Err TooManyVotes
+    else Ok (at_seals (number16 field) None)
+after_field (AtSigner more before) field =
+    if comes_after before (number16 field) then Ok (AtSealSignature more (number16 field)) else Err VoteOrder
+after_field (AtSealSignature more signer) field = Ok (at_seals more (Some signer))
 after_field AtEnd field = Ok AtEnd
 
 -- these whole fields pass their tests one after another, and lead from one stage to the other

@@ -27,9 +27,6 @@ pub record Fits (b : Block) : Type 0 where
   pub short_transactions : All (λ t. length t ≤ 65536) b.transactions
   pub short_body : body_size b ≤ 1048576
 
-abbrev pub MessageFits : Message → Type 0
-MessageFits (messages.Block b s) = Fits b
-
 -- the members that sign, in the order of the certificate
 abbrev pub signers : List Seal → List ℕ
 signers votes = map (λ v. v.signer) votes
@@ -37,3 +34,9 @@ signers votes = map (λ v. v.signer) votes
 pub record CertificateFits (c : Certificate) : Type 0 where
   pub few_votes : length c.votes ≤ 100
   pub votes_in_order : IsStrictlyIncreasing (signers c.votes)
+
+-- a vote always fits
+abbrev pub MessageFits : Message → Type 0
+MessageFits (messages.Block b s) = Fits b
+MessageFits (messages.Certificate c) = CertificateFits c
+MessageFits (messages.Vote v) = Unit {0}

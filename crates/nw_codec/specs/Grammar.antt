@@ -2,8 +2,11 @@
 use Rattle.std.specs.Prelude.{ℕ, List, ◌∷◌, ◌++◌, length, drop}
 use Rattle.std.specs.List.{flat_map}
 use Rattle.std.specs.Int.{to_be_bytes, w16, w32, w64}
+use Rattle.nw_digest.specs.declared.digest.Digest.{Digest}
 use Rattle.nw_codec.specs.declared.block.Ref.{Ref}
 use Rattle.nw_codec.specs.declared.block.Block.{Block}
+use Rattle.nw_codec.specs.declared.certificate.Seal.{Seal}
+use Rattle.nw_codec.specs.declared.vote.Vote.{Vote}
 use Rattle.nw_codec.specs.declared.message.Message.{Message}
 use Rattle.nw_codec.specs.declared.message.Message.TheVariants as messages
 
@@ -24,6 +27,19 @@ body b =
     ++ to_be_bytes w16 (length b.parents) ++ flat_map parent_bytes b.parents
     ++ to_be_bytes w16 (length b.transactions) ++ flat_map transaction_bytes b.transactions
 
--- tag 1, the body, the creator's signature
+-- what a vote speaks of: digest, round and author of a block
+abbrev pub subject_bytes : Digest → ℕ → ℕ → List ℕ
+subject_bytes digest round author = digest.0 ++ round_bytes round ++ to_be_bytes w16 author
+
+abbrev pub seal_bytes : Seal → List ℕ
+seal_bytes s = to_be_bytes w16 s.signer ++ s.signature.0
+
+-- the seal of a vote
+abbrev pub seal : Vote → Seal
+seal v = record { signer = v.signer; signature = v.signature }
+
+-- tag 1, the body, the creator's signature; tag 2, the subject, the seals with their count; or tag 3, the subject, one seal
 unfoldable pub message : Message → List ℕ
 message (messages.Block b s) = 1 ∷ body b ++ s.0
+message (messages.Certificate c) = 2 ∷ subject_bytes c.digest c.round c.author ++ to_be_bytes w16 (length c.votes) ++ flat_map seal_bytes c.votes
+message (messages.Vote v) = 3 ∷ subject_bytes v.digest v.round v.author ++ seal_bytes (seal v)

@@ -1,256 +1,42 @@
 //! Bytes as values: a first pass finds the first fault, and a second one builds the value.
-ghost use Rattle.std.specs.Prelude.{◌≡◌, ◌≢◌, ◌↔◌, ℕ, ◌+◌, ◌*◌, ◌^◌, ◌<◌, ◌≤◌, List, [], ◌++◌, length, take, drop, MatchResult, IfOk, IfErr, IsErrOf, Some, None};
-ghost use Rattle.std.specs.Int.{to_be_bytes, w16};
-ghost use Rattle.nw_codec.specs.declared.error.DecodeError.TheVariants.{Short};
-ghost use Rattle.nw_codec.specs.Faults.{AtTag, AtVersion, AtParentCount, AtParentAuthor, AtTransactionCount, AtTransactionLength, AtSignature, AtEnd, at_parents, at_transactions, comes_after, Reaches, FaultFrom, IsWhole, IsFirstFault};
-ghost use Rattle.nw_codec.specs.Grammar.{round_bytes, parent_bytes, transaction_bytes};
-ghost use Rattle.nw_codec.specs.Spelled.{Spells, IsSpelled, BeginsWithParents, BeginsWithTransactions};
-ghost use Rattle.nw_codec.specs.Typed.{IsRef};
+ghost use Rattle.std.specs.Prelude.{◌≡◌, ◌≢◌, ◌↔◌, [], MatchResult, IfOk, IfErr, IsErrOf};
+ghost use Rattle.nw_codec.specs.Faults.{AtTag, AtEnd, Reaches, FaultFrom, IsWhole, IsFirstFault};
+ghost use Rattle.nw_codec.specs.Spelled.{Spells, IsSpelled};
 
-use crate::limits::{BLOCK_TAG, MAX_BODY, MAX_PARENTS, MAX_TRANSACTION, MAX_TRANSACTIONS, VERSION};
-use crate::{Block, DecodeError, Message, Ref, Signature};
-use nw_digest::{Digest, NoMemory, Round, Sequence};
+mod block;
+mod certificate;
+mod fields;
+
+use crate::limits::{BLOCK_TAG, CERTIFICATE_TAG, VOTE_TAG};
+use crate::{DecodeError, Message};
+use block::{block_message_of, check_block};
+use certificate::{certificate_message_of, check_certificate, check_vote, vote_message_of};
+use fields::field;
+use nw_digest::NoMemory;
 use std::alloc::Global;
 
-/// The field of `N` bytes at the front of the text, and the rest.
-fn field<const N: usize>(text: &[u8]) -> Result<(&[u8; N], &[u8]), DecodeError>
-    ensures { MatchResult result (λ x. (N ≤ length text.now) × (x.0.now ≡ take N text.now) × (x.1.now ≡ drop N text.now)) (λ e. (length text.now < N) × (e ≡ Short)) }
-{
-    text.split_first_chunk::<N>().ok_or(DecodeError::Short)
-}
-
-/// The rest behind a tag that is known.
-fn check_tag(text: &[u8]) -> Result<&[u8], DecodeError>
-    ensures { MatchResult result (λ rest. Reaches AtTag text.now AtVersion rest.now) (λ e. FaultFrom AtTag text.now e) }
+/// The rest behind the last field of a message.
+fn check_message(text: &[u8]) -> Result<&[u8], DecodeError>
+    ensures { MatchResult result (λ rest. Reaches AtTag text.now AtEnd rest.now) (λ e. FaultFrom AtTag text.now e) }
 {
     let (tag, rest) = field::<1>(text)?;
-    if tag[0] != BLOCK_TAG {
-        return Err(DecodeError::Tag);
+    match tag[0] {
+        BLOCK_TAG => check_block(rest),
+        CERTIFICATE_TAG => check_certificate(rest),
+        VOTE_TAG => check_vote(rest),
+        _ => Err(DecodeError::Tag),
     }
-    Ok(rest)
-}
-
-/// The rest behind the version, the author and the round.
-fn check_head(text: &[u8]) -> Result<&[u8], DecodeError>
-    ensures { MatchResult result (λ rest. Reaches AtVersion text.now AtParentCount rest.now) (λ e. FaultFrom AtVersion text.now e) }
-{
-    let (version, rest) = field::<1>(text)?;
-    if version[0] != VERSION {
-        return Err(DecodeError::Version);
-    }
-    let (_author, rest) = field::<2>(rest)?;
-    let (_round, rest) = field::<6>(rest)?;
-    Ok(rest)
-}
-
-/// How many parents the block names, and the rest.
-fn check_parent_count(text: &[u8]) -> Result<(usize, &[u8]), DecodeError>
-    ensures { MatchResult result (λ x. (x.0 ≤ 100) × Reaches AtParentCount text.now (at_parents x.0 None (11 + 34 * x.0)) x.1.now) (λ e. FaultFrom AtParentCount text.now e) }
-{
-    let (count, rest) = field::<2>(text)?;
-    let count = u16::from_be_bytes(*count) as usize;
-    if count > MAX_PARENTS {
-        return Err(DecodeError::TooManyParents);
-    }
-    Ok((count, rest))
-}
-
-/// Whether the author is greater than the one before, if there is one.
-fn is_in_order(before: Option<u16>, author: u16) -> bool
-    ensures { result ≡ comes_after before author }
-{
-    before.is_none_or(|before| before < author)
-}
-
-/// The author of the parent at the front, behind a parent of this author, and the rest.
-fn check_parent(before: Option<u16>, text: &[u8]) -> Result<(u16, &[u8]), DecodeError>
-    ensures { (more size : ℕ) → MatchResult result (λ x. Reaches (AtParentAuthor more before size) text.now (at_parents more (Some x.0) size) x.1.now) (λ e. FaultFrom (AtParentAuthor more before size) text.now e) }
-{
-    let (author, rest) = field::<2>(text)?;
-    let author = u16::from_be_bytes(*author);
-    if !is_in_order(before, author) {
-        return Err(DecodeError::ParentOrder);
-    }
-    let (_digest, rest) = field::<32>(rest)?;
-    Ok((author, rest))
-}
-
-/// The rest behind so many parents.
-fn check_parents(count: usize, text: &[u8]) -> Result<&[u8], DecodeError>
-    ensures { (size : ℕ) → MatchResult result (λ rest. Reaches (at_parents count None size) text.now (AtTransactionCount size) rest.now) (λ e. FaultFrom (at_parents count None size) text.now e) }
-{
-    let mut before = None;
-    let mut rest = text;
-    for _ in 0..count {
-        let (author, after) = check_parent(before, rest)?;
-        before = Some(author);
-        rest = after;
-    }
-    Ok(rest)
-}
-
-/// How many transactions the block holds, and the rest.
-fn check_transaction_count(text: &[u8]) -> Result<(usize, &[u8]), DecodeError>
-    ensures { (size : ℕ) → MatchResult result (λ x. Reaches (AtTransactionCount size) text.now (at_transactions x.0 (size + 2)) x.1.now) (λ e. FaultFrom (AtTransactionCount size) text.now e) }
-{
-    let (count, rest) = field::<2>(text)?;
-    let count = u16::from_be_bytes(*count) as usize;
-    if count > MAX_TRANSACTIONS {
-        return Err(DecodeError::TooManyTransactions);
-    }
-    Ok((count, rest))
-}
-
-/// The size of the body with the transaction at the front, of a body that has this size before it, and the rest.
-fn check_transaction(size: usize, text: &[u8]) -> Result<(usize, &[u8]), DecodeError>
-    requires { size ≤ 1048576 }
-    ensures { (more : ℕ) → MatchResult result (λ x. (x.0 ≤ 1048576) × Reaches (AtTransactionLength more size) text.now (at_transactions more x.0) x.1.now) (λ e. FaultFrom (AtTransactionLength more size) text.now e) }
-{
-    let (len, rest) = field::<4>(text)?;
-    let len = u32::from_be_bytes(*len) as usize;
-    if len > MAX_TRANSACTION {
-        return Err(DecodeError::TransactionTooLong);
-    }
-    let size = size + 4 + len;
-    if size > MAX_BODY {
-        return Err(DecodeError::BodyTooLong);
-    }
-    if rest.len() < len {
-        return Err(DecodeError::Short);
-    }
-    Ok((size, &rest[len..]))
-}
-
-/// The rest behind so many transactions, of a body that has this size before them.
-fn check_transactions(count: usize, size: usize, text: &[u8]) -> Result<&[u8], DecodeError>
-    requires { size ≤ 1048576 }
-    ensures { MatchResult result (λ rest. Reaches (at_transactions count size) text.now AtSignature rest.now) (λ e. FaultFrom (at_transactions count size) text.now e) }
-{
-    let mut size = size;
-    let mut rest = text;
-    for _ in 0..count {
-        let (more, after) = check_transaction(size, rest)?;
-        size = more;
-        rest = after;
-    }
-    Ok(rest)
-}
-
-/// Nothing may follow the signature.
-fn check_end(text: &[u8]) -> Result<(), DecodeError>
-    ensures { MatchResult result (λ _. Reaches AtSignature text.now AtEnd []) (λ e. FaultFrom AtSignature text.now e) }
-{
-    let (_signature, rest) = field::<64>(text)?;
-    if !rest.is_empty() {
-        return Err(DecodeError::Trailing);
-    }
-    Ok(())
 }
 
 /// The first fault of the text, if it has one. It takes no memory.
 fn check_text(text: &[u8]) -> Result<(), DecodeError>
     ensures { MatchResult result (λ _. IsWhole text.now) (λ e. IsFirstFault text.now e) }
 {
-    let rest = check_tag(text)?;
-    let rest = check_head(rest)?;
-    let (count, rest) = check_parent_count(rest)?;
-    let size = 11 + 34 * count;
-    let rest = check_parents(count, rest)?;
-    let (count, rest) = check_transaction_count(rest)?;
-    let rest = check_transactions(count, size + 2, rest)?;
-    check_end(rest)
-}
-
-/// The first `N` bytes of the text, and the rest.
-fn front<const N: usize>(text: &[u8]) -> (&[u8; N], &[u8])
-    requires { N ≤ length text.now }
-    ensures front { result.0.now ≡ take N text.now }
-    ensures back { result.1.now ≡ drop N text.now }
-{
-    text.split_first_chunk::<N>().unwrap()
-}
-
-/// The number of two bytes at the front of the text, and the rest.
-fn number_of(text: &[u8]) -> (u16, &[u8])
-    requires { 2 ≤ length text.now }
-    ensures value { (n : ℕ) (rest : List ℕ) → n < 2 ^ 16 → text.now ≡ to_be_bytes w16 n ++ rest → result.0 ≡ n }
-    ensures back { result.1.now ≡ drop 2 text.now }
-{
-    let (bytes, rest) = front::<2>(text);
-    (u16::from_be_bytes(*bytes), rest)
-}
-
-/// The round of six bytes at the front of the text, and the rest.
-fn round_of(text: &[u8]) -> (Round, &[u8])
-    requires { 6 ≤ length text.now }
-    ensures value { (n : ℕ) (rest : List ℕ) → n < 2 ^ 48 → text.now ≡ round_bytes n ++ rest → result.0 ≡ n }
-    ensures back { result.1.now ≡ drop 6 text.now }
-{
-    let (bytes, rest) = front::<6>(text);
-    let [a, b, c, d, e, f] = *bytes;
-    let number = u64::from_be_bytes([0, 0, a, b, c, d, e, f]);
-    (Round::new(number).unwrap(), rest)
-}
-
-/// The parent at the front of the text, and the rest.
-fn parent_of(text: &[u8]) -> (Ref, &[u8])
-    requires { 34 ≤ length text.now }
-    ensures value { (parent : Ref) (rest : List ℕ) → IsRef parent → text.now ≡ parent_bytes parent ++ rest → result.0 ≡ parent }
-    ensures back { result.1.now ≡ drop 34 text.now }
-{
-    let (author, rest) = number_of(text);
-    let (digest, rest) = front::<32>(rest);
-    (
-        Ref {
-            author,
-            digest: Digest(*digest),
-        },
-        rest,
-    )
-}
-
-/// So many parents at the front of the text, and the rest.
-fn parents_of(alloc: Global, count: usize, text: &[u8]) -> Result<(Sequence<Ref>, &[u8]), NoMemory>
-    requires { (parents : List Ref) × (rest : List ℕ) × (length parents ≡ count) × BeginsWithParents text.now parents rest }
-    ensures { IfOk result (λ x. (length x.0 ≡ count) × BeginsWithParents text.now x.0 x.1.now) }
-{
-    let mut parents = Vec::with_capacity(alloc, count)?;
-    let mut rest = text;
-    for _ in 0..count {
-        let (parent, after) = parent_of(rest);
-        parents.push(parent)?;
-        rest = after;
+    let rest = check_message(text)?;
+    if !rest.is_empty() {
+        return Err(DecodeError::Trailing);
     }
-    Ok((Sequence::new(parents), rest))
-}
-
-/// The transaction at the front of the text, and the rest.
-fn transaction_of(alloc: Global, text: &[u8]) -> Result<(Sequence<u8>, &[u8]), NoMemory>
-    requires { (bytes : List ℕ) × (rest : List ℕ) × (length bytes ≤ 65536) × (text.now ≡ transaction_bytes bytes ++ rest) }
-    ensures { (bytes : List ℕ) (rest : List ℕ) → length bytes ≤ 65536 → text.now ≡ transaction_bytes bytes ++ rest → IfOk result (λ x. (x.0 ≡ bytes) × (x.1.now ≡ rest)) }
-{
-    let (len, rest) = front::<4>(text);
-    let (bytes, rest) = rest.split_at(u32::from_be_bytes(*len) as usize);
-    Ok((Sequence::new(Vec::from_slice(alloc, bytes)?), rest))
-}
-
-/// So many transactions at the front of the text, and the rest.
-fn transactions_of(
-    alloc: Global,
-    count: usize,
-    text: &[u8],
-) -> Result<(Sequence<Sequence<u8>>, &[u8]), NoMemory>
-    requires { (transactions : List (List ℕ)) × (rest : List ℕ) × (length transactions ≡ count) × BeginsWithTransactions text.now transactions rest }
-    ensures { IfOk result (λ x. (length x.0 ≡ count) × BeginsWithTransactions text.now x.0 x.1.now) }
-{
-    let mut transactions = Vec::with_capacity(alloc, count)?;
-    let mut rest = text;
-    for _ in 0..count {
-        let (transaction, after) = transaction_of(alloc, rest)?;
-        transactions.push(transaction)?;
-        rest = after;
-    }
-    Ok((Sequence::new(transactions), rest))
+    Ok(())
 }
 
 /// The message that the text spells.
@@ -258,23 +44,11 @@ fn message_of(alloc: Global, text: &[u8]) -> Result<Message, NoMemory>
     requires { IsSpelled text.now }
     ensures { IfOk result (λ m. Spells text.now m) }
 {
-    let (_tag_and_version, rest) = front::<2>(text);
-    let (author, rest) = number_of(rest);
-    let (round, rest) = round_of(rest);
-    let (count, rest) = number_of(rest);
-    let (parents, rest) = parents_of(alloc, count as usize, rest)?;
-    let (count, rest) = number_of(rest);
-    let (transactions, rest) = transactions_of(alloc, count as usize, rest)?;
-    let (signature, _) = front::<64>(rest);
-    Ok(Message::Block {
-        block: Block {
-            author,
-            round,
-            parents,
-            transactions,
-        },
-        signature: Signature(*signature),
-    })
+    match text[0] {
+        BLOCK_TAG => block_message_of(alloc, text),
+        CERTIFICATE_TAG => certificate_message_of(alloc, text),
+        _ => Ok(vote_message_of(text)),
+    }
 }
 
 /// The message that the text spells. Its whole text is checked before memory is taken.

@@ -6,8 +6,11 @@ ghost use Rattle.sha2.specs.Sha256.{sha256};
 ghost use Rattle.nw_codec.specs.Grammar.{body, message, parent_bytes, transaction_bytes, round_bytes};
 ghost use Rattle.nw_codec.specs.Fits.{Fits, MessageFits};
 
+mod certificate;
+
 use crate::limits::{BLOCK_TAG, VERSION};
 use crate::{Block, EncodeError, Message, Ref, Signature};
+use certificate::{encode_certificate_message, encode_vote_message};
 use nw_digest::{Digest, Sequence};
 use sha2::Sha256;
 use std::alloc::{AllocError, Global};
@@ -131,7 +134,8 @@ fn encode_block_message(
     Ok(text)
 }
 
-/// The bytes of the message. `OverLimit` exactly where its block does not fit, else `NoMemory` where memory is refused.
+/// The bytes of the message. `OverLimit` exactly where its block or certificate does not fit, else `NoMemory` where
+/// memory is refused. A vote always fits.
 pub fn encode_message(alloc: Global, sent: &Message) -> Result<Vec<u8>, EncodeError>
     ensures text { IfOk result (λ v. v.items ≡ message sent.now) }
     ensures fits { OnOk result (MessageFits sent.now) }
@@ -144,6 +148,13 @@ pub fn encode_message(alloc: Global, sent: &Message) -> Result<Vec<u8>, EncodeEr
             }
             encode_block_message(alloc, block, signature)
         }
+        Message::Certificate(certificate) => {
+            if !certificate.fits() {
+                return Err(EncodeError::OverLimit);
+            }
+            Ok(encode_certificate_message(alloc, certificate)?)
+        }
+        Message::Vote(vote) => Ok(encode_vote_message(alloc, vote)?),
     }
 }
 

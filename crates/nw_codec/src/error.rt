@@ -57,6 +57,12 @@ pub enum DecodeError {
     /// A body of more than 1,048,576 bytes.
     #[error("body too long")]
     BodyTooLong,
+    /// More than 100 votes.
+    #[error("too many votes")]
+    TooManyVotes,
+    /// A vote's signer is not greater than the one before.
+    #[error("votes out of order")]
+    VoteOrder,
     /// Memory was refused; the text is a message's.
     #[error("out of memory")]
     NoMemory,

@@ -12,6 +12,7 @@ mod error;
 mod laws;
 mod limits;
 mod message;
+mod vote;
 
 pub use block::{Block, Ref};
 pub use certificate::{Certificate, Seal, Signature};
@@ -20,3 +21,4 @@ pub use encode::{block_digest, encode_body, encode_message};
 pub use error::{DecodeError, EncodeError};
 pub use laws::{body_has_its_size, grammar_or_fault, one_text, trailing_follows_a_message};
 pub use message::Message;
+pub use vote::Vote;

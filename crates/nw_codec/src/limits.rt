@@ -2,6 +2,10 @@
 
 /// The first byte of a block's message.
 pub const BLOCK_TAG: u8 = 1;
+/// The first byte of a certificate's message.
+pub const CERTIFICATE_TAG: u8 = 2;
+/// The first byte of a vote's message.
+pub const VOTE_TAG: u8 = 3;
 /// The first byte of a body.
 pub const VERSION: u8 = 1;
 

@@ -1,8 +1,12 @@
 ghost use Rattle.std.specs.Prelude.{◌<◌};
 
 use super::*;
+use crate::{Block, Signature, encode_message};
+use nw_digest::Digest;
 use std::alloc::AllocError;
 use std::test::Fail;
+
+mod votes;
 
 /// The message of a block of author 0 and round 0, with no parents and the transaction `x`, under a signature of zeros.
 const MESSAGE: [u8; 83] = [
@@ -19,9 +23,23 @@ const MESSAGE: [u8; 83] = [
     0, 0, 0, 0, 0, 0, 0, 0, 0, 0, 0, 0, 0, 0, 0, 0,
 ];
 
+/// The block that the text is of, and its creator's signature.
+fn block_of(alloc: Global, text: &[u8]) -> Result<(Block, Signature), Fail> {
+    match decode_message(alloc, text)? {
+        Message::Block { block, signature } => Ok((block, signature)),
+        _ => Err(Fail::from("no block")),
+    }
+}
+
+/// The bytes of the message that the text is of.
+fn encoded_again(alloc: Global, text: &[u8]) -> Result<Vec<u8>, Fail> {
+    let sent = decode_message(alloc, text)?;
+    Ok(encode_message(alloc, &sent)?)
+}
+
 #[test]
 fn a_text_gives_back_the_fields_of_its_block(rt: HostRuntime) -> Result<(), Fail> {
-    let Message::Block { block, signature } = decode_message(rt.alloc(), &MESSAGE)?;
+    let (block, signature) = block_of(rt.alloc(), &MESSAGE)?;
     assert_eq!(rt; block.author, 0);
     assert_eq!(rt; block.round.get(), 0);
     assert_eq!(rt; block.parents.as_slice().len(), 0);
@@ -31,23 +49,39 @@ fn a_text_gives_back_the_fields_of_its_block(rt: HostRuntime) -> Result<(), Fail
         b"x".as_slice()
     );
     assert_eq!(rt; signature, Signature([0; 64]));
+    let text = encoded_again(rt.alloc(), &MESSAGE)?;
+    assert_eq!(rt; text.as_slice(), MESSAGE.as_slice());
     Ok(())
+}
+
+/// Whether each proper front of the text is short.
+fn has_short_fronts(alloc: Global, text: &[u8]) -> bool {
+    for len in 0..text.len() {
+        if decode_message(alloc, &text[..len]).err() != Some(DecodeError::Short) {
+            return false;
+        }
+    }
+    true
+}
+
+/// The fault of the text with one byte more.
+fn fault_with_a_byte_more(alloc: Global, text: &[u8]) -> Result<Option<DecodeError>, AllocError> {
+    let mut longer = text.to_vec(alloc)?;
+    longer.push(0)?;
+    Ok(decode_message(alloc, &longer).err())
 }
 
 #[test]
 fn each_proper_front_of_a_message_is_short(rt: HostRuntime) {
-    for len in 0..83usize {
-        let fault = decode_message(rt.alloc(), &MESSAGE[..len]).err();
-        assert_eq!(rt; fault, Some(DecodeError::Short));
-    }
+    assert!(rt; has_short_fronts(rt.alloc(), &MESSAGE));
 }
 
 #[test]
 fn nothing_may_follow_a_message(rt: HostRuntime) -> Result<(), Fail> {
-    let mut text = MESSAGE.to_vec(rt.alloc())?;
-    text.push(0)?;
-    let fault = decode_message(rt.alloc(), &text).err();
-    assert_eq!(rt; fault, Some(DecodeError::Trailing));
+    assert_eq!(rt;
+        fault_with_a_byte_more(rt.alloc(), &MESSAGE)?,
+        Some(DecodeError::Trailing)
+    );
     Ok(())
 }
 
@@ -63,6 +97,7 @@ fn fault_with(alloc: Global, position: usize, byte: u8) -> Option<DecodeError>
 #[test]
 fn an_altered_byte_gives_its_fault(rt: HostRuntime) {
     let alloc = rt.alloc();
+    assert_eq!(rt; fault_with(alloc, 0, 0), Some(DecodeError::Tag));
     assert_eq!(rt; fault_with(alloc, 0, 4), Some(DecodeError::Tag));
     assert_eq!(rt; fault_with(alloc, 1, 2), Some(DecodeError::Version));
     assert_eq!(rt;
@@ -106,7 +141,7 @@ fn with_parents(alloc: Global, authors: &[u8]) -> Result<Vec<u8>, AllocError> {
 #[test]
 fn parents_ascend_strictly_by_author(rt: HostRuntime) -> Result<(), Fail> {
     let alloc = rt.alloc();
-    let Message::Block { block, .. } = decode_message(alloc, &with_parents(alloc, &[1, 2])?)?;
+    let (block, _) = block_of(alloc, &with_parents(alloc, &[1, 2])?)?;
     assert_eq!(rt; block.round.get(), 1);
     assert_eq!(rt; block.parents.as_slice().len(), 2);
     assert_eq!(rt; block.parents.as_slice()[0].author, 1);
@@ -139,7 +174,7 @@ fn a_body_has_at_most_1048576_bytes(rt: HostRuntime) -> Result<(), Fail> {
     let alloc = rt.alloc();
     let largest = with_sixteen_transactions(alloc, 65_459)?;
     assert_eq!(rt; largest.len(), 1_048_576 + 65);
-    let Message::Block { block, .. } = decode_message(alloc, &largest)?;
+    let (block, _) = block_of(alloc, &largest)?;
     assert_eq!(rt; block.transactions.as_slice().len(), 16);
     assert_eq!(rt; block.transactions.as_slice()[15].as_slice().len(), 65_459);
     let larger = decode_message(alloc, &with_sixteen_transactions(alloc, 65_460)?).err();

@@ -1,61 +1,14 @@
-use Rattle.std.proofs.Common.{◌+◌, ◌*◌, [], None}
-use Rattle.std.proofs.lemmas.Result.{MatchResult-weaker}
-use Rattle.nw_codec.specs.Faults.{AtTag, AtVersion, AtParentCount, AtTransactionCount, AtSignature, AtEnd, at_parents, at_transactions, Reaches}
-use Rattle.nw_codec.proofs.Fronts.{onward, later}
-use Rattle.nw_codec.proofs.Fields.{exit}
+use Rattle.std.proofs.Common.{subst}
+use Rattle.nw_codec.specs.Faults.{AtTag, AtEnd, Reaches}
+use Rattle.nw_codec.proofs.Fronts.{later, trailing}
+use Rattle.nw_codec.proofs.Fields.{exit, empty_is, not_empty}
 use Rattle.nw_codec.proofs.decode.check_text.Goals as goal
 
-pub returns-in_err-rest-2 : goal.returns-in_err-rest-2
-returns-in_err-rest-2 c =
-    let p1 : Reaches AtTag c.args.text.now AtVersion c.in_ok-rest.rest.now = c.in_ok-rest.ensures in
-    exit _ _ _ _ c.from_residual-in_err-rest-2.ensures.1 (later AtTag AtVersion _ _ _ p1 c.in_err-rest-2.ensures)
+pub returns-in_err-rest : goal.returns-in_err-rest
+returns-in_err-rest c = exit _ _ _ _ c.from_residual.ensures.1 c.in_err-rest.ensures
 
-pub returns-in_err-count : goal.returns-in_err-count
-returns-in_err-count c =
-    let p1 : Reaches AtTag c.args.text.now AtVersion c.in_ok-rest.rest.now = c.in_ok-rest.ensures in
-    let p2 : Reaches AtTag c.args.text.now AtParentCount c.in_ok-rest-2.rest.now = onward AtTag AtVersion AtParentCount _ _ _ p1 c.in_ok-rest-2.ensures in
-    exit _ _ _ _ c.from_residual-in_err-count.ensures.1 (later AtTag AtParentCount _ _ _ p2 c.in_err-count.ensures)
-
-pub returns-in_err-rest-3 : goal.returns-in_err-rest-3
-returns-in_err-rest-3 c =
-    let p1 : Reaches AtTag c.args.text.now AtVersion c.in_ok-rest.rest.now = c.in_ok-rest.ensures in
-    let p2 : Reaches AtTag c.args.text.now AtParentCount c.in_ok-rest-2.rest.now = onward AtTag AtVersion AtParentCount _ _ _ p1 c.in_ok-rest-2.ensures in
-    let n = c.in_ok-count.count in
-    let size = 11 + 34 * n in
-    let p3 : Reaches AtTag c.args.text.now (at_parents n None size) c.in_ok-count.rest.now = onward AtTag AtParentCount (at_parents n None size) _ _ _ p2 c.in_ok-count.ensures.1 in
-    exit _ _ _ _ c.from_residual-in_err-rest-3.ensures.1 (later AtTag (at_parents n None size) _ _ _ p3 (c.in_err-rest-3.ensures size))
-
-pub returns-in_err-count-2 : goal.returns-in_err-count-2
-returns-in_err-count-2 c =
-    let p1 : Reaches AtTag c.args.text.now AtVersion c.in_ok-rest.rest.now = c.in_ok-rest.ensures in
-    let p2 : Reaches AtTag c.args.text.now AtParentCount c.in_ok-rest-2.rest.now = onward AtTag AtVersion AtParentCount _ _ _ p1 c.in_ok-rest-2.ensures in
-    let n = c.in_ok-count.count in
-    let size = 11 + 34 * n in
-    let p3 : Reaches AtTag c.args.text.now (at_parents n None size) c.in_ok-count.rest.now = onward AtTag AtParentCount (at_parents n None size) _ _ _ p2 c.in_ok-count.ensures.1 in
-    let p4 : Reaches AtTag c.args.text.now (AtTransactionCount size) c.in_ok-rest-3.rest.now = onward AtTag (at_parents n None size) (AtTransactionCount size) _ _ _ p3 (c.in_ok-rest-3.ensures size) in
-    exit _ _ _ _ c.from_residual-in_err-count-2.ensures.1 (later AtTag (AtTransactionCount size) _ _ _ p4 (c.in_err-count-2.ensures size))
-
-pub returns-in_err-rest-4 : goal.returns-in_err-rest-4
-returns-in_err-rest-4 c =
-    let p1 : Reaches AtTag c.args.text.now AtVersion c.in_ok-rest.rest.now = c.in_ok-rest.ensures in
-    let p2 : Reaches AtTag c.args.text.now AtParentCount c.in_ok-rest-2.rest.now = onward AtTag AtVersion AtParentCount _ _ _ p1 c.in_ok-rest-2.ensures in
-    let n = c.in_ok-count.count in
-    let size = 11 + 34 * n in
-    let p3 : Reaches AtTag c.args.text.now (at_parents n None size) c.in_ok-count.rest.now = onward AtTag AtParentCount (at_parents n None size) _ _ _ p2 c.in_ok-count.ensures.1 in
-    let p4 : Reaches AtTag c.args.text.now (AtTransactionCount size) c.in_ok-rest-3.rest.now = onward AtTag (at_parents n None size) (AtTransactionCount size) _ _ _ p3 (c.in_ok-rest-3.ensures size) in
-    let k = c.in_ok-count-2.count in
-    let p5 : Reaches AtTag c.args.text.now (at_transactions k (size + 2)) c.in_ok-count-2.rest.now = onward AtTag (AtTransactionCount size) (at_transactions k (size + 2)) _ _ _ p4 (c.in_ok-count-2.ensures size) in
-    exit _ _ _ _ c.from_residual-in_err-rest-4.ensures.1 (later AtTag (at_transactions k (size + 2)) _ _ _ p5 c.in_err-rest-4.ensures)
+pub returns-then-not-is_empty : goal.returns-then-not-is_empty
+returns-then-not-is_empty c = later AtTag AtEnd _ _ _ c.in_ok-rest.ensures (trailing _ (not_empty _ _ c.if-not-is_empty.true c.is_empty.ensures))
 
 pub returns : goal.returns
-returns c =
-    let p1 : Reaches AtTag c.args.text.now AtVersion c.in_ok-rest.rest.now = c.in_ok-rest.ensures in
-    let p2 : Reaches AtTag c.args.text.now AtParentCount c.in_ok-rest-2.rest.now = onward AtTag AtVersion AtParentCount _ _ _ p1 c.in_ok-rest-2.ensures in
-    let n = c.in_ok-count.count in
-    let size = 11 + 34 * n in
-    let p3 : Reaches AtTag c.args.text.now (at_parents n None size) c.in_ok-count.rest.now = onward AtTag AtParentCount (at_parents n None size) _ _ _ p2 c.in_ok-count.ensures.1 in
-    let p4 : Reaches AtTag c.args.text.now (AtTransactionCount size) c.in_ok-rest-3.rest.now = onward AtTag (at_parents n None size) (AtTransactionCount size) _ _ _ p3 (c.in_ok-rest-3.ensures size) in
-    let k = c.in_ok-count-2.count in
-    let p5 : Reaches AtTag c.args.text.now (at_transactions k (size + 2)) c.in_ok-count-2.rest.now = onward AtTag (AtTransactionCount size) (at_transactions k (size + 2)) _ _ _ p4 (c.in_ok-count-2.ensures size) in
-    let p6 : Reaches AtTag c.args.text.now AtSignature c.in_ok-rest-4.rest.now = onward AtTag (at_transactions k (size + 2)) AtSignature _ _ _ p5 c.in_ok-rest-4.ensures in
-    MatchResult-weaker c.check_end.result c.check_end.ensures (λ _ q. onward AtTag AtSignature AtEnd _ _ [] p6 q) (λ e f. later AtTag AtSignature _ _ e p6 f)
+returns c = subst (λ (r : _). Reaches AtTag c.args.text.now AtEnd r) (empty_is _ _ c.if-not-is_empty.false c.is_empty.ensures) c.in_ok-rest.ensures

@@ -5,9 +5,9 @@ use Rattle.nw_book.proofs.Opened.{opened}
 use Rattle.nw_book.proofs.book.Book.open.Goals as goal
 
 pub new-requires : goal.new-requires
-new-requires c =
+new-requires g c =
     let known = c.in_ok-front-in-Ok.ensures in
     let frozen = rw c.in-Ok.is at c.in_ok-view.ensures in
     let shows : Shows c.in-Ok.view (state_of c.args.self.now) = frozen.1 in
-    opened c.args.self.now c.in_ok-front-in-Ok.front c.args.session c.args.number c.args.digest c.in-Ok.view (known.front ∙ known.history)
-    (subst IsLegalStory (sym known.front) known.legal) shows
+    opened g.S.Scheme.accepts c.args.self.now c.in_ok-front-in-Ok.front c.args.session c.args.number c.args.digest c.in-Ok.view (known.front ∙ known.history)
+    (subst (IsLegalStory g.S.Scheme.accepts) (sym known.front) known.legal) shows

@@ -6,19 +6,19 @@ use Rattle.nw_book.proofs.Stands.{legal_any, stand_next, causal_leaves}
 use Rattle.nw_book.proofs.book.Book.record_causal.Goals as goal
 
 pub front_with-requires : goal.front_with-requires
-front_with-requires c =
+front_with-requires g c =
     let s = c.self.inside.history in
     let turn : IsInTurn s c.args.session c.args.number = rw c.self.view_is c.requires.turn in
     let room : HasRoom s = rw c.self.view_is c.requires.room in
     let is : IsReply (bounds_of s.limits) (state_of s) (calls.Causal c.args.digest) c.args.reply = rw c.self.view_is c.requires.reply in
-    legal_any _ _ _ _ _ _ _ _ c.self.invariant turn room tt is c.requires.short c.in_ok-event.ensures
+    legal_any g.S.Scheme.accepts _ _ _ _ _ _ _ _ c.self.invariant turn room tt is c.requires.short c.in_ok-event.ensures
 
 pub invariant_of-self-2 : goal.invariant_of-self-2
-invariant_of-self-2 c =
+invariant_of-self-2 g c =
     let s = c.self.inside.history in
     let turn : IsInTurn s c.args.session c.args.number = rw c.self.view_is c.requires.turn in
     let room : HasRoom s = rw c.self.view_is c.requires.room in
     let is : IsReply (bounds_of s.limits) (state_of s) (calls.Causal c.args.digest) c.args.reply = rw c.self.view_is c.requires.reply in
-    stand_next _ _ _ _ _ _ _ _ _ c.self.invariant (legal_any _ _ _ _ _ _ _ _ c.self.invariant turn room tt is c.requires.short c.in_ok-event.ensures)
+    stand_next g.S.Scheme.accepts _ _ _ _ _ _ _ _ _ c.self.invariant (legal_any g.S.Scheme.accepts _ _ _ _ _ _ _ _ c.self.invariant turn room tt is c.requires.short c.in_ok-event.ensures)
     turn.session_below (ap (λ e. e.session) c.in_ok-event.ensures) c.from-place.ensures c.index_mut.ensures.value c.in_ok-append.ensures.history
     (causal_leaves _ _ c.args.digest (ap (λ e. e.call) c.in_ok-event.ensures))
