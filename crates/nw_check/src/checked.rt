@@ -31,6 +31,24 @@ impl<S: Scheme> Model for CheckedBlock<S> {
 }
 
 impl<S: Scheme> CheckedBlock<S> {
+    /// The block that was checked, with its digest.
+    pub(crate) fn new(
+        block: Shared<Block>,
+        digest: Digest,
+        committee: Shared<Committee>,
+    ) -> CheckedBlock<S>
+        requires well_formed { IsWellFormed S.accepts committee block }
+        requires digest { digest ≡ digest_of block }
+        ensures { result ≡ record { block = block; committee = committee } }
+    {
+        CheckedBlock {
+            block,
+            digest,
+            committee,
+            scheme: PhantomData,
+        }
+    }
+
     /// The block.
     pub fn block(&self) -> &Shared<Block>
         ensures block { result.now ≡ self.now.block }
@@ -77,6 +95,21 @@ impl<S: Scheme> Model for CheckedCert<S> {
 }
 
 impl<S: Scheme> CheckedCert<S> {
+    /// The certificate that was checked.
+    pub(crate) fn new(
+        certificate: Shared<Certificate>,
+        committee: Shared<Committee>,
+    ) -> CheckedCert<S>
+        requires { IsValid S.accepts committee certificate }
+        ensures { result ≡ record { certificate = certificate; committee = committee } }
+    {
+        CheckedCert {
+            certificate,
+            committee,
+            scheme: PhantomData,
+        }
+    }
+
     /// The certificate.
     pub fn certificate(&self) -> &Shared<Certificate>
         ensures certificate { result.now ≡ self.now.certificate }

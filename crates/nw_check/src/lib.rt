@@ -6,6 +6,11 @@
 //! `nw_committee` and `nw_sig`.
 #![tactic(auto)]
 
+mod check;
 mod checked;
+mod fault;
+mod members;
 
+pub use check::{check_block, check_cert, valid};
 pub use checked::{CheckedBlock, CheckedCert};
+pub use fault::{BlockFault, CertFault};

@@ -1,1 +1,4 @@
 pub mod Weights
+pub mod Listed
+pub mod Quorums
+pub mod DistinctKeys

@@ -14,5 +14,5 @@ pub total-le : (members : List Member) → IsCommittee members → total members
 total-le members ok =
     let light : All (λ (m : Member). m.weight ≤ 1000000) members = λ k d h. (ok.weights k d h).1 in
     let most = total_of_weights-le members light in
-    let few : length members ≤ 100 = ok.few in
+    let few : length members ≤ 100 = ok.size.1 in
     omega arith

@@ -5,7 +5,7 @@ use Rattle.nw_committee.specs.declared.member.Key.{Key}
 use Rattle.nw_committee.specs.declared.member.Member.{Member}
 
 -- no two are the same key
-abbrev pub AreDistinct : List Key → Type 0
+unfoldable pub AreDistinct : List Key → Type 0
 AreDistinct keys = AllPairs (λ a b. a ≢ b) keys
 
 -- the members' keys, in order
@@ -16,15 +16,18 @@ keys members = map (λ m. m.key) members
 abbrev pub IsWeight : ℕ → Type 0
 IsWeight weight = (1 ≤ weight) × (weight ≤ 1000000)
 
+-- 1 to 100 members
+abbrev pub IsSize : ℕ → Type 0
+IsSize n = (1 ≤ n) × (n ≤ 100)
+
 -- 1 to 100 members with distinct keys, each with a weight
 pub record IsCommittee (members : List Member) : Type 0 where
-  pub some : 1 ≤ length members
-  pub few : length members ≤ 100
+  pub size : IsSize (length members)
   pub distinct : AreDistinct (keys members)
   pub weights : All (λ m. IsWeight m.weight) members
 
 -- the number of members is 3f + 1 for some f, and at most 100
-abbrev pub IsEqualSize : ℕ → Type 0
+unfoldable pub IsEqualSize : ℕ → Type 0
 IsEqualSize n = (f : ℕ) × (n ≡ 3 * f + 1) × (n ≤ 100)
 
 -- the members with these keys, each of weight 1

@@ -1,2 +1,3 @@
 pub mod Committee
 pub mod Laws
+pub mod Same

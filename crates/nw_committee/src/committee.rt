@@ -1,10 +1,18 @@
 //! Committees.
-ghost use Rattle.std.specs.Prelude.{◌≡◌, ◌↔◌, ◌≤◌, length, slice_get, IsTrue};
+ghost use Rattle.std.specs.Prelude.{◌≡◌, ◌↔◌, ◌<◌, ◌≤◌, ◌^◌, length, slice_get, vec_len, All, IsTrue, IfOk, OnOk, IsErrOf};
 ghost use Rattle.std.specs.Option.{option_copied, option_map};
-ghost use Rattle.nw_committee.specs.Committee.{IsCommittee, total, quorum};
+ghost use Rattle.std.specs.List.Sorted.{IsStrictlyIncreasing};
+ghost use Rattle.nw_committee.specs.Committee.{AreDistinct, IsCommittee, IsSize, IsEqualSize, IsWeight, ReachesQuorum, keys, equal_members, listed_weight, total, quorum};
 
-use crate::{Key, Member};
+use crate::distinct::are_distinct;
+use crate::{CommitteeFault, Key, Member};
+use std::alloc::{AllocError, Global};
 use std::marker::Model;
+
+/// How many members a committee has at most.
+const MAX_MEMBERS: usize = 100;
+/// What a member weighs at most.
+const MAX_WEIGHT: u32 = 1_000_000;
 
 /// The members of a mempool, numbered from 0, with distinct keys. Contracts see the list of the members.
 #[derive(Debug, Drop)]
@@ -26,6 +34,63 @@ impl Model for Committee {
 }
 
 impl Committee {
+    /// The committee of members with these keys, each of weight 1.
+    ///
+    /// `BadSize` exactly where their number is not one of 1, 4, 7, .., 100, else `RepeatedKey` exactly where two keys are the
+    /// same, else `NoMemory` where memory is refused.
+    pub fn new(alloc: Global, keys: Vec<Key>) -> Result<Committee, CommitteeFault>
+        ensures members { IfOk result (λ committee. committee ≡ equal_members keys.items) }
+        ensures taken { OnOk result (IsEqualSize (vec_len keys) × AreDistinct keys.items) }
+        ensures bad_size { IsErrOf result CommitteeFault.BadSize ↔ (IsEqualSize (vec_len keys) → ⊥) }
+        ensures repeated_key { IsErrOf result CommitteeFault.RepeatedKey ↔ (IsEqualSize (vec_len keys) × (AreDistinct keys.items → ⊥)) }
+        ensures no_memory { IsErrOf result CommitteeFault.NoMemory → IsEqualSize (vec_len keys) × AreDistinct keys.items }
+        ensures no_weight { IsErrOf result CommitteeFault.BadWeight → ⊥ }
+    {
+        if !is_equal_size(keys.len()) {
+            return Err(CommitteeFault::BadSize);
+        }
+        if !are_distinct(&keys) {
+            return Err(CommitteeFault::RepeatedKey);
+        }
+        Ok(Committee::of(equal_members(alloc, &keys)?))
+    }
+
+    /// The committee of these members. It takes no memory.
+    ///
+    /// `BadSize` exactly where their number is not 1 to 100, else `RepeatedKey` exactly where two have one key, else
+    /// `BadWeight` exactly where a weight is not 1 to 1,000,000.
+    pub fn weighted(members: Vec<Member>) -> Result<Committee, CommitteeFault>
+        ensures members { IfOk result (λ committee. committee ≡ members.items) }
+        ensures taken { OnOk result (IsCommittee members.items) }
+        ensures bad_size { IsErrOf result CommitteeFault.BadSize ↔ (IsSize (vec_len members) → ⊥) }
+        ensures repeated_key { IsErrOf result CommitteeFault.RepeatedKey ↔ (IsSize (vec_len members) × (AreDistinct (keys members.items) → ⊥)) }
+        ensures bad_weight { IsErrOf result CommitteeFault.BadWeight ↔ (IsSize (vec_len members) × AreDistinct (keys members.items) × (All (λ m. IsWeight m.weight) members.items → ⊥)) }
+        ensures no_memory { IsErrOf result CommitteeFault.NoMemory → ⊥ }
+    {
+        if members.is_empty() || members.len() > MAX_MEMBERS {
+            return Err(CommitteeFault::BadSize);
+        }
+        if !are_distinct(&members) {
+            return Err(CommitteeFault::RepeatedKey);
+        }
+        if !have_weights(&members) {
+            return Err(CommitteeFault::BadWeight);
+        }
+        Ok(Committee::of(members))
+    }
+
+    /// The committee of members that are one.
+    fn of(members: Vec<Member>) -> Committee
+        requires { IsCommittee members.items }
+        ensures { result ≡ members.items }
+    {
+        let total_weight = total_weight(&members);
+        Committee {
+            members,
+            total_weight,
+        }
+    }
+
     /// How many members there are, 1 to 100.
     pub fn size(&self) -> usize
         ensures size { result ≡ length self.now }
@@ -69,19 +134,85 @@ impl Committee {
             .get(usize::from(author))
             .map(|member| member.weight)
     }
+
+    /// Whether the members with these numbers, given strictly ascending, reach the quorum. Numbers of no member weigh
+    /// nothing. It takes no memory.
+    pub fn reaches_quorum(&self, listed: &[u16]) -> bool
+        requires { IsStrictlyIncreasing listed.now }
+        ensures reached { IsTrue result ↔ ReachesQuorum self.now listed.now }
+        ensures committee { IsCommittee self.now }
+    {
+        self.listed_weight(listed) >= self.quorum()
+    }
+
+    /// The sum of the weights of the members with these numbers, given strictly ascending.
+    fn listed_weight(&self, listed: &[u16]) -> u32
+        requires { IsStrictlyIncreasing listed.now }
+        ensures { result ≡ listed_weight self.now listed.now }
+    {
+        let mut weight = 0;
+        for number in listed {
+            weight += self.weight(*number).unwrap_or(0);
+        }
+        weight
+    }
+}
+
+/// Whether there are 3f + 1 members for some f, at most 100.
+fn is_equal_size(size: usize) -> bool
+    ensures { IsTrue result ↔ IsEqualSize size }
+{
+    size % 3 == 1 && size <= MAX_MEMBERS
+}
+
+/// The members with these keys, each of weight 1.
+fn equal_members(alloc: Global, keys: &[Key]) -> Result<Vec<Member>, AllocError>
+    ensures { IfOk result (λ members. members.items ≡ equal_members keys.now) }
+{
+    keys.iter()
+        .map(|key| Member {
+            key: *key,
+            weight: 1,
+        })
+        .collect(alloc)
+}
+
+/// The sum of the members' weights.
+fn total_weight(members: &[Member]) -> u32
+    requires { total members.now < 2 ^ 32 }
+    ensures { result ≡ total members.now }
+{
+    members.iter().map(|member| member.weight).sum()
+}
+
+/// Whether each weight is 1 to 1,000,000.
+fn have_weights(members: &[Member]) -> bool
+    ensures { IsTrue result ↔ All (λ m. IsWeight m.weight) members.now }
+{
+    members
+        .iter()
+        .all(|member| member.weight >= 1 && member.weight <= MAX_WEIGHT)
 }
 
 impl PartialEq for Committee {
-    ghost use Rattle.std.specs.Cmp.Lexicographic.{pointwise, lists_per};
+    ghost use Rattle.std.specs.Prelude.{◌≡◌, ◌↔◌, IsTrue};
+    ghost use Rattle.nw_committee.specs.Same.{same_members, same_members-per};
 
-    ghost eq = { pointwise ⟦<Member as PartialEq>⟧.eq };
+    ghost eq = { same_members };
 
-    ghost use Rattle.std.specs.Cmp.Rules.{comparing};
-    ghost use Rattle.std.proofs.Common.{rules};
+    ghost laws = { same_members-per };
 
-    ghost laws = { lists_per (Prim.search (comparing, rules)) };
-
-    fn eq(&self, other: &Committee) -> bool {
+    /// Whether the keys and the weights are the same, member by member.
+    fn eq(&self, other: &Committee) -> bool
+        ensures eq { result ≡ same_members self.now other.now }
+        ensures same { IsTrue result ↔ (self.now ≡ other.now) }
+    {
         self.members.as_slice() == other.members.as_slice()
     }
+}
+
+impl Eq for Committee {
+    ghost use Rattle.nw_committee.specs.Same.{same_members-equiv};
+
+    ghost laws = { same_members-equiv };
 }

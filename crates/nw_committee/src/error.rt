@@ -1,6 +1,5 @@
 //! Why a committee is not made.
-use nw_digest::NoMemory;
-use std::alloc::{AllocError, AllocFailed};
+use std::alloc::AllocError;
 use thiserror::Error;
 
 /// Why a committee is not made. The first that applies is answered, in the order in which the constructor names them.
@@ -18,4 +17,15 @@ pub enum CommitteeFault {
     /// A weight is not 1 to 1,000,000.
     #[error("bad weight")]
     BadWeight,
+}
+
+impl From<AllocError> for CommitteeFault {
+    ghost use Rattle.std.specs.Prelude.{◌≡◌};
+    ghost use Rattle.nw_committee.specs.declared.error.CommitteeFault.TheVariants.{NoMemory};
+
+    ghost from_gives = { λ _ e. e ≡ NoMemory };
+
+    fn from(_error: AllocError) -> CommitteeFault {
+        CommitteeFault::NoMemory
+    }
 }

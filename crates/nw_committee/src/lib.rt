@@ -5,11 +5,14 @@
 #![tactic(auto)]
 
 mod committee;
+mod distinct;
 mod error;
+mod laws;
 mod member;
 
 pub use committee::Committee;
 pub use error::CommitteeFault;
+pub use laws::{equal_members_have_the_classic_quorum, quorums_intersect};
 pub use member::{Key, Member};
 
 #[cfg(test)]

@@ -4,9 +4,13 @@
 //! sign. It stands on `nw_digest`, `nw_codec` for signatures, `nw_committee` for keys, and `sha2` for the demonstration.
 #![tactic(auto)]
 
+mod demo;
 mod scheme;
+mod signed;
 
+pub use demo::{DemoScheme, DemoSigner};
 pub use scheme::{Scheme, Signer};
+pub use signed::{block_text, vote_text};
 
 #[cfg(test)]
 mod tests;

@@ -1,0 +1,83 @@
+//! Whether numbers are members', whether these reach the quorum, and whether a member signed.
+ghost use Rattle.std.specs.Prelude.{◌≡◌, ◌↔◌, ◌≤◌, ℕ, length, map, All, IsTrue};
+ghost use Rattle.std.specs.List.Sorted.{IsStrictlyIncreasing};
+ghost use Rattle.nw_committee.specs.Committee.{ReachesQuorum};
+ghost use Rattle.nw_model.specs.Checks.{IsMember, IsSignedBy};
+
+use nw_codec::{Ref, Seal, Signature};
+use nw_committee::Committee;
+use nw_sig::Scheme;
+
+/// How many numbers are listed at most, as parents or as votes.
+const MAX_LISTED: usize = 100;
+
+/// What names a member by its number.
+pub(crate) trait Numbered {
+    ghost number_of: { Self → ℕ };
+
+    fn number(&self) -> u16
+        ensures { result ≡ number_of self.now };
+}
+
+impl Numbered for Ref {
+    ghost number_of = { λ r. r.author };
+
+    fn number(&self) -> u16 {
+        self.author
+    }
+}
+
+impl Numbered for Seal {
+    ghost number_of = { λ s. s.signer };
+
+    fn number(&self) -> u16 {
+        self.signer
+    }
+}
+
+/// Whether there is a member with this number.
+pub(crate) fn is_member(committee: &Committee, number: u16) -> bool
+    ensures { IsTrue result ↔ IsMember committee.now number }
+{
+    usize::from(number) < committee.size()
+}
+
+/// Whether each is named by the number of a member.
+pub(crate) fn are_members<T: Numbered>(committee: &Committee, listed: &[T]) -> bool
+    ensures { IsTrue result ↔ All (IsMember committee.now) (map T.number_of listed.now) }
+{
+    for one in listed {
+        if !is_member(committee, one.number()) {
+            return false;
+        }
+    }
+    true
+}
+
+/// Whether the members listed, strictly ascending, reach the quorum.
+pub(crate) fn reach_quorum<T: Numbered>(committee: &Committee, listed: &[T]) -> bool
+    requires few { length listed.now ≤ 100 }
+    requires in_order { IsStrictlyIncreasing (map T.number_of listed.now) }
+    ensures { IsTrue result ↔ ReachesQuorum committee.now (map T.number_of listed.now) }
+{
+    let mut numbers = [0; MAX_LISTED];
+    for (i, one) in listed.iter().enumerate() {
+        numbers[i] = one.number();
+    }
+    committee.reaches_quorum(&numbers[..listed.len()])
+}
+
+/// Whether the scheme accepts the signature of the text under the key of the member with this number.
+pub(crate) fn is_signed_by<S: Scheme>(
+    committee: &Committee,
+    number: u16,
+    text: &[u8],
+    signature: &Signature,
+) -> bool
+    ensures { IsTrue result ↔ IsSignedBy S.accepts committee.now number text.now signature.now }
+{
+    match committee.key(number) {
+        Some(key) => S::verify(key, text, signature),
+        None => false,
+    }
+}
