@@ -1,5 +1,5 @@
 //! Bytes as values: a first pass finds the first fault, and a second one builds the value.
-ghost use Rattle.std.specs.Prelude.{◌≡◌, ◌≢◌, ◌↔◌, [], MatchResult, IfOk, IfErr, IsErrOf};
+ghost use Rattle.std.specs.Prelude.{◌≡◌, ◌≢◌, ◌↔◌, MatchResult, IfOk, IfErr, IsErrOf};
 ghost use Rattle.nw_codec.specs.Faults.{AtTag, AtEnd, Reaches, FaultFrom, IsWhole, IsFirstFault};
 ghost use Rattle.nw_codec.specs.Spelled.{Spells, IsSpelled};
 

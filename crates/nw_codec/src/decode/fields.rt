@@ -1,5 +1,5 @@
 //! The fields of a text: a checked reader, and one for texts that were checked before.
-ghost use Rattle.std.specs.Prelude.{◌≡◌, ℕ, ◌<◌, ◌≤◌, ◌^◌, ◌≢◌, List, [], ◌++◌, length, take, drop, MatchResult};
+ghost use Rattle.std.specs.Prelude.{◌≡◌, ℕ, ◌<◌, ◌≤◌, ◌^◌, List, ◌++◌, length, take, drop, MatchResult};
 ghost use Rattle.std.specs.Int.{to_be_bytes, w16};
 ghost use Rattle.nw_codec.specs.declared.error.DecodeError.TheVariants.{Short};
 ghost use Rattle.nw_codec.specs.Faults.{comes_after};
@@ -15,7 +15,7 @@ pub(super) fn field<const N: usize>(text: &[u8]) -> Result<(&[u8; N], &[u8]), De
     text.split_first_chunk::<N>().ok_or(DecodeError::Short)
 }
 
-/// Whether the author is greater than the one before, if there is one.
+/// Whether the author or signer is greater than the one before, if there is one.
 pub(super) fn is_in_order(before: Option<u16>, author: u16) -> bool
     ensures { result ≡ comes_after before author }
 {
