@@ -44,16 +44,9 @@ impl<S: Scheme> Command<S> {
         ensures { IsTrue result ↔ IsUnder committee.now self.now }
     {
         match self {
-            Command::Write(checked) => are_one(checked.committee().get(), committee),
-            Command::Certify(checked) => are_one(checked.committee().get(), committee),
+            Command::Write(checked) => checked.committee().get() == committee,
+            Command::Certify(checked) => checked.committee().get() == committee,
             Command::Certificate(_) | Command::Read(_) => true,
         }
     }
-}
-
-/// Whether the two committees have the same members, in the same order.
-fn are_one(one: &Committee, other: &Committee) -> bool
-    ensures { IsTrue result ↔ (one.now ≡ other.now) }
-{
-    one == other
 }
