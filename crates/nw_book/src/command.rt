@@ -39,13 +39,13 @@ impl<S: Scheme> Command<S> {
         }
     }
 
-    /// Whether what is handed in was checked under this committee.
+    /// Whether what is handed in was checked under this committee. (`eq` is called by its name, for its clause `same`.)
     pub(crate) fn is_under(&self, committee: &Committee) -> bool
         ensures { IsTrue result ↔ IsUnder committee.now self.now }
     {
         match self {
-            Command::Write(checked) => checked.committee().get() == committee,
-            Command::Certify(checked) => checked.committee().get() == committee,
+            Command::Write(checked) => checked.committee().get().eq(committee),
+            Command::Certify(checked) => checked.committee().get().eq(committee),
             Command::Certificate(_) | Command::Read(_) => true,
         }
     }

@@ -116,17 +116,21 @@ pub fn encode_body(alloc: Global, block: &Block) -> Result<Vec<u8>, EncodeError>
     Ok(bytes)
 }
 
-/// The bytes of a block's message, for a block that fits.
+/// The bytes of a block's message, of a block and a signature that are lent. `OverLimit` exactly where the block does not
+/// fit, else `NoMemory` where memory is refused.
 #[tactic(auto, unfolding(crate::specs::Grammar::message))]
-fn encode_block_message(
+pub fn encode_block(
     alloc: Global,
     block: &Block,
     signature: &Signature,
 ) -> Result<Vec<u8>, EncodeError>
-    requires { Fits block.now }
     ensures text { IfOk result (λ v. v.items ≡ message (Message.Block block.now signature.now)) }
-    ensures no_limit { IsErrOf result EncodeError.OverLimit → ⊥ }
+    ensures fits { OnOk result (Fits block.now) }
+    ensures over_limit { IsErrOf result EncodeError.OverLimit ↔ (Fits block.now → ⊥) }
 {
+    if !block.fits() {
+        return Err(EncodeError::OverLimit);
+    }
     let mut text = Vec::new(alloc);
     text.extend_from_slice(&[BLOCK_TAG])?;
     put_body(&mut text, block)?;
@@ -142,12 +146,7 @@ pub fn encode_message(alloc: Global, sent: &Message) -> Result<Vec<u8>, EncodeEr
     ensures over_limit { IsErrOf result EncodeError.OverLimit ↔ (MessageFits sent.now → ⊥) }
 {
     match sent {
-        Message::Block { block, signature } => {
-            if !block.fits() {
-                return Err(EncodeError::OverLimit);
-            }
-            encode_block_message(alloc, block, signature)
-        }
+        Message::Block { block, signature } => encode_block(alloc, block, signature),
         Message::Certificate(certificate) => {
             if !certificate.fits() {
                 return Err(EncodeError::OverLimit);

@@ -2,7 +2,8 @@
 ghost use Rattle.std.specs.Prelude.{◌≡◌};
 
 use nw_book::BookError;
-use nw_codec::{DecodeError, EncodeError};
+use nw_codec::EncodeError;
+use nw_committee::CommitteeFault;
 use nw_digest::NoMemory;
 use std::alloc::{AllocError, AllocFailed};
 use thiserror::Error;
@@ -93,11 +94,13 @@ impl From<EncodeError> for LineFault {
     }
 }
 
-impl From<DecodeError> for LineFault {
-    fn from(error: DecodeError) -> LineFault {
-        match error {
-            DecodeError::NoMemory => LineFault::NoMemory,
-            _ => LineFault::Bad,
+impl From<CommitteeFault> for LineFault {
+    fn from(fault: CommitteeFault) -> LineFault {
+        match fault {
+            CommitteeFault::NoMemory => LineFault::NoMemory,
+            CommitteeFault::BadSize | CommitteeFault::RepeatedKey | CommitteeFault::BadWeight => {
+                LineFault::Bad
+            }
         }
     }
 }

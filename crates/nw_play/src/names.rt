@@ -1,29 +1,18 @@
 //! The names of blocks.
 
 use crate::fault::LineFault;
-use nw_codec::{Block, EncodeError, Message, Ref, Signature, block_digest, encode_body};
+use nw_codec::{Block, EncodeError, Ref, block_digest, encode_body};
 use nw_digest::{Digest, Sequence};
 use nw_script::Name;
 use std::alloc::Global;
 use std::collections::BTreeMap;
 use std::collections::btree_map::Entry;
 
-// Until blocks are signed.
-const UNSIGNED: Signature = Signature([0; 64]);
-
-/// What a name stands for: a block that fits, in its message, and its digest.
+/// What a name stands for: a block that fits, and its digest.
 #[derive(Drop)]
 pub struct Bound {
-    pub message: Message,
+    pub block: Block,
     pub digest: Digest,
-}
-
-impl Bound {
-    pub fn block(&self) -> &Block {
-        match &self.message {
-            Message::Block { block, .. } => block,
-        }
-    }
 }
 
 /// The names of a script's blocks, and the first name of each digest.
@@ -61,7 +50,7 @@ impl<'a> Names<'a> {
         for name in names {
             let parent = self.bound(*name)?;
             references.push(Ref {
-                author: parent.block().author,
+                author: parent.block.author,
                 digest: parent.digest,
             })?;
         }
@@ -81,14 +70,10 @@ impl<'a> Names<'a> {
             Err(EncodeError::NoMemory) => return Err(LineFault::NoMemory),
         };
         let digest = block_digest(&block);
-        let message = Message::Block {
-            block,
-            signature: UNSIGNED,
-        };
         let first = self.first_names.entry(digest)?;
         match self.bound.entry(name)? {
             Entry::Occupied(_) => return Err(LineFault::Bad),
-            Entry::Vacant(free) => free.insert(Bound { message, digest }),
+            Entry::Vacant(free) => free.insert(Bound { block, digest }),
         };
         first.or_insert(name);
         Ok(Some(body))

@@ -1,5 +1,6 @@
 //! What is printed.
 
+use nw_check::{BlockFault, CertFault};
 use nw_digest::Round;
 use nw_model::CausalReply;
 use nw_script::Name;
@@ -13,8 +14,11 @@ pub enum Answer<'a> {
         name: Name<'a>,
         body: usize,
     },
-    /// A block is over a limit or out of order, and was not bound.
-    OverLimit(Name<'a>),
+    /// A block or a certificate was not taken.
+    Refused {
+        name: Name<'a>,
+        refusal: Refusal,
+    },
     /// Bytes of a block in hex.
     Bytes {
         name: Name<'a>,
@@ -38,6 +42,16 @@ pub enum Answer<'a> {
     Certified {
         name: Name<'a>,
         reply: Certified<'a>,
+    },
+    /// Whether a certificate is valid.
+    Valid {
+        name: Name<'a>,
+        valid: bool,
+    },
+    /// What a gatherer said of each vote.
+    Gathered {
+        name: Name<'a>,
+        votes: Vec<Gathered>,
     },
     /// The signers of the certificate that is kept.
     Signers {
@@ -66,13 +80,22 @@ impl fmt::Display for Answer<'_> {
     fn fmt<W: fmt::Write>(&self, f: &mut fmt::Formatter<W>) -> fmt::Result {
         match self {
             Answer::Bound { name, body } => write!(f, "block {name} {body}"),
-            Answer::OverLimit(name) => write!(f, "{name} refused over limit"),
+            Answer::Refused { name, refusal } => write!(f, "{name} refused {refusal}"),
             Answer::Bytes { name, hex } => write!(f, "{name} {hex}"),
             Answer::Hash(hex) => write!(f, "{hex}"),
             Answer::Written { name, reply } => write!(f, "{name} {reply}"),
             Answer::Found { name, body } => write!(f, "{name} found {body}"),
             Answer::Unknown(name) => write!(f, "{name} unknown"),
             Answer::Certified { name, reply } => write!(f, "{name} {reply}"),
+            Answer::Valid { name, valid: true } => write!(f, "{name} valid yes"),
+            Answer::Valid { name, valid: false } => write!(f, "{name} valid no"),
+            Answer::Gathered { name, votes } => {
+                write!(f, "{name}")?;
+                for vote in votes {
+                    write!(f, " {vote}")?;
+                }
+                Ok(())
+            }
             Answer::Signers { name, signers } => {
                 write!(f, "{name} certified by ")?;
                 write_list(f, signers.as_slice())
@@ -111,6 +134,52 @@ fn word_of(reply: CausalReply) -> &'static str {
         CausalReply::Unknown => "unknown",
         CausalReply::Uncertified => "uncertified",
         CausalReply::Incomplete => "incomplete",
+    }
+}
+
+/// Why a block or a certificate was not taken.
+#[derive(Clone, Copy, Debug, PartialEq, Eq)]
+pub enum Refusal {
+    /// It is over a limit or out of order.
+    OverLimit,
+    /// A gatherer's author is no member.
+    Author,
+    /// The block is not well formed.
+    Block(BlockFault),
+    /// The certificate is not valid.
+    Cert(CertFault),
+}
+
+impl fmt::Display for Refusal {
+    fn fmt<W: fmt::Write>(&self, f: &mut fmt::Formatter<W>) -> fmt::Result {
+        match self {
+            Refusal::OverLimit => write!(f, "over limit"),
+            Refusal::Author => write!(f, "author"),
+            Refusal::Block(fault) => write!(f, "{fault}"),
+            Refusal::Cert(fault) => write!(f, "{fault}"),
+        }
+    }
+}
+
+/// What a gatherer says of a vote.
+#[derive(Clone, Copy, Debug, PartialEq, Eq)]
+pub enum Gathered {
+    Counted,
+    Quorum,
+    Repeated,
+    Signer,
+    Signature,
+}
+
+impl fmt::Display for Gathered {
+    fn fmt<W: fmt::Write>(&self, f: &mut fmt::Formatter<W>) -> fmt::Result {
+        match self {
+            Gathered::Counted => write!(f, "counted"),
+            Gathered::Quorum => write!(f, "quorum"),
+            Gathered::Repeated => write!(f, "repeated"),
+            Gathered::Signer => write!(f, "signer"),
+            Gathered::Signature => write!(f, "signature"),
+        }
     }
 }
 

@@ -41,7 +41,7 @@ fn play_script<W: Write>(alloc: Global, script: &[u8], out: &mut W) -> Result<()
 
 // The lines are numbered from 1. A script without a committee has its fault behind its last line end.
 fn play_lines<W: Write>(alloc: Global, script: &[u8], out: &mut W) -> Result<(), PlayFault> {
-    let mut player = Player::new(alloc).map_err(|fault| fault.at(1))?;
+    let mut player = Player::new(alloc);
     let mut last = 1;
     for (line, text) in (1..=script.len() + 1).zip(script.split(|byte| *byte == b'\n')) {
         last = line;

@@ -1,6 +1,6 @@
 use Rattle.std.proofs.Common.{[], ◌∷◌, ◌≡◌, ◌∙◌, refl}
 use Rattle.nw_codec.specs.Grammar.{message}
-use Rattle.nw_codec.proofs.encode.encode_block_message.Goals as goal
+use Rattle.nw_codec.proofs.encode.encode_block.Goals as goal
 
 pub returns-clause-text : goal.returns-clause-text
 unfolding message
