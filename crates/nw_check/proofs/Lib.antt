@@ -1,2 +1,4 @@
 pub mod Numbers
 pub mod Broken
+pub mod Places
+pub mod Gathered

@@ -1,2 +1,4 @@
 pub mod Checked
 pub mod Fault
+pub mod Gathering
+pub mod Message

@@ -9,8 +9,12 @@
 mod check;
 mod checked;
 mod fault;
+mod gather;
 mod members;
+mod message;
 
 pub use check::{check_block, check_cert, valid};
 pub use checked::{CheckedBlock, CheckedCert};
-pub use fault::{BlockFault, CertFault};
+pub use fault::{BlockFault, CertFault, Counted, FinishFault, GatherFault, StartFault};
+pub use gather::Gather;
+pub use message::{Checked, check_message};

@@ -1,7 +1,7 @@
 //! Whether numbers are members', whether these reach the quorum, and whether a member signed.
 ghost use Rattle.std.specs.Prelude.{◌≡◌, ◌↔◌, ◌≤◌, ℕ, length, map, All, IsTrue};
 ghost use Rattle.std.specs.List.Sorted.{IsStrictlyIncreasing};
-ghost use Rattle.nw_committee.specs.Committee.{ReachesQuorum};
+ghost use Rattle.nw_committee.specs.Committee.{IsCommittee, ReachesQuorum};
 ghost use Rattle.nw_model.specs.Checks.{IsMember, IsSignedBy};
 
 use nw_codec::{Ref, Seal, Signature};
@@ -37,7 +37,8 @@ impl Numbered for Seal {
 
 /// Whether there is a member with this number.
 pub(crate) fn is_member(committee: &Committee, number: u16) -> bool
-    ensures { IsTrue result ↔ IsMember committee.now number }
+    ensures member { IsTrue result ↔ IsMember committee.now number }
+    ensures committee { IsCommittee committee.now }
 {
     usize::from(number) < committee.size()
 }

@@ -1,0 +1,84 @@
+-- What is gathered makes a valid certificate.
+use Rattle.std.proofs.Common.{◌≡◌, ◌∙◌, ℕ, zero, suc, ◌<◌, ◌≤◌, List, [], ◌∷◌, ◌++◌, Option, Some, None, length, map, take, drop, get_or, refl, sym, ap, subst, arith}
+use Rattle.std.specs.Prelude.{Contains, insert, slice_get}
+use Rattle.std.specs.List.{All}
+use Rattle.std.specs.List.Sorted.{IsStrictlyIncreasing}
+use Rattle.std.proofs.lemmas.List.{length-map, get_or-map, map-append, take-map, drop-map, take-append-drop}
+use Rattle.std.proofs.lemmas.List.Elements.{All-map, All-append, All-cons, All-take, All-drop, All-weaker}
+use Rattle.std.proofs.lemmas.Option.{slice_get_within}
+use Rattle.nw_codec.specs.Fits.{signers}
+use Rattle.nw_codec.specs.declared.certificate.Seal.{Seal}
+use Rattle.nw_codec.specs.declared.certificate.Certificate.{Certificate}
+use Rattle.nw_codec.specs.declared.vote.Vote.{Vote}
+use Rattle.nw_committee.specs.Committee.{ReachesQuorum}
+use Rattle.nw_committee.specs.declared.member.Member.{Member}
+use Rattle.nw_sig.specs.Signed.{Meaning, vote_text}
+use Rattle.nw_model.specs.Checks.{IsMember, IsSignedBy, IsSealOf, IsValid}
+use Rattle.nw_check.specs.Gathering.{Gathering, IsGathering, IsPlace, MayCount, Counts, seal_of, certificate_of}
+use Rattle.nw_check.proofs.Places.{few_below, place-rises}
+
+-- the number at a place is its seal's
+pub signer_at : (seals : List Seal) (i : ℕ) (d : Seal) → i < length seals → get_or (signers seals) i 0 ≡ (get_or seals i d).signer
+signer_at seals i d h = get_or-map (λ (s : Seal). s.signer) seals i d 0 h
+
+pub length-signers : (seals : List Seal) → length (signers seals) ≡ length seals
+length-signers seals = length-map seals (λ (s : Seal). s.signer)
+
+module _ (accepts : Meaning) (g : Gathering) (ok : IsGathering accepts g) where
+  signer_numbers : All (IsMember g.committee) (signers g.seals)
+  signer_numbers =
+      All-map (IsMember g.committee) (λ (s : Seal). s.signer) g.seals
+        (All-weaker (IsSealOf accepts g.committee (certificate_of g)) (λ s. IsMember g.committee s.signer) (λ s own. slice_get_within g.committee s.signer own.0 own.1) g.seals ok.sealed)
+
+  -- no more votes than members
+  pub gathering-few : length g.seals ≤ 100
+  gathering-few =
+      let few = few_below (signers g.seals) (length g.committee) ok.in_order signer_numbers in
+      let len = length-map g.seals (λ (s : Seal). s.signer) in
+      let size : length g.committee ≤ 100 = ok.committee.size.1 in
+      omega (arith, few, len, size)
+
+  -- where the signers reach the quorum, the certificate is valid
+  pub gathering-valid : ReachesQuorum g.committee (signers g.seals) → IsValid accepts g.committee (certificate_of g)
+  gathering-valid reached = record {
+    fits = record { few_votes = gathering-few; votes_in_order = ok.in_order };
+    author = ok.author;
+    signer_numbers = signer_numbers;
+    votes = reached;
+    sealed = ok.sealed;
+  }
+
+  signers-insert : (p : ℕ) (s : Seal) → signers (insert g.seals p s) ≡ insert (signers g.seals) p s.signer
+  signers-insert p s =
+      let number : Seal → ℕ = λ q. q.signer in
+      map-append number (take p g.seals) (s ∷ drop p g.seals)
+      ∙ ap (λ (front : List ℕ). front ++ number s ∷ map number (drop p g.seals)) (sym (take-map number p g.seals))
+      ∙ ap (λ (back : List ℕ). take p (signers g.seals) ++ number s ∷ back) (sym (drop-map number p g.seals))
+
+  -- a member's seal, put in at its place, keeps what is gathered
+  pub gathering-insert : (p : ℕ) (s : Seal) → IsPlace (signers g.seals) s.signer p → IsSealOf accepts g.committee (certificate_of g) s → IsGathering accepts (record g { seals = insert g.seals p s })
+  gathering-insert p s place own =
+      let is_own : Seal → Type 0 = IsSealOf accepts g.committee (certificate_of g) in
+      record {
+        committee = ok.committee;
+        author = ok.author;
+        in_order = rw (signers-insert p s) (place-rises (signers g.seals) s.signer p ok.in_order place);
+        sealed = All-append is_own (take p g.seals) (s ∷ drop p g.seals) (All-take is_own p g.seals ok.sealed) (All-cons is_own s (drop p g.seals) own (All-drop is_own p g.seals ok.sealed));
+      }
+
+-- a vote that may count keeps what is gathered
+pub counted-gathering : (accepts : Meaning) (g : Gathering) (v : Vote) (p : ℕ) → IsGathering accepts g → MayCount accepts g v → IsPlace (signers g.seals) v.signer p
+    → IsGathering accepts (record g { seals = insert g.seals p (seal_of v) })
+counted-gathering accepts g v p ok may place =
+    let digest : v.digest ≡ g.digest = may.0.0.0 in
+    let round : v.round ≡ g.round = may.0.0.1 in
+    let author : v.author ≡ g.author = may.0.0.2 in
+    let text : vote_text v.digest v.round v.author ≡ vote_text g.digest g.round g.author = cc in
+    gathering-insert accepts g ok p (seal_of v) place (subst (λ t. IsSignedBy accepts g.committee v.signer t v.signature) text may.2)
+
+-- the seal of a vote, put in at some place, is what was added
+pub counted-counts : (g : Gathering) (v : Vote) (p : ℕ) (new : List Seal) → new ≡ insert g.seals p (seal_of v) → Counts g v (record g { seals = new })
+counted-counts g v p new e = record {
+  seals = (take p g.seals, drop p g.seals, sym (take-append-drop p g.seals), e);
+  others = refl;
+}

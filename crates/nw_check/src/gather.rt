@@ -1,0 +1,172 @@
+//! Gathering the votes for a block to a certificate.
+ghost use Rattle.std.specs.Prelude.{◌≡◌, ◌↔◌, ◌≤◌, [], vec_len, insert, Contains, MatchOption, IsTrue, IfOk, IfErr, OnOk, OnErr, IsErrOf};
+ghost use Rattle.std.specs.List.Sorted.{IsStrictlyIncreasing};
+ghost use Rattle.nw_codec.specs.Fits.{signers};
+ghost use Rattle.nw_committee.specs.Committee.{ReachesQuorum};
+ghost use Rattle.nw_model.specs.Checks.{IsMember};
+ghost use Rattle.nw_check.specs.Gathering.{IsGathering, MayCount, IsGatherFault, IsFor, IsPlace, Counts, IsCount, certificate_of};
+
+use crate::members::{is_member, is_signed_by, reach_quorum};
+use crate::{CheckedCert, Counted, FinishFault, GatherFault, StartFault};
+use nw_codec::{Certificate, Seal, Vote};
+use nw_committee::Committee;
+use nw_digest::{Digest, NoMemory, Round, Sequence, Shared};
+use nw_sig::{Scheme, vote_text};
+use std::alloc::Global;
+use std::marker::{Model, PhantomData};
+
+/// The votes that were counted for the block of a digest. Contracts see the digest with its round and author, the committee,
+/// and the seals that were counted, ascending by signer.
+#[derive(Drop)]
+pub struct Gather<S: Scheme> {
+    digest: Digest,
+    round: Round,
+    author: u16,
+    committee: Shared<Committee>,
+    seals: Vec<Seal>,
+    scheme: PhantomData<S>,
+}
+
+impl<S: Scheme> Model for Gather<S> {
+    ghost use Rattle.nw_check.specs.Gathering.{Gathering, IsGathering};
+
+    ghost Value = { Gathering };
+
+    ghost view = { λ g. record { digest = g.digest; round = g.round; author = g.author; committee = g.committee; seals = g.seals.items } };
+
+    ghost invariant = { λ g. IsGathering S.accepts (record { digest = g.digest; round = g.round; author = g.author; committee = g.committee; seals = g.seals.items }) };
+}
+
+impl<S: Scheme> Gather<S> {
+    /// No votes yet, for the block of this digest, round and author. `Author` exactly where the author is no member, else
+    /// `NoMemory` where memory is refused.
+    pub fn new(
+        alloc: Global,
+        committee: &Shared<Committee>,
+        digest: Digest,
+        round: Round,
+        author: u16,
+    ) -> Result<Gather<S>, StartFault>
+        ensures empty { IfOk result (λ g. g ≡ record { digest = digest; round = round; author = author; committee = committee.now; seals = [] }) }
+        ensures member { OnOk result (IsMember committee.now author) }
+        ensures author { IsErrOf result StartFault.Author ↔ (IsMember committee.now author → ⊥) }
+        ensures no_memory { IsErrOf result StartFault.NoMemory → IsMember committee.now author }
+    {
+        if !is_member(committee.get(), author) {
+            return Err(StartFault::Author);
+        }
+        Ok(Gather {
+            digest,
+            round,
+            author,
+            committee: committee.try_clone()?,
+            seals: Vec::new(alloc),
+            scheme: PhantomData,
+        })
+    }
+
+    /// Counts the vote, and answers `Quorum` where the members whose votes were counted now reach the quorum.
+    ///
+    /// The fault is the first of these that applies: `OtherBlock` where the vote is for another digest, round or author,
+    /// `Repeated` where a vote of its signer was counted, `Signer` where its signer is no member, `Signature` where the scheme
+    /// does not accept its signature, and `NoMemory` where memory is refused. A fault changes nothing.
+    pub fn add(&mut self, vote: &Vote) -> Result<Counted, GatherFault>
+        ensures counted { OnOk result (Counts self.old vote.now self.new) }
+        ensures quorum { IfOk result (IsCount self.new) }
+        ensures gathering { IsGathering S.accepts self.new }
+        ensures may_count { OnOk result (MayCount S.accepts self.old vote.now) }
+        ensures fault { IfErr result (IsGatherFault S.accepts self.old vote.now) }
+        ensures unchanged { OnErr result (self.new ≡ self.old) }
+    {
+        let place = self.place_for(vote)?;
+        let seal = Seal {
+            signer: vote.signer,
+            signature: vote.signature,
+        };
+        insert_seal(&mut self.seals, place, seal)?;
+        if reach_quorum(self.committee.get(), &self.seals) {
+            Ok(Counted::Quorum)
+        } else {
+            Ok(Counted::Counted)
+        }
+    }
+
+    /// Where the seal of the vote belongs, or the first reason why the vote is not counted.
+    fn place_for(&self, vote: &Vote) -> Result<usize, GatherFault>
+        ensures may_count { OnOk result (MayCount S.accepts self.now vote.now) }
+        ensures place { IfOk result (IsPlace (signers self.now.seals) vote.now.signer) }
+        ensures fault { IfErr result (IsGatherFault S.accepts self.now vote.now) }
+    {
+        if !self.is_for(vote) {
+            return Err(GatherFault::OtherBlock);
+        }
+        let Some(place) = place_of(&self.seals, vote.signer) else {
+            return Err(GatherFault::Repeated);
+        };
+        if !is_member(self.committee.get(), vote.signer) {
+            return Err(GatherFault::Signer);
+        }
+        let text = vote_text(&vote.digest, vote.round, vote.author);
+        if !is_signed_by::<S>(self.committee.get(), vote.signer, &text, &vote.signature) {
+            return Err(GatherFault::Signature);
+        }
+        Ok(place)
+    }
+
+    /// Whether the vote is for this block.
+    fn is_for(&self, vote: &Vote) -> bool
+        ensures { IsTrue result ↔ IsFor self.now vote.now }
+    {
+        vote.digest == self.digest && vote.round == self.round && vote.author == self.author
+    }
+
+    /// The certificate of the votes that were counted, which stay. `FewVotes` exactly where their signers do not reach the
+    /// quorum, else `NoMemory` where memory is refused.
+    pub fn finish(&self, alloc: Global) -> Result<CheckedCert<S>, FinishFault>
+        ensures certificate { IfOk result (λ checked. checked ≡ record { certificate = certificate_of self.now; committee = self.now.committee }) }
+        ensures quorum { OnOk result (ReachesQuorum self.now.committee (signers self.now.seals)) }
+        ensures few_votes { IsErrOf result FinishFault.FewVotes ↔ (ReachesQuorum self.now.committee (signers self.now.seals) → ⊥) }
+        ensures no_memory { IsErrOf result FinishFault.NoMemory → ReachesQuorum self.now.committee (signers self.now.seals) }
+    {
+        if !reach_quorum(self.committee.get(), &self.seals) {
+            return Err(FinishFault::FewVotes);
+        }
+        let votes = Sequence::new(Vec::from_slice(alloc, &self.seals)?);
+        let certificate = Certificate {
+            digest: self.digest,
+            round: self.round,
+            author: self.author,
+            votes,
+        };
+        Ok(CheckedCert::new(
+            Shared::new(alloc, certificate)?,
+            self.committee.try_clone()?,
+        ))
+    }
+}
+
+/// Where the seal of this signer belongs, or `None` where there is one already.
+fn place_of(seals: &[Seal], signer: u16) -> Option<usize>
+    requires { IsStrictlyIncreasing (signers seals.now) }
+    ensures { MatchOption result (Contains (signers seals.now) signer) (IsPlace (signers seals.now) signer) }
+{
+    for (place, seal) in seals.iter().enumerate() {
+        if seal.signer == signer {
+            return None;
+        }
+        if seal.signer > signer {
+            return Some(place);
+        }
+    }
+    Some(seals.len())
+}
+
+/// Puts the seal in at its place.
+fn insert_seal(seals: &mut Vec<Seal>, place: usize, seal: Seal) -> Result<(), NoMemory>
+    requires { place ≤ vec_len seals.old }
+    ensures ok { OnOk result (seals.new.items ≡ insert seals.old.items place seal) }
+    ensures err { OnErr result (seals.new.items ≡ seals.old.items) }
+{
+    seals.insert(place, seal)?;
+    Ok(())
+}
