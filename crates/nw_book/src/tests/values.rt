@@ -1,0 +1,88 @@
+//! Committees whose members sign by the demonstration scheme, and their checked blocks and certificates.
+use nw_check::{CheckedBlock, CheckedCert, check_block, check_cert};
+use nw_codec::{Block, Certificate, Ref, Seal, Signature, block_digest};
+use nw_committee::{Committee, Key};
+use nw_digest::{Digest, Round, Sequence, Shared};
+use nw_sig::{DemoScheme, DemoSigner, Signer, block_text, vote_text};
+use std::alloc::Global;
+use std::test::Fail;
+
+fn key(member: u16) -> Key {
+    let mut bytes = [0; 32];
+    bytes[30..].copy_from_slice(&member.to_be_bytes());
+    Key(bytes)
+}
+
+fn sign(member: u16, text: &[u8]) -> Signature {
+    DemoSigner::new(key(member)).sign(text)
+}
+
+fn round_of(number: u64) -> Result<Round, Fail> {
+    Ok(Round::new(number).ok_or("a round has 48 bits")?)
+}
+
+/// A committee of so many members of weight 1: 1, 4, 7, ..
+pub fn committee(alloc: Global, members: u16) -> Result<Shared<Committee>, Fail> {
+    let mut keys = Vec::new(alloc);
+    for member in 0..members {
+        keys.push(key(member))?;
+    }
+    Ok(Shared::new(alloc, Committee::new(alloc, keys)?)?)
+}
+
+/// A block of the author without transactions, whose parents are blocks of authors 0, 1, 2, .. with these digests.
+pub fn block(
+    alloc: Global,
+    committee: &Shared<Committee>,
+    author: u16,
+    round: u64,
+    parents: &[Digest],
+) -> Result<CheckedBlock<DemoScheme>, Fail> {
+    let mut references = Vec::new(alloc);
+    for (author, digest) in (0u16..).zip(parents) {
+        references.push(Ref {
+            author,
+            digest: *digest,
+        })?;
+    }
+    let block = Block {
+        author,
+        round: round_of(round)?,
+        parents: Sequence::new(references),
+        transactions: Sequence::new(Vec::new(alloc)),
+    };
+    if !block.fits() {
+        return Err(Fail::from("the block breaks a limit"));
+    }
+    let signature = sign(author, &block_text(&block_digest(&block)));
+    Ok(check_block(alloc, committee, block, signature)?)
+}
+
+/// A certificate of the digest for the author in the round, with the votes of all members.
+pub fn certificate(
+    alloc: Global,
+    committee: &Shared<Committee>,
+    author: u16,
+    round: u64,
+    digest: Digest,
+) -> Result<CheckedCert<DemoScheme>, Fail> {
+    let round = round_of(round)?;
+    let text = vote_text(&digest, round, author);
+    let mut votes = Vec::new(alloc);
+    for signer in 0..u16::try_from(committee.get().size())? {
+        votes.push(Seal {
+            signer,
+            signature: sign(signer, &text),
+        })?;
+    }
+    let certificate = Certificate {
+        digest,
+        round,
+        author,
+        votes: Sequence::new(votes),
+    };
+    if !certificate.fits() {
+        return Err(Fail::from("the certificate breaks a limit"));
+    }
+    Ok(check_cert(alloc, committee, certificate)?)
+}
