@@ -69,7 +69,7 @@ impl<S: Scheme> Book<S> {
             return Err(BookError::BadLimits);
         }
         Ok(Book {
-            history: History::new(alloc, committee, limits),
+            history: History::new(alloc, committee, limits)?,
             tables: Plain::new(alloc, limits.blocks, limits.window),
             calls: vec![in alloc; 0u32; limits.sessions as usize]?,
         })
@@ -114,7 +114,7 @@ impl<S: Scheme> Book<S> {
         };
         let event = Shared::new(alloc, event)?;
         let front = self.history.front_with(alloc, &event)?;
-        let reply = self.history.record(&mut self.tables, event)?;
+        let reply = self.history.record(&mut self.tables, event.get(), &front)?;
         self.calls[usize::from(session)] += 1;
         Ok(Done { reply, front })
     }
@@ -193,7 +193,7 @@ impl<S: Scheme> Book<S> {
         };
         let event = Shared::new(alloc, event)?;
         let front = self.history.front_with(alloc, &event)?;
-        self.history.append(event)?;
+        self.history.append(event.get(), &front)?;
         let place = usize::from(session);
         self.calls[place] += 1;
         Ok(front)

@@ -14,6 +14,17 @@ pub enum BookError {
     NoMemory,
 }
 
+impl From<NoMemory> for BookError {
+    ghost use Rattle.std.specs.Prelude.{◌≡◌};
+    ghost use Rattle.nw_book.specs.declared.error.BookError.TheVariants.{NoMemory};
+
+    ghost from_gives = { λ _ e. e ≡ NoMemory };
+
+    fn from(_error: nw_digest::NoMemory) -> BookError {
+        BookError::NoMemory
+    }
+}
+
 impl From<AllocError> for BookError {
     ghost use Rattle.std.specs.Prelude.{◌≡◌};
     ghost use Rattle.nw_book.specs.declared.error.BookError.TheVariants.{NoMemory};

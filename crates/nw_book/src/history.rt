@@ -1,13 +1,14 @@
 //! The history that grows.
-ghost use Rattle.std.specs.Prelude.{◌≡◌, ◌==◌, [], length, slice_get, IfOk, OnOk, OnErr};
+ghost use Rattle.std.specs.Prelude.{◌≡◌, ◌==◌, ◌^◌, ◌<◌, [], length, slice_get, IfOk, OnOk, OnErr};
 ghost use Rattle.std.specs.Option.{option_copied};
 ghost use Rattle.nw_model.specs.State.{opening};
 ghost use Rattle.nw_model.specs.Step.{Tables, IsReply, after};
 ghost use Rattle.nw_book.specs.Story.{IsLegalStory, with_event};
 
 use crate::{Front, Limits};
+use nw_chunks::Chunks;
 use nw_committee::Committee;
-use nw_digest::{NoMemory, Sequence, Shared};
+use nw_digest::{NoMemory, Shared};
 use nw_model::{Event, Plain, Reply};
 use nw_sig::Scheme;
 use std::alloc::Global;
@@ -18,7 +19,7 @@ use std::marker::{Model, PhantomData};
 pub struct History<S: Scheme> {
     committee: Shared<Committee>,
     limits: Limits,
-    events: Vec<Shared<Event>>,
+    events: Chunks<Event>,
     scheme: PhantomData<S>,
 }
 
@@ -33,22 +34,26 @@ impl<S: Scheme> Model for History<S> {
 
     ghost coded = { Prim.hlevel (codes, coded_state) };
 
-    ghost view = { λ h. record { committee = h.committee; limits = h.limits; base = opening; events = h.events.items } };
+    ghost view = { λ h. record { committee = h.committee; limits = h.limits; base = opening; events = h.events } };
 
-    ghost invariant = { λ h. IsLegalStory S.accepts (record { committee = h.committee; limits = h.limits; base = opening; events = h.events.items }) };
+    ghost invariant = { λ h. IsLegalStory S.accepts (record { committee = h.committee; limits = h.limits; base = opening; events = h.events }) };
 }
 
 impl<S: Scheme> History<S> {
-    /// The history without events. It takes no memory.
-    pub(crate) fn new(alloc: Global, committee: Shared<Committee>, limits: Limits) -> History<S>
-        ensures { result ≡ record { committee = committee; limits = limits; base = opening; events = [] } }
+    /// The history without events.
+    pub(crate) fn new(
+        alloc: Global,
+        committee: Shared<Committee>,
+        limits: Limits,
+    ) -> Result<History<S>, NoMemory>
+        ensures { IfOk result (λ history. history ≡ record { committee = committee; limits = limits; base = opening; events = [] }) }
     {
-        History {
+        Ok(History {
             committee,
             limits,
-            events: Vec::new(alloc),
+            events: Chunks::new(alloc)?,
             scheme: PhantomData,
-        }
+        })
     }
 
     /// How many events it has.
@@ -72,10 +77,7 @@ impl<S: Scheme> History<S> {
         ensures event { option_copied result ≡ slice_get self.now.events index }
         ensures legal { IsLegalStory S.accepts self.now }
     {
-        match self.events.get(index) {
-            None => None,
-            Some(event) => Some(event.get()),
-        }
+        self.events.get(index)
     }
 
     /// The committee under which it is legal.
@@ -94,46 +96,50 @@ impl<S: Scheme> History<S> {
         self.limits
     }
 
-    /// The front that this history would have with one more event.
-    pub(crate) fn front_with(&self, alloc: Global, event: &Shared<Event>) -> Result<Front<S>, NoMemory>
-        requires { IsLegalStory S.accepts (with_event self.now event.now) }
+    /// The front that this history would have with one more event. It shares all that came before.
+    pub(crate) fn front_with(
+        &self,
+        alloc: Global,
+        event: &Shared<Event>,
+    ) -> Result<Front<S>, NoMemory>
+        requires legal { IsLegalStory S.accepts (with_event self.now event.now) }
+        requires room { length self.now.events < 2 ^ 32 }
         ensures { IfOk result (λ front. front ≡ with_event self.now event.now) }
     {
-        let mut events = Vec::with_capacity(alloc, self.events.len() + 1)?;
-        for held in &self.events {
-            events.push(held.try_clone()?)?;
-        }
-        events.push(event.try_clone()?)?;
-        let events = Shared::new(alloc, Sequence::new(events))?;
+        let events = self.events.with(alloc, event.try_clone()?)?;
         Ok(Front::new(self.committee.try_clone()?, self.limits, events))
     }
 
-    /// Takes the step of the event's call in the tables, and records the event. Room for it is made first.
+    /// Takes the step of the event's call in the tables, and records the event, whose front this is. The history's share of
+    /// the front is taken first.
     pub(crate) fn record(
         &mut self,
         tables: &mut Plain,
-        event: Shared<Event>,
+        event: &Event,
+        front: &Front<S>,
     ) -> Result<Reply, NoMemory>
-        requires { IsLegalStory S.accepts (with_event self.old event) }
-        ensures reply { IfOk result (λ reply. IsReply tables.old.bounds tables.old.state event.call reply) }
-        ensures tables { OnOk result (tables.new ≡ record tables.old { state = after tables.old.bounds tables.old.state event.call }) }
-        ensures history { OnOk result (self.new ≡ with_event self.old event) }
+        requires legal { IsLegalStory S.accepts (with_event self.old event.now) }
+        requires front { front.now ≡ with_event self.old event.now }
+        ensures reply { IfOk result (λ reply. IsReply tables.old.bounds tables.old.state event.now.call reply) }
+        ensures tables { OnOk result (tables.new ≡ record tables.old { state = after tables.old.bounds tables.old.state event.now.call }) }
+        ensures history { OnOk result (self.new ≡ with_event self.old event.now) }
         ensures unchanged { OnErr result (self.new ≡ self.old) }
         ensures tables_unchanged { OnErr result (tables.new ≡ tables.old) }
     {
-        self.events.reserve(1)?;
-        let reply = tables.call(&event.get().call)?;
-        self.events.push_reserved(event);
+        let events = front.events()?;
+        let reply = tables.call(&event.call)?;
+        self.events = events;
         Ok(reply)
     }
 
-    /// Records the event of a call that leaves the tables as they are.
-    pub(crate) fn append(&mut self, event: Shared<Event>) -> Result<(), NoMemory>
-        requires { IsLegalStory S.accepts (with_event self.old event) }
-        ensures history { OnOk result (self.new ≡ with_event self.old event) }
+    /// Records the event of a call that leaves the tables as they are, whose front this is.
+    pub(crate) fn append(&mut self, event: &Event, front: &Front<S>) -> Result<(), NoMemory>
+        requires legal { IsLegalStory S.accepts (with_event self.old event.now) }
+        requires front { front.now ≡ with_event self.old event.now }
+        ensures history { OnOk result (self.new ≡ with_event self.old event.now) }
         ensures unchanged { OnErr result (self.new ≡ self.old) }
     {
-        self.events.push(event)?;
+        self.events = front.events()?;
         Ok(())
     }
 }
