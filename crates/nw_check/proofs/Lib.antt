@@ -2,3 +2,4 @@ pub mod Numbers
 pub mod Broken
 pub mod Places
 pub mod Gathered
+pub mod OneFault

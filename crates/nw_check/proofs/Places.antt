@@ -61,17 +61,17 @@ pub place_fresh : (xs : List ℕ) (x p : ℕ) → IsPlace xs x p → Contains xs
 place_fresh xs x p place (k, lt, at) =
     elim (cases_lt k p) [
       | inl before ↦
-        let len = length-take p xs in
-        let low = place.below k x (omega (arith, len)) in
-        let same = get_or-take p xs k x before in
-        omega (arith, low, same, at)
+          let len = length-take p xs in
+          let low = place.below k x (omega (arith, len)) in
+          let same = get_or-take p xs k x before in
+          omega (arith, low, same, at)
       | inr later ↦
-        let len = length-drop p xs in
-        let high = place.above (k - p) x (omega (arith, len)) in
-        let same = get_or-drop p xs (k - p) x in
-        let there : p + (k - p) ≡ k = omega arith in
-        let same_k = rw there at same in
-        omega (arith, high, same_k, at)
+          let len = length-drop p xs in
+          let high = place.above (k - p) x (omega (arith, len)) in
+          let same = get_or-drop p xs (k - p) x in
+          let there : p + (k - p) ≡ k = omega arith in
+          let same_k = rw there at same in
+          omega (arith, high, same_k, at)
     ]
 
 rises-insert : (before : Option ℕ) (xs : List ℕ) (p x : ℕ) → Ascends before xs → IsAfter before x → AllByRecursion (λ n. n < x) (take p xs) → AllByRecursion (λ n. x < n) (drop p xs)
@@ -85,4 +85,4 @@ rises-insert before (y ∷ ys) (suc p) x rising after below above = (rising.0, r
 pub place-rises : (xs : List ℕ) (x p : ℕ) → IsStrictlyIncreasing xs → IsPlace xs x p → IsStrictlyIncreasing (insert xs p x)
 place-rises xs x p rising place =
     increasing None (insert xs p x)
-      (rises-insert None xs p x (ascends xs rising) tt (recursion_from_All (λ n. n < x) (take p xs) place.below) (recursion_from_All (λ n. x < n) (drop p xs) place.above))
+    (rises-insert None xs p x (ascends xs rising) tt (recursion_from_All (λ n. n < x) (take p xs) place.below) (recursion_from_All (λ n. x < n) (drop p xs) place.above))

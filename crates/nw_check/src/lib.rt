@@ -10,6 +10,7 @@ mod check;
 mod checked;
 mod fault;
 mod gather;
+mod laws;
 mod members;
 mod message;
 
@@ -17,4 +18,8 @@ pub use check::{check_block, check_cert, valid};
 pub use checked::{CheckedBlock, CheckedCert};
 pub use fault::{BlockFault, CertFault, Counted, FinishFault, GatherFault, StartFault};
 pub use gather::Gather;
+pub use laws::{blocks_have_one_fault, certificates_have_one_fault, votes_have_one_fault};
 pub use message::{Checked, check_message};
+
+#[cfg(test)]
+mod tests;

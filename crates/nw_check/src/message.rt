@@ -39,7 +39,9 @@ pub fn check_message<S: Scheme>(
     ensures memory { OnErr result (IsSpelled text.now) }
 {
     match decode_message(alloc, text) {
-        Ok(Message::Block { block, signature }) => checked_block(alloc, committee, text, block, signature),
+        Ok(Message::Block { block, signature }) => checked_block(
+            alloc, committee, text, block, signature,
+        ),
         Ok(Message::Certificate(certificate)) => checked_cert(alloc, committee, text, certificate),
         Ok(Message::Vote(vote)) => Ok(Checked::Vote(vote)),
         Err(error) => match error {

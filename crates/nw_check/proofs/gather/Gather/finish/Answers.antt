@@ -11,4 +11,4 @@ new-requires-2 g c =
     let so : IsTrue c.reach_quorum.result = cc in
     let reached = rw (c.get.ensures, c.deref.ensures.value) at (c.reach_quorum.ensures.0 so) in
     rw (c.in_ok-try_clone.ensures, c.in_ok-new.ensures, c.new-votes.ensures, c.in_ok-from_slice.ensures.items, c.deref-2.ensures.value)
-      (gathering-valid g.S.Scheme.accepts _ c.self.invariant reached)
+    (gathering-valid g.S.Scheme.accepts _ c.self.invariant reached)
