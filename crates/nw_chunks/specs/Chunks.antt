@@ -1,5 +1,5 @@
 -- Items in chunks of 256, and those behind the last chunk.
-use Rattle.std.specs.Prelude.{◌≡◌, ℕ, ◌+◌, ◌*◌, ◌^◌, ◌<◌, ◌≤◌, List, ◌++◌, length, reverse, All}
+use Rattle.std.specs.Prelude.{◌≡◌, ℕ, ◌^◌, ◌<◌, ◌≤◌, List, ◌++◌, length, reverse, All}
 use Rattle.std.specs.List.{flat_map}
 
 -- the items of the chunks, one chunk after another, and then those behind them, given the last first

@@ -5,11 +5,11 @@ use nw_digest::Shared;
 use std::marker::Model;
 
 /// How many items a chunk has.
-pub const CHUNK: usize = 256;
+pub(crate) const CHUNK: usize = 256;
 
 /// Items of a list that never change, as many as a chunk has. Contracts see the items.
 #[derive(Drop)]
-pub struct Chunk<T: Drop> {
+pub(crate) struct Chunk<T: Drop> {
     items: Vec<Shared<T>>,
 }
 
@@ -25,7 +25,7 @@ impl<T: Drop> Model for Chunk<T> {
 
 impl<T: Drop> Chunk<T> {
     /// The chunk of these items. It takes no memory.
-    pub fn new(items: Vec<Shared<T>>) -> Chunk<T>
+    pub(crate) fn new(items: Vec<Shared<T>>) -> Chunk<T>
         requires { length items.items ≡ 256 }
         ensures { result ≡ items.items }
     {
@@ -33,7 +33,7 @@ impl<T: Drop> Chunk<T> {
     }
 
     /// The item at the index.
-    pub fn item(&self, index: usize) -> &T
+    pub(crate) fn item(&self, index: usize) -> &T
         requires { index < 256 }
         ensures item { slice_get self.now index ≡ Some result.now }
         ensures whole { length self.now ≡ 256 }

@@ -2,8 +2,8 @@
 ghost use Rattle.std.specs.Prelude.{◌≡◌, ◌+◌, ◌/◌, ◌%◌, ◌^◌, ◌<◌, ◌==◌, ◌++◌, ◌∷◌, [], IfOk, length, reverse, slice_get};
 ghost use Rattle.std.specs.Option.{option_copied};
 
-use crate::chunk::CHUNK;
-use crate::{Chunk, Trail};
+use crate::chunk::{CHUNK, Chunk};
+use crate::trail::Trail;
 use nw_digest::{NoMemory, Sequence, Shared};
 use std::alloc::Global;
 use std::marker::Model;

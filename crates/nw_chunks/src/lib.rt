@@ -8,6 +8,7 @@ mod chunk;
 mod chunks;
 mod trail;
 
-pub use chunk::Chunk;
 pub use chunks::Chunks;
-pub use trail::Trail;
+
+#[cfg(test)]
+mod tests;

@@ -17,7 +17,7 @@ struct Node<T: Drop> {
 /// A list of shared items that never changes, and shares all but its last item with the list that it was made from. Contracts
 /// see the items, the last first.
 #[derive(Drop)]
-pub struct Trail<T: Drop> {
+pub(crate) struct Trail<T: Drop> {
     last: Option<Arc<Node<T>>>,
 }
 
@@ -32,14 +32,14 @@ impl<T: Drop> Model for Trail<T> {
 
 impl<T: Drop> Trail<T> {
     /// No items. It takes no memory.
-    pub fn new() -> Trail<T>
+    pub(crate) fn new() -> Trail<T>
         ensures { result ≡ [] }
     {
         Trail { last: None }
     }
 
     /// The same list, with one more owner of its last item.
-    pub fn try_clone(&self) -> Result<Trail<T>, NoMemory>
+    pub(crate) fn try_clone(&self) -> Result<Trail<T>, NoMemory>
         ensures { IfOk result (λ t. t ≡ self.now) }
     {
         match &self.last {
@@ -51,7 +51,7 @@ impl<T: Drop> Trail<T> {
     }
 
     /// The list with one more item, which comes last.
-    pub fn with(&self, alloc: Global, item: Shared<T>) -> Result<Trail<T>, NoMemory>
+    pub(crate) fn with(&self, alloc: Global, item: Shared<T>) -> Result<Trail<T>, NoMemory>
         ensures { IfOk result (λ t. t ≡ item ∷ self.now) }
     {
         let before = self.try_clone()?.last;
@@ -61,7 +61,7 @@ impl<T: Drop> Trail<T> {
     }
 
     /// The item so many places before the last one, or `None` where there is none.
-    pub fn back(&self, places: usize) -> Option<&T>
+    pub(crate) fn back(&self, places: usize) -> Option<&T>
         ensures { option_copied result ≡ slice_get self.now places }
     {
         let mut node = self.last.as_ref();
@@ -75,7 +75,7 @@ impl<T: Drop> Trail<T> {
     }
 
     /// The items in order, each with one more owner, with room for one more.
-    pub fn items(&self, alloc: Global, room: usize) -> Result<Vec<Shared<T>>, NoMemory>
+    pub(crate) fn items(&self, alloc: Global, room: usize) -> Result<Vec<Shared<T>>, NoMemory>
         ensures { IfOk result (λ items. items.items ≡ reverse self.now) }
     {
         let mut items = Vec::with_capacity(alloc, room)?;

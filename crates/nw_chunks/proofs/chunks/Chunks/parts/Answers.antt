@@ -1,4 +1,4 @@
-use Rattle.std.proofs.Common.{◌≡◌, ◌+◌, length, ap, ◌∙◌}
+use Rattle.std.proofs.Common.{◌+◌, length, ap, ◌∙◌}
 use Rattle.nw_chunks.proofs.Chunked.{items_parts}
 use Rattle.nw_chunks.proofs.chunks.Chunks.parts.Goals as goal
 
