@@ -212,7 +212,12 @@ impl<S: Scheme> Book<S> {
     }
 
     /// Whether a call of the session with the number may take the step of the command; else why not. It takes no memory.
-    pub(crate) fn may_step(&self, session: u16, number: u32, command: &Command<S>) -> Result<(), NoStep>
+    pub(crate) fn may_step(
+        &self,
+        session: u16,
+        number: u32,
+        command: &Command<S>,
+    ) -> Result<(), NoStep>
         ensures taken { OnOk result (IsInTurn self.now session number × IsUnder self.now.committee command.now × HasRoom self.now) }
         ensures refused { IfErr result (IsRefusal self.now session number (IsUnder self.now.committee command.now)) }
         ensures no_memory { IsErrOf result NoStep.NoMemory → ⊥ }

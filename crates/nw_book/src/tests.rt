@@ -8,6 +8,7 @@ use std::test::Fail;
 use values::{block, certificate, committee};
 
 mod causal;
+mod chunks;
 mod diamond;
 mod runs;
 mod values;
@@ -33,18 +34,33 @@ fn lone_block(alloc: Global, round: u64) -> Result<Command<DemoScheme>, Fail> {
 }
 
 /// Session 0 writes the block of the round.
-fn write(book: &mut Book<DemoScheme>, alloc: Global, number: u32, round: u64) -> Result<Done<DemoScheme>, Fail> {
+fn write(
+    book: &mut Book<DemoScheme>,
+    alloc: Global,
+    number: u32,
+    round: u64,
+) -> Result<Done<DemoScheme>, Fail> {
     Ok(book.step(alloc, 0, number, &lone_block(alloc, round)?)?)
 }
 
 /// A session reads the block of round 0.
-fn read(book: &mut Book<DemoScheme>, alloc: Global, session: u16, number: u32) -> Result<Done<DemoScheme>, Fail> {
+fn read(
+    book: &mut Book<DemoScheme>,
+    alloc: Global,
+    session: u16,
+    number: u32,
+) -> Result<Done<DemoScheme>, Fail> {
     let digest = block(alloc, &committee(alloc, 1)?, 0, 0, &[])?.digest();
     Ok(book.step(alloc, session, number, &Command::Read(digest))?)
 }
 
 /// Why a read of a session is refused, if it is.
-fn refusal(book: &mut Book<DemoScheme>, alloc: Global, session: u16, number: u32) -> Option<NoStep> {
+fn refusal(
+    book: &mut Book<DemoScheme>,
+    alloc: Global,
+    session: u16,
+    number: u32,
+) -> Option<NoStep> {
     book.step(alloc, session, number, &Command::Read(Digest([0; 32])))
         .err()
 }
@@ -205,8 +221,14 @@ fn asked_under(
 #[test]
 fn a_block_of_another_committee_is_refused_second(rt: HostRuntime) -> Result<(), Fail> {
     assert_eq!(rt; asked_under(rt.alloc(), 4, 1, 1)?, Some(NoStep::OutOfTurn));
-    assert_eq!(rt; asked_under(rt.alloc(), 4, 2, 1)?, Some(NoStep::OtherCommittee));
-    assert_eq!(rt; asked_under(rt.alloc(), 1, 2, 1)?, Some(NoStep::HistoryFull));
+    assert_eq!(rt;
+        asked_under(rt.alloc(), 4, 2, 1)?,
+        Some(NoStep::OtherCommittee)
+    );
+    assert_eq!(rt;
+        asked_under(rt.alloc(), 1, 2, 1)?,
+        Some(NoStep::HistoryFull)
+    );
     assert_eq!(rt; asked_under(rt.alloc(), 1, 2, 2)?, None);
     Ok(())
 }
@@ -225,7 +247,10 @@ fn a_certificate_of_another_committee_is_refused(rt: HostRuntime) -> Result<(), 
 
 /// How many members the front's committee has, and the history's.
 fn sizes(book: &Book<DemoScheme>, front: &Front<DemoScheme>) -> (usize, usize) {
-    (front.committee().get().size(), book.history().committee().get().size())
+    (
+        front.committee().get().size(),
+        book.history().committee().get().size(),
+    )
 }
 
 #[test]

@@ -120,7 +120,10 @@ impl<'a> Player<'a> {
         alloc: Global,
         command: &Command<DemoScheme>,
     ) -> Result<Option<Reply>, LineFault> {
-        self.calls.as_mut().ok_or(LineFault::Bad)?.step(alloc, command)
+        self.calls
+            .as_mut()
+            .ok_or(LineFault::Bad)?
+            .step(alloc, command)
     }
 }
 

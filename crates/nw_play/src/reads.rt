@@ -29,7 +29,12 @@ impl<'a> Player<'a> {
     /// Reads the block's digest with its causal history, and walks it.
     pub fn causal(&mut self, alloc: Global, name: Name<'a>) -> Result<Answer<'a>, LineFault> {
         let digest = self.names.bound(name)?.digest;
-        match self.calls.as_mut().ok_or(LineFault::Bad)?.open(alloc, digest)? {
+        match self
+            .calls
+            .as_mut()
+            .ok_or(LineFault::Bad)?
+            .open(alloc, digest)?
+        {
             Opened::Ready(ticket) => self.listed(alloc, name, &ticket),
             Opened::Refused(reply) => Ok(Answer::NotReady { name, reply }),
             Opened::HistoryFull => Ok(Answer::HistoryFull),
@@ -47,7 +52,12 @@ impl<'a> Player<'a> {
         if self.tickets.contains_key(&ticket) {
             return Err(LineFault::Bad);
         }
-        match self.calls.as_mut().ok_or(LineFault::Bad)?.open(alloc, digest)? {
+        match self
+            .calls
+            .as_mut()
+            .ok_or(LineFault::Bad)?
+            .open(alloc, digest)?
+        {
             Opened::Ready(opened) => {
                 self.tickets.insert(ticket, opened)?;
                 Ok(Answer::Ready(ticket))

@@ -67,12 +67,17 @@ impl<'a> Player<'a> {
         let block = &bound.block;
         let calls = self.calls.as_ref().ok_or(LineFault::Bad)?;
         let committee = calls.committee();
-        let mut gather: Gather<DemoScheme> =
-            match Gather::new(alloc, committee, bound.digest, block.round, block.author) {
-                Ok(gather) => gather,
-                Err(StartFault::Author) => return Ok(refused(name, Refusal::Author)),
-                Err(StartFault::NoMemory) => return Err(LineFault::NoMemory),
-            };
+        let mut gather: Gather<DemoScheme> = match Gather::new(
+            alloc,
+            committee,
+            bound.digest,
+            block.round,
+            block.author,
+        ) {
+            Ok(gather) => gather,
+            Err(StartFault::Author) => return Ok(refused(name, Refusal::Author)),
+            Err(StartFault::NoMemory) => return Err(LineFault::NoMemory),
+        };
         let mut votes = Vec::with_capacity(alloc, signers.len())?;
         for signer in signers {
             votes.push(gathered(&mut gather, *signer, bound)?)?;

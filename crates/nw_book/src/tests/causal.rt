@@ -89,7 +89,12 @@ fn a_causal_read_without_a_list_says_why(rt: HostRuntime) -> Result<(), Fail> {
 }
 
 /// A ticket for the digest, opened as this call of session 0.
-fn ticket(book: &mut Book<DemoScheme>, alloc: Global, number: u32, digest: Digest) -> Result<Ticket<DemoScheme>, Fail> {
+fn ticket(
+    book: &mut Book<DemoScheme>,
+    alloc: Global,
+    number: u32,
+    digest: Digest,
+) -> Result<Ticket<DemoScheme>, Fail> {
     match open(book, alloc, number, digest)? {
         Ok(ticket) => Ok(ticket),
         Err(_) => Err(Fail::from("the read was not opened")),

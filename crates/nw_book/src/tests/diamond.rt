@@ -7,7 +7,11 @@ fn next(book: &Book<DemoScheme>) -> Result<u32, Fail> {
     Ok(before.saturating_add(1))
 }
 
-fn ask(book: &mut Book<DemoScheme>, alloc: Global, command: &Command<DemoScheme>) -> Result<(), Fail> {
+fn ask(
+    book: &mut Book<DemoScheme>,
+    alloc: Global,
+    command: &Command<DemoScheme>,
+) -> Result<(), Fail> {
     let number = next(book)?;
     book.step(alloc, 0, number, command)?;
     Ok(())
@@ -44,7 +48,11 @@ fn diamond(book: &mut Book<DemoScheme>, alloc: Global) -> Result<Vec<Digest>, Fa
 }
 
 /// The rounds and authors of the list that a causal read opens.
-fn listed(book: &mut Book<DemoScheme>, alloc: Global, digest: Digest) -> Result<Vec<(u64, u16)>, Fail> {
+fn listed(
+    book: &mut Book<DemoScheme>,
+    alloc: Global,
+    digest: Digest,
+) -> Result<Vec<(u64, u16)>, Fail> {
     let number = next(book)?;
     let Ok(ticket) = book.open(alloc, 0, number, digest)? else {
         return Err(Fail::from("the block is complete"));

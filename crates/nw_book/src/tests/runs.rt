@@ -139,11 +139,17 @@ fn a_run_stops_where_a_step_is_refused(rt: HostRuntime) -> Result<(), Fail> {
     let script = openings(rt.alloc(), &[0, 1])?;
     let cause = Cause::NoStep(NoStep::OutOfTurn);
     for events in [2, 1] {
-        assert_eq!(rt; script.run(rt.alloc(), events)?.stop, Some(Stop { at: 1, cause }));
+        assert_eq!(rt;
+            script.run(rt.alloc(), events)?.stop,
+            Some(Stop { at: 1, cause })
+        );
     }
     let script = openings(rt.alloc(), &[0, 0])?;
     let cause = Cause::NoStep(NoStep::HistoryFull);
-    assert_eq!(rt; script.run(rt.alloc(), 1)?.stop, Some(Stop { at: 1, cause }));
+    assert_eq!(rt;
+        script.run(rt.alloc(), 1)?.stop,
+        Some(Stop { at: 1, cause })
+    );
     assert_eq!(rt; script.run(rt.alloc(), 2)?.stop, None);
     Ok(())
 }
@@ -154,7 +160,10 @@ fn a_run_stops_at_a_block_of_another_committee(rt: HostRuntime) -> Result<(), Fa
     let four = committee(rt.alloc(), 4)?;
     script.call(Command::Write(block(rt.alloc(), &four, 0, 0, &[])?))?;
     let cause = Cause::NoStep(NoStep::OtherCommittee);
-    assert_eq!(rt; script.run(rt.alloc(), 2)?.stop, Some(Stop { at: 1, cause }));
+    assert_eq!(rt;
+        script.run(rt.alloc(), 2)?.stop,
+        Some(Stop { at: 1, cause })
+    );
     Ok(())
 }
 

@@ -83,7 +83,11 @@ pub const NEVER_BEGUN: [(&str, &str, usize); 25] = [
     ("a committee of 4294967295", "committee v1 4294967295\n", 1),
     ("a member of no weight", "committee v2 0\n", 1),
     ("a member of weight 1000001", "committee v2 1000001\n", 1),
-    ("weights with nothing between two commas", "committee v2 1,,1\n", 1),
+    (
+        "weights with nothing between two commas",
+        "committee v2 1,,1\n",
+        1,
+    ),
     ("no weights", "committee v2 -\n", 1),
     ("a second committee", "committee v1 4\ncommittee v1 4\n", 2),
     ("a committee of none", "committee v1 0\n", 1),

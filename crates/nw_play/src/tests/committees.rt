@@ -80,7 +80,11 @@ fn four_equal_members_and_four_of_weight_one_play_the_same(rt: HostRuntime) -> R
 #[test]
 fn weights_add_up_to_the_quorum(rt: HostRuntime) -> Result<(), Fail> {
     for case in &WEIGHTED {
-        assert!(rt; prints(&rt, case.script.as_bytes(), case)?, "{}", case.shows);
+        assert!(rt;
+            prints(&rt, case.script.as_bytes(), case)?,
+            "{}",
+            case.shows
+        );
     }
     Ok(())
 }
@@ -101,5 +105,25 @@ fn a_committee_has_a_hundred_members_at_most(rt: HostRuntime) -> Result<(), Fail
     let (outcome, printed) = played(&rt, b"committee v1 100\n")?;
     assert_eq!(rt; outcome, Ok(()));
     assert!(rt; printed.is_empty());
+    Ok(())
+}
+
+/// A script of so many reads of one block, in a history with room for 513 events.
+fn reads(rt: &HostRuntime, count: usize) -> Result<String, Fail> {
+    let mut script = format!(in rt.alloc();
+        "committee v1 1\nlimits 16 513 4 1\nblock a 0 0 - -\nwrite a\n"
+    )?;
+    for _ in 0..count {
+        script.push_str("read a\n")?;
+    }
+    Ok(script)
+}
+
+#[test]
+fn a_script_of_513_reads_ends_in_a_full_history(rt: HostRuntime) -> Result<(), Fail> {
+    let script = reads(&rt, 513)?;
+    let (outcome, printed) = played(&rt, script.as_bytes())?;
+    assert_eq!(rt; outcome, Ok(()));
+    assert!(rt; printed.ends_with(b"a found 13\na found 13\nrefused history full\n"));
     Ok(())
 }

@@ -118,4 +118,3 @@ pub const PLAYED: [Case; 23] = [
         prints: "block a 13\na stored vote\na certified\nrefused history full\nrefused history full\nrefused history full\nrefused history full\n",
     },
 ];
-

@@ -1,0 +1,40 @@
+//! Fronts of long histories.
+use super::*;
+
+/// How many events and how many parts the front of a read has.
+fn measured(
+    book: &mut Book<DemoScheme>,
+    alloc: Global,
+    number: u32,
+) -> Result<(usize, usize), Fail> {
+    let command = Command::Read(Digest([0; 32]));
+    let front = book.step(alloc, 0, number, &command)?.front;
+    Ok((front.len(), front.parts()))
+}
+
+/// How many parts the fronts of the first 513 reads have: none copies what is in a full chunk.
+fn parts(book: &mut Book<DemoScheme>, alloc: Global) -> Result<Vec<usize>, Fail> {
+    let mut parts = Vec::new(alloc);
+    for number in 1..=513 {
+        let (events, links) = measured(book, alloc, number)?;
+        if u32::try_from(events) != Ok(number) {
+            return Err(Fail::from("a front has each event"));
+        }
+        parts.push(links)?;
+    }
+    Ok(parts)
+}
+
+#[test]
+fn fronts_of_513_events_share_two_chunks(rt: HostRuntime) -> Result<(), Fail> {
+    let mut book = book_of_one(rt.alloc(), limits(16, 513, 4, 1))?;
+    let parts = parts(&mut book, rt.alloc())?;
+    for (events, links) in [(1, 1), (255, 255), (256, 1), (257, 2), (513, 3)] {
+        assert_eq!(rt; parts.get(events - 1).copied(), Some(links));
+    }
+    assert_eq!(rt;
+        refusal(&mut book, rt.alloc(), 0, 514),
+        Some(NoStep::HistoryFull)
+    );
+    Ok(())
+}
