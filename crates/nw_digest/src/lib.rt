@@ -5,12 +5,14 @@
 #![tactic(auto)]
 
 mod digest;
+mod in_round;
 mod memory;
 mod round;
 mod sequence;
 mod shared;
 
 pub use digest::{Digest, digest_of};
+pub use in_round::InRound;
 pub use memory::NoMemory;
 pub use round::Round;
 pub use sequence::Sequence;

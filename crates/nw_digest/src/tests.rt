@@ -37,3 +37,26 @@ fn a_sequence_lends_its_elements(rt: HostRuntime) -> Result<(), Fail> {
     assert_eq!(rt; list.as_slice(), [4u8, 2].as_slice());
     Ok(())
 }
+
+/// A round that stands for itself.
+#[derive(Drop)]
+struct Numbered(Round);
+
+impl InRound for Numbered {
+    ghost round_of = { λ it. it.0 };
+
+    fn round(&self) -> Round {
+        self.0
+    }
+}
+
+fn round_of<T: InRound>(item: &T) -> u64 {
+    item.round().get()
+}
+
+#[test]
+fn what_is_in_a_round_tells_it(rt: HostRuntime) -> Result<(), Fail> {
+    let item = Numbered(Round::new(7).ok_or("out of range")?);
+    assert_eq!(rt; round_of(&item), 7);
+    Ok(())
+}

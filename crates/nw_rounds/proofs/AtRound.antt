@@ -1,0 +1,178 @@
+-- The digests at a round, by the entries of its places.
+use Rattle.std.proofs.Common.{◌≡◌, ◌∙◌, ◌⊎◌, inl, inr, ℕ, ◌+◌, ◌<◌, ◌≤◌, Bool, true, false, cond, not, ◌&&◌, ◌||◌, ◌++◌, List, [], ◌∷◌, map, Bor, Option, Some, None, zero, suc, refl, sym, ap, subst, arith}
+use Rattle.std.specs.Prelude.{All, filter, Contains, nat_le, slice_get}
+use Rattle.std.specs.Bool.{MatchBool}
+use Rattle.std.specs.declared.cmp.Ordering.TheVariants.{Less, Equal, Greater}
+use Rattle.std.specs.declared.ops.Bound.TheVariants.{Included, Excluded}
+use Rattle.std.specs.Ordering.{nat_cmp, is_gt, is_le, eq_by_cmp, ordering_then}
+use Rattle.std.specs.Cmp.{eq_by_cmp_equiv, nat_cmp_is}
+use Rattle.std.specs.List.{IsDistinct, list_any}
+use Rattle.std.specs.List.Sorted.{IsStrictlySortedBy}
+use Rattle.std.specs.Map.{lookup, keys_of, values_of}
+use Rattle.std.specs.BTreeMap.{is_at}
+use Rattle.std.specs.BTreeMap.Range.{IsLeBy, range_contains}
+use Rattle.std.specs.Map.Iter.{deref_pair}
+use Rattle.std.specs.FinMap.{get}
+use Rattle.std.proofs.lemmas.Bool.{eq-eqb, eqb-true, le-leb, lt-leb, ltb-true, ltb-false}
+use Rattle.std.proofs.lemmas.List.Elements.{All-head, All-tail, All-weaker}
+use Rattle.std.proofs.lemmas.List.Folds.{list_any-append}
+use Rattle.std.proofs.lemmas.Map.Entries.{lookup-filter-keys}
+use Rattle.std.proofs.lemmas.Map.Keys.{IsDistinct-from_sorted}
+use Rattle.std.proofs.lemmas.Map.Made.{Contains-from_values_of, Contains-values_of, IsDistinct-keys_filter}
+use Rattle.std.proofs.lemmas.Map.Views.{Contains-from_any, Contains-from_lookup, list_any-from_Contains, lookup-from_Contains}
+use Rattle.std.proofs.lemmas.Bool.Decides.{nat_tests}
+use lib.Dec.{eqb, leb, ltb}
+use Rattle.nw_digest.specs.declared.digest.Digest.{Digest}
+use Rattle.nw_rounds.specs.declared.table.Table.{Table}
+use Rattle.nw_rounds.specs.declared.table.Table.TheVariants.{First, Certified}
+use Rattle.nw_rounds.specs.Slots.{AreDigestsAt, StandsAt, digest_cmp}
+use Rattle.nw_rounds.specs.Places.{BeginsBelow, Place, place_cmp, table_cmp, tables_of}
+use Rattle.nw_rounds.proofs.SlotLemmas.{digests_apart, digests_total, places_apart, places_total}
+use Rattle.nw_rounds.proofs.TwoTables.{get_in, tie}
+
+-- no place is before the first of a round
+from_first : (author : ℕ) (t : Table) → is_le (ordering_then (nat_cmp 0 author) (table_cmp First t)) ≡ true
+from_first author First = elim author as (λ a. is_le (ordering_then (nat_cmp 0 a) Equal) ≡ true) [ zero ↦ refl | suc n ↦ rw (sym (nat_cmp_is 0 (suc n) Less (omega arith))) refl ]
+from_first author Certified = elim author as (λ a. is_le (ordering_then (nat_cmp 0 a) Less) ≡ true) [ zero ↦ refl | suc n ↦ rw (sym (nat_cmp_is 0 (suc n) Less (omega arith))) refl ]
+
+sides : (a b : ℕ) → (a < b) ⊎ ((a ≡ b) ⊎ (b < a))
+sides a b = grind arith
+
+-- a place is not before the first of a round exactly where its round is not lower
+from_start : (n : ℕ) (p : Place) → is_le (place_cmp ((n, 0), First) p) ≡ leb n p.0.0
+from_start n p = by (sides n p.0.0)
+  where
+    by : (n < p.0.0) ⊎ ((n ≡ p.0.0) ⊎ (p.0.0 < n)) → is_le (place_cmp ((n, 0), First) p) ≡ leb n p.0.0
+    by (inl before) =
+        ap (λ r. is_le (ordering_then (ordering_then r (nat_cmp 0 p.0.1)) (table_cmp First p.1))) (sym (nat_cmp_is n p.0.0 Less before))
+        ∙ sym (le-leb n p.0.0 (omega arith))
+    by (inr (inl here)) =
+        ap (λ r. is_le (ordering_then (ordering_then r (nat_cmp 0 p.0.1)) (table_cmp First p.1))) (sym (nat_cmp_is n p.0.0 Equal here))
+        ∙ from_first p.0.1 p.1 ∙ sym (le-leb n p.0.0 (omega arith))
+    by (inr (inr behind)) =
+        ap (λ r. is_le (ordering_then (ordering_then r (nat_cmp 0 p.0.1)) (table_cmp First p.1))) (sym (nat_cmp_is n p.0.0 Greater behind))
+        ∙ sym (lt-leb n p.0.0 (omega arith))
+
+between : (n m : ℕ) → (leb n m && not (leb (n + 1) m)) ≡ eqb m n
+between n m = grind (arith, nat_tests)
+
+-- the places from the first of a round to the first of the next are those of the round
+pub in_round : (round : ℕ) (p : Place) → range_contains place_cmp (Included ((round, 0), First)) (Excluded ((round + 1, 0), First)) p ≡ eqb p.0.0 round
+in_round round p =
+    ap (λ b. b && not (is_le (place_cmp ((round + 1, 0), First) p))) (from_start round p)
+    ∙ ap (λ b. leb round p.0.0 && not b) (from_start (round + 1) p)
+    ∙ between round p.0.0
+
+filter_same : {X : Type 0} (p q : X → Bool) (xs : List X) → ((x : X) → p x ≡ q x) → filter p xs ≡ filter q xs
+filter_same p q [] same = refl
+filter_same p q (x ∷ xs) same = ap (λ b. cond b (x ∷ filter p xs) (filter p xs)) (same x) ∙ ap (λ rest. cond (q x) (x ∷ rest) rest) (filter_same p q xs same)
+
+kept_only : (b : Bool) (found : Option Digest) (d : Digest) → cond b found None ≡ Some d → (b ≡ true) × (found ≡ Some d)
+kept_only true found d e = (refl, e)
+kept_only false found d e = cc
+
+module _ (es rs : List (Place × Digest)) (round : ℕ) (sorted : IsStrictlySortedBy place_cmp (keys_of es))
+    (part : rs ≡ filter (λ e. range_contains place_cmp (Included ((round, 0), First)) (Excluded ((round + 1, 0), First)) e.0) es) where
+  there : rs ≡ filter (λ e. eqb e.0.0.0 round) es
+  there = part ∙ filter_same _ _ es (λ e. in_round round e.0)
+
+  distinct : IsDistinct (eq_by_cmp place_cmp) (keys_of es)
+  distinct = IsDistinct-from_sorted place_cmp (keys_of es) sorted
+
+  look : (p : Place) → lookup (is_at (place_cmp p)) rs ≡ cond (eqb p.0.0 round) (lookup (is_at (place_cmp p)) es) None
+  look p = ap (lookup (is_at (place_cmp p))) there
+      ∙ lookup-filter-keys (is_at (place_cmp p)) (λ (q : Place). eqb q.0.0 round) (eqb p.0.0 round) (λ q at. ap (λ (q : Place). eqb q.0.0 round) (sym (places_apart p q (tie (place_cmp p q) at)))) es
+
+  -- a digest among those of the part stands at the round
+  pub stands : (d : Digest) → Contains (values_of rs) d → StandsAt (tables_of es) round d
+  stands d has =
+      let entry : (p : Place) × Contains rs (p, d) = Contains-from_values_of rs d has in
+      let apart : IsDistinct (eq_by_cmp place_cmp) (keys_of rs) = rw there (IsDistinct-keys_filter (eq_by_cmp place_cmp) _ es distinct) in
+      let found : lookup (is_at (place_cmp entry.0)) rs ≡ Some d = lookup-from_Contains (eq_by_cmp_equiv places_total) entry.0 d rs apart entry.1 in
+      let both = kept_only (eqb entry.0.0.0 round) _ d (sym (look entry.0) ∙ found) in
+      let here : entry.0.0.0 ≡ round = eqb-true entry.0.0.0 round both.0 in
+      by entry.0.0.0 entry.0.0.1 entry.0.1 here both.1
+    where
+      by : (r author : ℕ) (t : Table) → r ≡ round → lookup (is_at (place_cmp ((r, author), t))) es ≡ Some d → StandsAt (tables_of es) round d
+      by r author First is found = (author, inl (ap (λ (n : ℕ). get (tables_of es).firsts (n, author)) (sym is) ∙ get_in First (r, author) es ∙ found))
+      by r author Certified is found = (author, inr (ap (λ (n : ℕ). get (tables_of es).certified (n, author)) (sym is) ∙ get_in Certified (r, author) es ∙ found))
+
+  at : (d : Digest) (author : ℕ) (t : Table) → lookup (is_at (place_cmp ((round, author), t))) es ≡ Some d → Contains (values_of rs) d
+  at d author t found =
+      let seen : lookup (is_at (place_cmp ((round, author), t))) rs ≡ Some d =
+      look ((round, author), t) ∙ ap (λ b. cond b (lookup (is_at (place_cmp ((round, author), t))) es) None) (eq-eqb round round refl) ∙ found in
+      Contains-values_of rs ((round, author), t) d (Contains-from_lookup (λ p q e. places_apart p q (tie (place_cmp p q) e)) ((round, author), t) d rs seen)
+
+  -- and the other way round
+  pub among : (d : Digest) → StandsAt (tables_of es) round d → Contains (values_of rs) d
+  among d (author, inl is) = at d author First (sym (get_in First (round, author) es) ∙ is)
+  among d (author, inr is) = at d author Certified (sym (get_in Certified (round, author) es) ∙ is)
+
+  -- a set with the digests of the part
+  pub are_digests_at : (ks : List Digest) → ((d : Digest) → list_any (eq_by_cmp digest_cmp d) ks ≡ list_any (eq_by_cmp digest_cmp d) (values_of rs)) → IsStrictlySortedBy digest_cmp ks → AreDigestsAt (tables_of es) round ks
+  are_digests_at ks same ascending = record {
+    exactly = λ d. (
+      (λ has. stands d (Contains-from_any one d (values_of rs) (sym (same d) ∙ list_any-from_Contains (eq_by_cmp_equiv digests_total) d ks has))),
+      (λ is. Contains-from_any one d ks (same d ∙ list_any-from_Contains (eq_by_cmp_equiv digests_total) d (values_of rs) (among d is))),
+    );
+    ascending = ascending;
+  }
+    where
+      one : (a b : Digest) → eq_by_cmp digest_cmp a b ≡ true → a ≡ b
+      one a b e = digests_apart a b (tie (digest_cmp a b) e)
+
+-- one more digest in a set, and in a list
+pub one_more : (ks ns ys : List Digest) (y : Digest) → ((q : Digest) → list_any (is_at (digest_cmp q)) ns ≡ cond (is_at (digest_cmp y) q) true (list_any (is_at (digest_cmp q)) ks))
+    → ((d : Digest) → list_any (eq_by_cmp digest_cmp d) ks ≡ list_any (eq_by_cmp digest_cmp d) ys) → (d : Digest) → list_any (eq_by_cmp digest_cmp d) ns ≡ list_any (eq_by_cmp digest_cmp d) (ys ++ y ∷ [])
+one_more ks ns ys y put same d =
+    put d ∙ ap (λ b. cond b true (list_any (eq_by_cmp digest_cmp d) ks)) ((eq_by_cmp_equiv digests_total).symm y d)
+    ∙ ap (cond (eq_by_cmp digest_cmp d y) true) (same d) ∙ swapped (eq_by_cmp digest_cmp d y) (list_any (eq_by_cmp digest_cmp d) ys)
+    ∙ sym (list_any-append (eq_by_cmp digest_cmp d) ys (y ∷ []))
+  where
+    swapped : (a b : Bool) → cond a true b ≡ (b || (a || false))
+    swapped true true = refl
+    swapped true false = refl
+    swapped false true = refl
+    swapped false false = refl
+
+-- the digests that a loop over entries has read
+pub values_more : (es : List (Bor Place × Bor Digest)) (e : Bor Place × Bor Digest) → map (λ x. x.1.now) (es ++ e ∷ []) ≡ map (λ x. x.1.now) es ++ e.1.now ∷ []
+values_more [] e = refl
+values_more (x ∷ es) e = ap (λ rest. x.1.now ∷ rest) (values_more es e)
+
+pub values_read : (es : List (Bor Place × Bor Digest)) → map (λ x. x.1.now) es ≡ values_of (map deref_pair es)
+values_read [] = refl
+values_read (x ∷ es) = ap (λ rest. x.1.now ∷ rest) (values_read es)
+
+-- ---- what is below a round
+not_less : (p q : Place) → is_gt (place_cmp p q) ≡ false → p.0.0 ≤ q.0.0
+not_less p q h = by (sides p.0.0 q.0.0)
+  where
+    by : (p.0.0 < q.0.0) ⊎ ((p.0.0 ≡ q.0.0) ⊎ (q.0.0 < p.0.0)) → p.0.0 ≤ q.0.0
+    by (inl before) = omega arith
+    by (inr (inl here)) = omega arith
+    by (inr (inr behind)) =
+        let no : true ≡ false = ap (λ r. is_gt (ordering_then (ordering_then r (nat_cmp p.0.1 q.0.1)) (table_cmp p.1 q.1))) (nat_cmp_is p.0.0 q.0.0 Greater behind) ∙ h in cc
+
+-- the first entry tells whether any is of a lower round
+pub first_tells : (round : ℕ) (es : List (Place × Digest)) (k : Place) (d : Digest) → slice_get es 0 ≡ Some (k, d) → All (IsLeBy place_cmp k) (keys_of es)
+    → MatchBool (ltb k.0.0 round) (BeginsBelow round es) (All (λ p. round ≤ p.0.0) (keys_of es))
+first_tells round es k d first least = by (ltb k.0.0 round) refl
+  where
+    begins : (es : List (Place × Digest)) → slice_get es 0 ≡ Some (k, d) → k.0.0 < round → BeginsBelow round es
+    begins [] first low = cc
+    begins (e ∷ rest) first low = let same : e ≡ (k, d) = cc in let round_is : e.0.0.0 ≡ k.0.0 = ap (λ (x : Place × Digest). x.0.0.0) same in omega arith
+
+    by : (b : Bool) → ltb k.0.0 round ≡ b → MatchBool b (BeginsBelow round es) (All (λ p. round ≤ p.0.0) (keys_of es))
+    by true is = begins es first (ltb-true k.0.0 round is)
+    by false is = All-weaker (IsLeBy place_cmp k) (λ (p : Place). round ≤ p.0.0) (λ p h. let low = ltb-false k.0.0 round is in let up = not_less k p h in omega arith) (keys_of es) least
+
+pub none_lower : (round : ℕ) (es : List (Place × Digest)) → All (λ p. round ≤ p.0.0) (keys_of es) → filter (λ e. nat_le round e.0.0.0) es ≡ es
+none_lower round [] all = refl
+none_lower round (e ∷ es) all =
+    ap (λ b. cond b (e ∷ filter (λ x. nat_le round x.0.0.0) es) (filter (λ x. nat_le round x.0.0.0) es)) (le-leb round e.0.0.0 (All-head (λ (p : Place). round ≤ p.0.0) e.0 (keys_of es) all))
+    ∙ ap (λ rest. e ∷ rest) (none_lower round es (All-tail (λ (p : Place). round ≤ p.0.0) e.0 (keys_of es) all))
+
+-- without a first entry of a lower round, the same entries are not of a lower round
+pub one_lower : (round : ℕ) (es rest : List (Place × Digest)) (e : Place × Digest) → es ≡ e ∷ rest → BeginsBelow round es → filter (λ x. nat_le round x.0.0.0) rest ≡ filter (λ x. nat_le round x.0.0.0) es
+one_lower round es rest e is below = sym (ap (filter (λ (x : Place × Digest). nat_le round x.0.0.0)) is ∙ ap (λ b. cond b (e ∷ filter (λ (x : Place × Digest). nat_le round x.0.0.0) rest) (filter (λ (x : Place × Digest). nat_le round x.0.0.0) rest)) (lt-leb round e.0.0.0 (subst (BeginsBelow round) is below)))

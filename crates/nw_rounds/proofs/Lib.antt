@@ -1,0 +1,3 @@
+mod AtRound
+mod SlotLemmas
+mod TwoTables

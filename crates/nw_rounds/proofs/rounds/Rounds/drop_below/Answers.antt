@@ -1,0 +1,20 @@
+use Rattle.std.proofs.Common.{◌∙◌, ℕ, ap, sym}
+use Rattle.std.specs.Prelude.{nat_le}
+use Rattle.std.specs.FinMap.{retain_keys}
+use Rattle.nw_rounds.specs.declared.table.Table.TheVariants.{First, Certified}
+use Rattle.nw_rounds.specs.Slots.{Tables}
+use Rattle.nw_rounds.proofs.AtRound.{none_lower}
+use Rattle.nw_rounds.proofs.TwoTables.{kept_in}
+use Rattle.nw_rounds.proofs.rounds.Rounds.drop_below.Goals as goal
+
+pub returns-clause-firsts : goal.returns-clause-firsts
+returns-clause-firsts g c =
+    kept_in c.self.inside.digests.entries c.loop-self.self-inside.digests.entries c.get-round.result (sym (none_lower c.get-round.result _ c.loop-self-test.ensures) ∙ c.loop-self.invariant) First
+    ∙ ap (λ (t : Tables). retain_keys t.firsts (λ slot. nat_le c.get-round.result slot.0)) c.self.view_is
+    ∙ ap (λ (n : ℕ). retain_keys c.args.self.now.firsts (λ slot. nat_le n slot.0)) c.get-round.ensures.number
+
+pub returns-clause-certified : goal.returns-clause-certified
+returns-clause-certified g c =
+    kept_in c.self.inside.digests.entries c.loop-self.self-inside.digests.entries c.get-round.result (sym (none_lower c.get-round.result _ c.loop-self-test.ensures) ∙ c.loop-self.invariant) Certified
+    ∙ ap (λ (t : Tables). retain_keys t.certified (λ slot. nat_le c.get-round.result slot.0)) c.self.view_is
+    ∙ ap (λ (n : ℕ). retain_keys c.args.self.now.certified (λ slot. nat_le n slot.0)) c.get-round.ensures.number

@@ -1,0 +1,17 @@
+use Rattle.std.proofs.Common.{◌∙◌, ap, refl}
+use Rattle.std.specs.FinMap.{insert}
+use Rattle.nw_rounds.specs.declared.table.Table.TheVariants.{First, Certified}
+use Rattle.nw_rounds.specs.Slots.{Tables}
+use Rattle.nw_rounds.proofs.TwoTables.{put_elsewhere, put_there}
+use Rattle.nw_rounds.proofs.rounds.Rounds.put_certified.Goals as goal
+
+pub returns-clause-certified : goal.returns-clause-certified
+returns-clause-certified g c =
+    put_there c.self.inside.digests.entries c.insert.new.self.entries (c.get.result, c.args.author) Certified c.args.digest (λ p. c.in_ok-insert.ensures.updates.0 p)
+    ∙ ap (λ (t : Tables). insert t.certified (c.get.result, c.args.author) c.args.digest) c.self.view_is
+    ∙ ap (λ round. insert c.args.self.now.certified (round, c.args.author) c.args.digest) c.get.ensures.number
+
+pub returns-clause-firsts : goal.returns-clause-firsts
+returns-clause-firsts g c =
+    put_elsewhere c.self.inside.digests.entries c.insert.new.self.entries (c.get.result, c.args.author) Certified c.args.digest (λ p. c.in_ok-insert.ensures.updates.0 p) First refl
+    ∙ ap (λ (t : Tables). t.firsts) c.self.view_is

@@ -1,0 +1,43 @@
+-- Two maps in one.
+use Rattle.std.specs.Prelude.{ℕ, ◌<◌, List, [], ◌∷◌, Bool, true, false, if◌then◌else◌}
+use Rattle.std.specs.declared.cmp.Ordering.{Ordering}
+use Rattle.std.specs.Ordering.{ordering_then}
+use Rattle.std.specs.FinMap.{from_entries}
+use Rattle.nw_digest.specs.declared.digest.Digest.{Digest}
+use Rattle.nw_rounds.specs.declared.table.Table.{Table}
+use Rattle.nw_rounds.specs.declared.table.Table.TheVariants.{First, Certified}
+use Rattle.nw_rounds.specs.contracts.table.TableOrd.TheImpl.{ghosts}
+use Rattle.nw_rounds.specs.Slots.{Slot, Tables, slot_cmp}
+
+-- a slot, in one of the two tables
+abbrev pub Place : Type 0
+Place = Slot × Table
+
+-- whether these are one table
+abbrev pub is_table : Table → Table → Bool
+is_table First First = true
+is_table First Certified = false
+is_table Certified First = false
+is_table Certified Certified = true
+
+-- the first digest before the certified one, as `cmp` has them
+abbrev pub table_cmp : Table → Table → Ordering
+table_cmp = ghosts.cmp
+
+-- places by slot, and then by table
+abbrev pub place_cmp : Place → Place → Ordering
+place_cmp a b = ordering_then (slot_cmp a.0 b.0) (table_cmp a.1 b.1)
+
+-- the entries of one table
+abbrev pub in_table : Table → List (Place × Digest) → List (Slot × Digest)
+in_table t [] = []
+in_table t (e ∷ es) = if is_table t e.0.1 then (e.0.0, e.1) ∷ in_table t es else in_table t es
+
+-- the entries of each table, as a map
+abbrev pub tables_of : List (Place × Digest) → Tables
+tables_of es = record { firsts = from_entries (in_table First es); certified = from_entries (in_table Certified es) }
+
+-- the first entry is of a round below this one
+abbrev pub BeginsBelow : ℕ → List (Place × Digest) → Type 0
+BeginsBelow round [] = ⊥
+BeginsBelow round (e ∷ es) = e.0.0.0 < round

@@ -1,0 +1,51 @@
+-- Two maps from slots to digests.
+use Rattle.std.specs.Prelude.{◌≡◌, ◌↔◌, ◌⊎◌, ℕ, List, Some, Contains, refl}
+use Rattle.std.specs.Coded.{Coded, code_by, coded×, coded_ℕ, coded_list}
+use Rattle.std.specs.declared.cmp.Ordering.{Ordering}
+use Rattle.std.specs.Ordering.{nat_cmp, ordering_then}
+use Rattle.std.specs.Cmp.Lexicographic.{slice_cmp}
+use Rattle.std.specs.List.Sorted.{IsStrictlySortedBy}
+use Rattle.std.specs.FinMap as map
+use Rattle.std.specs.FinMap.{FinMap, empty, get}
+use Rattle.nw_digest.specs.declared.digest.Digest.{Digest}
+
+-- digests in the order of their bytes
+abbrev pub digest_cmp : Digest → Digest → Ordering
+digest_cmp a b = slice_cmp nat_cmp a.0 b.0
+
+-- a round and an author
+abbrev pub Slot : Type 0
+Slot = ℕ × ℕ
+
+-- slots by round, and then by author
+abbrev pub slot_cmp : Slot → Slot → Ordering
+slot_cmp a b = ordering_then (nat_cmp a.0 b.0) (nat_cmp a.1 b.1)
+
+-- the first digest of each slot, and the digest that is certified for it
+pub record Tables : Type 0 where
+  pub firsts : FinMap slot_cmp Digest
+  pub certified : FinMap slot_cmp Digest
+
+-- two empty maps
+abbrev pub no_digests : Tables
+no_digests = record { firsts = empty; certified = empty }
+
+-- the digest stands in either table at this round
+abbrev pub StandsAt : Tables → ℕ → Digest → Type 0
+StandsAt t round d = (author : ℕ) × ((get t.firsts (round, author) ≡ Some d) ⊎ (get t.certified (round, author) ≡ Some d))
+
+-- exactly the digests that stand in either table at this round, ascending and each once
+pub record AreDigestsAt (t : Tables) (round : ℕ) (digests : List Digest) : Type 0 where
+  pub exactly : (d : Digest) → Contains digests d ↔ StandsAt t round d
+  pub ascending : IsStrictlySortedBy digest_cmp digests
+
+-- how a digest is told apart from another
+abbrev pub coded_digest : Coded Digest
+coded_digest = code_by (List ℕ) (coded_list coded_ℕ) (λ d. d.0) (λ b. record { 0 = b }) (λ _. refl)
+
+-- how two tables are told apart from others
+abbrev pub coded_tables : Coded Tables
+coded_tables =
+    code_by (FinMap slot_cmp Digest × FinMap slot_cmp Digest)
+    (coded× (map.code (coded× coded_ℕ coded_ℕ) coded_digest) (map.code (coded× coded_ℕ coded_ℕ) coded_digest))
+    (λ t. (t.firsts, t.certified)) (λ p. record { firsts = p.0; certified = p.1 }) (λ _. refl)

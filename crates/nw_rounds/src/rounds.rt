@@ -1,0 +1,145 @@
+//! The digests of each slot.
+ghost use Rattle.std.specs.Prelude.{◌≡◌, ◌<◌, ◌≤◌, ◌^◌, All, IfOk, OnOk, OnErr, IsNone, nat_le};
+ghost use Rattle.std.specs.Bool.{MatchBool};
+ghost use Rattle.std.specs.BTreeMap.{keys};
+ghost use Rattle.std.specs.FinMap as map;
+ghost use Rattle.nw_rounds.specs.Slots.{AreDigestsAt, no_digests};
+ghost use Rattle.nw_rounds.specs.Places.{BeginsBelow, tables_of};
+
+use crate::table::Table;
+use nw_digest::{Digest, NoMemory, Round};
+use std::alloc::{Allocator, Global};
+use std::collections::{BTreeMap, BTreeSet};
+use std::marker::Model;
+
+// The number of a round, so that there is one behind the last, and an author.
+type Slot = (u64, u16);
+
+/// The first digest and the certified digest of each round and author, in the memory of one allocator.
+///
+/// Contracts see two finite maps.
+#[derive(Drop)]
+pub struct Rounds<A: Allocator> {
+    digests: BTreeMap<(Slot, Table), Digest, A>,
+}
+
+impl<A: Allocator> Model for Rounds<A> {
+    ghost use Rattle.nw_rounds.specs.Slots.{Tables, coded_tables};
+
+    ghost Value = { Tables };
+
+    ghost coded = { coded_tables };
+
+    ghost use Rattle.nw_rounds.specs.Places.{tables_of};
+
+    ghost view = { λ r. tables_of r.digests.entries };
+}
+
+impl<A: Allocator> Rounds<A> {
+    /// No digest in any slot. It takes no memory.
+    pub fn new_in(alloc: A) -> Rounds<A>
+        ensures { result ≡ no_digests }
+    {
+        Rounds {
+            digests: BTreeMap::new(alloc),
+        }
+    }
+
+    /// The first digest of the round and author.
+    pub fn first(&self, round: Round, author: u16) -> Option<Digest>
+        ensures { result ≡ map.get self.now.firsts (round, author) }
+    {
+        self.digests
+            .get(&((round.get(), author), Table::First))
+            .copied()
+    }
+
+    /// The digest that is certified for the round and author.
+    pub fn certified(&self, round: Round, author: u16) -> Option<Digest>
+        ensures { result ≡ map.get self.now.certified (round, author) }
+    {
+        self.digests
+            .get(&((round.get(), author), Table::Certified))
+            .copied()
+    }
+
+    /// Makes the digest the first of the round and author, where there is none. Want of memory changes nothing.
+    pub fn put_first(&mut self, round: Round, author: u16, digest: Digest) -> Result<(), NoMemory>
+    where
+        A: Clone,
+        requires { IsNone (map.get self.old.firsts (round, author)) }
+        ensures firsts { OnOk result (self.new.firsts ≡ map.insert self.old.firsts (round, author) digest) }
+        ensures certified { self.new.certified ≡ self.old.certified }
+        ensures unchanged { OnErr result (self.new ≡ self.old) }
+    {
+        self.digests
+            .insert(((round.get(), author), Table::First), digest)?;
+        Ok(())
+    }
+
+    /// Makes the digest the one that is certified for the round and author, where there is none. Want of memory
+    /// changes nothing.
+    pub fn put_certified(
+        &mut self,
+        round: Round,
+        author: u16,
+        digest: Digest,
+    ) -> Result<(), NoMemory>
+    where
+        A: Clone,
+        requires { IsNone (map.get self.old.certified (round, author)) }
+        ensures certified { OnOk result (self.new.certified ≡ map.insert self.old.certified (round, author) digest) }
+        ensures firsts { self.new.firsts ≡ self.old.firsts }
+        ensures unchanged { OnErr result (self.new ≡ self.old) }
+    {
+        self.digests
+            .insert(((round.get(), author), Table::Certified), digest)?;
+        Ok(())
+    }
+
+    /// The digests that stand in either table at the round, ascending and each once.
+    pub fn digests(&self, alloc: Global, round: Round) -> Result<Vec<Digest>, NoMemory>
+        ensures { IfOk result (λ list. AreDigestsAt self.now round list.items) }
+    {
+        let found = digests_at(alloc, &self.digests, round.get())?;
+        Ok(found.into_iter().collect(alloc)?)
+    }
+
+    /// Drops the digests of all rounds below this one. It takes no memory, and costs what it drops.
+    pub fn drop_below(&mut self, round: Round)
+        ensures firsts { self.new.firsts ≡ map.retain_keys self.old.firsts (λ slot. nat_le round slot.0) }
+        ensures certified { self.new.certified ≡ map.retain_keys self.old.certified (λ slot. nat_le round slot.0) }
+    {
+        let round = round.get();
+        while begins_below(&self.digests, round) {
+            let _ = self.digests.pop_first();
+        }
+    }
+}
+
+/// The digests of the places of the round.
+fn digests_at<A: Allocator>(
+    alloc: Global,
+    digests: &BTreeMap<(Slot, Table), Digest, A>,
+    round: u64,
+) -> Result<BTreeSet<Digest>, NoMemory>
+    requires { round < 2 ^ 48 }
+    ensures { IfOk result (λ found. AreDigestsAt (tables_of digests.now.entries) round found.keys) }
+{
+    let mut found = BTreeSet::new(alloc);
+    let places = ((round, 0), Table::First)..((round + 1, 0), Table::First);
+    for (_place, digest) in digests.range(places) {
+        found.insert(*digest)?;
+    }
+    Ok(found)
+}
+
+/// Whether the first place is of a lower round. Otherwise none is.
+fn begins_below<A: Allocator>(digests: &BTreeMap<(Slot, Table), Digest, A>, round: u64) -> bool
+    ensures { MatchBool result (BeginsBelow round digests.now.entries) (All (λ place. round ≤ place.0.0) (keys digests.now)) }
+{
+    match digests.first_key_value() {
+        None => false,
+        Some(((slot, _table), _digest)) => slot.0 < round,
+    }
+}

@@ -1,0 +1,4 @@
+mod Changes
+mod Members
+mod Orders
+mod Relation

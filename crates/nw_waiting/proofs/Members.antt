@@ -1,0 +1,91 @@
+-- What a change of lists under keys does to their members.
+use Rattle.std.proofs.Common.{◌≡◌, ◌∙◌, ℕ, ◌+◌, ◌<◌, length, take, get_or, Bool, true, false, cond, not, ◌&&◌, ◌||◌, List, [], ◌∷◌, ◌++◌, refl, sym, ap, subst}
+use Rattle.std.specs.Prelude.{filter}
+use Rattle.std.specs.declared.cmp.Ordering.{Ordering}
+use Rattle.std.specs.Cmp.{IsTotalOrder, eq_by_cmp_equiv}
+use Rattle.std.specs.List.{AllByRecursion, IsDistinct, list_any}
+use Rattle.std.specs.Ordering.{eq_by_cmp}
+use Rattle.std.proofs.lemmas.List.{take_more}
+use Rattle.std.proofs.lemmas.List.Folds.{list_any-append}
+use Rattle.std.proofs.lemmas.Map.Keys.{IsDistinct-cons, IsDistinct-head, IsDistinct-push, IsDistinct-tail}
+use Rattle.std.proofs.lemmas.Map.Made.{is_member-filter}
+
+or_false : (b : Bool) → b ≡ (b || false)
+or_false true = refl
+or_false false = refl
+
+pub and_true : (b : Bool) → b ≡ (b && true)
+and_true true = refl
+and_true false = refl
+
+module _ {X : Type 0} (E : X → X → Bool) (p : X → Bool) where
+  kept_all : (y : X) (xs : List X) → AllByRecursion (λ x. E y x ≡ false) xs → AllByRecursion (λ x. E y x ≡ false) (filter p xs)
+  kept_all y [] all = all
+  kept_all y (x ∷ xs) all = elim (p x) as (λ b. AllByRecursion (λ x. E y x ≡ false) (cond b (x ∷ filter p xs) (filter p xs))) [ true ↦ (all.0, kept_all y xs all.1) | false ↦ kept_all y xs all.1 ]
+
+  pub IsDistinct-filter : (xs : List X) → IsDistinct E xs → IsDistinct E (filter p xs)
+  IsDistinct-filter [] d = d
+  IsDistinct-filter (x ∷ xs) d =
+      elim (p x) as (λ b. IsDistinct E (cond b (x ∷ filter p xs) (filter p xs))) [
+        | true ↦ IsDistinct-cons E x (filter p xs) (kept_all x xs (IsDistinct-head E x xs d)) (IsDistinct-filter xs (IsDistinct-tail E x xs d))
+        | false ↦ IsDistinct-filter xs (IsDistinct-tail E x xs d)
+      ]
+
+module _ {K V : Type 0} (RK : K → K → Ordering) {RV : V → V → Ordering} (o : IsTotalOrder RV) (at new : K → List V) (k : K) (v : V) where
+  -- a value is put at the end of the list of a key
+  module _ (put : (q : K) → new q ≡ cond (eq_by_cmp RK k q) (at q ++ v ∷ []) (at q)) where
+    pub member_added : (q : K) (x : V) → list_any (eq_by_cmp RV x) (new q) ≡ (list_any (eq_by_cmp RV x) (at q) || (eq_by_cmp RK k q && eq_by_cmp RV x v))
+    member_added q x = ap (list_any (eq_by_cmp RV x)) (put q) ∙ by (eq_by_cmp RK k q)
+      where
+        by : (b : Bool) → list_any (eq_by_cmp RV x) (cond b (at q ++ v ∷ []) (at q)) ≡ (list_any (eq_by_cmp RV x) (at q) || (b && eq_by_cmp RV x v))
+        by true = list_any-append (eq_by_cmp RV x) (at q) (v ∷ []) ∙ ap (λ b. list_any (eq_by_cmp RV x) (at q) || b) (sym (or_false _))
+        by false = or_false _
+
+    pub once_added : ((q : K) → IsDistinct (eq_by_cmp RV) (at q)) → ((q : K) → eq_by_cmp RK k q ≡ true → list_any (eq_by_cmp RV v) (at q) ≡ false) → (q : K) → IsDistinct (eq_by_cmp RV) (new q)
+    once_added once absent q = subst (IsDistinct (eq_by_cmp RV)) (sym (put q)) (by (eq_by_cmp RK k q) refl)
+      where
+        by : (b : Bool) → eq_by_cmp RK k q ≡ b → IsDistinct (eq_by_cmp RV) (cond b (at q ++ v ∷ []) (at q))
+        by true is = IsDistinct-push (eq_by_cmp_equiv o) (at q) v (once q) (absent q is)
+        by false is = once q
+
+  -- a value is taken out of the list of a key
+  module _ (took : (q : K) → new q ≡ cond (eq_by_cmp RK k q) (filter (λ x. not (eq_by_cmp RV x v)) (at q)) (at q)) where
+    pub member_removed : (q : K) (x : V) → list_any (eq_by_cmp RV x) (new q) ≡ (list_any (eq_by_cmp RV x) (at q) && not (eq_by_cmp RK k q && eq_by_cmp RV x v))
+    member_removed q x = ap (list_any (eq_by_cmp RV x)) (took q) ∙ by (eq_by_cmp RK k q)
+      where
+        tied : (y : V) → eq_by_cmp RV x y ≡ true → not (eq_by_cmp RV x v) ≡ not (eq_by_cmp RV y v)
+        tied y e = ap not ((eq_by_cmp_equiv o).congr x y v e)
+
+        by : (b : Bool) → list_any (eq_by_cmp RV x) (cond b (filter (λ x. not (eq_by_cmp RV x v)) (at q)) (at q)) ≡ (list_any (eq_by_cmp RV x) (at q) && not (b && eq_by_cmp RV x v))
+        by true = is_member-filter (eq_by_cmp_equiv o) (λ y. not (eq_by_cmp RV y v)) x tied (at q)
+        by false = and_true _
+
+    pub once_removed : ((q : K) → IsDistinct (eq_by_cmp RV) (at q)) → (q : K) → IsDistinct (eq_by_cmp RV) (new q)
+    once_removed once q = subst (IsDistinct (eq_by_cmp RV)) (sym (took q)) (by (eq_by_cmp RK k q))
+      where
+        by : (b : Bool) → IsDistinct (eq_by_cmp RV) (cond b (filter (λ x. not (eq_by_cmp RV x v)) (at q)) (at q))
+        by true = IsDistinct-filter (eq_by_cmp RV) _ (at q) (once q)
+        by false = once q
+
+-- one more key whose list has lost the value
+pub taken_more : (m i e v : Bool) → ((m && not (i && v)) && not (e && v)) ≡ (m && not ((i || (e || false)) && v))
+taken_more false i e v = refl
+taken_more true true e true = refl
+taken_more true true true false = refl
+taken_more true true false false = refl
+taken_more true false true true = refl
+taken_more true false true false = refl
+taken_more true false false true = refl
+taken_more true false false false = refl
+
+pub each_more : {K V : Type 0} {RK : K → K → Ordering} {RV : V → V → Ordering} (ok : IsTotalOrder RK) (ov : IsTotalOrder RV) (old cur new : K → List V) (keys : List K) (i : ℕ) (k : K) (v : V) → i < length keys → k ≡ get_or keys i k
+    → ((q : K) → new q ≡ cond (eq_by_cmp RK k q) (filter (λ x. not (eq_by_cmp RV x v)) (cur q)) (cur q))
+    → ((q : K) (x : V) → list_any (eq_by_cmp RV x) (cur q) ≡ (list_any (eq_by_cmp RV x) (old q) && not (list_any (eq_by_cmp RK q) (take i keys) && eq_by_cmp RV x v)))
+    → (q : K) (x : V) → list_any (eq_by_cmp RV x) (new q) ≡ (list_any (eq_by_cmp RV x) (old q) && not (list_any (eq_by_cmp RK q) (take (i + 1) keys) && eq_by_cmp RV x v))
+each_more {RK = RK} {RV = RV} ok ov old cur new keys i k v in_range at took before q x =
+    member_removed RK ov cur new k v took q x
+    ∙ ap (λ b. b && not (eq_by_cmp RK k q && eq_by_cmp RV x v)) (before q x)
+    ∙ ap (λ b. (list_any (eq_by_cmp RV x) (old q) && not (list_any (eq_by_cmp RK q) (take i keys) && eq_by_cmp RV x v)) && not (b && eq_by_cmp RV x v)) ((eq_by_cmp_equiv ok).symm k q)
+    ∙ taken_more (list_any (eq_by_cmp RV x) (old q)) (list_any (eq_by_cmp RK q) (take i keys)) (eq_by_cmp RK q k) (eq_by_cmp RV x v)
+    ∙ ap (λ b. list_any (eq_by_cmp RV x) (old q) && not (b && eq_by_cmp RV x v))
+    (sym (ap (list_any (eq_by_cmp RK q)) (take_more keys i k in_range ∙ ap (λ y. take i keys ++ y ∷ []) (sym at)) ∙ list_any-append (eq_by_cmp RK q) (take i keys) (k ∷ [])))

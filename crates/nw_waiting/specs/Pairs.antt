@@ -1,0 +1,77 @@
+-- Pairs of what is wanted and a holder that lacks it.
+use Rattle.std.specs.Prelude.{◌≡◌, ◌↔◌, ℕ, List, Contains, IsTrue, not, length, take, refl}
+use Rattle.std.specs.Coded.{Coded, code_by, coded×, coded_ℕ, coded_list}
+use Rattle.std.specs.declared.cmp.Ordering.{Ordering}
+use Rattle.std.specs.Ordering.{nat_cmp, ordering_then, eq_by_cmp}
+use Rattle.std.specs.Cmp.Lexicographic.{slice_cmp}
+use Rattle.std.specs.List.{IsDistinct}
+use Rattle.std.specs.List.Sorted.{IsStrictlySortedBy}
+use Rattle.std.specs.FinSet.{FinSet, contains, retain}
+use Rattle.nw_digest.specs.declared.digest.Digest.{Digest}
+use Rattle.nw_waiting.specs.declared.wanted.Wanted.{Wanted}
+
+-- digests in the order of their bytes
+abbrev pub digest_cmp : Digest → Digest → Ordering
+digest_cmp a b = slice_cmp nat_cmp a.0 b.0
+
+-- what is wanted by round, then by author, and then by digest
+abbrev pub wanted_cmp : Wanted → Wanted → Ordering
+wanted_cmp a b = ordering_then (nat_cmp a.round b.round) (ordering_then (nat_cmp a.author b.author) (digest_cmp a.digest b.digest))
+
+-- what is wanted, and a holder that lacks it
+abbrev pub Pair : Type 0
+Pair = Wanted × Digest
+
+-- pairs by what is wanted, and then by holder
+abbrev pub pair_cmp : Pair → Pair → Ordering
+pair_cmp a b = ordering_then (wanted_cmp a.0 b.0) (digest_cmp a.1 b.1)
+
+-- a set of pairs
+abbrev pub Pairs : Type 0
+Pairs = FinSet pair_cmp
+
+-- the holder lacks it
+abbrev pub Lacks : Pairs → Digest → Wanted → Type 0
+Lacks pairs holder wanted = IsTrue (contains pairs (wanted, holder))
+
+-- exactly the holders that lack it, each once
+pub record AreHolders (pairs : Pairs) (wanted : Wanted) (holders : List Digest) : Type 0 where
+  pub exactly : (holder : Digest) → Contains holders holder ↔ Lacks pairs holder wanted
+  pub once : IsDistinct (eq_by_cmp digest_cmp) holders
+
+-- exactly what the holder lacks, each once
+pub record AreLacked (pairs : Pairs) (holder : Digest) (lacked : List Wanted) : Type 0 where
+  pub exactly : (wanted : Wanted) → Contains lacked wanted ↔ Lacks pairs holder wanted
+  pub once : IsDistinct (eq_by_cmp wanted_cmp) lacked
+
+-- exactly what some holder lacks, ascending and each once
+pub record AreWanted (pairs : Pairs) (wanted : List Wanted) : Type 0 where
+  pub exactly : (w : Wanted) → Contains wanted w ↔ ((holder : Digest) × Lacks pairs holder w)
+  pub ascending : IsStrictlySortedBy wanted_cmp wanted
+
+-- n is how many it lacks
+abbrev pub LacksCount : Pairs → Digest → ℕ → Type 0
+LacksCount pairs holder n = (lacked : List Wanted) × AreLacked pairs holder lacked × (length lacked ≡ n)
+
+-- n is how many different ones are wanted
+abbrev pub WantedCount : Pairs → ℕ → Type 0
+WantedCount pairs n = (wanted : List Wanted) × AreWanted pairs wanted × (length wanted ≡ n)
+
+-- the first k of what is wanted
+abbrev pub AreFirst : Pairs → ℕ → List Wanted → Type 0
+AreFirst pairs k first = (wanted : List Wanted) × AreWanted pairs wanted × (first ≡ take k wanted)
+
+-- without the pairs of this wanted
+abbrev pub without_wanted : Pairs → Wanted → Pairs
+without_wanted pairs wanted = retain pairs (λ p. not (eq_by_cmp wanted_cmp wanted p.0))
+
+-- without the pairs of this holder
+abbrev pub without_holder : Pairs → Digest → Pairs
+without_holder pairs holder = retain pairs (λ p. not (eq_by_cmp digest_cmp holder p.1))
+
+-- how a pair is told apart from another
+abbrev pub coded_pair : Coded Pair
+coded_pair =
+    code_by (ℕ × (ℕ × (List ℕ × List ℕ))) (coded× coded_ℕ (coded× coded_ℕ (coded× (coded_list coded_ℕ) (coded_list coded_ℕ))))
+    (λ p. (p.0.round, (p.0.author, (p.0.digest.0, p.1.0))))
+    (λ c. (record { round = c.0; author = c.1.0; digest = record { 0 = c.1.1.0 } }, record { 0 = c.1.1.1 })) (λ _. refl)

@@ -1,0 +1,91 @@
+//! Lists under keys, none of them empty.
+ghost use Rattle.std.specs.Prelude.{◌≡◌, [], ◌∷◌, ◌++◌, OnOk, OnErr, filter, not, ◌&&◌, if◌then◌else◌};
+ghost use Rattle.std.specs.BTreeMap.{get, is_at, IsOrdered};
+ghost use Rattle.std.specs.List.{IsDistinct, list_any};
+ghost use Rattle.std.specs.Ordering.{eq_by_cmp};
+ghost use Rattle.nw_waiting.specs.Lists.{AreFilled, list_of};
+
+use nw_digest::NoMemory;
+use std::alloc::Allocator;
+use std::collections::BTreeMap;
+
+/// Puts the value at the end of the list of the key.
+pub fn add<K: Ord + Copy, V: Copy, A: Allocator + Copy>(
+    lists: &mut BTreeMap<K, Vec<V, A>, A>,
+    alloc: A,
+    key: K,
+    value: V,
+) -> Result<(), NoMemory>
+    ensures added { OnOk result ((q : K) → list_of (λ v. v.items) (get K.cmp lists.new q)
+        ≡ (if is_at (K.cmp key) q then list_of (λ v. v.items) (get K.cmp lists.old q) ++ value ∷ [] else list_of (λ v. v.items) (get K.cmp lists.old q))) }
+    ensures kept { OnErr result ((q : K) → list_of (λ v. v.items) (get K.cmp lists.new q) ≡ list_of (λ v. v.items) (get K.cmp lists.old q)) }
+    ensures filled { AreFilled (λ v. v.items) (get K.cmp lists.old) → AreFilled (λ v. v.items) (get K.cmp lists.new) }
+    ensures ordered { IsOrdered K.cmp lists.new }
+{
+    if let Some(list) = lists.get_mut(&key) {
+        list.push(value)?;
+        return Ok(());
+    }
+    let mut list = Vec::new(alloc);
+    list.push(value)?;
+    lists.insert(key, list)?;
+    Ok(())
+}
+
+/// Takes the value out of the list of the key.
+pub fn remove<K: Ord + Drop, V: Ord + Drop, A: Allocator>(
+    lists: &mut BTreeMap<K, Vec<V, A>, A>,
+    key: &K,
+    value: &V,
+)
+    ensures removed { (q : K) → list_of (λ v. v.items) (get K.cmp lists.new q)
+        ≡ (if is_at (K.cmp key.now) q then filter (λ x. not (eq_by_cmp V.cmp x value.now)) (list_of (λ v. v.items) (get K.cmp lists.old q)) else list_of (λ v. v.items) (get K.cmp lists.old q)) }
+    ensures filled { AreFilled (λ v. v.items) (get K.cmp lists.old) → AreFilled (λ v. v.items) (get K.cmp lists.new) }
+    ensures ordered { IsOrdered K.cmp lists.new }
+{
+    let Some(list) = lists.get_mut(key) else {
+        return;
+    };
+    drop_value(list, value);
+    if list.is_empty() {
+        lists.remove(key);
+    }
+}
+
+fn drop_value<V: Ord + Drop, A: Allocator>(list: &mut Vec<V, A>, value: &V)
+    ensures { list.new.items ≡ filter (λ x. not (eq_by_cmp V.cmp x value.now)) list.old.items }
+{
+    list.retain(|other| other != value);
+}
+
+/// Takes the value out of the lists of these keys.
+pub fn remove_from_each<K: Ord + Drop, V: Ord + Drop, A: Allocator>(
+    lists: &mut BTreeMap<K, Vec<V, A>, A>,
+    keys: &[K],
+    value: &V,
+)
+    ensures removed { (q : K) (v : V) → list_any (eq_by_cmp V.cmp v) (list_of (λ list. list.items) (get K.cmp lists.new q))
+        ≡ (list_any (eq_by_cmp V.cmp v) (list_of (λ list. list.items) (get K.cmp lists.old q)) && not (list_any (eq_by_cmp K.cmp q) keys.now && eq_by_cmp V.cmp v value.now)) }
+    ensures once { ((q : K) → IsDistinct (eq_by_cmp V.cmp) (list_of (λ list. list.items) (get K.cmp lists.old q)))
+        → (q : K) → IsDistinct (eq_by_cmp V.cmp) (list_of (λ list. list.items) (get K.cmp lists.new q)) }
+    ensures filled { AreFilled (λ v. v.items) (get K.cmp lists.old) → AreFilled (λ v. v.items) (get K.cmp lists.new) }
+    ensures ordered { IsOrdered K.cmp lists.old → IsOrdered K.cmp lists.new }
+{
+    for key in keys {
+        remove(lists, key, value);
+    }
+}
+
+/// Whether the list of the key has the value.
+pub fn has<K: Ord, V: Ord, A: Allocator>(
+    lists: &BTreeMap<K, Vec<V, A>, A>,
+    key: &K,
+    value: &V,
+) -> bool
+    ensures { result ≡ list_any (eq_by_cmp V.cmp value.now) (list_of (λ v. v.items) (get K.cmp lists.now key.now)) }
+{
+    match lists.get(key) {
+        None => false,
+        Some(list) => list.contains(value),
+    }
+}
