@@ -12,7 +12,7 @@ fn measured(
     Ok((front.len(), front.parts()))
 }
 
-/// How many parts the fronts of the first 513 reads have: none copies what is in a full chunk.
+/// How many parts the fronts of the first 513 reads have, the first at index 0: none copies what is in a full chunk.
 fn parts(book: &mut Book<DemoScheme>, alloc: Global) -> Result<Vec<usize>, Fail> {
     let mut parts = Vec::new(alloc);
     for number in 1..=513 {
@@ -29,8 +29,8 @@ fn parts(book: &mut Book<DemoScheme>, alloc: Global) -> Result<Vec<usize>, Fail>
 fn fronts_of_513_events_share_two_chunks(rt: HostRuntime) -> Result<(), Fail> {
     let mut book = book_of_one(rt.alloc(), limits(16, 513, 4, 1))?;
     let parts = parts(&mut book, rt.alloc())?;
-    for (events, links) in [(1, 1), (255, 255), (256, 1), (257, 2), (513, 3)] {
-        assert_eq!(rt; parts.get(events - 1).copied(), Some(links));
+    for (read, links) in [(0, 1), (254, 255), (255, 1), (256, 2), (512, 3)] {
+        assert_eq!(rt; parts.get(read).copied(), Some(links), "read {read}");
     }
     assert_eq!(rt;
         refusal(&mut book, rt.alloc(), 0, 514),

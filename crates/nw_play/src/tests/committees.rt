@@ -95,7 +95,8 @@ fn members(rt: &HostRuntime, count: usize) -> Result<Result<(), PlayFault>, Fail
     for _ in 1..count {
         script.push_str(",1")?;
     }
-    Ok(played(rt, script.as_bytes())?.0)
+    let (outcome, _printed) = played(rt, script.as_bytes())?;
+    Ok(outcome)
 }
 
 #[test]
