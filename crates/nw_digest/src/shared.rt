@@ -2,7 +2,7 @@
 ghost use Rattle.std.specs.Prelude.{◌≡◌, IfOk};
 
 use crate::NoMemory;
-use std::alloc::Global;
+use std::alloc::{AllocError, Global};
 use std::marker::Model;
 use std::sync::Arc;
 
@@ -43,4 +43,28 @@ impl<T: Drop> Shared<T> {
             owner: Arc::try_clone(&self.owner)?,
         })
     }
+}
+
+impl<T: Drop> Clone for Shared<T> {
+    ghost is_clone = { λ s t. s ≡ t };
+
+    fn clone(&self) -> Result<Shared<T>, AllocError> {
+        Ok(Shared {
+            owner: Arc::try_clone(&self.owner)?,
+        })
+    }
+}
+
+impl<T: PartialEq + Drop> PartialEq for Shared<T> {
+    ghost eq = { T.eq };
+
+    ghost laws = { T.laws };
+
+    fn eq(&self, other: &Shared<T>) -> bool {
+        self.get() == other.get()
+    }
+}
+
+impl<T: Eq + Drop> Eq for Shared<T> {
+    ghost laws = { T.Eq.laws };
 }

@@ -11,3 +11,5 @@ pub mod Freezing
 pub mod Finding
 pub mod Ancestors
 pub mod Walked
+pub mod Sames
+pub mod Firsts

@@ -25,7 +25,7 @@ equal_replies one other same = record {
     same_blocks : (blocks others : List Block) → reply.List blocks ≡ reply.List others → blocks ≡ others
     same_blocks blocks others e = cc
 
-to_write : (bounds : Bounds) (s : State) (d : Digest) (b : Block) (r : Reply) → IsReply bounds s (call.Write d b) r → r ≡ reply.Write (write_reply bounds s d b)
+pub to_write : (bounds : Bounds) (s : State) (d : Digest) (b : Block) (r : Reply) → IsReply bounds s (call.Write d b) r → r ≡ reply.Write (write_reply bounds s d b)
 to_write bounds s d b (reply.Write w) is = ap reply.Write is
 to_write bounds s d b other is = absurd is
 

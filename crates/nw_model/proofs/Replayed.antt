@@ -22,11 +22,11 @@ use Rattle.nw_model.specs.declared.reply.CertifyReply.TheVariants as certify
 use Rattle.nw_model.proofs.Kept.{sound_with_block, sound_with_certificate, kept_opening}
 
 -- a value with this mark that is not the first branch's is the second's
-past : {X : Type 0} (mark : X → Bool) (test : Bool) (x rest r : X) → mark x ≡ false → mark r ≡ true → cond test x rest ≡ r → (test ≡ false) × (rest ≡ r)
+pub past : {X : Type 0} (mark : X → Bool) (test : Bool) (x rest r : X) → mark x ≡ false → mark r ≡ true → cond test x rest ≡ r → (test ≡ false) × (rest ≡ r)
 past mark true x rest r unmarked marked is = let same = ap mark is in absurd cc
 past mark false x rest r unmarked marked is = (refl, is)
 
-past_found : {X Y : Type 0} (mark : Y → Bool) (reply : X → Y) (found : Option X) (rest r : Y) → ((x : X) → mark (reply x) ≡ false) → mark r ≡ true → option_map_or reply found rest ≡ r → (found ≡ None) × (rest ≡ r)
+pub past_found : {X Y : Type 0} (mark : Y → Bool) (reply : X → Y) (found : Option X) (rest r : Y) → ((x : X) → mark (reply x) ≡ false) → mark r ≡ true → option_map_or reply found rest ≡ r → (found ≡ None) × (rest ≡ r)
 past_found mark reply None rest r unmarked marked is = (refl, is)
 past_found mark reply (Some x) rest r unmarked marked is = let same = ap mark is in let not_this = unmarked x in absurd cc
 
@@ -35,7 +35,7 @@ not_below a b e = grind arith
 
 -- ---- what is known where a block is stored, or a certificate kept
 
-abbrev is_stored : WriteReply → Bool
+abbrev pub is_stored : WriteReply → Bool
 is_stored (write.Stored vote) = true
 is_stored other = false
 

@@ -1,14 +1,18 @@
 -- Laws over the definitions.
-use Rattle.std.specs.Prelude.{◌↔◌, ℕ, List, All, Contains}
+use Rattle.std.specs.Prelude.{◌≡◌, ◌↔◌, ℕ, true, List, All, Contains, IsSome}
 use Rattle.nw_digest.specs.declared.digest.Digest.{Digest}
 use Rattle.nw_codec.specs.declared.block.Block.{Block}
 use Rattle.nw_sig.specs.Signed.{Meaning}
-use Rattle.nw_model.specs.State.{State}
+use Rattle.std.specs.FinMap.{get}
+use Rattle.nw_model.specs.State.{State, block_slot}
 use Rattle.nw_model.specs.Paths.{IsAncestor, IsComplete, IsCausalList}
 use Rattle.nw_model.specs.View.{Frozen, IsAncestorIn, Shows}
 use Rattle.nw_model.specs.Sound.{IsSound}
 use Rattle.nw_model.specs.History.{Terms, IsLegal, replay}
+use Rattle.nw_model.specs.declared.call.Call.TheVariants as call
 use Rattle.nw_model.specs.declared.event.Event.{Event}
+use Rattle.nw_model.specs.declared.reply.Reply.TheVariants as reply
+use Rattle.nw_model.specs.declared.reply.WriteReply.TheVariants as write
 
 -- what the calls of a legal history leave is sound: at most one digest is certified for a slot, and the block under it has that slot
 abbrev pub LegalHistoriesLeaveSoundStates : Type 0
@@ -24,3 +28,9 @@ abbrev pub CausalListsContainThoseOfTheirBlocks : Type 0
 CausalListsContainThoseOfTheirBlocks =
     (s : State) (d : Digest) (blocks : List Block) → IsComplete s d → (listed : IsCausalList s d blocks) → (e : Digest) → Contains listed.digests e
     → IsComplete s e × (few : List Block) × IsCausalList s e few × All (Contains blocks) few
+
+-- a slot that has a first digest in the base of a legal history gets no vote in it
+abbrev pub FirstsOfABaseGetNoVote : Type 0
+FirstsOfABaseGetNoVote =
+    (accepts : Meaning) (terms : Terms) (base : State) (es : List Event) → IsLegal accepts terms base es → (d : Digest) (b : Block) → IsSome (get base.firsts (block_slot b))
+    → All (λ e. e.call ≡ call.Write d b → e.reply ≡ reply.Write (write.Stored true) → ⊥) es

@@ -1,5 +1,5 @@
 //! What is asked of a store.
-ghost use Rattle.std.specs.Prelude.{◌≡◌, IfOk};
+ghost use Rattle.std.specs.Prelude.{◌≡◌, ◌↔◌, IfOk, IsTrue};
 
 use nw_codec::{Block, Certificate};
 use nw_digest::{Digest, NoMemory, Shared};
@@ -32,4 +32,41 @@ impl Call {
             Call::Causal(digest) => Call::Causal(*digest),
         })
     }
+
+    /// Whether the other call is the same. It takes no memory.
+    pub fn is_same(&self, other: &Call) -> bool
+        ensures { IsTrue result ↔ self.now ≡ other.now }
+    {
+        match (self, other) {
+            (Call::Write(digest, block), Call::Write(of, written)) => {
+                is_same_digest(digest, of) && is_same_block(block.get(), written.get())
+            }
+            (Call::Certify(one), Call::Certify(two)) => is_same_certificate(one.get(), two.get()),
+            (Call::Certificate(digest), Call::Certificate(of)) => is_same_digest(digest, of),
+            (Call::Read(digest), Call::Read(of)) => is_same_digest(digest, of),
+            (Call::Causal(digest), Call::Causal(of)) => is_same_digest(digest, of),
+            _ => false,
+        }
+    }
+}
+
+/// Whether two digests are the same.
+fn is_same_digest(one: &Digest, other: &Digest) -> bool
+    ensures { IsTrue result ↔ one.now ≡ other.now }
+{
+    one == other
+}
+
+/// Whether two blocks are the same.
+fn is_same_block(one: &Block, other: &Block) -> bool
+    ensures { IsTrue result ↔ one.now ≡ other.now }
+{
+    one == other
+}
+
+/// Whether two certificates are the same.
+fn is_same_certificate(one: &Certificate, other: &Certificate) -> bool
+    ensures { IsTrue result ↔ one.now ≡ other.now }
+{
+    one == other
 }

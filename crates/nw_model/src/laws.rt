@@ -3,6 +3,7 @@ ghost use Rattle.nw_model.specs.Laws.{
   CausalListsContainThoseOfTheirBlocks,
   LegalHistoriesLeaveSoundStates,
   ViewsShowTheAncestors,
+  FirstsOfABaseGetNoVote,
 };
 ghost use Rattle.nw_model.specs.Step.{StepIsAFunction};
 
@@ -24,4 +25,9 @@ pub fn ancestors_in_a_view_are_the_states()
 /// The causal list of a block contains the causal list of each block in it.
 pub fn a_causal_list_contains_those_of_its_blocks()
     ensures { CausalListsContainThoseOfTheirBlocks }
+{}
+
+/// A slot that has a first digest in the base of a legal history gets no vote in that history.
+pub fn a_first_of_the_base_gets_no_vote()
+    ensures { FirstsOfABaseGetNoVote }
 {}

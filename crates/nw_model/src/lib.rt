@@ -4,6 +4,7 @@
 //! It stands on `nw_codec` for blocks and certificates, and on `nw_digest`.
 #![tactic(auto)]
 
+mod base;
 mod call;
 mod event;
 mod laws;
@@ -12,11 +13,12 @@ mod reply;
 mod view;
 mod walks;
 
+pub use base::Base;
 pub use call::Call;
 pub use event::Event;
 pub use laws::{
-    a_causal_list_contains_those_of_its_blocks, a_legal_history_leaves_a_sound_state,
-    ancestors_in_a_view_are_the_states, step_is_a_function,
+    a_causal_list_contains_those_of_its_blocks, a_first_of_the_base_gets_no_vote,
+    a_legal_history_leaves_a_sound_state, ancestors_in_a_view_are_the_states, step_is_a_function,
 };
 pub use plain::Plain;
 pub use reply::{CausalReply, CertifyReply, Reply, WriteReply};

@@ -9,9 +9,14 @@ ghost use Rattle.nw_model.specs.Paths.{IsComplete};
 ghost use Rattle.nw_model.specs.View.{Shows, AreComplete, AddsIfComplete, HasParent};
 ghost use Rattle.nw_model.specs.Step.{IsReply, IsCausalReply, after, write_reply, certify_reply, certified_digest, is_elsewhere, rival, with_block, with_certificate};
 
-use crate::{Call, CausalReply, CertifyReply, Reply, View, WriteReply, walk};
-use nw_codec::{Block, Certificate, Ref};
-use nw_digest::{Digest, NoMemory, Round, Sequence, Shared};
+mod causal;
+mod certificates;
+mod copies;
+mod sameness;
+
+use crate::{Call, CertifyReply, Reply, WriteReply};
+use nw_codec::{Block, Certificate};
+use nw_digest::{Digest, NoMemory, Round, Shared};
 use std::alloc::Global;
 use std::collections::BTreeMap;
 use std::collections::btree_map::Entry;
@@ -177,139 +182,15 @@ impl Plain {
         }
     }
 
-    /// A view of the complete blocks, where the block under the digest is complete; else why it is not given.
-    pub fn freeze_for(&self, digest: Digest) -> Result<Result<View, CausalReply>, NoMemory>
-        ensures { IfOk result (λ frozen. MatchResult frozen
-            (λ view. IsComplete self.now.state digest × Shows view self.now.state)
-            (λ refusal. IsCausalReply self.now.state digest (Reply.Causal refusal))) }
+    /// The garbage round.
+    pub(crate) fn floor(&self) -> Round
+        ensures { result ≡ self.now.state.floor }
     {
-        if self.block(&digest).is_none() {
-            return Ok(Err(CausalReply::Unknown));
-        }
-        if self.certificate(&digest).is_none() {
-            return Ok(Err(CausalReply::Uncertified));
-        }
-        let complete = self.complete_blocks()?;
-        if !complete.contains_key(&digest) {
-            return Ok(Err(CausalReply::Incomplete));
-        }
-        Ok(Ok(View::new(complete, self.floor)))
+        self.floor
     }
 
-    /// The complete blocks. Certified digests are taken by round, so that a block's parents come before it.
-    fn complete_blocks(&self) -> Result<BTreeMap<Digest, Shared<Block>>, NoMemory>
-        ensures { IfOk result (λ complete. AreComplete self.now.state (map.from_entries complete.entries)) }
-    {
-        let mut complete = BTreeMap::new(self.alloc);
-        for (_slot, digest) in self.certified.iter() {
-            self.add_if_complete(&mut complete, digest)?;
-        }
-        Ok(complete)
-    }
-
-    /// Adds the block that is held under the digest where it is of the garbage round, or has its parents among the others.
-    fn add_if_complete(
-        &self,
-        complete: &mut BTreeMap<Digest, Shared<Block>>,
-        digest: &Digest,
-    ) -> Result<(), NoMemory>
-        ensures { OnOk result (AddsIfComplete self.now.state (map.from_entries complete.old.entries) (map.from_entries complete.new.entries) digest.now) }
-    {
-        if let Some(block) = self.blocks.get(digest) {
-            let held = block.get();
-            if held.round <= self.floor || has_parents(complete, held) {
-                complete.insert(*digest, block.try_clone()?)?;
-            }
-        }
-        Ok(())
-    }
-
-    /// The reply that a causal read would get now, with its list.
-    fn causal_reply(&self, digest: Digest) -> Result<Reply, NoMemory>
-        ensures reply { IfOk result (IsCausalReply self.now.state digest) }
-        ensures listed { IfOk result (λ reply. reply ≢ Reply.Ready) }
-    {
-        match self.freeze_for(digest)? {
-            Err(refusal) => Ok(Reply::Causal(refusal)),
-            Ok(view) => {
-                let blocks = walk(self.alloc, &view, digest)?;
-                Ok(Reply::List(Sequence::new(blocks)))
-            }
-        }
-    }
-
-    /// The certificate that is held for the digest.
-    fn read_certificate(&self, digest: &Digest) -> Result<Option<Shared<Certificate>>, NoMemory>
-        ensures { IfOk result (λ found. found ≡ map.get self.now.state.certificates digest.now) }
-    {
-        match self.certificates.get(digest) {
-            None => Ok(None),
-            Some(certificate) => Ok(Some(certificate.try_clone()?)),
-        }
-    }
-
-    /// The reply that a certificate would get now.
-    fn certify_reply(&self, certificate: &Certificate) -> CertifyReply
-        ensures { result ≡ certify_reply self.now.bounds self.now.state certificate.now }
-    {
-        let slot = (certificate.round, certificate.author);
-        if certificate.round < self.floor {
-            return CertifyReply::Collected(self.floor);
-        }
-        if certificate.round.get() >= self.floor.get() + u64::from(self.window) {
-            return CertifyReply::TooFar;
-        }
-        if let Some(held) = self.certificate(&certificate.digest) {
-            return if (held.round, held.author) == slot {
-                CertifyReply::Already
-            } else {
-                CertifyReply::Misfit
-            };
-        }
-        if let Some(block) = self.block(&certificate.digest) {
-            if (block.round, block.author) != slot {
-                return CertifyReply::Misfit;
-            }
-        }
-        if let Some(other) = self.certified_digest(slot) {
-            return CertifyReply::Conflict(other);
-        }
-        if self.kept() >= self.most as usize {
-            return CertifyReply::Full;
-        }
-        CertifyReply::Certified
-    }
-
-    /// The digest that is certified for the slot.
-    fn certified_digest(&self, slot: (Round, u16)) -> Option<Digest>
-        ensures { result ≡ certified_digest self.now.state slot }
-    {
-        self.certified.get(&slot).copied()
-    }
-
-    /// Keeps the certificate.
-    fn certify(&mut self, certificate: Shared<Certificate>) -> Result<(), NoMemory>
-        requires absent { IsNone (map.get self.old.state.certificates certificate.digest) }
-        requires open { certified_digest self.old.state (certificate_slot certificate) ≡ None }
-        requires misfit { is_elsewhere block_slot (map.get self.old.state.blocks certificate.digest) (certificate_slot certificate) ≡ false }
-        requires kept { self.old.state.floor ≤ certificate.round }
-        ensures state { OnOk result (self.new.state ≡ with_certificate self.old.state certificate) }
-        ensures bounds { self.new.bounds ≡ self.old.bounds }
-        ensures unchanged { OnErr result (self.new ≡ self.old) }
-    {
-        let held = certificate.get();
-        let digest = held.digest;
-        let slot = (held.round, held.author);
-        insert_both(
-            &mut self.certificates,
-            digest,
-            certificate,
-            &mut self.certified,
-            slot,
-        )
-    }
-
-    fn block(&self, digest: &Digest) -> Option<&Block>
+    /// The block that is held under the digest.
+    pub(crate) fn block(&self, digest: &Digest) -> Option<&Block>
         ensures { option_copied result ≡ map.get self.now.state.blocks digest.now }
     {
         match self.blocks.get(digest) {
@@ -318,7 +199,8 @@ impl Plain {
         }
     }
 
-    fn certificate(&self, digest: &Digest) -> Option<&Certificate>
+    /// The certificate that is kept for the digest.
+    pub(crate) fn certificate(&self, digest: &Digest) -> Option<&Certificate>
         ensures { option_copied result ≡ map.get self.now.state.certificates digest.now }
     {
         match self.certificates.get(digest) {
@@ -327,7 +209,8 @@ impl Plain {
         }
     }
 
-    fn first(&self, round: Round, author: u16) -> Option<Digest>
+    /// The first digest of the round and author.
+    pub(crate) fn first(&self, round: Round, author: u16) -> Option<Digest>
         ensures { result ≡ map.get self.now.state.firsts (round, author) }
     {
         self.firsts.get(&(round, author)).copied()
@@ -337,12 +220,6 @@ impl Plain {
         ensures { result ≡ map.len self.now.state.blocks }
     {
         self.blocks.len()
-    }
-
-    fn kept(&self) -> usize
-        ensures { result ≡ map.len self.now.state.certificates }
-    {
-        self.certificates.len()
     }
 
     /// Puts the block under the digest, which is the first of the block's slot where there is a vote.
@@ -398,30 +275,6 @@ fn insert_both<T: Drop>(
             held.insert(digest, value)?;
             place.insert_entry(digest);
             Ok(())
-        }
-    }
-}
-
-/// Whether each parent of the block is among these blocks, with the named author and in the round before.
-fn has_parents(blocks: &BTreeMap<Digest, Shared<Block>>, block: &Block) -> bool
-    ensures { IsTrue result ↔ All (HasParent (map.from_entries blocks.now.entries) block.now.round) block.now.parents }
-{
-    block
-        .parents
-        .as_slice()
-        .iter()
-        .all(|reference| has_parent(blocks, block.round, reference))
-}
-
-/// Whether the named parent of a block of this round is among these blocks, with the named author and in the round before.
-fn has_parent(blocks: &BTreeMap<Digest, Shared<Block>>, round: Round, reference: &Ref) -> bool
-    ensures { IsTrue result ↔ HasParent (map.from_entries blocks.now.entries) round reference.now }
-{
-    match blocks.get(&reference.digest) {
-        None => false,
-        Some(parent) => {
-            let parent = parent.get();
-            parent.author == reference.author && parent.round.get() + 1 == round.get()
         }
     }
 }

@@ -3,7 +3,7 @@ use Rattle.std.specs.FinMap.{from_entries}
 use Rattle.nw_model.specs.State.{digest_cmp}
 use Rattle.nw_model.proofs.Maps.{get_lookup, digests_total}
 use Rattle.nw_model.proofs.Complete.{no_parent, round_decides, other_author}
-use Rattle.nw_model.proofs.plain.has_parent.Goals as goal
+use Rattle.nw_model.proofs.plain.causal.has_parent.Goals as goal
 
 pub returns-in-None : goal.returns-in-None
 returns-in-None c = (

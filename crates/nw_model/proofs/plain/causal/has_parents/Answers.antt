@@ -7,7 +7,7 @@ use Rattle.std.proofs.lemmas.List.Elements.{All-from_all_within}
 use Rattle.nw_codec.specs.declared.block.Ref.{Ref}
 use Rattle.nw_model.specs.State.{digest_cmp}
 use Rattle.nw_model.specs.View.{HasParent}
-use Rattle.nw_model.proofs.plain.has_parents.Goals as goal
+use Rattle.nw_model.proofs.plain.causal.has_parents.Goals as goal
 
 where_true : {A : Type 0} (B : Type 0) (r : Bool) → MatchBool r A B → r ≡ true → A
 where_true B true m e = m

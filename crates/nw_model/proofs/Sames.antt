@@ -1,0 +1,104 @@
+-- When stored values are the same: what `==` says of blocks, certificates and ordered maps of them.
+use Rattle.std.specs.Prelude.{◌==◌}
+use Rattle.std.proofs.Common.{◌≡◌, ◌∙◌, ◌&&◌, ℕ, Bool, nat_eq, List, length, ap, sym}
+use Rattle.std.specs.declared.cmp.Ordering.{Ordering}
+use Rattle.std.specs.Cmp.{IsTotalOrder}
+use Rattle.std.specs.BTreeMap.{BTreeMap, IsOrdered}
+use Rattle.std.specs.FinMap.{IsAntisymmetric, from_entries, get}
+use Rattle.std.specs.Bool.{Decides}
+use Rattle.std.specs.Cmp.Lexicographic.{pointwise, pointwise_decides, bytes_decides}
+use Rattle.std.proofs.lemmas.Bool.Decides.{Decides-eqb, Decides-and}
+use Rattle.std.proofs.lemmas.Map.Lookups.{btree_map_eq-Decides, btree_map_from_get}
+use Rattle.nw_digest.specs.declared.digest.Digest.{Digest}
+use Rattle.nw_codec.specs.declared.block.Ref.{Ref}
+use Rattle.nw_codec.specs.declared.block.Block.{Block}
+use Rattle.nw_codec.specs.declared.certificate.Seal.{Seal}
+use Rattle.nw_codec.specs.declared.certificate.Certificate.{Certificate}
+use Rattle.nw_codec.specs.Same.{same_bytes, same_ref, same_block}
+use Rattle.nw_model.specs.State.{Slot}
+use Rattle.nw_model.proofs.Maps.{get_lookup}
+
+-- a test that decides one sentence decides another that holds exactly where it does
+by_parts : {P Q : Type 0} (r : Bool) → (P → Q) → (Q → P) → Decides r P → Decides r Q
+by_parts r to from d = (λ e. to (d.0 e), λ q. d.1 (from q))
+
+abbrev pub same_digest : Digest → Digest → Bool
+same_digest a b = same_bytes a.0 b.0
+
+digest_of : List ℕ → Digest
+digest_of bytes = record { 0 = bytes }
+
+pub same_digest_decides : (a b : Digest) → Decides (same_digest a b) (a ≡ b)
+unfolding digest_of
+same_digest_decides a b = by_parts (same_digest a b) (λ e. ap digest_of e) (λ e. ap (λ (d : Digest). d.0) e) (bytes_decides a.0 b.0)
+
+same_ref_decides : (a b : Ref) → Decides (same_ref a b) (a ≡ b)
+same_ref_decides a b = by_parts (same_ref a b)
+    (λ e. λ i. record { author = e.0 i; digest = e.1 i })
+    (λ e. (ap (λ (r : Ref). r.author) e, ap (λ (r : Ref). r.digest) e))
+    (Decides-and (a.author == b.author) (same_digest a.digest b.digest) (Decides-eqb a.author b.author) (same_digest_decides a.digest b.digest))
+
+pub same_block_decides : (a b : Block) → Decides (same_block a b) (a ≡ b)
+same_block_decides a b = by_parts (same_block a b)
+    (λ e. λ i. record { author = e.0.0.0 i; round = e.0.0.1 i; parents = e.0.1 i; transactions = e.1 i })
+    (λ e. (((ap (λ (x : Block). x.author) e, ap (λ (x : Block). x.round) e), ap (λ (x : Block). x.parents) e), ap (λ (x : Block). x.transactions) e))
+    (Decides-and _ _
+    (Decides-and _ _
+    (Decides-and _ _ (Decides-eqb a.author b.author) (Decides-eqb a.round b.round))
+    (pointwise_decides same_ref_decides a.parents b.parents))
+    (pointwise_decides bytes_decides a.transactions b.transactions))
+
+abbrev same_seal : Seal → Seal → Bool
+same_seal a b = (a.signer == b.signer) && same_bytes a.signature.0 b.signature.0
+
+abbrev pub same_certificate : Certificate → Certificate → Bool
+same_certificate a b = same_bytes a.digest.0 b.digest.0 && (a.round == b.round) && (a.author == b.author) && pointwise same_seal a.votes b.votes
+
+same_seal_decides : (a b : Seal) → Decides (same_seal a b) (a ≡ b)
+same_seal_decides a b = by_parts (same_seal a b)
+    (λ e. λ i. record { signer = e.0 i; signature = record { 0 = e.1 i } })
+    (λ e. (ap (λ (s : Seal). s.signer) e, ap (λ (s : Seal). s.signature.0) e))
+    (Decides-and (a.signer == b.signer) _ (Decides-eqb a.signer b.signer) (bytes_decides a.signature.0 b.signature.0))
+
+pub same_certificate_decides : (a b : Certificate) → Decides (same_certificate a b) (a ≡ b)
+same_certificate_decides a b = by_parts (same_certificate a b)
+    (λ e. λ i. record { digest = e.0.0.0 i; round = e.0.0.1 i; author = e.0.1 i; votes = e.1 i })
+    (λ e. (((ap (λ (x : Certificate). x.digest) e, ap (λ (x : Certificate). x.round) e), ap (λ (x : Certificate). x.author) e), ap (λ (x : Certificate). x.votes) e))
+    (Decides-and _ _
+    (Decides-and _ _
+    (Decides-and _ _ (same_digest_decides a.digest b.digest) (Decides-eqb a.round b.round))
+    (Decides-eqb a.author b.author))
+    (pointwise_decides same_seal_decides a.votes b.votes))
+
+abbrev pub same_slot : Slot → Slot → Bool
+same_slot a b = (a.0 == b.0) && (a.1 == b.1)
+
+pub same_slot_decides : (a b : Slot) → Decides (same_slot a b) (a ≡ b)
+same_slot_decides a b = by_parts (same_slot a b) (λ e. λ i. (e.0 i, e.1 i)) (λ e. (ap (λ (s : Slot). s.0) e, ap (λ (s : Slot). s.1) e))
+    (Decides-and (a.0 == b.0) _ (Decides-eqb a.0 b.0) (Decides-eqb a.1 b.1))
+
+-- ---- ordered maps, seen as finite maps
+
+module _ {K X : Type 0} {R : K → K → Ordering} (o : IsTotalOrder R) (exact : IsAntisymmetric R) (m n : BTreeMap K X) (s : IsOrdered R m) (t : IsOrdered R n) where
+  -- ordered maps that are one finite map have the same entries
+  same_list : from_entries {R = R} m.entries ≡ from_entries n.entries → m.entries ≡ n.entries
+  same_list e = btree_map_from_get o m n s t (λ q. sym (get_lookup o m.entries q) ∙ ap (λ f. get f q) e ∙ get_lookup o n.entries q) exact
+
+  -- `==` of ordered maps decides whether they are one finite map
+  pub maps_decide : {E : K → K → Bool} {F : X → X → Bool} → ((a b : K) → Decides (E a b) (a ≡ b)) → ((a b : X) → Decides (F a b) (a ≡ b))
+      → (r : Bool) → r ≡ pointwise (λ (p q : K × X). E p.0 q.0 && F p.1 q.1) m.entries n.entries → Decides r (from_entries {R = R} m.entries ≡ from_entries n.entries)
+  maps_decide keys values r is = by_parts r (λ e. ap (from_entries {R = R}) e) same_list (btree_map_eq-Decides keys values m n r is)
+
+  -- ordered maps of other lengths are other finite maps
+  pub other_length : (k l : ℕ) → k ≡ length m.entries → l ≡ length n.entries → (k ≡ l → ⊥) → Decides (nat_eq k l) (from_entries {R = R} m.entries ≡ from_entries n.entries)
+  other_length k l is_k is_l differ = (λ yes. absurd (differ ((Decides-eqb k l).0 yes)), λ e. absurd (differ (is_k ∙ ap length (same_list e) ∙ sym is_l)))
+
+-- what `==` answers of the entries of each map of a store
+abbrev pub same_blocks : List (Digest × Block) → List (Digest × Block) → Bool
+same_blocks = pointwise (λ p q. same_digest p.0 q.0 && same_block p.1 q.1)
+
+abbrev pub same_certificates : List (Digest × Certificate) → List (Digest × Certificate) → Bool
+same_certificates = pointwise (λ p q. same_digest p.0 q.0 && same_certificate p.1 q.1)
+
+abbrev pub same_slots : List (Slot × Digest) → List (Slot × Digest) → Bool
+same_slots = pointwise (λ p q. same_slot p.0 q.0 && same_digest p.1 q.1)

@@ -1,0 +1,76 @@
+//! Stores that never change.
+ghost use Rattle.std.specs.Prelude.{◌≡◌, ◌↔◌, IsTrue};
+ghost use Rattle.std.specs.Option.{option_copied};
+ghost use Rattle.std.specs.FinMap as map;
+
+use crate::Plain;
+use nw_codec::{Block, Certificate};
+use nw_digest::{Digest, Round};
+use std::marker::Model;
+
+/// A store that never changes, from which other stores and histories start. Contracts see its state and its bounds.
+#[derive(Drop)]
+pub struct Base {
+    plain: Plain,
+}
+
+impl Model for Base {
+    ghost use Rattle.nw_model.specs.Step.{Tables, coded_tables};
+
+    ghost Value = { Tables };
+
+    ghost coded = { coded_tables };
+
+    ghost view = { λ b. b.plain };
+}
+
+impl Base {
+    /// The base with the store's state and bounds. It takes no memory.
+    pub fn of(plain: Plain) -> Base
+        ensures { result ≡ plain }
+    {
+        Base { plain }
+    }
+
+    /// The garbage round, below which nothing is kept.
+    pub fn floor(&self) -> Round
+        ensures { result ≡ self.now.state.floor }
+    {
+        self.plain.floor()
+    }
+
+    /// The block that is held under the digest, or `None` where none is.
+    pub fn block(&self, digest: &Digest) -> Option<&Block>
+        ensures { option_copied result ≡ map.get self.now.state.blocks digest.now }
+    {
+        self.plain.block(digest)
+    }
+
+    /// The certificate that is kept for the digest, or `None` where none is.
+    pub fn certificate(&self, digest: &Digest) -> Option<&Certificate>
+        ensures { option_copied result ≡ map.get self.now.state.certificates digest.now }
+    {
+        self.plain.certificate(digest)
+    }
+
+    /// The first digest of the round and author, or `None` where there is none.
+    pub fn first(&self, round: Round, author: u16) -> Option<Digest>
+        ensures { result ≡ map.get self.now.state.firsts (round, author) }
+    {
+        self.plain.first(round, author)
+    }
+
+    /// Whether the other base has the same state and the same bounds. It takes no memory, and compares each entry once.
+    pub fn is_same(&self, other: &Base) -> bool
+        ensures { IsTrue result ↔ self.now ≡ other.now }
+    {
+        self.plain.is_same(&other.plain)
+    }
+
+    /// The store that never changes.
+    pub(crate) fn plain(&self) -> &Plain
+        ensures { result.now ≡ self.now }
+    {
+        &self.plain
+    }
+}

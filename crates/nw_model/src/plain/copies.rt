@@ -1,0 +1,34 @@
+//! Stores that start where another one is.
+ghost use Rattle.std.specs.Prelude.{◌≡◌, IfOk};
+
+use super::Plain;
+use crate::Base;
+use nw_digest::NoMemory;
+use std::alloc::Global;
+
+impl Plain {
+    /// A store with the base's state and bounds, which has one more owner of each block and certificate of the base.
+    ///
+    /// Its cost is that of copying the base's maps. On want of memory there is no store, and the base is as it was.
+    pub fn over(alloc: Global, base: &Base) -> Result<Plain, NoMemory>
+        ensures { IfOk result (λ plain. plain ≡ base.now) }
+    {
+        base.plain().copy(alloc)
+    }
+
+    /// A store with the same state and bounds.
+    fn copy(&self, alloc: Global) -> Result<Plain, NoMemory>
+        ensures { IfOk result (λ copy. copy ≡ self.now) }
+    {
+        Ok(Plain {
+            blocks: self.blocks.clone()?,
+            certificates: self.certificates.clone()?,
+            firsts: self.firsts.clone()?,
+            certified: self.certified.clone()?,
+            floor: self.floor,
+            most: self.most,
+            window: self.window,
+            alloc,
+        })
+    }
+}

@@ -1,0 +1,53 @@
+//! Whether two stores are the same.
+ghost use Rattle.std.specs.Prelude.{◌≡◌, ◌↔◌, IsTrue};
+ghost use Rattle.std.specs.FinMap as map;
+ghost use Rattle.nw_model.specs.State.{digest_cmp, slot_cmp};
+
+use super::Plain;
+use nw_codec::{Block, Certificate};
+use nw_digest::{Digest, Round, Shared};
+use std::collections::BTreeMap;
+
+impl Plain {
+    /// Whether the other store has the same state and the same bounds. It takes no memory, and compares each entry once.
+    pub(crate) fn is_same(&self, other: &Plain) -> bool
+        ensures { IsTrue result ↔ self.now ≡ other.now }
+    {
+        self.most == other.most
+            && self.window == other.window
+            && self.floor == other.floor
+            && are_same_blocks(&self.blocks, &other.blocks)
+            && are_same_certificates(&self.certificates, &other.certificates)
+            && are_same_slots(&self.firsts, &other.firsts)
+    }
+}
+
+/// Whether the two maps have the same entries.
+fn are_same_blocks(
+    one: &BTreeMap<Digest, Shared<Block>>,
+    other: &BTreeMap<Digest, Shared<Block>>,
+) -> bool
+    ensures { IsTrue result ↔ map.from_entries {R = digest_cmp} one.now.entries ≡ map.from_entries other.now.entries }
+{
+    one.len() == other.len() && one == other
+}
+
+/// Whether the two maps have the same entries.
+fn are_same_certificates(
+    one: &BTreeMap<Digest, Shared<Certificate>>,
+    other: &BTreeMap<Digest, Shared<Certificate>>,
+) -> bool
+    ensures { IsTrue result ↔ map.from_entries {R = digest_cmp} one.now.entries ≡ map.from_entries other.now.entries }
+{
+    one.len() == other.len() && one == other
+}
+
+/// Whether the two maps have the same entries.
+fn are_same_slots(
+    one: &BTreeMap<(Round, u16), Digest>,
+    other: &BTreeMap<(Round, u16), Digest>,
+) -> bool
+    ensures { IsTrue result ↔ map.from_entries {R = slot_cmp} one.now.entries ≡ map.from_entries other.now.entries }
+{
+    one.len() == other.len() && one == other
+}
