@@ -1,10 +1,10 @@
 -- When stored values are the same: what `==` says of blocks, certificates and ordered maps of them.
 use Rattle.std.specs.Prelude.{◌==◌}
-use Rattle.std.proofs.Common.{◌≡◌, ◌∙◌, ◌&&◌, ℕ, Bool, nat_eq, List, length, ap, sym}
+use Rattle.std.proofs.Common.{◌≡◌, ◌∙◌, ◌&&◌, ℕ, Bool, false, nat_eq, List, length, ap, sym}
 use Rattle.std.specs.declared.cmp.Ordering.{Ordering}
 use Rattle.std.specs.Cmp.{IsTotalOrder}
 use Rattle.std.specs.BTreeMap.{BTreeMap, IsOrdered}
-use Rattle.std.specs.FinMap.{IsAntisymmetric, from_entries, get}
+use Rattle.std.specs.FinMap.{IsAntisymmetric, from_entries, get, len, len-empty, empty_of_len}
 use Rattle.std.specs.Bool.{Decides}
 use Rattle.std.specs.Cmp.Lexicographic.{pointwise, pointwise_decides, bytes_decides}
 use Rattle.std.proofs.lemmas.Bool.Decides.{Decides-eqb, Decides-and}
@@ -15,7 +15,7 @@ use Rattle.nw_codec.specs.declared.block.Block.{Block}
 use Rattle.nw_codec.specs.declared.certificate.Seal.{Seal}
 use Rattle.nw_codec.specs.declared.certificate.Certificate.{Certificate}
 use Rattle.nw_codec.specs.Same.{same_bytes, same_ref, same_block}
-use Rattle.nw_model.specs.State.{Slot}
+use Rattle.nw_model.specs.State.{State, Slot, opening, digest_cmp, slot_cmp}
 use Rattle.nw_model.proofs.Maps.{get_lookup}
 
 -- a test that decides one sentence decides another that holds exactly where it does
@@ -102,3 +102,28 @@ same_certificates = pointwise (λ p q. same_digest p.0 q.0 && same_certificate p
 
 abbrev pub same_slots : List (Slot × Digest) → List (Slot × Digest) → Bool
 same_slots = pointwise (λ p q. same_slot p.0 q.0 && same_digest p.1 q.1)
+
+-- a state of nothing, with garbage round 0, is the opening one
+pub nothing : (s : State) → s.floor ≡ 0 → len s.blocks ≡ 0 → len s.certificates ≡ 0 → len s.firsts ≡ 0 → s ≡ opening
+nothing s floor blocks certificates firsts =
+    let no_blocks = empty_of_len s.blocks blocks in
+    let no_certificates = empty_of_len s.certificates certificates in
+    let no_firsts = empty_of_len s.firsts firsts in
+    λ i. record { blocks = no_blocks i; certificates = no_certificates i; firsts = no_firsts i; floor = floor i }
+
+pub no_blocks : (s : State) → s ≡ opening → len s.blocks ≡ 0
+no_blocks s e = ap (λ (x : State). len x.blocks) e ∙ len-empty digest_cmp Block
+
+pub no_certificates : (s : State) → s ≡ opening → len s.certificates ≡ 0
+no_certificates s e = ap (λ (x : State). len x.certificates) e ∙ len-empty digest_cmp Certificate
+
+pub no_firsts : (s : State) → s ≡ opening → len s.firsts ≡ 0
+no_firsts s e = ap (λ (x : State). len x.firsts) e ∙ len-empty slot_cmp Digest
+
+-- the answer false, where the opening state shows a contradiction
+pub not_opening : (s : State) → (s ≡ opening → ⊥) → Decides false (s ≡ opening)
+not_opening s other = (λ yes. absurd cc, λ e. absurd (other e))
+
+-- a number that is 0 exactly where a sentence holds
+pub zero_decides : {P : Type 0} (n : ℕ) → (n ≡ 0 → P) → (P → n ≡ 0) → Decides (nat_eq n 0) P
+zero_decides n to from = by_parts (nat_eq n 0) to from (Decides-eqb n 0)

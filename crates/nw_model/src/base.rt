@@ -2,6 +2,7 @@
 ghost use Rattle.std.specs.Prelude.{◌≡◌, ◌↔◌, IsTrue};
 ghost use Rattle.std.specs.Option.{option_copied};
 ghost use Rattle.std.specs.FinMap as map;
+ghost use Rattle.nw_model.specs.State.{opening};
 
 use crate::Plain;
 use nw_codec::{Block, Certificate};
@@ -58,6 +59,13 @@ impl Base {
         ensures { result ≡ map.get self.now.state.firsts (round, author) }
     {
         self.plain.first(round, author)
+    }
+
+    /// Whether its state is the opening one: nothing is held, and the garbage round is 0.
+    pub fn is_opening(&self) -> bool
+        ensures { IsTrue result ↔ self.now.state ≡ opening }
+    {
+        self.plain.is_opening()
     }
 
     /// Whether the other base has the same state and the same bounds. It takes no memory, and compares each entry once.

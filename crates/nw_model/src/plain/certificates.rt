@@ -84,7 +84,7 @@ impl Plain {
         )
     }
 
-    fn kept(&self) -> usize
+    pub(super) fn kept(&self) -> usize
         ensures { result ≡ map.len self.now.state.certificates }
     {
         self.certificates.len()

@@ -1,7 +1,7 @@
 //! Whether two stores are the same.
 ghost use Rattle.std.specs.Prelude.{◌≡◌, ◌↔◌, IsTrue};
 ghost use Rattle.std.specs.FinMap as map;
-ghost use Rattle.nw_model.specs.State.{digest_cmp, slot_cmp};
+ghost use Rattle.nw_model.specs.State.{digest_cmp, slot_cmp, opening};
 
 use super::Plain;
 use nw_codec::{Block, Certificate};
@@ -9,6 +9,23 @@ use nw_digest::{Digest, Round, Shared};
 use std::collections::BTreeMap;
 
 impl Plain {
+    /// Whether it is as a new store: nothing is held, and the garbage round is 0.
+    pub(crate) fn is_opening(&self) -> bool
+        ensures { IsTrue result ↔ self.now.state ≡ opening }
+    {
+        if self.held() > 0 || self.kept() > 0 {
+            return false;
+        }
+        self.voted() == 0 && self.floor.get() == 0
+    }
+
+    /// How many rounds and authors have a first digest.
+    fn voted(&self) -> usize
+        ensures { result ≡ map.len self.now.state.firsts }
+    {
+        self.firsts.len()
+    }
+
     /// Whether the other store has the same state and the same bounds. It takes no memory, and compares each entry once.
     pub(crate) fn is_same(&self, other: &Plain) -> bool
         ensures { IsTrue result ↔ self.now ≡ other.now }
