@@ -1,5 +1,6 @@
 pub mod Limits
 pub mod Story
+pub mod Prefix
 pub mod Ticket
 pub mod Command
 pub mod Takes

@@ -18,6 +18,16 @@ pub record Story : Type 0 where
   pub base : State
   pub events : List Event
 
+-- what a history starts with
+pub record Origin : Type 0 where
+  pub committee : List Member
+  pub limits : Limits
+  pub base : State
+
+-- the history of these events
+abbrev pub story_of : Origin → List Event → Story
+story_of o es = record { committee = o.committee; limits = o.limits; base = o.base; events = es }
+
 -- the bounds under which the tables take their steps
 abbrev pub bounds_of : Limits → Bounds
 bounds_of l = record { blocks = l.blocks; window = l.window }
@@ -33,6 +43,10 @@ IsLegalStory accepts s = IsLegal accepts (terms_of s) s.base s.events
 -- the state after the history
 abbrev pub state_of : Story → State
 state_of s = replay (bounds_of s.limits) s.base s.events
+
+-- the history without events that starts where this one ends
+abbrev pub reopened : Story → Story
+reopened s = record { committee = s.committee; limits = s.limits; base = state_of s; events = [] }
 
 -- the tables after the history
 abbrev pub tables_of : Story → Tables

@@ -8,10 +8,13 @@ ghost use Rattle.nw_book.specs.Limits.{AreInRange};
 ghost use Rattle.nw_book.specs.Story.{IsLegalStory, IsInTurn, HasRoom, IsRefusal, next_number, bounds_of, state_of, with_event};
 ghost use Rattle.nw_book.specs.Ticket.{Opens, causal_event};
 
+mod reopen;
+
+use crate::start::Start;
 use crate::{BookError, Command, Front, History, Limits, NoStep, Ticket};
 use nw_committee::Committee;
 use nw_digest::{Digest, NoMemory, Shared};
-use nw_model::{Call, CausalReply, Event, Plain, Reply, View};
+use nw_model::{Base, Call, CausalReply, Event, Plain, Reply, View};
 use nw_sig::Scheme;
 use std::alloc::Global;
 use std::marker::Model;
@@ -68,8 +71,10 @@ impl<S: Scheme> Book<S> {
         if !limits.are_in_range() {
             return Err(BookError::BadLimits);
         }
+        let base = Base::of(Plain::new(alloc, limits.blocks, limits.window));
+        let start = Start::new(committee, limits, base);
         Ok(Book {
-            history: History::new(alloc, committee, limits)?,
+            history: History::new(alloc, start)?,
             tables: Plain::new(alloc, limits.blocks, limits.window),
             calls: vec![in alloc; 0u32; limits.sessions as usize]?,
         })

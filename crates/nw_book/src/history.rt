@@ -1,10 +1,11 @@
 //! The history that grows.
 ghost use Rattle.std.specs.Prelude.{◌≡◌, ◌==◌, ◌^◌, ◌<◌, [], length, slice_get, IfOk, OnOk, OnErr};
 ghost use Rattle.std.specs.Option.{option_copied};
-ghost use Rattle.nw_model.specs.State.{opening};
 ghost use Rattle.nw_model.specs.Step.{Tables, IsReply, after};
-ghost use Rattle.nw_book.specs.Story.{IsLegalStory, with_event};
+ghost use Rattle.nw_model.specs.History.{IsBase};
+ghost use Rattle.nw_book.specs.Story.{IsLegalStory, story_of, terms_of, with_event};
 
+use crate::start::Start;
 use crate::{Front, Limits};
 use nw_chunks::Chunks;
 use nw_committee::Committee;
@@ -12,47 +13,36 @@ use nw_digest::{NoMemory, Shared};
 use nw_model::{Event, Plain, Reply};
 use nw_sig::Scheme;
 use std::alloc::Global;
-use std::marker::{Model, PhantomData};
+use std::marker::Model;
 
 /// The legal history of a book, with the committee and the limits under which it is legal.
 #[derive(Drop)]
 pub struct History<S: Scheme> {
-    committee: Shared<Committee>,
-    limits: Limits,
-    events: Chunks<Event>,
-    scheme: PhantomData<S>,
+    front: Front<S>,
 }
 
 impl<S: Scheme> Model for History<S> {
-    ghost use Rattle.nw_model.specs.State.{opening};
-    ghost use Rattle.nw_book.specs.Story.{Story, IsLegalStory};
+    ghost use Rattle.std.specs.Coded.{codes};
+    ghost use Rattle.nw_model.specs.State.{coded_state};
+    ghost use Rattle.nw_book.specs.Story.{Story};
 
     ghost Value = { Story };
 
-    ghost use Rattle.std.specs.Coded.{codes};
-    ghost use Rattle.nw_model.specs.State.{coded_state};
-
     ghost coded = { Prim.hlevel (codes, coded_state) };
 
-    ghost view = { λ h. record { committee = h.committee; limits = h.limits; base = opening; events = h.events } };
-
-    ghost invariant = { λ h. IsLegalStory S.accepts (record { committee = h.committee; limits = h.limits; base = opening; events = h.events }) };
+    ghost view = { λ h. h.front };
 }
 
 impl<S: Scheme> History<S> {
     /// The history without events.
-    pub(crate) fn new(
-        alloc: Global,
-        committee: Shared<Committee>,
-        limits: Limits,
-    ) -> Result<History<S>, NoMemory>
-        ensures { IfOk result (λ history. history ≡ record { committee = committee; limits = limits; base = opening; events = [] }) }
+    pub(crate) fn new(alloc: Global, start: Start) -> Result<History<S>, NoMemory>
+        requires { IsLegalStory S.accepts (story_of start []) }
+        ensures { IfOk result (λ history. history ≡ story_of start []) }
     {
+        let start = Shared::new(alloc, start)?;
+        let events = Chunks::new(alloc)?;
         Ok(History {
-            committee,
-            limits,
-            events: Chunks::new(alloc)?,
-            scheme: PhantomData,
+            front: Front::new(start, events),
         })
     }
 
@@ -61,7 +51,7 @@ impl<S: Scheme> History<S> {
         ensures length { result ≡ length self.now.events }
         ensures legal { IsLegalStory S.accepts self.now }
     {
-        self.events.len()
+        self.front.len()
     }
 
     /// Whether it has no event.
@@ -69,7 +59,7 @@ impl<S: Scheme> History<S> {
         ensures empty { result ≡ (length self.now.events == 0) }
         ensures legal { IsLegalStory S.accepts self.now }
     {
-        self.events.is_empty()
+        self.front.is_empty()
     }
 
     /// The event at the index, counted from 0, or `None` where it has no more than `index` events.
@@ -77,7 +67,7 @@ impl<S: Scheme> History<S> {
         ensures event { option_copied result ≡ slice_get self.now.events index }
         ensures legal { IsLegalStory S.accepts self.now }
     {
-        self.events.get(index)
+        self.front.event(index)
     }
 
     /// The committee under which it is legal.
@@ -85,7 +75,7 @@ impl<S: Scheme> History<S> {
         ensures committee { result.now ≡ self.now.committee }
         ensures legal { IsLegalStory S.accepts self.now }
     {
-        &self.committee
+        self.front.committee()
     }
 
     /// The limits under which it is legal.
@@ -93,7 +83,14 @@ impl<S: Scheme> History<S> {
         ensures limits { result ≡ self.now.limits }
         ensures legal { IsLegalStory S.accepts self.now }
     {
-        self.limits
+        self.front.limits()
+    }
+
+    /// The history as it is now, as a front that never changes.
+    pub(crate) fn front(&self) -> &Front<S>
+        ensures { result.now ≡ self.now }
+    {
+        &self.front
     }
 
     /// The front that this history would have with one more event. It shares all that came before.
@@ -106,8 +103,7 @@ impl<S: Scheme> History<S> {
         requires room { length self.now.events < 2 ^ 32 }
         ensures { IfOk result (λ front. front ≡ with_event self.now event.now) }
     {
-        let events = self.events.with(alloc, event.try_clone()?)?;
-        Ok(Front::new(self.committee.try_clone()?, self.limits, events))
+        self.front.with(alloc, event)
     }
 
     /// Takes the step of the event's call in the tables, and records the event, whose front this is. The history's share of
@@ -118,7 +114,6 @@ impl<S: Scheme> History<S> {
         event: &Event,
         front: &Front<S>,
     ) -> Result<Reply, NoMemory>
-        requires legal { IsLegalStory S.accepts (with_event self.old event.now) }
         requires front { front.now ≡ with_event self.old event.now }
         ensures reply { IfOk result (λ reply. IsReply tables.old.bounds tables.old.state event.now.call reply) }
         ensures tables { OnOk result (tables.new ≡ record tables.old { state = after tables.old.bounds tables.old.state event.now.call }) }
@@ -126,20 +121,19 @@ impl<S: Scheme> History<S> {
         ensures unchanged { OnErr result (self.new ≡ self.old) }
         ensures tables_unchanged { OnErr result (tables.new ≡ tables.old) }
     {
-        let events = front.events()?;
+        let front = front.try_clone()?;
         let reply = tables.call(&event.call)?;
-        self.events = events;
+        self.front = front;
         Ok(reply)
     }
 
     /// Records the event of a call that leaves the tables as they are, whose front this is.
     pub(crate) fn append(&mut self, event: &Event, front: &Front<S>) -> Result<(), NoMemory>
-        requires legal { IsLegalStory S.accepts (with_event self.old event.now) }
         requires front { front.now ≡ with_event self.old event.now }
         ensures history { OnOk result (self.new ≡ with_event self.old event.now) }
         ensures unchanged { OnErr result (self.new ≡ self.old) }
     {
-        self.events = front.events()?;
+        self.front = front.try_clone()?;
         Ok(())
     }
 }

@@ -13,6 +13,7 @@ mod front;
 mod history;
 mod limits;
 mod run;
+mod start;
 mod ticket;
 
 pub use book::{Book, Done};

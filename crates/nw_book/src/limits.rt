@@ -1,5 +1,5 @@
 //! The limits of a book.
-ghost use Rattle.std.specs.Prelude.{IsTrue, ◌↔◌};
+ghost use Rattle.std.specs.Prelude.{◌≡◌, ◌↔◌, IsTrue};
 ghost use Rattle.nw_book.specs.Limits.{AreInRange};
 
 /// How much a book takes.
@@ -24,5 +24,15 @@ impl Limits {
             && (1..=65_536).contains(&self.events)
             && (1..=4_096).contains(&self.window)
             && (1..=256).contains(&self.sessions)
+    }
+
+    /// Whether each limit is the other's.
+    pub(crate) fn is_same(&self, other: &Limits) -> bool
+        ensures { IsTrue result ↔ self.now ≡ other.now }
+    {
+        self.blocks == other.blocks
+            && self.events == other.events
+            && self.window == other.window
+            && self.sessions == other.sessions
     }
 }
