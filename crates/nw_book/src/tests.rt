@@ -10,6 +10,7 @@ use values::{block, certificate, committee};
 mod causal;
 mod chunks;
 mod diamond;
+mod reopened;
 mod runs;
 mod values;
 

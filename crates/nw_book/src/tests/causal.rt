@@ -8,7 +8,7 @@ pub fn is_certified(reply: &Reply) -> bool {
 }
 
 /// Session 0 asks this.
-fn ask(
+pub fn ask(
     book: &mut Book<DemoScheme>,
     alloc: Global,
     number: u32,
@@ -18,7 +18,7 @@ fn ask(
 }
 
 /// Writes a block of member 0, with this parent or none, as this call of session 0.
-fn write_child(
+pub fn write_child(
     book: &mut Book<DemoScheme>,
     alloc: Global,
     number: u32,
@@ -32,7 +32,7 @@ fn write_child(
 }
 
 /// Certifies a digest for author 0 as this call of session 0.
-fn certify(
+pub fn certify(
     book: &mut Book<DemoScheme>,
     alloc: Global,
     number: u32,
@@ -45,7 +45,7 @@ fn certify(
 }
 
 /// Session 0 opens a causal read.
-fn open(
+pub fn open(
     book: &mut Book<DemoScheme>,
     alloc: Global,
     number: u32,

@@ -38,3 +38,32 @@ fn fronts_of_513_events_share_two_chunks(rt: HostRuntime) -> Result<(), Fail> {
     );
     Ok(())
 }
+
+/// The fronts of the reads 255, 256, 257 and 513.
+fn fronts(book: &mut Book<DemoScheme>, alloc: Global) -> Result<Vec<Front<DemoScheme>>, Fail> {
+    let mut fronts = Vec::new(alloc);
+    for number in 1..=513 {
+        let command = Command::Read(Digest([0; 32]));
+        let front = book.step(alloc, 0, number, &command)?.front;
+        if [255, 256, 257, 513].contains(&number) {
+            fronts.push(front)?;
+        }
+    }
+    Ok(fronts)
+}
+
+#[test]
+fn a_front_begins_each_longer_one_of_its_history(rt: HostRuntime) -> Result<(), Fail> {
+    let mut book = book_of_one(rt.alloc(), limits(16, 513, 4, 1))?;
+    let fronts = fronts(&mut book, rt.alloc())?;
+    for (place, front) in fronts.iter().enumerate() {
+        assert_eq!(rt;
+            last(front).map(|(_, number, _)| number as usize),
+            Some(front.len())
+        );
+        for (other, longer) in fronts.iter().enumerate() {
+            assert_eq!(rt; front.is_prefix_of(longer), place <= other);
+        }
+    }
+    Ok(())
+}

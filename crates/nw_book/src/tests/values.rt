@@ -38,6 +38,29 @@ pub fn block(
     round: u64,
     parents: &[Digest],
 ) -> Result<CheckedBlock<DemoScheme>, Fail> {
+    let transactions = Vec::new(alloc);
+    checked(alloc, committee, (author, round), parents, transactions)
+}
+
+/// A block of round 0 of member 0 that has this one transaction.
+pub fn block_with(
+    alloc: Global,
+    committee: &Shared<Committee>,
+    transaction: &[u8],
+) -> Result<CheckedBlock<DemoScheme>, Fail> {
+    let mut transactions = Vec::new(alloc);
+    transactions.push(Sequence::new(transaction.to_vec(alloc)?))?;
+    checked(alloc, committee, (0, 0), &[], transactions)
+}
+
+/// The block of the author and round, signed.
+fn checked(
+    alloc: Global,
+    committee: &Shared<Committee>,
+    (author, round): (u16, u64),
+    parents: &[Digest],
+    transactions: Vec<Sequence<u8>>,
+) -> Result<CheckedBlock<DemoScheme>, Fail> {
     let mut references = Vec::new(alloc);
     for (author, digest) in (0u16..).zip(parents) {
         references.push(Ref {
@@ -49,7 +72,7 @@ pub fn block(
         author,
         round: round_of(round)?,
         parents: Sequence::new(references),
-        transactions: Sequence::new(Vec::new(alloc)),
+        transactions: Sequence::new(transactions),
     };
     if !block.fits() {
         return Err(Fail::from("the block breaks a limit"));
