@@ -8,6 +8,7 @@ const A: Digest = Digest([1; 32]);
 
 const B: Digest = Digest([2; 32]);
 
+mod bases;
 mod causal_reads;
 
 fn round(number: u64) -> Result<Round, Fail> {
