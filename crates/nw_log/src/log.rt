@@ -26,7 +26,7 @@ impl Place for Brand {
 
 type Log<E> = Table<E, View<E>, (), OneLog, Global>;
 
-/// An empty log that no type stands for yet. Contracts see which log it is.
+/// An empty log that no type stands for yet, as every value of this type is. Contracts see which log it is.
 #[derive(Drop)]
 pub struct Opened<E> {
     table: Log<E>,
@@ -45,7 +45,8 @@ impl<E> Model for Opened<E> {
 }
 
 impl<E> Opened<E> {
-    /// An empty log. It takes the memory of one word, however long the log grows, and is refused where there is none.
+    /// An empty log. It takes two blocks of a few bytes, however long the log grows, and is refused where there is no memory
+    /// for them.
     pub fn new(alloc: Global) -> Result<Opened<E>, AllocError> {
         let (table, seat) = Log::of_words(alloc, &[0], &())?;
         Ok(Opened { table, seat })
@@ -67,8 +68,8 @@ impl<E> Opened<E> {
 
 /// The one who knows the whole log. Contracts see the events, the first first.
 ///
-/// Its calls are one to four atomic steps on one word each, whatever the length of the log. There is no limit on that length,
-/// nor on the number of claims.
+/// Each of its calls is one to three atomic steps on one word, however long the log is. There is no limit on that length, nor
+/// on the number of claims.
 #[derive(Drop)]
 pub struct Keeper<E, L: Place> {
     table: Log<E>,
@@ -114,6 +115,7 @@ impl<E, L: Place> Keeper<E, L> {
     {
         let Keeper { table, seat, of: _ } = self;
         let shared = &table.shared;
+        // The word is 0 and stays so: what the step changes is what the seats know.
         shared.compare_exchange_with::<Appends>(seat, 0, 0, 0, event);
     }
 

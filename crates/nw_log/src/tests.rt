@@ -2,6 +2,7 @@ ghost use Rattle.std.specs.Prelude.{◌≡◌, [], ◌∷◌};
 
 use super::*;
 use std::marker::Brand;
+use std::mem::size_of;
 use std::test::Fail;
 
 /// Nothing is done with it: that it may be called says that the value may cross to another thread.
@@ -18,6 +19,11 @@ fn seven_and_eight<L: Place>(opened: Opened<u32>) -> (Keeper<u32, L>, Claim<u32,
     let claim = keeper.claim();
     keeper.append(&8);
     (keeper, claim)
+}
+
+#[test]
+fn a_claim_has_no_bytes(rt: HostRuntime) {
+    assert_eq!(rt; size_of::<Claim<u32, Brand>>(), 0);
 }
 
 #[test]
