@@ -49,11 +49,11 @@ module _ {V : Type 0} where
         | Greater ↦ ap (λ es. e ∷ es) (insert_before d v l r h)
       ]
 
-  above_all : (x : Digest) (es : List (Digest × V)) → EachKey (λ k. digest_cmp x k ≡ Less) es → AllByRecursion (λ y. digest_cmp x y ≡ Less) (keys_of es)
+  pub above_all : (x : Digest) (es : List (Digest × V)) → EachKey (λ k. digest_cmp x k ≡ Less) es → AllByRecursion (λ y. digest_cmp x y ≡ Less) (keys_of es)
   above_all x [] h = tt
   above_all x (e ∷ es) h = (h.0, above_all x es h.1)
 
-  below_all : (x : Digest) (es : List (Digest × V)) → AllByRecursion (λ y. digest_cmp x y ≡ Less) (keys_of es) → EachKey (λ k. digest_cmp x k ≡ Less) es
+  pub below_all : (x : Digest) (es : List (Digest × V)) → AllByRecursion (λ y. digest_cmp x y ≡ Less) (keys_of es) → EachKey (λ k. digest_cmp x k ≡ Less) es
   below_all x [] h = tt
   below_all x (e ∷ es) h = (h.0, below_all x es h.1)
 

@@ -5,3 +5,4 @@ pub mod Sides
 pub mod Inserts
 pub mod Splits
 pub mod Grafts
+pub mod Removals

@@ -23,5 +23,11 @@ fn three_keys_and_a_replaced_value(rt: HostRuntime) -> Result<(), Fail> {
     assert_eq!(rt; trie.get(&k2).copied(), Some(2));
     assert_eq!(rt; trie.get(&k3).copied(), Some(3));
     assert_eq!(rt; trie.get(&digest(1, 0)).copied(), None);
+    assert_eq!(rt; trie.remove(&k2), Some(2));
+    assert_eq!(rt; trie.remove(&k2), None);
+    assert_eq!(rt; trie.len(), 2);
+    assert_eq!(rt; trie.get(&k2).copied(), None);
+    assert_eq!(rt; trie.get(&k1).copied(), Some(9));
+    assert_eq!(rt; trie.get(&k3).copied(), Some(3));
     Ok(())
 }

@@ -7,7 +7,7 @@ ghost use Rattle.std.specs.List.Sorted.{IsStrictlySortedBy};
 ghost use Rattle.nw_trie.specs.Bits.{digest_cmp};
 
 use crate::tree::Tree;
-use nw_digest::{Digest, NoMemory};
+use nw_digest::{Digest, InRound, NoMemory, Round};
 use std::alloc::Allocator;
 use std::marker::Model;
 
@@ -118,5 +118,28 @@ impl<V: Drop, A: Allocator> Trie<V, A> {
                 Ok(None)
             }
         }
+    }
+
+    /// Takes the entry of the digest out, and gives its value.
+    pub fn remove(&mut self, digest: &Digest) -> Option<V>
+        ensures value { result ≡ lookup (is_at (digest_cmp digest.now)) self.old }
+        ensures entries { self.new ≡ remove_entry (is_at (digest_cmp digest.now)) self.old }
+        ensures len { length self.new + (if is_some result then 1 else 0) ≡ length self.old }
+    {
+        let value = self.tree.remove(digest)?;
+        self.len -= 1;
+        Some(value)
+    }
+
+    /// Drops the values of rounds below this one, and gives the count of them.
+    pub fn retain_rounds(&mut self, floor: Round) -> usize
+    where
+        V: InRound,
+        ensures kept { self.new ≡ filter (λ entry. nat_le floor (V.round_of entry.1)) self.old }
+        ensures dropped { length self.new + result ≡ length self.old }
+    {
+        let dropped = self.tree.retain_rounds(floor);
+        self.len -= dropped;
+        dropped
     }
 }
