@@ -6,3 +6,4 @@ pub mod Inserts
 pub mod Splits
 pub mod Grafts
 pub mod Removals
+pub mod After

@@ -4,9 +4,11 @@
 #![tactic(auto)]
 
 mod bits;
+mod iter;
 mod tree;
 mod trie;
 
+pub use iter::Iter;
 pub use trie::Trie;
 
 #[cfg(test)]

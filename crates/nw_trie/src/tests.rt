@@ -23,6 +23,11 @@ fn three_keys_and_a_replaced_value(rt: HostRuntime) -> Result<(), Fail> {
     assert_eq!(rt; trie.get(&k2).copied(), Some(2));
     assert_eq!(rt; trie.get(&k3).copied(), Some(3));
     assert_eq!(rt; trie.get(&digest(1, 0)).copied(), None);
+    let mut seen = Vec::new(rt.alloc());
+    for (key, value) in trie.iter() {
+        seen.push((*key, *value))?;
+    }
+    assert_eq!(rt; seen.as_slice(), [(k1, 9), (k2, 2), (k3, 3)].as_slice());
     assert_eq!(rt; trie.remove(&k2), Some(2));
     assert_eq!(rt; trie.remove(&k2), None);
     assert_eq!(rt; trie.len(), 2);

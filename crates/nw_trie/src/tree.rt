@@ -1,11 +1,13 @@
 //! Trees of digests.
 ghost use Rattle.std.specs.Prelude.{◌≡◌, ◌+◌, ◌<◌, ◌^◌, [], ◌∷◌, ◌++◌, length, IfOk, IfErr, filter, nat_le};
 ghost use Rattle.std.specs.Bool.{MatchBool};
-ghost use Rattle.std.specs.Option.{MatchOption, option_copied};
+ghost use Rattle.std.specs.Option.{MatchOption, option_copied, option_map};
 ghost use Rattle.std.specs.Map.{lookup, remove_entry};
 ghost use Rattle.std.specs.BTreeMap.{insert_entry, is_at};
 ghost use Rattle.nw_trie.specs.Bits.{DifferFirst, digest_cmp};
 ghost use Rattle.nw_trie.specs.Entries.{AreEntries, BranchesAt, EachKey, HasKey, IsFork};
+ghost use Rattle.std.specs.Map.Iter.{deref_pair};
+ghost use Rattle.nw_trie.specs.After.{after, first_entry};
 ghost use Rattle.nw_trie.specs.Tree.{IsNearlyTree, IsTree, entries_of};
 
 use crate::bits::{first_difference, is_set, note_bytes};
@@ -108,6 +110,42 @@ impl<V: Drop, A: Allocator> Tree<V, A> {
             }
         }
         None
+    }
+
+    /// The first digest, with its value.
+    pub(crate) fn first(&self) -> Option<(&Digest, &V)>
+        ensures first { option_map deref_pair result ≡ first_entry self.now }
+        ensures entries { AreEntries self.now }
+    {
+        let _ = &self.link;
+        let mut tree = self;
+        while let Some(node) = &tree.link {
+            match &**node {
+                Node::Leaf(key, value) => return Some((key, value)),
+                Node::Fork(_bit, left, _right) => tree = left,
+            }
+        }
+        None
+    }
+
+    /// The digest after this one, with its value.
+    pub(crate) fn after(&self, digest: &Digest) -> Option<(&Digest, &V)>
+        requires { HasKey digest.now self.now }
+        ensures { option_map deref_pair result ≡ first_entry (after digest.now self.now) }
+    {
+        let Some(node) = &self.link else {
+            return None;
+        };
+        let Node::Fork(bit, left, right) = &**node else {
+            return None;
+        };
+        if is_set(digest, *bit) {
+            return right.after(digest);
+        }
+        if let Some(found) = left.after(digest) {
+            return Some(found);
+        }
+        right.first()
     }
 
     /// The bit at which the digest first differs from the nearest of the others, or `None` where it is one of them.

@@ -6,6 +6,7 @@ ghost use Rattle.std.specs.BTreeMap.{insert_entry, is_at};
 ghost use Rattle.std.specs.List.Sorted.{IsStrictlySortedBy};
 ghost use Rattle.nw_trie.specs.Bits.{digest_cmp};
 
+use crate::iter::Iter;
 use crate::tree::Tree;
 use nw_digest::{Digest, InRound, NoMemory, Round};
 use std::alloc::Allocator;
@@ -61,6 +62,13 @@ impl<V: Drop, A: Allocator> Trie<V, A> {
         ensures value { option_copied result ≡ lookup (is_at (digest_cmp digest.now)) self.now }
     {
         self.tree.get(digest)
+    }
+
+    /// The entries, ascending by digest.
+    pub fn iter(&self) -> Iter<'_, V, A>
+        ensures { result ≡ self.now }
+    {
+        Iter::new(&self.tree)
     }
 
     /// Puts the value at the digest. A value that was there is handed back, and then no memory is taken. Want of memory
