@@ -2,6 +2,7 @@
 ghost use Rattle.std.specs.Prelude.{◌≡◌};
 ghost use Rattle.std.specs.Iterator.{YieldsFirstBy, item_count};
 ghost use Rattle.std.specs.Map.Iter.{deref_pair};
+ghost use Rattle.nw_trie.specs.Entries.{AreEntries};
 
 use crate::tree::Tree;
 use nw_digest::Digest;
@@ -31,7 +32,8 @@ impl<'a, V: Drop, A: Allocator> Model for Iter<'a, V, A> {
 impl<'a, V: Drop, A: Allocator> Iter<'a, V, A> {
     /// All entries.
     pub(crate) fn new(tree: &'a Tree<V, A>) -> Iter<'a, V, A>
-        ensures { result ≡ tree.now }
+        ensures all { result ≡ tree.now }
+        ensures entries { AreEntries tree.now }
     {
         Iter {
             tree,

@@ -66,7 +66,8 @@ impl<V: Drop, A: Allocator> Trie<V, A> {
 
     /// The entries, ascending by digest.
     pub fn iter(&self) -> Iter<'_, V, A>
-        ensures { result ≡ self.now }
+        ensures all { result ≡ self.now }
+        ensures ordered { IsStrictlySortedBy digest_cmp (keys_of self.now) }
     {
         Iter::new(&self.tree)
     }
