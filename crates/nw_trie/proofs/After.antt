@@ -1,5 +1,5 @@
 -- The entries after a digest.
-use Rattle.std.proofs.Common.{◌≡◌, ◌∙◌, ◌⊎◌, inl, inr, ℕ, ◌+◌, ◌<◌, ◌≤◌, Bool, true, false, cond, List, [], ◌∷◌, ◌++◌, Option, Some, None, length, refl, sym, ap, subst, arith}
+use Rattle.std.proofs.Common.{◌≡◌, ◌∙◌, inl, inr, ℕ, ◌<◌, true, false, cond, List, [], ◌∷◌, ◌++◌, Option, Some, None, length, refl, sym, ap, subst, arith}
 use Rattle.std.specs.BTreeMap.{is_at}
 use Rattle.std.specs.List.Sorted.{IsStrictlySortedBy}
 use Rattle.std.specs.declared.cmp.Ordering.TheVariants.{Less}
@@ -10,11 +10,11 @@ use Rattle.std.specs.Ordering.{is_eq, ordering_reverse}
 use denote.Bor.{Bor}
 use Rattle.nw_digest.specs.declared.digest.Digest.{Digest}
 use Rattle.nw_trie.specs.Bits.{bit_of, digest_cmp}
-use Rattle.nw_trie.specs.Entries.{AreEntries, EachKey, HasKey, IsFork, SomeKey}
+use Rattle.nw_trie.specs.Entries.{AreEntries, EachKey, HasKey}
 use Rattle.nw_trie.specs.After.{IsLeft, after, first_entry, left_of}
 use Rattle.nw_trie.proofs.Sides.{AtFork, not_left}
 use Rattle.nw_trie.proofs.Inserts.{below_all, digest_equal, digests_total}
-use Rattle.nw_trie.proofs.Grafts.{key_left, key_right}
+use Rattle.nw_trie.proofs.Grafts.{key_left}
 
 here : (k x : Digest) → x ≡ k → is_at (digest_cmp k) x ≡ true
 here k x e = ap is_eq (ap (digest_cmp k) e ∙ digest_equal k)

@@ -1,13 +1,12 @@
 -- Digests by their bits.
 use Rattle.std.proofs.Common.{Fits, w8, ◌≡◌, ◌∙◌, ℕ, ◌+◌, ◌-◌, ◌*◌, ◌/◌, ◌%◌, ◌^◌, ◌<◌, ◌≤◌, Bool, true, false, List, [], ◌∷◌, zero, suc, refl, sym, ap, subst, arith, inl, inr, get_or, length, drop}
-use Rattle.std.specs.Prelude.{◌==◌}
 use Rattle.std.specs.declared.cmp.Ordering.TheVariants.{Less, Equal, Greater}
 use Rattle.std.specs.Ordering.{nat_cmp, ordering_then, ordering_reverse}
-use Rattle.std.specs.Cmp.{nat_cmp_is, IsTotalOrder}
+use Rattle.std.specs.Cmp.{nat_cmp_is}
 use Rattle.std.specs.FinMap.{slice_cmp-IsAntisymmetric, nat_cmp-IsAntisymmetric}
 use Rattle.std.specs.Cmp.Lexicographic.{slice_cmp, nat_list_cmp_total}
-use Rattle.std.proofs.lemmas.Bool.{cases_lt, cases_order}
-use Rattle.std.proofs.lemmas.List.{get_or_past, ext_get_or}
+use Rattle.std.proofs.lemmas.Bool.{cases_lt}
+use Rattle.std.proofs.lemmas.List.{ext_get_or}
 use Rattle.nw_digest.specs.declared.digest.Digest.{Digest}
 use Rattle.nw_trie.specs.Bits.{AgreeBelow, AreBytes, DifferFirst, bit_of, byte_bit, digest_cmp, list_bit}
 use Rattle.nw_trie.proofs.ByteBits.{same_byte, smaller_byte}

@@ -1,7 +1,7 @@
 -- A digest goes down to its place.
-use Rattle.std.proofs.Common.{◌≡◌, ◌∙◌, ◌⊎◌, inl, inr, ℕ, ◌+◌, ◌<◌, ◌≤◌, Bool, true, false, cond, List, [], ◌∷◌, ◌++◌, Option, Some, None, Box, length, refl, sym, ap, subst, arith, length-append}
+use Rattle.std.proofs.Common.{◌≡◌, ◌∙◌, inl, inr, ℕ, ◌+◌, ◌<◌, ◌≤◌, true, false, cond, List, [], ◌∷◌, ◌++◌, Option, Some, None, Box, length, refl, sym, ap, subst, arith, length-append}
 use Rattle.std.specs.Ordering.{is_eq, match_ordering}
-use Rattle.std.specs.declared.cmp.Ordering.TheVariants.{Less, Equal, Greater}
+use Rattle.std.specs.declared.cmp.Ordering.TheVariants.{Equal}
 use Rattle.std.specs.Map.{lookup}
 use Rattle.std.specs.BTreeMap.{insert_entry, is_at}
 use Rattle.std.proofs.lemmas.Bool.{cases_lt}
@@ -11,7 +11,7 @@ use Rattle.nw_trie.specs.declared.tree.Node.TheVariants.{Leaf, Fork}
 use Rattle.nw_trie.specs.Bits.{AgreeBelow, AreBytes, DifferFirst, bit_of, digest_cmp}
 use Rattle.nw_trie.specs.Entries.{AreEntries, BranchesAt, EachKey, HasKey, IsFork, SomeKey}
 use Rattle.nw_trie.specs.Tree.{entries_in, entries_of, IsNode, IsTree}
-use Rattle.nw_trie.proofs.Keys.{each_left, each_right, each_more, each_pair, some_more, some_side, some_of_each}
+use Rattle.nw_trie.proofs.Keys.{each_left, each_right, each_more, each_pair, some_side, some_of_each}
 use Rattle.nw_trie.proofs.Inserts.{digest_equal, entries_insert, left_fork, left_insert, right_fork, right_insert}
 use Rattle.nw_trie.proofs.Sides.{AtFork, at_Leaf}
 

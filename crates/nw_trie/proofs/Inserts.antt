@@ -1,19 +1,19 @@
 -- Entries with one more, or with another value.
-use Rattle.std.proofs.Common.{◌≡◌, ◌∙◌, ◌⊎◌, inl, inr, ℕ, ◌+◌, ◌<◌, ◌≤◌, Bool, true, false, cond, List, [], ◌∷◌, ◌++◌, map, length, refl, sym, ap, subst, arith, length-append}
+use Rattle.std.proofs.Common.{◌≡◌, ◌∙◌, ℕ, ◌≤◌, true, false, List, [], ◌∷◌, ◌++◌, length, refl, sym, ap, arith}
 use Rattle.std.specs.List.{AllByRecursion}
 use Rattle.std.specs.List.Sorted.{IsStrictlySortedBy}
 use Rattle.std.specs.declared.cmp.Ordering.{Ordering}
 use Rattle.std.specs.declared.cmp.Ordering.TheVariants.{Less, Equal, Greater}
 use Rattle.std.specs.Ordering.{match_ordering, ordering_reverse}
-use Rattle.std.specs.Cmp.{IsTotalOrder, nat_cmp_is}
+use Rattle.std.specs.Cmp.{IsTotalOrder}
 use Rattle.std.specs.Cmp.Lexicographic.{nat_list_cmp_total}
 use Rattle.std.specs.Map.{keys_of}
 use Rattle.std.specs.BTreeMap.{insert_entry}
 use Rattle.nw_digest.specs.declared.digest.Digest.{Digest}
-use Rattle.nw_trie.specs.Bits.{AgreeBelow, AreBytes, DifferFirst, bit_of, digest_cmp}
-use Rattle.nw_trie.specs.Entries.{AreEntries, BranchesAt, EachKey, HasKey, IsFork, SomeKey}
+use Rattle.nw_trie.specs.Bits.{AgreeBelow, AreBytes, bit_of, digest_cmp}
+use Rattle.nw_trie.specs.Entries.{AreEntries, EachKey, IsFork}
 use Rattle.nw_trie.proofs.DigestBits.{digest_less, digest_greater}
-use Rattle.nw_trie.proofs.Keys.{each_left, each_right, each_both, each_more, each_pair, each_insert, some_left, some_right, some_side, some_of_each}
+use Rattle.nw_trie.proofs.Keys.{each_left, each_right, each_both, each_more, each_pair, each_insert}
 
 -- the laws of the order
 pub digests_total : IsTotalOrder digest_cmp

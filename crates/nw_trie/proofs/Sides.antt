@@ -1,5 +1,5 @@
 -- The two sides of a fork.
-use Rattle.std.proofs.Common.{◌≡◌, ◌∙◌, ◌⊎◌, inl, inr, ℕ, ◌+◌, ◌<◌, ◌≤◌, Bool, true, false, cond, List, [], ◌∷◌, ◌++◌, Option, Some, None, Box, length, refl, sym, ap, subst, arith}
+use Rattle.std.proofs.Common.{◌≡◌, ◌∙◌, inl, inr, ℕ, ◌+◌, Bool, true, false, cond, List, [], ◌∷◌, ◌++◌, Option, Some, None, Box, refl, sym, ap, subst, arith}
 use Rattle.std.specs.Ordering.{is_eq}
 use Rattle.std.specs.declared.cmp.Ordering.{Ordering}
 use Rattle.std.specs.declared.cmp.Ordering.TheVariants.{Less, Equal, Greater}
@@ -9,12 +9,12 @@ use Rattle.std.specs.BTreeMap.{is_at}
 use Rattle.std.proofs.lemmas.Bool.{cases_lt}
 use Rattle.nw_digest.specs.declared.digest.Digest.{Digest}
 use Rattle.nw_trie.specs.Bits.{AgreeBelow, bit_of, digest_cmp}
-use Rattle.nw_trie.specs.Entries.{AreEntries, BranchesAt, EachKey, HasKey, IsFork, SomeKey}
+use Rattle.nw_trie.specs.Entries.{AreEntries, BranchesAt, EachKey, HasKey, IsFork}
 use Rattle.nw_trie.specs.Tree.{entries_in, entries_of, IsNode, IsTree}
 use Rattle.nw_trie.specs.declared.tree.Node.{Node}
 use Rattle.nw_trie.specs.declared.tree.Node.TheVariants.{Leaf, Fork}
 use Rattle.nw_trie.proofs.DigestBits.{same_bits}
-use Rattle.nw_trie.proofs.Keys.{each_left, each_right, each_both, each_more, each_pair, some_left, some_right, some_side, some_of_each}
+use Rattle.nw_trie.proofs.Keys.{each_left, each_right, each_both, each_more, each_pair, some_left, some_right, some_of_each}
 
 -- what is known of the entries d of a tree whose link is a fork
 pub record AtFork {V : Type 0} (d : List (Digest × V)) (bit : ℕ) (l r : List (Digest × V)) : Type 0 where

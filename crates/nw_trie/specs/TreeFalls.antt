@@ -1,10 +1,9 @@
 -- Each side of a fork has fewer entries than the fork.
-use Rattle.std.specs.Prelude.{◌≤◌, ◌++◌, max, length, Option, Some, None}
+use Rattle.std.specs.Prelude.{◌≤◌, length, Option, Some, None}
 use Rattle.std.proofs.Common.{Box, arith, length-append}
 use Rattle.std.specs.declared.alloc.Allocator.{Ghosts}
 use Rattle.nw_trie.specs.declared.tree.Node.{Node}
 use Rattle.nw_trie.specs.declared.tree.Node.TheVariants.{Leaf, Fork}
-use Rattle.nw_trie.specs.declared.tree.Tree.TheInside.{Inside}
 use Rattle.nw_trie.specs.declared.tree.Tree.TheDeep.{deep-Node, deep-Tree}
 use Rattle.nw_trie.specs.Tree.{entries_in, entries_of, IsNode, IsTree}
 

@@ -1,5 +1,5 @@
-use Rattle.std.proofs.Common.{◌≡◌, ◌<◌, ℕ, arith}
-use Rattle.nw_trie.proofs.DigestBits.{differ_first, same_digest}
+use Rattle.std.proofs.Common.{arith}
+use Rattle.nw_trie.proofs.DigestBits.{same_digest}
 use Rattle.nw_trie.proofs.bits.first_difference.Goals as goal
 
 pub returns : goal.returns

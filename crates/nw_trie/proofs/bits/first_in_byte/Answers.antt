@@ -1,6 +1,5 @@
-use Rattle.std.proofs.Common.{◌≡◌, ◌<◌, ℕ, arith, ◌⊎◌, inl, inr, subst}
+use Rattle.std.proofs.Common.{◌≡◌, arith, inl, inr}
 use Rattle.std.proofs.lemmas.Bool.{cases_lt}
-use Rattle.nw_trie.specs.Bits.{byte_bit}
 use Rattle.nw_trie.proofs.ByteBits.{same_byte}
 use Rattle.nw_trie.proofs.bits.first_in_byte.Goals as goal
 

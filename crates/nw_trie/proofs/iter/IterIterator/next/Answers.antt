@@ -1,4 +1,4 @@
-use Rattle.std.proofs.Common.{◌≡◌, ◌∙◌, ◌∷◌, sym, ap, arith, length, subst}
+use Rattle.std.proofs.Common.{◌∙◌, ◌∷◌, sym, ap, arith, length, subst}
 use Rattle.std.specs.Map.Iter.{deref_pair}
 use Rattle.nw_trie.specs.After.{IsLeft, left_of}
 use Rattle.nw_trie.proofs.After.{from_after}

@@ -1,4 +1,4 @@
-use Rattle.std.proofs.Common.{◌≡◌, ◌∙◌, sym}
+use Rattle.std.proofs.Common.{◌∙◌, sym}
 use Rattle.nw_trie.proofs.Sides.{at_Fork, branch_left, branch_right}
 use Rattle.nw_trie.proofs.tree.Tree.+branch.Goals as goal
 

@@ -1,4 +1,4 @@
-use Rattle.std.proofs.Common.{◌≡◌, ◌∙◌, sym, arith, subst}
+use Rattle.std.proofs.Common.{◌∙◌, sym, arith, subst}
 use Rattle.nw_trie.specs.Entries.{BranchesAt}
 use Rattle.nw_trie.proofs.Sides.{at_Fork}
 use Rattle.nw_trie.proofs.Grafts.{down_left, down_right, differ_below, differ_none, each_differ, fits_branch, grown_left, grown_right, sides_shorter}

@@ -1,4 +1,4 @@
-use Rattle.std.proofs.Common.{◌≡◌, ◌∙◌, ◌+◌, sym, ap, length}
+use Rattle.std.proofs.Common.{◌∙◌, ◌+◌, sym, ap, length}
 use Rattle.nw_trie.proofs.Splits.{absent_branch}
 use Rattle.nw_trie.proofs.trie.Trie.insert.Goals as goal
 

@@ -1,5 +1,4 @@
-use Rattle.std.proofs.Common.{◌≡◌, ◌∙◌, ◌+◌, cond, sym, ap, length, arith}
-use Rattle.std.specs.Prelude.{is_some}
+use Rattle.std.proofs.Common.{◌≡◌, ◌+◌, ap, length, arith}
 use Rattle.nw_trie.proofs.Removals.{removed}
 use Rattle.nw_trie.proofs.trie.Trie.remove.Goals as goal
 
