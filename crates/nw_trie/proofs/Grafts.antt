@@ -1,0 +1,149 @@
+-- A digest goes down to its place.
+use Rattle.std.proofs.Common.{◌≡◌, ◌∙◌, ◌⊎◌, inl, inr, ℕ, ◌+◌, ◌<◌, ◌≤◌, Bool, true, false, cond, List, [], ◌∷◌, ◌++◌, Option, Some, None, Box, length, refl, sym, ap, subst, arith, length-append}
+use Rattle.std.specs.Ordering.{is_eq, match_ordering}
+use Rattle.std.specs.declared.cmp.Ordering.TheVariants.{Less, Equal, Greater}
+use Rattle.std.specs.Map.{lookup}
+use Rattle.std.specs.BTreeMap.{insert_entry, is_at}
+use Rattle.std.proofs.lemmas.Bool.{cases_lt}
+use Rattle.nw_digest.specs.declared.digest.Digest.{Digest}
+use Rattle.nw_trie.specs.declared.tree.Node.{Node}
+use Rattle.nw_trie.specs.declared.tree.Node.TheVariants.{Leaf, Fork}
+use Rattle.nw_trie.specs.Bits.{AgreeBelow, AreBytes, DifferFirst, bit_of, digest_cmp}
+use Rattle.nw_trie.specs.Entries.{AreEntries, BranchesAt, EachKey, HasKey, IsFork, SomeKey}
+use Rattle.nw_trie.specs.Tree.{entries_in, entries_of, IsNode, IsTree}
+use Rattle.nw_trie.proofs.Keys.{each_left, each_right, each_more, each_pair, some_more, some_side, some_of_each}
+use Rattle.nw_trie.proofs.Inserts.{digest_equal, entries_insert, left_fork, left_insert, right_fork, right_insert}
+use Rattle.nw_trie.proofs.Sides.{AtFork, at_Leaf}
+
+-- one more bit in common
+agree_more : (n : ℕ) (a b : Digest) → AgreeBelow n a b → bit_of a n ≡ bit_of b n → AgreeBelow (n + 1) a b
+agree_more n a b same bit j h = elim (cases_lt j n) [ inl before ↦ same j before | inr at ↦ let is : j ≡ n = omega arith in rw is bit ]
+
+-- where all digests agree below a later bit, one that branches off differs from each of them there
+pub each_differ : {V : Type 0} (k front : Digest) (bit n : ℕ) (es : List (Digest × V)) → EachKey (AgreeBelow n front) es → bit ≤ n → BranchesAt k bit es → EachKey (λ x. DifferFirst bit k x) es
+each_differ k front bit n es agree low b =
+    let near = some_of_each (AgreeBelow bit k) (AgreeBelow n front) es b.near agree in
+    each_more _ _ (λ x h.
+    let same : AgreeBelow bit k x = λ j below. near.1 j below ∙ sym (near.2 j (omega arith)) ∙ h.0 j (omega arith) in
+    let differ : DifferFirst bit k x = record { same = same; differ = λ e. h.1 (agree_more bit k x same e) } in
+    differ) es (each_pair _ _ es agree b.apart)
+
+differ_node : {V A : Type 0} (k : Digest) (bit : ℕ) (n : Node V A) → IsNode n → ((at : ℕ) (l r : List (Digest × V)) → n ≡ Fork at l r → bit ≤ at) → BranchesAt k bit (entries_in n) → EachKey (λ x. DifferFirst bit k x) (entries_in n)
+differ_node k bit (Leaf x v) good low b = each_differ k x bit bit ((x, v) ∷ []) ((λ j h. refl), tt) (omega arith) b
+differ_node k bit (Fork at l r) good low b = each_differ k good.front bit at (l ++ r) good.agree (low at l r refl) b
+
+pub differ_below : {V A : Type 0} (k : Digest) (bit : ℕ) {link : Option (Box (Node V A) A)} {d : List (Digest × V)} {node : Box (Node V A) A} (n : Node V A) → entries_of link ≡ d → IsTree link → link ≡ Some node → n ≡ node.value
+    → ((at : ℕ) (l r : List (Digest × V)) → n ≡ Fork at l r → ⊥) → BranchesAt k bit d → EachKey (λ x. DifferFirst bit k x) (entries_in n)
+differ_below k bit n view_is good some behind no_fork b =
+    let same : entries_in n ≡ _ = ap entries_in behind ∙ sym (ap entries_of some) ∙ view_is in
+    differ_node k bit n (subst IsNode (sym behind) (subst IsTree some good).0) (λ at l r is. absurd (no_fork at l r is)) (subst (BranchesAt k bit) (sym same) b)
+
+pub differ_none : {V A : Type 0} (k : Digest) (bit : ℕ) (link : Option (Box (Node V A) A)) → ((node : Box (Node V A) A) → link ≡ Some node → ⊥) → EachKey (λ x. DifferFirst bit k x) (entries_of link)
+differ_none k bit None no_node = tt
+differ_none k bit (Some node) no_node = absurd (no_node node refl)
+
+-- some entry is there
+pub some_full : {V : Type 0} (P : Digest → Type 0) (es : List (Digest × V)) → SomeKey P es → 0 < length es
+some_full P [] h = absurd h
+some_full P (e ∷ es) h = omega arith
+
+-- both sides of a fork, one of them with the entry, where before they were d
+pub record Grown {V : Type 0} (d : List (Digest × V)) (bit : ℕ) (l r : List (Digest × V)) (k : Digest) (v : V) : Type 0 where
+  pub is : l ++ r ≡ insert_entry digest_cmp d k v
+  pub fork : IsFork bit l r
+  pub all : AreEntries (l ++ r)
+
+module _ {V : Type 0} {d : List (Digest × V)} {bit : ℕ} {l r : List (Digest × V)} (at : AtFork d bit l r) (k : Digest) where
+  pub sides_shorter : (length l < length d) × (length r < length d)
+  sides_shorter = let full = at.fork.left_full in let full2 = at.fork.right_full in omega (arith, ap length at.is, length-append l r)
+
+  module _ (v : V) (fits : AgreeBelow bit at.fork.front k) (bytes : AreBytes k.0) where
+    pub grown_right : (r2 : List (Digest × V)) → bit_of k bit ≡ true → r2 ≡ insert_entry digest_cmp r k v → Grown d bit l r2 k v
+    grown_right r2 set e =
+        let there = right_insert at.fork at.all k v fits bytes set in
+        rw e (record {
+          is = there ∙ ap (λ es. insert_entry digest_cmp es k v) (sym at.is);
+          fork = right_fork at.fork at.all k v fits bytes set;
+          all = subst AreEntries (sym there) (entries_insert k v (l ++ r) bytes at.all);
+        })
+
+    pub grown_left : (l2 : List (Digest × V)) → bit_of k bit ≡ false → l2 ≡ insert_entry digest_cmp l k v → Grown d bit l2 r k v
+    grown_left l2 unset e =
+        let there = left_insert at.fork at.all k v fits bytes unset in
+        rw e (record {
+          is = there ∙ ap (λ es. insert_entry digest_cmp es k v) (sym at.is);
+          fork = left_fork at.fork at.all k v fits bytes unset;
+          all = subst AreEntries (sym there) (entries_insert k v (l ++ r) bytes at.all);
+        })
+
+  -- what some digest agrees with up to the bit is on the side of its own bit
+  near_right : (P : Digest → Type 0) → ((x : Digest) → P x → bit_of k bit ≡ bit_of x bit) → bit_of k bit ≡ true → SomeKey P d → SomeKey P r
+  near_right P same set h =
+      elim (some_side P l r (subst (SomeKey P) at.is h)) [
+        | inl on_left ↦ let x = some_of_each P (λ x. bit_of x bit ≡ false) l on_left at.fork.unset in let e : true ≡ false = sym set ∙ same x.0 x.1 ∙ x.2 in cc
+        | inr on_right ↦ on_right
+      ]
+
+  near_left : (P : Digest → Type 0) → ((x : Digest) → P x → bit_of k bit ≡ bit_of x bit) → bit_of k bit ≡ false → SomeKey P d → SomeKey P l
+  near_left P same unset h =
+      elim (some_side P l r (subst (SomeKey P) at.is h)) [
+        | inl on_left ↦ on_left
+        | inr on_right ↦ let x = some_of_each P (λ x. bit_of x bit ≡ true) r on_right at.fork.set in let e : false ≡ true = sym unset ∙ same x.0 x.1 ∙ x.2 in cc
+      ]
+
+  fits_near : (P : Digest → Type 0) → ((x : Digest) → P x → AgreeBelow bit k x) → SomeKey P d → AgreeBelow bit at.fork.front k
+  fits_near P same h =
+      let x = some_of_each P (AgreeBelow bit at.fork.front) (l ++ r) (subst (SomeKey P) at.is h) at.fork.agree in
+      λ j low. x.2 j low ∙ sym (same x.0 x.1 j low)
+
+  module _ (n : ℕ) (later : bit < n) (b : BranchesAt k n d) where
+    pub fits_branch : AgreeBelow bit at.fork.front k
+    fits_branch = fits_near (AgreeBelow n k) (λ x h j low. h j (omega arith)) b.near
+
+    pub down_right : bit_of k bit ≡ true → BranchesAt k n r
+    down_right set = record { near = near_right (AgreeBelow n k) (λ x h. h bit later) set b.near; apart = each_right _ l r (subst (EachKey _) at.is b.apart) }
+
+    pub down_left : bit_of k bit ≡ false → BranchesAt k n l
+    down_left unset = record { near = near_left (AgreeBelow n k) (λ x h. h bit later) unset b.near; apart = each_left _ l r (subst (EachKey _) at.is b.apart) }
+
+  module _ (has : HasKey k d) where
+    pub fits_key : AgreeBelow bit at.fork.front k
+    fits_key = fits_near (λ x. x ≡ k) (λ x e j low. ap (λ y. bit_of y j) (sym e)) has
+
+    pub key_right : bit_of k bit ≡ true → HasKey k r
+    key_right set = near_right (λ x. x ≡ k) (λ x e. ap (λ y. bit_of y bit) (sym e)) set has
+
+    pub key_left : bit_of k bit ≡ false → HasKey k l
+    key_left unset = near_left (λ x. x ≡ k) (λ x e. ap (λ y. bit_of y bit) (sym e)) unset has
+
+-- the value of the one entry
+module _ {V : Type 0} (k x : Digest) (u v : V) (has : HasKey k ((x, u) ∷ [])) where
+  same_key : x ≡ k
+  same_key = elim has [ inl is ↦ is | inr none ↦ absurd none ]
+
+  ties : digest_cmp k x ≡ Equal
+  ties = ap (digest_cmp k) same_key ∙ digest_equal k
+
+  leaf_found : lookup (is_at (digest_cmp k)) ((x, u) ∷ []) ≡ Some u
+  leaf_found = ap (λ o. cond (is_eq o) (Some u) None) ties
+
+  leaf_replaced : (x, v) ∷ [] ≡ insert_entry digest_cmp ((x, u) ∷ []) k v
+  leaf_replaced = sym (ap (λ o. match_ordering o ((k, v) ∷ (x, u) ∷ []) ((x, v) ∷ []) ((x, u) ∷ (k, v) ∷ [])) ties)
+
+-- the one entry of a leaf, before its value is replaced, and after
+pub record AtLeaf {V : Type 0} (d : List (Digest × V)) (k x : Digest) (u v : V) : Type 0 where
+  pub found : lookup (is_at (digest_cmp k)) d ≡ Some u
+  pub is : (x, v) ∷ [] ≡ insert_entry digest_cmp d k v
+  pub all : AreEntries ((x, v) ∷ [])
+
+pub at_leaf : {V A : Type 0} {link : Option (Box (Node V A) A)} {d : List (Digest × V)} {node : Box (Node V A) A} {n : Node V A} {x : Digest} {u : V} (k : Digest) (v : V)
+    → entries_of link ≡ d → IsTree link → link ≡ Some node → n ≡ node.value → n ≡ Leaf x u → HasKey k d → AtLeaf d k x u v
+at_leaf {x = x} {u = u} k v view_is good some behind is has =
+    let e = at_Leaf view_is some behind is in
+    let here = subst (HasKey k) e has in
+    let all : AreEntries ((x, u) ∷ []) = subst (λ y. AreEntries (entries_in y)) (sym behind ∙ is) (subst IsTree some good).1 in
+    record {
+      found = ap (lookup (is_at (digest_cmp k))) e ∙ leaf_found k x u v here;
+      is = leaf_replaced k x u v here ∙ ap (λ es. insert_entry digest_cmp es k v) (sym e);
+      all = record { ascending = all.ascending; bytes = all.bytes };
+    }

@@ -1,0 +1,112 @@
+-- The two sides of a fork.
+use Rattle.std.proofs.Common.{◌≡◌, ◌∙◌, ◌⊎◌, inl, inr, ℕ, ◌+◌, ◌<◌, ◌≤◌, Bool, true, false, cond, List, [], ◌∷◌, ◌++◌, Option, Some, None, Box, length, refl, sym, ap, subst, arith}
+use Rattle.std.specs.Ordering.{is_eq}
+use Rattle.std.specs.declared.cmp.Ordering.{Ordering}
+use Rattle.std.specs.declared.cmp.Ordering.TheVariants.{Less, Equal, Greater}
+use Rattle.std.specs.Option.{MatchOption}
+use Rattle.std.specs.Map.{lookup}
+use Rattle.std.specs.BTreeMap.{is_at}
+use Rattle.std.proofs.lemmas.Bool.{cases_lt}
+use Rattle.nw_digest.specs.declared.digest.Digest.{Digest}
+use Rattle.nw_trie.specs.Bits.{AgreeBelow, bit_of, digest_cmp}
+use Rattle.nw_trie.specs.Entries.{AreEntries, BranchesAt, EachKey, HasKey, IsFork, SomeKey}
+use Rattle.nw_trie.specs.Tree.{entries_in, entries_of, IsNode, IsTree}
+use Rattle.nw_trie.specs.declared.tree.Node.{Node}
+use Rattle.nw_trie.specs.declared.tree.Node.TheVariants.{Leaf, Fork}
+use Rattle.nw_trie.proofs.DigestBits.{same_bits}
+use Rattle.nw_trie.proofs.Keys.{each_left, each_right, each_both, each_more, each_pair, some_left, some_right, some_side, some_of_each}
+
+-- what is known of the entries d of a tree whose link is a fork
+pub record AtFork {V : Type 0} (d : List (Digest × V)) (bit : ℕ) (l r : List (Digest × V)) : Type 0 where
+  pub is : d ≡ l ++ r
+  pub fork : IsFork bit l r
+  pub all : AreEntries (l ++ r)
+
+pub at_Fork : {V A : Type 0} {link : Option (Box (Node V A) A)} {d : List (Digest × V)} {node : Box (Node V A) A} {n : Node V A} {bit : ℕ} {l r : List (Digest × V)}
+    → entries_of link ≡ d → IsTree link → link ≡ Some node → n ≡ node.value → n ≡ Fork bit l r → AtFork d bit l r
+at_Fork view_is good some behind is =
+    let e = ap entries_of some in
+    let f = sym behind ∙ is in
+    record {
+      is = sym view_is ∙ ap entries_of some ∙ ap entries_in f;
+      fork = subst IsNode f (subst IsTree some good).0;
+      all = subst (λ x. AreEntries (entries_in x)) f (subst IsTree some good).1;
+    }
+
+pub at_Leaf : {V A : Type 0} {link : Option (Box (Node V A) A)} {d : List (Digest × V)} {node : Box (Node V A) A} {n : Node V A} {k : Digest} {v : V}
+    → entries_of link ≡ d → link ≡ Some node → n ≡ node.value → n ≡ Leaf k v → d ≡ (k, v) ∷ []
+at_Leaf view_is some behind is = sym view_is ∙ ap entries_of some ∙ ap entries_in (sym behind ∙ is)
+
+module _ {V : Type 0} where
+  -- a look-up passes what does not match
+  pub lookup_past : (test : Digest → Bool) (l r : List (Digest × V)) → EachKey (λ k. test k ≡ false) l → lookup test (l ++ r) ≡ lookup test r
+  lookup_past test [] r h = refl
+  lookup_past test (e ∷ l) r h = rw h.0 (lookup_past test l r h.1)
+
+  pub none_found : (test : Digest → Bool) (es : List (Digest × V)) → EachKey (λ k. test k ≡ false) es → lookup test es ≡ None
+  none_found test [] h = refl
+  none_found test (e ∷ es) h = rw h.0 (none_found test es h.1)
+
+  pub lookup_before : (test : Digest → Bool) (l r : List (Digest × V)) → EachKey (λ k. test k ≡ false) r → lookup test (l ++ r) ≡ lookup test l
+  lookup_before test [] r h = none_found test r h
+  lookup_before test (e ∷ l) r h = ap (cond (test e.0) (Some e.1)) (lookup_before test l r h)
+
+-- a digest with another bit is another
+pub unlike : (o : Ordering) → (o ≡ Equal → ⊥) → is_eq o ≡ false
+unlike Less h = refl
+unlike Equal h = absurd (h refl)
+unlike Greater h = refl
+
+pub other_bit : (d k : Digest) (bit : ℕ) (b c : Bool) → bit_of d bit ≡ b → bit_of k bit ≡ c → (b ≡ c → ⊥) → is_at (digest_cmp d) k ≡ false
+other_bit d k bit b c hd hk apart = unlike (digest_cmp d k) (λ e. apart (sym hd ∙ same_bits d k e bit ∙ hk))
+
+module _ {V : Type 0} {d : List (Digest × V)} {bit : ℕ} {l r : List (Digest × V)} (at : AtFork d bit l r) (k : Digest) where
+  pub not_left : bit_of k bit ≡ true → EachKey (λ x. is_at (digest_cmp k) x ≡ false) l
+  not_left set = each_more _ _ (λ x unset. other_bit k x bit true false set unset (λ e. cc)) l at.fork.unset
+
+  pub not_right : bit_of k bit ≡ false → EachKey (λ x. is_at (digest_cmp k) x ≡ false) r
+  not_right unset = each_more _ _ (λ x set. other_bit k x bit false true unset set (λ e. cc)) r at.fork.set
+
+  pub lookup_right : bit_of k bit ≡ true → lookup (is_at (digest_cmp k)) r ≡ lookup (is_at (digest_cmp k)) d
+  lookup_right set = sym (ap (lookup (is_at (digest_cmp k))) at.is ∙ lookup_past _ l r (not_left set))
+
+  pub lookup_left : bit_of k bit ≡ false → lookup (is_at (digest_cmp k)) l ≡ lookup (is_at (digest_cmp k)) d
+  lookup_left unset = sym (ap (lookup (is_at (digest_cmp k))) at.is ∙ lookup_before _ l r (not_right unset))
+
+-- where both sides agree, a digest that branches on one side is apart from the other side
+apart_from_other : {V : Type 0} (d front : Digest) (bit n : ℕ) (this other : List (Digest × V)) → EachKey (AgreeBelow bit front) this → EachKey (λ k. AgreeBelow bit front k × (bit_of d bit ≡ bit_of k bit → ⊥)) other
+    → BranchesAt d n this → EachKey (λ k. AgreeBelow (n + 1) d k → ⊥) other
+apart_from_other d front bit n this other here there b =
+    each_more _ _ (λ k far same. elim (cases_lt n bit) [
+      | inr late ↦ far.1 (same bit (omega arith))
+      | inl early ↦
+          let near = some_of_each (AgreeBelow n d) (λ x. AgreeBelow bit front x × (AgreeBelow (n + 1) d x → ⊥)) this b.near (each_pair _ _ this here b.apart) in
+          near.2.1 (λ j h. same j h ∙ sym (far.0 j (omega arith)) ∙ near.2.0 j (omega arith))
+    ]) other there
+
+module _ {V : Type 0} {d : List (Digest × V)} {bit : ℕ} {l r : List (Digest × V)} (at : AtFork d bit l r) (k : Digest) where
+  differ_left : bit_of k bit ≡ true → EachKey (λ x. AgreeBelow bit at.fork.front x × (bit_of k bit ≡ bit_of x bit → ⊥)) l
+  differ_left set = each_pair _ _ l (each_left _ l r at.fork.agree) (each_more _ _ (λ x unset e. let f : true ≡ false = sym set ∙ e ∙ unset in cc) l at.fork.unset)
+
+  differ_right : bit_of k bit ≡ false → EachKey (λ x. AgreeBelow bit at.fork.front x × (bit_of k bit ≡ bit_of x bit → ⊥)) r
+  differ_right unset = each_pair _ _ r (each_right _ l r at.fork.agree) (each_more _ _ (λ x set e. let f : false ≡ true = sym unset ∙ e ∙ set in cc) r at.fork.set)
+
+  branches_right : (n : ℕ) → bit_of k bit ≡ true → BranchesAt k n r → BranchesAt k n d
+  branches_right n set b = subst (BranchesAt k n) (sym at.is) (record {
+    near = some_right _ l r b.near;
+    apart = each_both _ l r (apart_from_other k at.fork.front bit n r l (each_right _ l r at.fork.agree) (differ_left set) b) b.apart;
+  })
+
+  branches_left : (n : ℕ) → bit_of k bit ≡ false → BranchesAt k n l → BranchesAt k n d
+  branches_left n unset b = subst (BranchesAt k n) (sym at.is) (record {
+    near = some_left _ l r b.near;
+    apart = each_both _ l r b.apart (apart_from_other k at.fork.front bit n l r (each_left _ l r at.fork.agree) (differ_right unset) b);
+  })
+
+  pub branch_right : (o : Option ℕ) → bit_of k bit ≡ true → MatchOption o (HasKey k r) (λ n. BranchesAt k n r) → MatchOption o (HasKey k d) (λ n. BranchesAt k n d)
+  branch_right None set h = subst (HasKey k) (sym at.is) (some_right _ l r h)
+  branch_right (Some n) set h = branches_right n set h
+
+  pub branch_left : (o : Option ℕ) → bit_of k bit ≡ false → MatchOption o (HasKey k l) (λ n. BranchesAt k n l) → MatchOption o (HasKey k d) (λ n. BranchesAt k n d)
+  branch_left None unset h = subst (HasKey k) (sym at.is) (some_left _ l r h)
+  branch_left (Some n) unset h = branches_left n unset h

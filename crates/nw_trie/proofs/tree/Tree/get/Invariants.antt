@@ -1,0 +1,11 @@
+use Rattle.std.proofs.Common.{◌≡◌, length}
+use Rattle.std.specs.Map.{lookup}
+use Rattle.std.specs.BTreeMap.{is_at}
+use Rattle.nw_trie.specs.Bits.{digest_cmp}
+use Rattle.nw_trie.proofs.tree.Tree.get.Given as goal
+
+abbrev pub invariant-loop-tree : goal.invariant-loop-tree
+invariant-loop-tree g l = lookup (is_at (digest_cmp l.digest)) l.tree ≡ lookup (is_at (digest_cmp l.digest)) l.self
+
+abbrev pub decreases-loop-tree : goal.decreases-loop-tree
+decreases-loop-tree g l = length l.tree

@@ -1,0 +1,28 @@
+-- The entries behind a digest.
+use Rattle.std.specs.Prelude.{List, [], ◌∷◌, Option, Some, None, if◌then◌else◌}
+use Rattle.std.specs.BTreeMap.{is_at}
+use Rattle.nw_digest.specs.declared.digest.Digest.{Digest}
+use Rattle.nw_trie.specs.Bits.{digest_cmp}
+use Rattle.nw_trie.specs.Entries.{AreEntries, HasKey}
+use denote.Bor.{Bor}
+
+module _ {V : Type 0} where
+  -- the first entry
+  abbrev pub first_entry : List (Digest × V) → Option (Digest × V)
+  first_entry [] = None
+  first_entry (e ∷ es) = Some e
+
+  -- the entries after that of the digest
+  abbrev pub after : Digest → List (Digest × V) → List (Digest × V)
+  after d [] = []
+  after d (e ∷ es) = if is_at (digest_cmp d) e.0 then es else after d es
+
+  -- the entries from this one on
+  abbrev pub left_of : List (Digest × V) → Option (Bor Digest × Bor V) → List (Digest × V)
+  left_of es None = []
+  left_of es (Some p) = (p.0.now, p.1.now) ∷ after p.0.now es
+
+  -- the entry stands there, and the digests ascend
+  abbrev pub IsLeft : List (Digest × V) → Option (Bor Digest × Bor V) → Type 0
+  IsLeft es None = Unit {0}
+  IsLeft es (Some p) = HasKey p.0.now es × AreEntries es

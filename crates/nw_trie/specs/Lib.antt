@@ -1,0 +1,5 @@
+pub mod Bits
+pub mod Entries
+pub mod After
+pub mod Tree
+pub mod TreeFalls

@@ -1,0 +1,253 @@
+//! Trees of digests.
+ghost use Rattle.std.specs.Prelude.{◌≡◌, ◌+◌, ◌<◌, [], ◌∷◌, ◌++◌, length, IfOk, IfErr};
+ghost use Rattle.std.specs.Bool.{MatchBool};
+ghost use Rattle.std.specs.Option.{MatchOption, option_copied, option_map};
+ghost use Rattle.std.specs.Map.{lookup};
+ghost use Rattle.std.specs.BTreeMap.{insert_entry, is_at};
+ghost use Rattle.nw_trie.specs.Bits.{DifferFirst, digest_cmp};
+ghost use Rattle.nw_trie.specs.Entries.{AreEntries, BranchesAt, EachKey, HasKey, IsFork};
+ghost use Rattle.std.specs.Map.Iter.{deref_pair};
+ghost use Rattle.nw_trie.specs.After.{after, first_entry};
+
+mod removal;
+
+use crate::bits::{first_difference, is_set, note_bytes};
+use nw_digest::Digest;
+use std::alloc::Allocator;
+use std::marker::Model;
+use std::mem;
+
+/// Digests with values, in the order of the digests. Contracts see the list of these.
+#[cycle(tree)]
+#[derive(Drop)]
+pub(crate) struct Tree<V: Drop, A: Allocator> {
+    link: Option<Box<Node<V, A>, A>>,
+}
+
+/// One digest with its value, or the digests on both sides of a bit.
+#[cycle(tree)]
+#[derive(Drop)]
+pub(crate) enum Node<V: Drop, A: Allocator> {
+    Leaf(Digest, V),
+    Fork(u8, Tree<V, A>, Tree<V, A>),
+}
+
+impl<V: Drop, A: Allocator> Model for Tree<V, A> {
+    ghost use Rattle.std.specs.Prelude.{List, length};
+    ghost use Rattle.nw_digest.specs.declared.digest.Digest.{Digest};
+
+    ghost Value = { List (Digest × V) };
+
+    ghost use Rattle.nw_trie.specs.Tree.{entries_of, IsTree};
+
+    ghost view = { λ t. entries_of t.link };
+
+    ghost invariant = { λ t. IsTree t.link };
+
+    ghost size = { length };
+
+    ghost use Rattle.nw_trie.specs.TreeFalls.{deep_link};
+
+    ghost size_decreases = { λ t h. deep_link A.Allocator t.link h };
+}
+
+impl<V: Drop, A: Allocator> Tree<V, A> {
+    /// No digests.
+    pub(crate) fn empty() -> Tree<V, A>
+        ensures { result ≡ [] }
+    {
+        Tree { link: None }
+    }
+
+    /// The digest with its value, or the value where memory is refused.
+    pub(crate) fn leaf(alloc: &A, digest: Digest, value: V) -> Result<Tree<V, A>, V>
+    where
+        A: Clone,
+        ensures leaf { IfOk result (λ leaf. leaf ≡ (digest, value) ∷ []) }
+        ensures value_returned { IfErr result (λ refused. refused ≡ value) }
+    {
+        note_bytes(&digest);
+        let Ok(alloc) = alloc.clone() else {
+            return Err(value);
+        };
+        match Box::new(alloc, Node::Leaf(digest, value)) {
+            Ok(node) => Ok(Tree { link: Some(node) }),
+            Err(refused) => match refused.value {
+                Node::Leaf(_, value) => Err(value),
+                Node::Fork(..) => unreachable!(),
+            },
+        }
+    }
+
+    /// The memory of a fork.
+    pub(crate) fn spare(alloc: &A) -> Option<Box<Node<V, A>, A>>
+    where
+        A: Clone,
+    {
+        let alloc = alloc.clone().ok()?;
+        Box::new(alloc, Node::Fork(0, Tree::empty(), Tree::empty())).ok()
+    }
+
+    /// Whether it has no digest.
+    pub(crate) fn is_empty(&self) -> bool
+        ensures { MatchBool result (self.now ≡ []) (0 < length self.now) }
+    {
+        self.link.is_none()
+    }
+
+    /// The value of the digest.
+    pub(crate) fn get(&self, digest: &Digest) -> Option<&V>
+        ensures { option_copied result ≡ lookup (is_at (digest_cmp digest.now)) self.now }
+    {
+        let mut tree = self;
+        while let Some(node) = &tree.link {
+            match &**node {
+                Node::Leaf(key, value) => {
+                    return if digest == key { Some(value) } else { None };
+                }
+                Node::Fork(bit, left, right) => {
+                    tree = if is_set(digest, *bit) { right } else { left };
+                }
+            }
+        }
+        None
+    }
+
+    /// The first digest, with its value.
+    pub(crate) fn first(&self) -> Option<(&Digest, &V)>
+        ensures first { option_map deref_pair result ≡ first_entry self.now }
+        ensures entries { AreEntries self.now }
+    {
+        let _ = &self.link;
+        let mut tree = self;
+        while let Some(node) = &tree.link {
+            match &**node {
+                Node::Leaf(key, value) => return Some((key, value)),
+                Node::Fork(_bit, left, _right) => tree = left,
+            }
+        }
+        None
+    }
+
+    /// The digest after this one, with its value.
+    pub(crate) fn after(&self, digest: &Digest) -> Option<(&Digest, &V)>
+        requires { HasKey digest.now self.now }
+        ensures { option_map deref_pair result ≡ first_entry (after digest.now self.now) }
+    {
+        let Some(node) = &self.link else {
+            return None;
+        };
+        let Node::Fork(bit, left, right) = &**node else {
+            return None;
+        };
+        if is_set(digest, *bit) {
+            return right.after(digest);
+        }
+        if let Some(found) = left.after(digest) {
+            return Some(found);
+        }
+        right.first()
+    }
+
+    /// The bit at which the digest first differs from the nearest of the others, or `None` where it is one of them.
+    pub(crate) fn branch(&self, digest: &Digest) -> Option<u8>
+        requires { 0 < length self.now }
+        ensures { MatchOption result (HasKey digest.now self.now) (λ bit. BranchesAt digest.now bit self.now) }
+    {
+        match &self.link {
+            None => None,
+            Some(node) => match &**node {
+                Node::Leaf(key, _) => first_difference(digest, key),
+                Node::Fork(bit, left, right) => {
+                    if is_set(digest, *bit) {
+                        right.branch(digest)
+                    } else {
+                        left.branch(digest)
+                    }
+                }
+            },
+        }
+    }
+
+    /// Puts the value in the place of the digest's, and hands that one back.
+    pub(crate) fn replace(&mut self, digest: &Digest, value: V) -> V
+        requires { HasKey digest.now self.old }
+        ensures old { lookup (is_at (digest_cmp digest.now)) self.old ≡ Some result }
+        ensures entries { self.new ≡ insert_entry digest_cmp self.old digest.now value }
+        ensures len { length self.new ≡ length self.old }
+    {
+        match &mut self.link {
+            None => unreachable!(),
+            Some(node) => match &mut **node {
+                Node::Leaf(_key, place) => mem::replace(place, value),
+                Node::Fork(bit, left, right) => {
+                    if is_set(digest, *bit) {
+                        right.replace(digest, value)
+                    } else {
+                        left.replace(digest, value)
+                    }
+                }
+            },
+        }
+    }
+
+    /// Puts the leaf in its place: the digest branches off at the bit.
+    pub(crate) fn graft(
+        &mut self,
+        digest: &Digest,
+        bit: u8,
+        fork: Box<Node<V, A>, A>,
+        leaf: Tree<V, A>,
+    )
+        requires branches { BranchesAt digest.now bit self.old }
+        requires leaf { (value : V) × (leaf ≡ (digest.now, value) ∷ []) }
+        ensures entries { (value : V) → leaf ≡ (digest.now, value) ∷ [] → self.new ≡ insert_entry digest_cmp self.old digest.now value }
+        ensures len { length self.new ≡ length self.old + 1 }
+    {
+        if let Some(node) = &mut self.link {
+            if let Node::Fork(at, left, right) = &mut **node {
+                if *at < bit {
+                    if is_set(digest, *at) {
+                        right.graft(digest, bit, fork, leaf);
+                    } else {
+                        left.graft(digest, bit, fork, leaf);
+                    }
+                    return;
+                }
+            }
+        }
+        self.split(digest, bit, fork, leaf);
+    }
+
+    /// Puts the leaf beside all others, which its digest differs from first at the bit.
+    fn split(&mut self, digest: &Digest, bit: u8, fork: Box<Node<V, A>, A>, leaf: Tree<V, A>)
+        requires differ { EachKey (λ k. DifferFirst bit digest.now k) self.old }
+        requires full { 0 < length self.old }
+        requires leaf { (value : V) × (leaf ≡ (digest.now, value) ∷ []) }
+        ensures entries { (value : V) → leaf ≡ (digest.now, value) ∷ [] → self.new ≡ insert_entry digest_cmp self.old digest.now value }
+        ensures len { length self.new ≡ length self.old + 1 }
+    {
+        let _ = &self.link;
+        let old = mem::replace(self, Tree::empty());
+        *self = if is_set(digest, bit) {
+            Tree::forked(fork, bit, old, leaf)
+        } else {
+            Tree::forked(fork, bit, leaf, old)
+        };
+    }
+
+    /// The two sides of the bit, in a fork that was made before.
+    fn forked(
+        mut node: Box<Node<V, A>, A>,
+        bit: u8,
+        left: Tree<V, A>,
+        right: Tree<V, A>,
+    ) -> Tree<V, A>
+        requires fork { IsFork bit left right }
+        requires entries { AreEntries (left ++ right) }
+        ensures { result ≡ left ++ right }
+    {
+        let _empty = Box::replace(&mut node, Node::Fork(bit, left, right));
+        Tree { link: Some(node) }
+    }
+}

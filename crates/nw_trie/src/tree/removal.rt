@@ -1,0 +1,95 @@
+//! What is taken out of a tree.
+ghost use Rattle.std.specs.Prelude.{◌≡◌, ◌+◌, ◌<◌, ◌^◌, length, filter, nat_le};
+ghost use Rattle.std.specs.Map.{lookup, remove_entry};
+ghost use Rattle.std.specs.BTreeMap.{is_at};
+ghost use Rattle.nw_trie.specs.Bits.{digest_cmp};
+ghost use Rattle.nw_trie.specs.Tree.{IsNearlyTree, IsTree, entries_of};
+
+use super::{Node, Tree};
+use crate::bits::is_set;
+use nw_digest::{Digest, InRound, Round};
+use std::alloc::Allocator;
+
+impl<V: Drop, A: Allocator> Tree<V, A> {
+    /// Takes the digest out, with its value.
+    pub(crate) fn remove(&mut self, digest: &Digest) -> Option<V>
+        ensures value { result ≡ lookup (is_at (digest_cmp digest.now)) self.old }
+        ensures entries { self.new ≡ remove_entry (is_at (digest_cmp digest.now)) self.old }
+    {
+        let Some(node) = &mut self.link else {
+            return None;
+        };
+        let Node::Fork(bit, left, right) = &mut **node else {
+            return self.remove_leaf(digest);
+        };
+        let value = if is_set(digest, *bit) {
+            right.remove(digest)
+        } else {
+            left.remove(digest)
+        };
+        drop_empty_side(&mut self.link);
+        value
+    }
+
+    /// The same, where there is no fork.
+    fn remove_leaf(&mut self, digest: &Digest) -> Option<V>
+        requires { length self.old < 2 }
+        ensures value { result ≡ lookup (is_at (digest_cmp digest.now)) self.old }
+        ensures entries { self.new ≡ remove_entry (is_at (digest_cmp digest.now)) self.old }
+    {
+        if self.get(digest).is_none() {
+            return None;
+        }
+        match Box::into_inner(self.link.take()?) {
+            Node::Leaf(_, value) => Some(value),
+            Node::Fork(..) => unreachable!(),
+        }
+    }
+
+    /// Drops what is of a lower round, and gives the count of it.
+    pub(crate) fn retain_rounds(&mut self, floor: Round) -> usize
+    where
+        V: InRound,
+        requires { length self.old < 2 ^ 64 }
+        ensures kept { self.new ≡ filter (λ e. nat_le floor (V.round_of e.1)) self.old }
+        ensures counted { length self.new + result ≡ length self.old }
+    {
+        let Some(node) = &mut self.link else {
+            return 0;
+        };
+        match &mut **node {
+            Node::Leaf(_key, value) => {
+                if value.round() >= floor {
+                    return 0;
+                }
+                self.link = None;
+                1
+            }
+            Node::Fork(_bit, left, right) => {
+                let dropped = left.retain_rounds(floor) + right.retain_rounds(floor);
+                drop_empty_side(&mut self.link);
+                dropped
+            }
+        }
+    }
+}
+
+/// Puts the other side in the place of a fork that has lost one.
+fn drop_empty_side<V: Drop, A: Allocator>(link: &mut Option<Box<Node<V, A>, A>>)
+    requires { IsNearlyTree link.old }
+    ensures tree { IsTree link.new }
+    ensures entries { entries_of link.new ≡ entries_of link.old }
+{
+    let Some(node) = link else {
+        return;
+    };
+    if let Node::Fork(_bit, left, right) = &mut **node {
+        if left.is_empty() {
+            let rest = right.link.take();
+            *link = rest;
+        } else if right.is_empty() {
+            let rest = left.link.take();
+            *link = rest;
+        }
+    }
+}

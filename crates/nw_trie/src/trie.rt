@@ -1,0 +1,154 @@
+//! Maps from digests to values.
+ghost use Rattle.std.specs.Prelude.{◌≡◌, ◌+◌, [], length, is_some, IsTrue, ◌↔◌, IfOk, IfErr, OnOk, OnErr, if◌then◌else◌, filter, nat_le};
+ghost use Rattle.std.specs.Option.{option_copied};
+ghost use Rattle.std.specs.Map.{keys_of, lookup, remove_entry};
+ghost use Rattle.std.specs.BTreeMap.{insert_entry, is_at};
+ghost use Rattle.std.specs.List.Sorted.{IsStrictlySortedBy};
+ghost use Rattle.nw_trie.specs.Bits.{digest_cmp};
+
+use crate::iter::Iter;
+use crate::tree::Tree;
+use nw_digest::{Digest, InRound, NoMemory, Round};
+use std::alloc::Allocator;
+use std::marker::Model;
+
+/// A map from digests to values, in the memory of one allocator. Contracts see the entries, ascending by digest.
+#[derive(Drop)]
+pub struct Trie<V: Drop, A: Allocator> {
+    tree: Tree<V, A>,
+    len: usize,
+    alloc: A,
+}
+
+impl<V: Drop, A: Allocator> Model for Trie<V, A> {
+    ghost use Rattle.std.specs.Prelude.{◌≡◌, List, length};
+    ghost use Rattle.nw_digest.specs.declared.digest.Digest.{Digest};
+
+    ghost Value = { List (Digest × V) };
+
+    ghost view = { λ t. t.tree };
+
+    ghost invariant = { λ t. t.len ≡ length t.tree };
+}
+
+impl<V: Drop, A: Allocator> Trie<V, A> {
+    /// No entries. It takes no memory.
+    pub fn new_in(alloc: A) -> Trie<V, A>
+        ensures { result ≡ [] }
+    {
+        Trie {
+            tree: Tree::empty(),
+            len: 0,
+            alloc,
+        }
+    }
+
+    /// How many entries there are.
+    pub fn len(&self) -> usize
+        ensures len { result ≡ length self.now }
+    {
+        self.len
+    }
+
+    /// Whether there is no entry.
+    pub fn is_empty(&self) -> bool
+        ensures { IsTrue result ↔ (length self.now ≡ 0) }
+    {
+        self.len == 0
+    }
+
+    /// The value of the digest. A look-up goes through at most 256 forks, and compares one whole digest.
+    pub fn get(&self, digest: &Digest) -> Option<&V>
+        ensures value { option_copied result ≡ lookup (is_at (digest_cmp digest.now)) self.now }
+    {
+        self.tree.get(digest)
+    }
+
+    /// The entries, ascending by digest.
+    pub fn iter(&self) -> Iter<'_, V, A>
+        ensures all { result ≡ self.now }
+        ensures ordered { IsStrictlySortedBy digest_cmp (keys_of self.now) }
+    {
+        Iter::new(&self.tree)
+    }
+
+    /// Puts the value at the digest. A value that was there is handed back, and then no memory is taken. Want of memory
+    /// hands the new value back, and changes nothing.
+    pub fn insert(&mut self, digest: Digest, value: V) -> Result<Option<V>, (NoMemory, V)>
+    where
+        A: Clone,
+        // On success the digest has the value, and its old value is returned.
+        ensures old { IfOk result (λ old. old ≡ lookup (is_at (digest_cmp digest)) self.old) }
+        ensures entries { OnOk result (self.new ≡ insert_entry digest_cmp self.old digest value) }
+        ensures len { IfOk result (λ old. length self.new ≡ length self.old + (if is_some old then 0 else 1)) }
+
+        // On failure the value comes back and the entries stay. Only a new digest can fail.
+        ensures value_returned { IfErr result (λ refused. refused.1 ≡ value) }
+        ensures absent { OnErr result (lookup (is_at (digest_cmp digest)) self.old ≡ None) }
+        ensures unchanged { OnErr result (self.new ≡ self.old) }
+    {
+        if self.tree.is_empty() {
+            return self.insert_first(digest, value);
+        }
+        let Some(bit) = self.tree.branch(&digest) else {
+            return Ok(Some(self.tree.replace(&digest, value)));
+        };
+        if self.len == usize::MAX {
+            return Err((NoMemory, value));
+        }
+        let Some(fork) = Tree::spare(&self.alloc) else {
+            return Err((NoMemory, value));
+        };
+        match Tree::leaf(&self.alloc, digest, value) {
+            Err(value) => Err((NoMemory, value)),
+            Ok(leaf) => {
+                self.tree.graft(&digest, bit, fork, leaf);
+                self.len += 1;
+                Ok(None)
+            }
+        }
+    }
+
+    /// Puts the value at the digest, where there is no entry.
+    fn insert_first(&mut self, digest: Digest, value: V) -> Result<Option<V>, (NoMemory, V)>
+    where
+        A: Clone,
+        requires { self.old ≡ [] }
+        ensures entries { OnOk result (self.new ≡ insert_entry digest_cmp [] digest value) }
+        ensures new { IfOk result (λ old. old ≡ None) }
+        ensures value_returned { IfErr result (λ refused. refused.1 ≡ value) }
+        ensures unchanged { OnErr result (self.new ≡ self.old) }
+    {
+        match Tree::leaf(&self.alloc, digest, value) {
+            Err(value) => Err((NoMemory, value)),
+            Ok(leaf) => {
+                self.tree = leaf;
+                self.len = 1;
+                Ok(None)
+            }
+        }
+    }
+
+    /// Takes the entry of the digest out, and gives its value.
+    pub fn remove(&mut self, digest: &Digest) -> Option<V>
+        ensures value { result ≡ lookup (is_at (digest_cmp digest.now)) self.old }
+        ensures entries { self.new ≡ remove_entry (is_at (digest_cmp digest.now)) self.old }
+        ensures len { length self.new + (if is_some result then 1 else 0) ≡ length self.old }
+    {
+        let value = self.tree.remove(digest)?;
+        self.len -= 1;
+        Some(value)
+    }
+
+    /// Drops the values of rounds below this one, and gives the count of them.
+    pub fn retain_rounds(&mut self, floor: Round) -> usize
+    where
+        V: InRound,
+        ensures kept { self.new ≡ filter (λ entry. nat_le floor (V.round_of entry.1)) self.old }
+        ensures dropped { length self.new + result ≡ length self.old }
+    {
+        let dropped = self.tree.retain_rounds(floor);
+        self.len -= dropped;
+        dropped
+    }
+}
