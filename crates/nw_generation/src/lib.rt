@@ -10,3 +10,6 @@ mod view;
 
 pub use generation::{Generation, freeze};
 pub use view::View;
+
+#[cfg(test)]
+mod tests;
