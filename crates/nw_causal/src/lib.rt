@@ -7,3 +7,6 @@
 mod walks;
 
 pub use walks::walk;
+
+#[cfg(test)]
+mod tests;

@@ -10,6 +10,7 @@ use Rattle.nw_model.specs.State.{block_slot, slot_cmp}
 use Rattle.nw_model.specs.View.{IsThere}
 use Rattle.nw_model.proofs.Maps.{get_lookup, slots_total, slots_apart, put_entries}
 use Rattle.nw_model.proofs.Finding.{finds_nothing, finds_again, finds_one, under_more, names_nothing, names_on, none_some, there_is}
+use Rattle.nw_causal.proofs.Looked.{IsAt}
 use Rattle.nw_causal.proofs.walks.find_parents.Goals as goal
 use Rattle.nw_causal.proofs.walks.find_parents.Goals.{in-Some+then-not-contains_key+in_ok-insert+in_ok-push, in-Some+else-not-contains_key, in_default}
 
@@ -29,14 +30,14 @@ loop-reference-preserved g c =
     elim c.match-get.branch [
       | in-Some+then-not-contains_key+in_ok-insert+in_ok-push w ↦
           let parent : Block = w.get-parent.result.now in
-          let at : get c.args.view.now.frozen.blocks r.digest ≡ Some parent = sym w.in-Some.ensures.block ∙ ap Some (sym w.get-parent.ensures) in
+          let at : IsAt c.args.view.now.frozen r.digest parent = sym w.in-Some.ensures.block ∙ ap Some (sym w.get-parent.ensures) in
           let free : is_some (get found (block_slot parent)) ≡ false = ap is_some (get_lookup slots_total c.loop-reference.found.entries (block_slot parent)) ∙ sym w.contains_key.ensures ∙ w.if-not-contains_key.true in
           rw (w.found-is, w.parents-is, w.in_ok-push.ensures.items, put_entries slots_total slots_apart c.loop-reference.found.entries w.insert.new.self.entries (block_slot parent) r.digest w.in_ok-insert.ensures.entries)
           (names_on _ refs c.loop-reference.reference-index none _ _ _ _ _ _ c.loop-reference-test.true c.loop-reference.invariant
           (finds_one _ _ _ r.digest parent (there_is _ _ parent there at) free))
       | in-Some+else-not-contains_key w ↦
           let parent : Block = w.get-parent.result.now in
-          let at : get c.args.view.now.frozen.blocks r.digest ≡ Some parent = sym w.in-Some.ensures.block ∙ ap Some (sym w.get-parent.ensures) in
+          let at : IsAt c.args.view.now.frozen r.digest parent = sym w.in-Some.ensures.block ∙ ap Some (sym w.get-parent.ensures) in
           let taken : is_some (get found (block_slot parent)) ≡ true = ap is_some (get_lookup slots_total c.loop-reference.found.entries (block_slot parent)) ∙ sym w.contains_key.ensures ∙ w.if-not-contains_key.false in
           rw (w.found-is, w.parents-is)
           (names_on _ refs c.loop-reference.reference-index none _ _ _ _ _ _ c.loop-reference-test.true c.loop-reference.invariant

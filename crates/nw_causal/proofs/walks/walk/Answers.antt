@@ -12,7 +12,7 @@ loop-digest-init g c = rw (c.in_ok-blocks.ensures.items) refl
 
 pub loop-digest-preserved-in_ok-push : goal.loop-digest-preserved-in_ok-push
 loop-digest-preserved-in_ok-push g c = rw (c.in_ok-push.ensures.items)
-    (walk_on c.args.view.now.frozen c.loop-digest.yielded c.in-Some.digest c.loop-digest.blocks.items c.in_ok-try_clone.field-0 c.loop-digest.invariant
+    (walk_on c.args.view.now.frozen c.loop-digest.yielded c.in-Some.digest _ c.in_ok-try_clone.field-0 c.loop-digest.invariant
     (sym c.in-Some-get.ensures.block ∙ ap Some (sym c.in_ok-try_clone.ensures)))
 
 pub loop-digest-preserved : goal.loop-digest-preserved
@@ -25,4 +25,4 @@ loop-digest-preserved g c =
 pub returns : goal.returns
 returns g c =
     let all = iter_end deref (values_of c.in_ok-found.found.entries) c.loop-digest.yielded _ _ _ _ (c.into_iter-digest-iterator.ensures.into_iter_gives ∙ c.values-digest-items.ensures.rest) c.loop-digest.yielded_by c.in-None.is c.next.ensures.steps in
-    walked c.args.view.now.frozen c.args.digest c.in_ok-found.found.entries c.loop-digest.blocks.items c.len.ensures.ordered c.in_ok-found.ensures (rw all.0 at c.loop-digest.invariant)
+    walked c.args.view.now.frozen c.args.digest c.in_ok-found.found.entries _ c.len.ensures.ordered c.in_ok-found.ensures (rw all.0 at c.loop-digest.invariant)
