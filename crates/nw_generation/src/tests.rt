@@ -28,16 +28,23 @@ fn round(number: u64) -> Result<Round, Fail>
     Ok(Round::new(number).ok_or("a round has 48 bits")?)
 }
 
-fn block(alloc: Global, slot: (u64, u16), parents: Vec<Ref>) -> Result<Shared<Block>, Fail>
+fn block(
+    alloc: Global,
+    slot: (u64, u16),
+    parents: Vec<Ref>,
+    text: &[u8],
+) -> Result<Shared<Block>, Fail>
     ensures { IfOk result (λ b. (b.round ≡ slot.0) × (b.author ≡ slot.1) × (b.parents ≡ parents.items)) }
 {
+    let mut transactions = Vec::new(alloc);
+    transactions.push(Sequence::new(text.to_vec(alloc)?))?;
     Ok(Shared::new(
         alloc,
         Block {
             author: slot.1,
             round: round(slot.0)?,
             parents: Sequence::new(parents),
-            transactions: Sequence::new(Vec::new(alloc)),
+            transactions: Sequence::new(transactions),
         },
     )?)
 }
@@ -60,13 +67,13 @@ fn frozen(alloc: Global, trie: Blocks) -> Result<Generation<Global>, Fail>
     }
 }
 
-/// The blocks of round 0 of three authors.
-fn older(alloc: Global) -> Result<Generation<Global>, Fail>
+/// The blocks of round 0 of three authors, each with this transaction.
+fn older(alloc: Global, text: &[u8]) -> Result<Generation<Global>, Fail>
     ensures { IfOk result (AreBases 3) }
 {
     let mut trie = Trie::new_in(alloc);
     for author in 0..3u8 {
-        let base = block(alloc, (0, author as u16), Vec::new(alloc))?;
+        let base = block(alloc, (0, author as u16), Vec::new(alloc), text)?;
         put(&mut trie, name(0, author), base)?;
     }
     frozen(alloc, trie)
@@ -94,7 +101,7 @@ fn newer(alloc: Global) -> Result<Generation<Global>, Fail>
     put(
         &mut trie,
         name(1, 0),
-        block(alloc, (1, 0), references(alloc)?)?,
+        block(alloc, (1, 0), references(alloc)?, b"next")?,
     )?;
     frozen(alloc, trie)
 }
@@ -102,7 +109,7 @@ fn newer(alloc: Global) -> Result<Generation<Global>, Fail>
 /// The view of both.
 fn both(alloc: Global, floor: Round) -> Result<View<Global>, Fail> {
     let mut generations = Vec::new(alloc);
-    generations.push(older(alloc)?)?;
+    generations.push(older(alloc, b"first")?)?;
     generations.push(newer(alloc)?)?;
     Ok(View::new(generations, floor))
 }
@@ -154,8 +161,23 @@ fn an_older_generation_holds_what_the_newer_one_names(rt: HostRuntime) -> Result
 }
 
 #[test]
+fn of_two_blocks_under_a_digest_the_later_one_is_seen(rt: HostRuntime) -> Result<(), Fail> {
+    let mut generations = Vec::new(rt.alloc());
+    generations.push(older(rt.alloc(), b"earlier")?)?;
+    generations.push(older(rt.alloc(), b"later")?)?;
+    let view = View::new(generations, Round::ZERO);
+    assert_eq!(rt; view.parts(), 2);
+    let block = view.get(&name(0, 1)).ok_or("both have the block")?.get();
+    assert_eq!(rt; block.transactions.as_slice().len(), 1);
+    for transaction in block.transactions.as_slice() {
+        assert_eq!(rt; transaction.as_slice(), b"later".as_slice());
+    }
+    Ok(())
+}
+
+#[test]
 fn a_view_outlives_its_generations(rt: HostRuntime) -> Result<(), Fail> {
-    let generation = older(rt.alloc())?;
+    let generation = older(rt.alloc(), b"first")?;
     let mut generations = Vec::new(rt.alloc());
     generations.push(generation.try_clone()?)?;
     assert!(rt; generation.get(&name(0, 2)).is_some());
