@@ -1,0 +1,103 @@
+//! Walks: the blocks that happened before a block, in a view.
+ghost use Rattle.std.specs.Prelude.{IfOk, All, []};
+ghost use Rattle.std.specs.FinMap as map;
+ghost use Rattle.nw_model.specs.View.{IsThere, IsWalk};
+ghost use Rattle.nw_model.specs.Search.{AreUnder, AreAbove, IsNamed, IsParentOfAny, Finds, Reaches};
+
+use nw_codec::Block;
+use nw_digest::{Digest, NoMemory, Round, Shared};
+use nw_generation::View;
+use std::alloc::{Allocator, Global};
+use std::collections::BTreeMap;
+
+/// The block under the digest and all its ancestors in the view, strictly ascending by round and author.
+///
+/// It goes round by round, from the block's own down to the floor; each block is looked up once for each reference to it.
+pub fn walk<A: Allocator>(
+    alloc: Global,
+    view: &View<A>,
+    digest: Digest,
+) -> Result<Vec<Shared<Block>>, NoMemory>
+    requires { (b : Block) × IsThere view.now.frozen digest b }
+    ensures { IfOk result (λ blocks. IsWalk view.now.frozen digest blocks.items) }
+{
+    let found = ancestors(alloc, view, digest)?;
+    let mut blocks = Vec::with_capacity(alloc, found.len())?;
+    for digest in found.values() {
+        if let Some(block) = view.get(digest) {
+            blocks.push(block.try_clone()?)?;
+        }
+    }
+    Ok(blocks)
+}
+
+/// The digests of the ancestors, under their rounds and authors.
+fn ancestors<A: Allocator>(
+    alloc: Global,
+    view: &View<A>,
+    digest: Digest,
+) -> Result<BTreeMap<(Round, u16), Digest>, NoMemory>
+    requires { (b : Block) × IsThere view.now.frozen digest b }
+    ensures { IfOk result (λ found. Reaches view.now.frozen digest (map.from_entries found.entries)) }
+{
+    let mut found = BTreeMap::new(alloc);
+    let mut frontier = Vec::new(alloc);
+    if let Some(block) = view.get(&digest) {
+        let block = block.get();
+        found.insert((block.round, block.author), digest)?;
+        frontier.push(digest)?;
+        for _ in view.floor().get()..block.round.get() {
+            if frontier.is_empty() {
+                break;
+            }
+            frontier = parents_of_all(alloc, view, &frontier, &mut found)?;
+        }
+    }
+    Ok(found)
+}
+
+/// The parents of the blocks of one round that were not found before. They are found now.
+fn parents_of_all<A: Allocator>(
+    alloc: Global,
+    view: &View<A>,
+    frontier: &[Digest],
+    found: &mut BTreeMap<(Round, u16), Digest>,
+) -> Result<Vec<Digest>, NoMemory>
+    requires above { AreAbove view.now.frozen frontier.now }
+    requires under { AreUnder view.now.frozen (map.from_entries found.old.entries) }
+    ensures { IfOk result (λ parents. Finds view.now.frozen (IsParentOfAny view.now.frozen frontier.now)
+        (map.from_entries found.old.entries) (map.from_entries found.new.entries) [] parents.items) }
+{
+    let mut parents = Vec::new(alloc);
+    for digest in frontier {
+        if let Some(block) = view.get(digest) {
+            find_parents(view, block.get(), found, &mut parents)?;
+        }
+    }
+    Ok(parents)
+}
+
+/// Adds the parents of the block that were not found before.
+fn find_parents<A: Allocator>(
+    view: &View<A>,
+    block: &Block,
+    found: &mut BTreeMap<(Round, u16), Digest>,
+    parents: &mut Vec<Digest>,
+) -> Result<(), NoMemory>
+    requires there { All (λ r. (b : Block) × IsThere view.now.frozen r.digest b) block.now.parents }
+    requires under { AreUnder view.now.frozen (map.from_entries found.old.entries) }
+    ensures { IfOk result (λ _. Finds view.now.frozen (IsNamed block.now.parents)
+        (map.from_entries found.old.entries) (map.from_entries found.new.entries) parents.old.items parents.new.items) }
+{
+    for reference in block.parents.as_slice() {
+        if let Some(parent) = view.get(&reference.digest) {
+            let parent = parent.get();
+            let slot = (parent.round, parent.author);
+            if !found.contains_key(&slot) {
+                found.insert(slot, reference.digest)?;
+                parents.push(reference.digest)?;
+            }
+        }
+    }
+    Ok(())
+}

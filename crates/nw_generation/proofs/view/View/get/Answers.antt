@@ -1,0 +1,16 @@
+use Rattle.std.proofs.Common.{sym, ◌∙◌}
+use Rattle.nw_generation.proofs.Unions.{get_here, get_older, get_nowhere}
+use Rattle.nw_generation.proofs.view.View.get.Goals as goal
+
+pub returns-in-Some-get-clause-block : goal.returns-in-Some-get-clause-block
+returns-in-Some-get-clause-block g c =
+    rw (← c.self.view_is, ← c.as_slice-left.ensures.value, ← c.loop-generation.invariant)
+    (sym (get_here c.loop-generation.left.now c.in-Some.older.now c.in-Some.generation.now c.args.digest.now c.in-Some-get.block.now c.in-Some.ensures.cases.0 c.in-Some-get.ensures))
+
+pub loop-generation-preserved : goal.loop-generation-preserved
+loop-generation-preserved g c =
+    get_older c.loop-generation.left.now c.in-Some.older.now c.in-Some.generation.now c.args.digest.now c.in-Some.ensures.cases.0 c.in_default-get.ensures ∙ c.loop-generation.invariant
+
+pub returns-clause-block : goal.returns-clause-block
+returns-clause-block g c =
+    rw (← c.self.view_is, ← c.as_slice-left.ensures.value, ← c.loop-generation.invariant) (sym (get_nowhere c.loop-generation.left.now c.args.digest.now c.in_default.ensures.cases))

@@ -1,0 +1,35 @@
+-- What is seen of a view.
+use Rattle.std.specs.Prelude.{ℕ, ◌≤◌, List, [], ◌∷◌, ◌++◌, length, refl}
+use Rattle.std.specs.Coded.{Coded, code_by, coded×, coded_ℕ}
+use Rattle.std.specs.FinMap.{FinMap, entries, from_entries}
+use Rattle.nw_digest.specs.declared.digest.Digest.{Digest}
+use Rattle.nw_codec.specs.declared.block.Block.{Block}
+use Rattle.nw_model.specs.State.{digest_cmp}
+use Rattle.nw_model.specs.View.{Frozen, IsClosed, coded_frozen}
+
+-- the entries of all generations, which are given the oldest first: those of the latest generation come first
+abbrev pub latest_first : List (FinMap digest_cmp Block) → List (Digest × Block)
+latest_first [] = []
+latest_first (oldest ∷ later) = latest_first later ++ entries oldest
+
+-- the blocks of all generations; where two hold a digest, it has the later one's block
+abbrev pub union : List (FinMap digest_cmp Block) → FinMap digest_cmp Block
+union generations = from_entries (latest_first generations)
+
+-- frozen blocks, and how many generations they come from
+pub record Seen : Type 0 where
+  pub frozen : Frozen
+  pub parts : ℕ
+
+-- how what is seen of a view is told apart from others
+abbrev pub coded_seen : Coded Seen
+coded_seen = code_by (Frozen × ℕ) (coded× coded_frozen coded_ℕ) (λ s. (s.frozen, s.parts)) (λ p. record { frozen = p.0; parts = p.1 }) (λ _. refl)
+
+-- what is seen of the generations and the floor
+abbrev pub seen_of : List (FinMap digest_cmp Block) → ℕ → Seen
+seen_of generations floor = record { frozen = record { blocks = union generations; floor = floor }; parts = length generations }
+
+-- closed, and of at most 16 generations
+pub record IsView (s : Seen) : Type 0 where
+  pub closed : IsClosed s.frozen
+  pub few : s.parts ≤ 16

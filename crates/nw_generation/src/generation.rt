@@ -1,0 +1,61 @@
+//! Generations: blocks that are frozen at one moment.
+ghost use Rattle.std.specs.Prelude.{◌≡◌, IfOk, IfErr};
+ghost use Rattle.std.specs.Option.{option_copied};
+ghost use Rattle.std.specs.FinMap as map;
+
+use nw_codec::Block;
+use nw_digest::{Digest, NoMemory, Shared};
+use nw_trie::Trie;
+use std::alloc::{Allocator, Global};
+use std::marker::Model;
+use std::sync::Arc;
+
+/// One owner of blocks that never change, under their digests. Contracts see the finite map of these.
+#[derive(Drop)]
+pub struct Generation<A: Allocator> {
+    trie: Arc<Trie<Shared<Block>, A>>,
+}
+
+impl<A: Allocator> Model for Generation<A> {
+    ghost use Rattle.std.specs.FinMap as map;
+    ghost use Rattle.nw_codec.specs.declared.block.Block.{Block};
+    ghost use Rattle.nw_model.specs.State.{digest_cmp, coded_digest, coded_block};
+
+    ghost Value = { map.FinMap digest_cmp Block };
+
+    ghost coded = { map.code coded_digest coded_block };
+
+    ghost view = { λ g. map.from_entries g.trie.value };
+}
+
+/// The generation of these blocks. Want of memory hands the trie back, as it was.
+pub fn freeze<A: Allocator>(
+    alloc: Global,
+    trie: Trie<Shared<Block>, A>,
+) -> Result<Generation<A>, (NoMemory, Trie<Shared<Block>, A>)>
+    ensures frozen { IfOk result (λ generation. generation ≡ map.from_entries trie) }
+    ensures handed_back { IfErr result (λ refused. refused.1 ≡ trie) }
+{
+    match Arc::new(alloc, trie) {
+        Ok(trie) => Ok(Generation { trie }),
+        Err(refused) => Err((NoMemory, refused.value)),
+    }
+}
+
+impl<A: Allocator> Generation<A> {
+    /// One more owner of the same blocks.
+    pub fn try_clone(&self) -> Result<Generation<A>, NoMemory>
+        ensures { IfOk result (λ generation. generation ≡ self.now) }
+    {
+        Ok(Generation {
+            trie: Arc::try_clone(&self.trie)?,
+        })
+    }
+
+    /// The block under the digest: one look-up in a trie.
+    pub fn get(&self, digest: &Digest) -> Option<&Shared<Block>>
+        ensures { option_copied result ≡ map.get self.now digest.now }
+    {
+        self.trie.get(digest)
+    }
+}

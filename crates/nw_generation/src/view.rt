@@ -1,0 +1,76 @@
+//! Views: what a few generations hold together, above a floor.
+ghost use Rattle.std.specs.Prelude.{◌≡◌, ◌≤◌, length};
+ghost use Rattle.std.specs.Option.{option_copied};
+ghost use Rattle.std.specs.FinMap as map;
+ghost use Rattle.nw_model.specs.View.{IsClosed};
+ghost use Rattle.nw_generation.specs.Seen.{seen_of};
+
+use crate::Generation;
+use nw_codec::Block;
+use nw_digest::{Digest, Round, Shared};
+use std::alloc::Allocator;
+use std::marker::Model;
+
+/// The blocks of at most 16 generations, and a floor. Where two generations hold a digest, the later one's block counts.
+/// Each parent of a block above the floor is there too, with the named author and in the round before, and no two blocks
+/// that are not below the floor share round and author.
+#[derive(Drop)]
+pub struct View<A: Allocator> {
+    /// The oldest first.
+    generations: Vec<Generation<A>>,
+    floor: Round,
+}
+
+impl<A: Allocator> Model for View<A> {
+    ghost use Rattle.nw_generation.specs.Seen.{Seen, IsView, coded_seen, seen_of};
+
+    ghost Value = { Seen };
+
+    ghost coded = { coded_seen };
+
+    ghost view = { λ v. seen_of v.generations.items v.floor };
+
+    ghost invariant = { λ v. IsView (seen_of v.generations.items v.floor) };
+}
+
+impl<A: Allocator> View<A> {
+    /// The view of these generations, the oldest first. It takes no memory.
+    pub fn new(generations: Vec<Generation<A>>, floor: Round) -> View<A>
+        requires closed { IsClosed (seen_of generations.items floor).frozen }
+        requires few { length generations.items ≤ 16 }
+        ensures { result ≡ seen_of generations.items floor }
+    {
+        View { generations, floor }
+    }
+
+    /// The block under the digest. It looks into each generation once at most, from the latest to the oldest.
+    pub fn get(&self, digest: &Digest) -> Option<&Shared<Block>>
+        ensures block { option_copied result ≡ map.get self.now.frozen.blocks digest.now }
+        ensures closed { IsClosed self.now.frozen }
+    {
+        let mut left = self.generations.as_slice();
+        while let Some((generation, older)) = left.split_last() {
+            if let Some(block) = generation.get(digest) {
+                return Some(block);
+            }
+            left = older;
+        }
+        None
+    }
+
+    /// The round below which nothing is asked for.
+    pub fn floor(&self) -> Round
+        ensures floor { result ≡ self.now.frozen.floor }
+        ensures closed { IsClosed self.now.frozen }
+    {
+        self.floor
+    }
+
+    /// How many generations it is made of.
+    pub fn parts(&self) -> usize
+        ensures parts { result ≡ self.now.parts }
+        ensures few { result ≤ 16 }
+    {
+        self.generations.len()
+    }
+}
