@@ -1,7 +1,7 @@
 ghost use Rattle.std.specs.Prelude.{◌<◌};
 
 use super::*;
-use crate::{Block, Signature, encode_message};
+use crate::{Ref, Signature, encode_message};
 use nw_digest::Digest;
 use std::alloc::AllocError;
 use std::test::Fail;
@@ -23,116 +23,109 @@ const MESSAGE: [u8; 83] = [
     0, 0, 0, 0, 0, 0, 0, 0, 0, 0, 0, 0, 0, 0, 0, 0,
 ];
 
-/// The block that the text is of, and its creator's signature.
-fn block_of(alloc: Global, text: &[u8]) -> Result<(Block, Signature), Fail> {
-    match decode_message(alloc, text)? {
-        Message::Block { block, signature } => Ok((block, signature)),
-        _ => Err(Fail::from("no block")),
+/// The message of the text, where it is encoded as the same text again.
+fn round_trip(alloc: Global, text: &[u8]) -> Result<Message, Fail> {
+    let sent = decode_message(alloc, text)?;
+    if encode_message(alloc, &sent)?.as_slice() != text {
+        return Err(Fail::from("encoded as another text"));
     }
+    Ok(sent)
 }
 
-/// The bytes of the message that the text is of.
-fn encoded_again(alloc: Global, text: &[u8]) -> Result<Vec<u8>, Fail> {
-    let sent = decode_message(alloc, text)?;
-    Ok(encode_message(alloc, &sent)?)
+/// Whether the message is of a block of author 0 with this round, these parents, and this many transactions, the last of
+/// them this long and with the first byte `x`, under a signature of zeros.
+fn is_block(sent: &Message, round: u64, parents: &[Ref], count: usize, length: usize) -> bool {
+    let Message::Block { block, signature } = sent else {
+        return false;
+    };
+    let transactions = block.transactions.as_slice();
+    let last = transactions
+        .last()
+        .map_or([].as_slice(), |last| last.as_slice());
+    block.author == 0
+        && block.round.get() == round
+        && block.parents.as_slice() == parents
+        && transactions.len() == count
+        && last.len() == length
+        && (last.is_empty() || last[0] == b'x')
+        && *signature == Signature([0; 64])
 }
 
 #[test]
-fn a_text_gives_back_the_fields_of_its_block(rt: HostRuntime) -> Result<(), Fail> {
-    let (block, signature) = block_of(rt.alloc(), &MESSAGE)?;
-    assert_eq!(rt; block.author, 0);
-    assert_eq!(rt; block.round.get(), 0);
-    assert_eq!(rt; block.parents.as_slice().len(), 0);
-    assert_eq!(rt; block.transactions.as_slice().len(), 1);
-    assert_eq!(rt;
-        block.transactions.as_slice()[0].as_slice(),
-        b"x".as_slice()
-    );
-    assert_eq!(rt; signature, Signature([0; 64]));
-    let text = encoded_again(rt.alloc(), &MESSAGE)?;
-    assert_eq!(rt; text.as_slice(), MESSAGE.as_slice());
+fn texts_give_back_the_fields_of_their_blocks(rt: HostRuntime) -> Result<(), Fail> {
+    let digest = Digest([9; 32]);
+    let parents = [Ref { author: 1, digest }, Ref { author: 2, digest }];
+    let later = with_parents(rt.alloc(), &[1, 2])?;
+    let cases: [(&str, &[u8], u64, &[Ref], usize, usize); 2] = [
+        ("the message", &MESSAGE, 0, &[], 1, 1),
+        ("two parents", &later, 1, &parents, 0, 0),
+    ];
+    for (shows, text, round, parents, count, length) in cases {
+        let sent = round_trip(rt.alloc(), text)?;
+        assert!(rt; is_block(&sent, round, parents, count, length), "{shows}");
+    }
     Ok(())
 }
 
-/// Whether each proper front of the text is short.
-fn has_short_fronts(alloc: Global, text: &[u8]) -> bool {
+/// Whether the text has this length, each proper front of it is short, and one byte more trails.
+fn ends_exactly(alloc: Global, text: &[u8], length: usize) -> Result<bool, AllocError> {
     for len in 0..text.len() {
         if decode_message(alloc, &text[..len]).err() != Some(DecodeError::Short) {
-            return false;
+            return Ok(false);
         }
     }
-    true
-}
-
-/// The fault of the text with one byte more.
-fn fault_with_a_byte_more(alloc: Global, text: &[u8]) -> Result<Option<DecodeError>, AllocError> {
     let mut longer = text.to_vec(alloc)?;
     longer.push(0)?;
-    Ok(decode_message(alloc, &longer).err())
+    let fault = decode_message(alloc, &longer).err();
+    Ok(text.len() == length && fault == Some(DecodeError::Trailing))
 }
+
+/// What one byte of the message is, where it stands, what is put there, and the fault of that text.
+const REPLACED: [(&str, usize, u8, Option<DecodeError>); 13] = [
+    ("a tag below", 0, 0, Some(DecodeError::Tag)),
+    ("a tag above", 0, 4, Some(DecodeError::Tag)),
+    ("a version", 1, 2, Some(DecodeError::Version)),
+    ("an author", 3, 1, None),
+    ("a round", 9, 1, None),
+    ("many parents", 11, 101, Some(DecodeError::TooManyParents)),
+    (
+        "many transactions",
+        12,
+        4,
+        Some(DecodeError::TooManyTransactions),
+    ),
+    ("no transaction", 13, 0, Some(DecodeError::Trailing)),
+    (
+        "a long transaction",
+        15,
+        1,
+        Some(DecodeError::TransactionTooLong),
+    ),
+    ("a shorter transaction", 17, 0, Some(DecodeError::Trailing)),
+    ("a longer transaction", 17, 2, Some(DecodeError::Short)),
+    ("a transaction", 18, 121, None),
+    ("a signature", 82, 1, None),
+];
 
 #[test]
-fn each_proper_front_of_a_message_is_short(rt: HostRuntime) {
-    assert!(rt; has_short_fronts(rt.alloc(), &MESSAGE));
-}
-
-#[test]
-fn nothing_may_follow_a_message(rt: HostRuntime) -> Result<(), Fail> {
-    assert_eq!(rt;
-        fault_with_a_byte_more(rt.alloc(), &MESSAGE)?,
-        Some(DecodeError::Trailing)
-    );
-    Ok(())
-}
-
-/// The fault of the message with one byte replaced.
-fn fault_with(alloc: Global, position: usize, byte: u8) -> Option<DecodeError>
-    requires { position < 83 }
-{
-    let mut text = MESSAGE;
-    text[position] = byte;
-    decode_message(alloc, &text).err()
-}
-
-#[test]
-fn an_altered_byte_gives_its_fault(rt: HostRuntime) {
-    let alloc = rt.alloc();
-    assert_eq!(rt; fault_with(alloc, 0, 0), Some(DecodeError::Tag));
-    assert_eq!(rt; fault_with(alloc, 0, 4), Some(DecodeError::Tag));
-    assert_eq!(rt; fault_with(alloc, 1, 2), Some(DecodeError::Version));
-    assert_eq!(rt;
-        fault_with(alloc, 11, 101),
-        Some(DecodeError::TooManyParents)
-    );
-    assert_eq!(rt;
-        fault_with(alloc, 12, 4),
-        Some(DecodeError::TooManyTransactions)
-    );
-    assert_eq!(rt; fault_with(alloc, 13, 0), Some(DecodeError::Trailing));
-    assert_eq!(rt;
-        fault_with(alloc, 15, 1),
-        Some(DecodeError::TransactionTooLong)
-    );
-    assert_eq!(rt; fault_with(alloc, 17, 0), Some(DecodeError::Trailing));
-    assert_eq!(rt; fault_with(alloc, 17, 2), Some(DecodeError::Short));
-}
-
-#[test]
-fn a_byte_without_a_test_gives_another_message(rt: HostRuntime) {
-    let alloc = rt.alloc();
-    assert_eq!(rt; fault_with(alloc, 3, 1), None);
-    assert_eq!(rt; fault_with(alloc, 9, 1), None);
-    assert_eq!(rt; fault_with(alloc, 18, 121), None);
-    assert_eq!(rt; fault_with(alloc, 82, 1), None);
+fn a_replaced_byte_gives_its_fault_or_another_message(rt: HostRuntime) {
+    for (shows, position, byte, fault) in REPLACED {
+        let mut text = MESSAGE;
+        if let Some(place) = text.get_mut(position) {
+            *place = byte;
+        }
+        assert!(rt; decode_message(rt.alloc(), &text).err() == fault, "{shows}");
+    }
 }
 
 /// The message of a block of author 0 and round 1 without transactions, whose parents have these authors.
 fn with_parents(alloc: Global, authors: &[u8]) -> Result<Vec<u8>, AllocError> {
-    let mut text = [1, 1, 0, 0, 0, 0, 0, 0, 0, 1, 0].to_vec(alloc)?;
-    text.push(authors.len().min(255) as u8)?;
+    let count = authors.len().min(255) as u8;
+    let mut text = [1, 1, 0, 0, 0, 0, 0, 0, 0, 1, 0, count].to_vec(alloc)?;
     for author in authors {
-        text.extend_from_slice(&[0, *author])?;
-        text.extend_from_slice(&[9; 32])?;
+        let mut parent = [9; 34];
+        parent[..2].copy_from_slice(&[0, *author]);
+        text.extend_from_slice(&parent)?;
     }
     text.extend_from_slice(&[0; 66])?;
     Ok(text)
@@ -140,17 +133,15 @@ fn with_parents(alloc: Global, authors: &[u8]) -> Result<Vec<u8>, AllocError> {
 
 #[test]
 fn parents_ascend_strictly_by_author(rt: HostRuntime) -> Result<(), Fail> {
-    let alloc = rt.alloc();
-    let (block, _) = block_of(alloc, &with_parents(alloc, &[1, 2])?)?;
-    assert_eq!(rt; block.round.get(), 1);
-    assert_eq!(rt; block.parents.as_slice().len(), 2);
-    assert_eq!(rt; block.parents.as_slice()[0].author, 1);
-    assert_eq!(rt; block.parents.as_slice()[1].author, 2);
-    assert_eq!(rt; block.parents.as_slice()[1].digest, Digest([9; 32]));
-    let same = decode_message(alloc, &with_parents(alloc, &[1, 1])?).err();
-    assert_eq!(rt; same, Some(DecodeError::ParentOrder));
-    let smaller = decode_message(alloc, &with_parents(alloc, &[2, 1])?).err();
-    assert_eq!(rt; smaller, Some(DecodeError::ParentOrder));
+    let cases: [(&str, &[u8], Option<DecodeError>); 3] = [
+        ("a greater author", &[1, 2], None),
+        ("an author twice", &[1, 1], Some(DecodeError::ParentOrder)),
+        ("a smaller author", &[2, 1], Some(DecodeError::ParentOrder)),
+    ];
+    for (shows, authors, fault) in cases {
+        let text = with_parents(rt.alloc(), authors)?;
+        assert!(rt; decode_message(rt.alloc(), &text).err() == fault, "{shows}");
+    }
     Ok(())
 }
 
@@ -171,13 +162,13 @@ fn with_sixteen_transactions(alloc: Global, last: u32) -> Result<Vec<u8>, AllocE
 
 #[test]
 fn a_body_has_at_most_1048576_bytes(rt: HostRuntime) -> Result<(), Fail> {
-    let alloc = rt.alloc();
-    let largest = with_sixteen_transactions(alloc, 65_459)?;
-    assert_eq!(rt; largest.len(), 1_048_576 + 65);
-    let (block, _) = block_of(alloc, &largest)?;
-    assert_eq!(rt; block.transactions.as_slice().len(), 16);
-    assert_eq!(rt; block.transactions.as_slice()[15].as_slice().len(), 65_459);
-    let larger = decode_message(alloc, &with_sixteen_transactions(alloc, 65_460)?).err();
-    assert_eq!(rt; larger, Some(DecodeError::BodyTooLong));
+    let larger = with_sixteen_transactions(rt.alloc(), 65_460)?;
+    assert_eq!(rt;
+        decode_message(rt.alloc(), &larger).err(),
+        Some(DecodeError::BodyTooLong)
+    );
+    let largest = with_sixteen_transactions(rt.alloc(), 65_459)?;
+    let sent = round_trip(rt.alloc(), &largest)?;
+    assert!(rt; largest.len() == 1_048_576 + 65 && is_block(&sent, 0, &[], 16, 65_459));
     Ok(())
 }

@@ -16,43 +16,29 @@ const VOTE: [u8; 107] = [
     4, 4, 4, 4, 4, 4, 4, 4, 4, 4, 4, 4, 4, 4, 4, 4,
 ];
 
-/// Whether the message is encoded as the text, and the text decoded as the message.
-fn is_text_of(alloc: Global, text: &[u8], sent: &Message) -> Result<bool, Fail> {
-    let encoded = encode_message(alloc, sent)?;
-    let decoded = decode_message(alloc, text)?;
-    Ok(encoded.as_slice() == text && decoded == *sent)
-}
-
-/// Whether each proper front of the text is short, and one byte more trails.
-fn ends_exactly(alloc: Global, text: &[u8]) -> Result<bool, AllocError> {
-    let longer = fault_with_a_byte_more(alloc, text)?;
-    Ok(has_short_fronts(alloc, text) && longer == Some(DecodeError::Trailing))
-}
-
 #[test]
-fn a_vote_has_107_bytes(rt: HostRuntime) -> Result<(), Fail> {
-    let alloc = rt.alloc();
-    let sent = Message::Vote(Vote {
+fn a_vote_has_the_fields_of_its_text(rt: HostRuntime) -> Result<(), Fail> {
+    let sent = Vote {
         digest: Digest([9; 32]),
         round: Round::new(5).ok_or("no round")?,
         author: 258,
         signer: 7,
         signature: Signature([4; 64]),
-    });
-    assert!(rt; is_text_of(alloc, &VOTE, &sent)?);
-    assert!(rt; ends_exactly(alloc, &VOTE)?);
+    };
+    let read = round_trip(rt.alloc(), &VOTE)?;
+    assert!(rt; matches!(&read, Message::Vote(vote) if *vote == sent));
     Ok(())
 }
 
 /// The message of a certificate for the same block, with a vote of each of these members.
-fn with_votes(alloc: Global, signers: &[u8]) -> Result<Vec<u8>, AllocError> {
+fn with_votes(alloc: Global, signers: &[u16]) -> Result<Vec<u8>, AllocError> {
     let mut text = [2].to_vec(alloc)?;
-    text.extend_from_slice(&[9; 32])?;
-    text.extend_from_slice(&[0, 0, 0, 0, 0, 5, 1, 2, 0])?;
-    text.push(signers.len().min(255) as u8)?;
+    text.extend_from_slice(&VOTE[1..41])?;
+    text.extend_from_slice(&[0, signers.len().min(255) as u8])?;
     for signer in signers {
-        text.extend_from_slice(&[0, *signer])?;
-        text.extend_from_slice(&[4; 64])?;
+        let mut vote = [4; 66];
+        vote[..2].copy_from_slice(&signer.to_be_bytes());
+        text.extend_from_slice(&vote)?;
     }
     Ok(text)
 }
@@ -75,48 +61,56 @@ fn certificate(alloc: Global, signers: &[u16]) -> Result<Message, Fail> {
 }
 
 #[test]
-fn a_certificate_of_three_votes_has_241_bytes(rt: HostRuntime) -> Result<(), Fail> {
-    let alloc = rt.alloc();
-    let text = with_votes(alloc, &[0, 2, 3])?;
-    assert_eq!(rt; text.len(), 241);
-    assert!(rt; is_text_of(alloc, &text, &certificate(alloc, &[0, 2, 3])?)?);
-    assert!(rt; ends_exactly(alloc, &text)?);
+fn a_certificate_has_a_vote_of_each_signer(rt: HostRuntime) -> Result<(), Fail> {
+    let sent = certificate(rt.alloc(), &[0, 2, 3])?;
+    let text = with_votes(rt.alloc(), &[0, 2, 3])?;
+    assert!(rt; round_trip(rt.alloc(), &text)? == sent);
     Ok(())
 }
 
-/// The fault of the message of a certificate with votes of these members.
-fn fault_of_votes(alloc: Global, signers: &[u8]) -> Result<Option<DecodeError>, AllocError> {
-    Ok(decode_message(alloc, &with_votes(alloc, signers)?).err())
+#[test]
+fn each_message_has_its_length_and_ends_exactly(rt: HostRuntime) -> Result<(), Fail> {
+    let votes = with_votes(rt.alloc(), &[0, 2, 3])?;
+    let texts: [(&str, &[u8], usize); 3] = [
+        ("a block", &MESSAGE, 83),
+        ("a vote", &VOTE, 107),
+        ("a certificate of three votes", &votes, 241),
+    ];
+    for (shows, text, length) in texts {
+        assert!(rt; ends_exactly(rt.alloc(), text, length)?, "{shows}");
+    }
+    Ok(())
 }
 
 #[test]
 fn signers_ascend_strictly(rt: HostRuntime) -> Result<(), Fail> {
-    let alloc = rt.alloc();
-    assert_eq!(rt;
-        fault_of_votes(alloc, &[0, 2, 2])?,
-        Some(DecodeError::VoteOrder)
-    );
-    assert_eq!(rt;
-        fault_of_votes(alloc, &[2, 1])?,
-        Some(DecodeError::VoteOrder)
-    );
-    let over = encode_message(alloc, &certificate(alloc, &[0, 2, 2])?);
-    assert!(rt; matches!(over, Err(EncodeError::OverLimit)));
+    let cases: [(&str, &[u16]); 2] = [("a signer twice", &[0, 2, 2]), ("a smaller one", &[2, 1])];
+    for (shows, signers) in cases {
+        let text = with_votes(rt.alloc(), signers)?;
+        let fault = decode_message(rt.alloc(), &text).err();
+        assert!(rt; fault == Some(DecodeError::VoteOrder), "{shows}");
+    }
+    Ok(())
+}
+
+#[test]
+fn a_signer_twice_is_not_encoded(rt: HostRuntime) -> Result<(), Fail> {
+    let sent = certificate(rt.alloc(), &[0, 2, 2])?;
+    let fault = encode_message(rt.alloc(), &sent).err();
+    assert!(rt; fault == Some(EncodeError::OverLimit));
     Ok(())
 }
 
 #[test]
 fn a_hundred_votes_are_decoded_and_one_more_is_not(rt: HostRuntime) -> Result<(), Fail> {
     let alloc = rt.alloc();
-    let mut signers = Vec::new(alloc);
-    for signer in 0..100u8 {
-        signers.push(signer)?;
+    let mut signers = [0; 101];
+    for number in 0..101u16 {
+        signers[usize::from(number)] = number;
     }
-    assert_eq!(rt; fault_of_votes(alloc, &signers)?, None);
-    signers.push(100)?;
-    assert_eq!(rt;
-        fault_of_votes(alloc, &signers)?,
-        Some(DecodeError::TooManyVotes)
-    );
+    let first = signers.get(..100).ok_or("no hundred signers")?;
+    let hundred = decode_message(alloc, &with_votes(alloc, first)?).err();
+    let more = decode_message(alloc, &with_votes(alloc, &signers)?).err();
+    assert_eq!(rt; [hundred, more], [None, Some(DecodeError::TooManyVotes)]);
     Ok(())
 }
