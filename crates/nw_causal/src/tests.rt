@@ -12,6 +12,8 @@ use nw_trie::Trie;
 use std::alloc::Global;
 use std::test::Fail;
 
+mod agreements;
+
 type Blocks = Trie<Shared<Block>, Global>;
 
 /// The digest of the block of this round and author.
@@ -28,16 +30,23 @@ fn round(number: u64) -> Result<Round, Fail>
     Ok(Round::new(number).ok_or("a round has 48 bits")?)
 }
 
-fn block(alloc: Global, slot: (u64, u16), parents: Vec<Ref>) -> Result<Shared<Block>, Fail>
+fn block(
+    alloc: Global,
+    slot: (u64, u16),
+    parents: Vec<Ref>,
+    text: &[u8],
+) -> Result<Shared<Block>, Fail>
     ensures { IfOk result (λ b. (b.round ≡ slot.0) × (b.author ≡ slot.1) × (b.parents ≡ parents.items)) }
 {
+    let mut transactions = Vec::new(alloc);
+    transactions.push(Sequence::new(text.to_vec(alloc)?))?;
     Ok(Shared::new(
         alloc,
         Block {
             author: slot.1,
             round: round(slot.0)?,
             parents: Sequence::new(parents),
-            transactions: Sequence::new(Vec::new(alloc)),
+            transactions: Sequence::new(transactions),
         },
     )?)
 }
@@ -60,13 +69,13 @@ fn frozen(alloc: Global, trie: Blocks) -> Result<Generation<Global>, Fail>
     }
 }
 
-/// The blocks of round 0 of three authors.
-fn older(alloc: Global) -> Result<Generation<Global>, Fail>
+/// The blocks of round 0 of three authors, each with this transaction.
+fn older(alloc: Global, text: &[u8]) -> Result<Generation<Global>, Fail>
     ensures { IfOk result (AreBases 3) }
 {
     let mut trie = Trie::new_in(alloc);
     for author in 0..3u8 {
-        let base = block(alloc, (0, author as u16), Vec::new(alloc))?;
+        let base = block(alloc, (0, author as u16), Vec::new(alloc), text)?;
         put(&mut trie, name(0, author), base)?;
     }
     frozen(alloc, trie)
@@ -94,15 +103,15 @@ fn newer(alloc: Global) -> Result<Generation<Global>, Fail>
     put(
         &mut trie,
         name(1, 0),
-        block(alloc, (1, 0), references(alloc)?)?,
+        block(alloc, (1, 0), references(alloc)?, b"next")?,
     )?;
     frozen(alloc, trie)
 }
 
-/// The view of both.
-fn both(alloc: Global, floor: Round) -> Result<View<Global>, Fail> {
+/// The view of both, where the older blocks have this transaction.
+fn both(alloc: Global, floor: Round, text: &[u8]) -> Result<View<Global>, Fail> {
     let mut generations = Vec::new(alloc);
-    generations.push(older(alloc)?)?;
+    generations.push(older(alloc, text)?)?;
     generations.push(newer(alloc)?)?;
     Ok(View::new(generations, floor))
 }
@@ -123,7 +132,7 @@ fn slots(alloc: Global, view: &View<Global>, digest: Digest) -> Result<Vec<(u64,
 
 #[test]
 fn a_walk_with_floor_0_lists_the_block_after_its_parents(rt: HostRuntime) -> Result<(), Fail> {
-    let view = both(rt.alloc(), Round::ZERO)?;
+    let view = both(rt.alloc(), Round::ZERO, b"first")?;
     let slots = slots(rt.alloc(), &view, name(1, 0))?;
     assert_eq!(rt;
         slots.as_slice(),
@@ -134,7 +143,7 @@ fn a_walk_with_floor_0_lists_the_block_after_its_parents(rt: HostRuntime) -> Res
 
 #[test]
 fn a_walk_with_floor_1_lists_the_block_alone(rt: HostRuntime) -> Result<(), Fail> {
-    let view = both(rt.alloc(), round(1)?)?;
+    let view = both(rt.alloc(), round(1)?, b"first")?;
     let slots = slots(rt.alloc(), &view, name(1, 0))?;
     assert_eq!(rt; slots.as_slice(), [(1, 0)].as_slice());
     Ok(())
@@ -142,7 +151,7 @@ fn a_walk_with_floor_1_lists_the_block_alone(rt: HostRuntime) -> Result<(), Fail
 
 #[test]
 fn a_walk_from_a_block_without_parents_lists_it_alone(rt: HostRuntime) -> Result<(), Fail> {
-    let view = both(rt.alloc(), Round::ZERO)?;
+    let view = both(rt.alloc(), Round::ZERO, b"first")?;
     let slots = slots(rt.alloc(), &view, name(0, 1))?;
     assert_eq!(rt; slots.as_slice(), [(0, 1)].as_slice());
     Ok(())

@@ -1,7 +1,7 @@
 //! Walks: the blocks that happened before a block, in a view.
-ghost use Rattle.std.specs.Prelude.{IfOk, All, []};
+ghost use Rattle.std.specs.Prelude.{IfOk, OnOk, All, []};
 ghost use Rattle.std.specs.FinMap as map;
-ghost use Rattle.nw_model.specs.View.{IsThere, IsWalk};
+ghost use Rattle.nw_model.specs.View.{IsClosed, IsThere, IsWalk};
 ghost use Rattle.nw_model.specs.Search.{AreUnder, AreAbove, IsNamed, IsParentOfAny, Finds, Reaches};
 
 use nw_codec::Block;
@@ -32,13 +32,14 @@ pub fn walk<A: Allocator>(
 }
 
 /// The digests of the ancestors, under their rounds and authors.
-fn ancestors<A: Allocator>(
+pub(crate) fn ancestors<A: Allocator>(
     alloc: Global,
     view: &View<A>,
     digest: Digest,
 ) -> Result<BTreeMap<(Round, u16), Digest>, NoMemory>
     requires { (b : Block) × IsThere view.now.frozen digest b }
-    ensures { IfOk result (λ found. Reaches view.now.frozen digest (map.from_entries found.entries)) }
+    ensures found { IfOk result (λ found. Reaches view.now.frozen digest (map.from_entries found.entries)) }
+    ensures closed { OnOk result (IsClosed view.now.frozen) }
 {
     let mut found = BTreeMap::new(alloc);
     let mut frontier = Vec::new(alloc);

@@ -26,8 +26,8 @@ parents_of_all-requires-clause-under g c = c.loop.invariant.under
 pub loop-preserved : goal.loop-preserved
 loop-preserved g c = explores_on _ _ _ _ c.loop.frontier.items _ _ _ c.floor.ensures.closed c.loop.invariant (rw c.deref.ensures.value at c.in_ok-frontier.ensures)
 
-pub returns : goal.returns
-returns g c = elim c.match-get.branch [
+pub returns-clause-found : goal.returns-clause-found
+returns-clause-found g c = elim c.match-get.branch [
   | in-Some+in_ok-insert+in_ok-push+else-loop-test w ↦ rw (w.found-is) (reaches_floor _ _ _ _ _ _ w.loop.invariant w.loop-test.false)
   | in-Some+in_ok-insert+in_ok-push+then-loop-test+then-is_empty w ↦ rw (w.found-is) (reaches_early _ _ _ _ _ _ w.loop.invariant (let none = none_left w.loop.frontier.len w.if-is_empty.ensures in omega (arith, none, w.loop.frontier.ok.0)))
   | in_default w ↦ absurd (none_some c.requires.0 (w.in_default.ensures.block ∙ c.requires.1.0))

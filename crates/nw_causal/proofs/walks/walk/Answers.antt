@@ -19,10 +19,10 @@ pub loop-digest-preserved : goal.loop-digest-preserved
 loop-digest-preserved g c =
     let values : List Digest = values_of c.in_ok-found.found.entries in
     let turn = iter_turn deref values c.loop-digest.yielded _ _ _ _ (c.into_iter-digest-iterator.ensures.into_iter_gives ∙ c.values-digest-items.ensures.rest) c.loop-digest.yielded_by c.in-Some.digest c.in-Some.is c.next.ensures.steps in
-    let there = values_there c.args.view.now.frozen c.args.digest c.in_ok-found.found.entries c.len.ensures.ordered c.in_ok-found.ensures c.in-Some.digest.now (turn_among values _ _ turn.0 turn.1) in
+    let there = values_there c.args.view.now.frozen c.args.digest c.in_ok-found.found.entries c.len.ensures.ordered c.in_ok-found.ensures.found c.in-Some.digest.now (turn_among values _ _ turn.0 turn.1) in
     absurd (none_some there.0 (c.in_default.ensures.block ∙ there.1))
 
 pub returns : goal.returns
 returns g c =
     let all = iter_end deref (values_of c.in_ok-found.found.entries) c.loop-digest.yielded _ _ _ _ (c.into_iter-digest-iterator.ensures.into_iter_gives ∙ c.values-digest-items.ensures.rest) c.loop-digest.yielded_by c.in-None.is c.next.ensures.steps in
-    walked c.args.view.now.frozen c.args.digest c.in_ok-found.found.entries _ c.len.ensures.ordered c.in_ok-found.ensures (rw all.0 at c.loop-digest.invariant)
+    walked c.args.view.now.frozen c.args.digest c.in_ok-found.found.entries _ c.len.ensures.ordered c.in_ok-found.ensures.found (rw all.0 at c.loop-digest.invariant)
