@@ -2,5 +2,3 @@ pub mod Longer
 pub mod Stands
 pub mod Opened
 pub mod Making
-pub mod Prefixes
-pub mod Reopened

@@ -4,7 +4,7 @@ use Rattle.std.specs.Prelude.{slice_get}
 use Rattle.std.proofs.lemmas.List.{take_more}
 use Rattle.std.proofs.lemmas.Option.{slice_get_read}
 use Rattle.nw_sig.specs.Signed.{Meaning}
-use Rattle.nw_book.specs.Story.{Story}
+use Rattle.nw_history.specs.Story.{Story}
 use Rattle.nw_book.specs.Ticket.{Given}
 use Rattle.nw_book.specs.Run.{IsAnswer, IsStop, Makes, Runs}
 use Rattle.nw_book.specs.declared.run.Move.{Move}

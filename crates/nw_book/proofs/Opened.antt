@@ -15,7 +15,7 @@ use Rattle.nw_model.specs.declared.event.Event.{Event}
 use Rattle.nw_model.specs.declared.reply.Reply.TheVariants as replies
 use Rattle.nw_model.proofs.Replayed.{legal_sound}
 use Rattle.nw_model.proofs.Views.{complete_there, walk_is_causal}
-use Rattle.nw_book.specs.Story.{Story, IsLegalStory, terms_of, bounds_of, state_of, with_event}
+use Rattle.nw_history.specs.Story.{Story, IsLegalStory, terms_of, bounds_of, state_of, with_event}
 use Rattle.nw_book.specs.Ticket.{Given, IsTicket, IsTicketWith, causal_event}
 use Rattle.nw_book.proofs.Longer.{replay_last}
 

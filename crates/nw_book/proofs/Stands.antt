@@ -16,7 +16,8 @@ use Rattle.nw_model.specs.declared.reply.Reply.TheVariants as reply
 use Rattle.nw_book.specs.declared.command.Command.{Command}
 use Rattle.nw_book.specs.declared.command.Command.TheVariants as command
 use Rattle.nw_book.specs.Command.{call_of}
-use Rattle.nw_book.specs.Story.{Story, IsLegalStory, IsInTurn, HasRoom, AreCounts, StandFor, terms_of, bounds_of, state_of, tables_of, with_event}
+use Rattle.nw_history.specs.Story.{Story, IsLegalStory, terms_of, bounds_of, state_of, tables_of, with_event}
+use Rattle.nw_book.specs.Turn.{IsInTurn, HasRoom, AreCounts, StandFor}
 use Rattle.nw_book.proofs.Longer.{replay_last, events_of_last, legal_last}
 
 -- the reply to a command is no list

@@ -1,6 +1,4 @@
-pub mod Limits
-pub mod Story
-pub mod Prefix
+pub mod Turn
 pub mod Ticket
 pub mod Command
 pub mod Takes

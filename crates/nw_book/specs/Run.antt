@@ -4,7 +4,8 @@ use Rattle.nw_sig.specs.Signed.{Meaning}
 use Rattle.nw_model.specs.Step.{IsReply}
 use Rattle.nw_model.specs.declared.call.Call.TheVariants as calls
 use Rattle.nw_model.specs.declared.reply.Reply.TheVariants as replies
-use Rattle.nw_book.specs.Story.{Story, IsRefusal, next_number, bounds_of, state_of}
+use Rattle.nw_history.specs.Story.{Story, bounds_of, state_of}
+use Rattle.nw_book.specs.Turn.{IsRefusal, next_number}
 use Rattle.nw_book.specs.Ticket.{Given, Opens}
 use Rattle.nw_book.specs.Command.{IsUnder, call_of}
 use Rattle.nw_book.specs.Takes.{Takes, Refuses}

@@ -7,7 +7,7 @@ use Rattle.nw_model.specs.declared.call.Call.{Call}
 use Rattle.nw_model.specs.declared.call.Call.TheVariants as calls
 use Rattle.nw_model.specs.declared.reply.CausalReply.{CausalReply}
 use Rattle.nw_model.specs.declared.reply.Reply.TheVariants as replies
-use Rattle.nw_book.specs.Story.{Story, IsLegalStory, bounds_of, state_of, with_event}
+use Rattle.nw_history.specs.Story.{Story, IsLegalStory, bounds_of, state_of, with_event}
 use Rattle.nw_book.specs.declared.book.Done.{Done}
 
 -- the history is the one before and this event, with the reply that is handed out; the reply is the step's after the history before; the answer's front is the new history, which is legal

@@ -8,7 +8,7 @@ use Rattle.nw_model.specs.declared.call.Call.TheVariants as calls
 use Rattle.nw_model.specs.declared.event.Event.{Event}
 use Rattle.nw_model.specs.declared.reply.Reply.{Reply}
 use Rattle.nw_model.specs.declared.reply.Reply.TheVariants as replies
-use Rattle.nw_book.specs.Story.{Story, IsLegalStory, bounds_of, state_of, with_event}
+use Rattle.nw_history.specs.Story.{Story, IsLegalStory, bounds_of, state_of, with_event}
 
 -- a digest, and the history whose last event is the causal read of it
 pub record Given : Type 0 where

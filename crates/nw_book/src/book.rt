@@ -4,17 +4,19 @@ ghost use Rattle.std.specs.Result.{IsErrOf, MatchResult};
 ghost use Rattle.nw_model.specs.State.{opening};
 ghost use Rattle.nw_model.specs.Step.{IsReply, IsShort};
 ghost use Rattle.nw_model.specs.View.{Shows};
-ghost use Rattle.nw_book.specs.Limits.{AreInRange};
-ghost use Rattle.nw_book.specs.Story.{IsLegalStory, IsInTurn, HasRoom, IsRefusal, next_number, bounds_of, state_of, with_event};
+ghost use Rattle.nw_history.specs.Limits.{AreInRange};
+ghost use Rattle.nw_history.specs.Story.{IsLegalStory, bounds_of, state_of, with_event};
+ghost use Rattle.nw_book.specs.Turn.{IsInTurn, HasRoom, IsRefusal, next_number};
 ghost use Rattle.nw_book.specs.Ticket.{Opens, causal_event};
 
 mod reopen;
 
-use crate::start::Start;
-use crate::{BookError, Command, Front, History, Limits, NoStep, Ticket};
+use crate::{BookError, Command, NoStep, Ticket};
 use nw_committee::Committee;
 use nw_digest::{Digest, NoMemory, Shared};
-use nw_model::{Base, Call, CausalReply, Event, Plain, Reply, View};
+use nw_history::{Front, History, Limits};
+use nw_model::{Call, CausalReply, Event, Reply};
+use nw_plain::{Plain, View};
 use nw_sig::Scheme;
 use std::alloc::Global;
 use std::marker::Model;
@@ -38,7 +40,8 @@ pub struct Book<S: Scheme> {
 }
 
 impl<S: Scheme> Model for Book<S> {
-    ghost use Rattle.nw_book.specs.Story.{Story, StandFor};
+    ghost use Rattle.nw_history.specs.Story.{Story};
+    ghost use Rattle.nw_book.specs.Turn.{StandFor};
 
     ghost Value = { Story };
 
@@ -71,10 +74,8 @@ impl<S: Scheme> Book<S> {
         if !limits.are_in_range() {
             return Err(BookError::BadLimits);
         }
-        let base = Base::of(Plain::new(alloc, limits.blocks, limits.window));
-        let start = Start::new(committee, limits, base);
         Ok(Book {
-            history: History::new(alloc, start)?,
+            history: History::new(alloc, committee, limits)?,
             tables: Plain::new(alloc, limits.blocks, limits.window),
             calls: vec![in alloc; 0u32; limits.sessions as usize]?,
         })

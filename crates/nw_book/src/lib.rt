@@ -9,19 +9,12 @@
 mod book;
 mod command;
 mod error;
-mod front;
-mod history;
-mod limits;
 mod run;
-mod start;
 mod ticket;
 
 pub use book::{Book, Done};
 pub use command::Command;
 pub use error::{BookError, NoStep};
-pub use front::Front;
-pub use history::History;
-pub use limits::Limits;
 pub use run::{Answer, Cause, Move, Run, Stop};
 pub use ticket::Ticket;
 

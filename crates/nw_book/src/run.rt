@@ -1,6 +1,7 @@
 //! Runs: many moves in order.
 ghost use Rattle.std.specs.Prelude.{◌≡◌, ◌++◌, [], ◌∷◌, All, OnOk, OnErr, IfErr, List};
-ghost use Rattle.nw_book.specs.Story.{Story, IsRefusal, next_number};
+ghost use Rattle.nw_history.specs.Story.{Story};
+ghost use Rattle.nw_book.specs.Turn.{IsRefusal, next_number};
 ghost use Rattle.nw_book.specs.Ticket.{Given};
 ghost use Rattle.nw_book.specs.Command.{IsUnder};
 ghost use Rattle.nw_book.specs.Run.{Makes, IsStop, IsRun};

@@ -4,13 +4,13 @@ ghost use Rattle.nw_model.specs.Step.{IsReply};
 ghost use Rattle.nw_model.specs.View.{Shows};
 ghost use Rattle.nw_model.specs.declared.call.Call.TheVariants as Call;
 ghost use Rattle.nw_model.specs.declared.reply.Reply.TheVariants as Reply;
-ghost use Rattle.nw_book.specs.Story.{bounds_of, state_of};
+ghost use Rattle.nw_history.specs.Story.{bounds_of, state_of};
 ghost use Rattle.nw_book.specs.Ticket.{IsTicket, IsTicketWith};
 
-use crate::Front;
 use nw_codec::Block;
 use nw_digest::{Digest, NoMemory, Shared};
-use nw_model::{View, walk};
+use nw_history::Front;
+use nw_plain::{View, walk};
 use nw_sig::Scheme;
 use std::alloc::Global;
 use std::marker::Model;

@@ -1,5 +1,4 @@
 pub mod Maps
-pub mod Held
 pub mod Kept
 pub mod Complete
 pub mod Listed
@@ -7,7 +6,6 @@ pub mod OneReply
 pub mod Replayed
 pub mod Views
 pub mod Contained
-pub mod Freezing
 pub mod Finding
 pub mod Ancestors
 pub mod Walked

@@ -1,29 +1,18 @@
 //! What the store means: its state, its calls, the reply to each, and which histories are legal.
 //!
-//! Its contract: the calls of [`Plain`], a slow store over ordered maps, are the steps of the table in `specs/Step.antt`.
-//! It stands on `nw_codec` for blocks and certificates, and on `nw_digest`.
+//! Its contract: the step table in `specs/Step.antt` gives each call one reply at a state, and what the calls of a legal
+//! history leave is sound. It stands on `nw_codec` for blocks and certificates, and on `nw_digest`.
 #![tactic(auto)]
 
-mod base;
 mod call;
 mod event;
 mod laws;
-mod plain;
 mod reply;
-mod view;
-mod walks;
 
-pub use base::Base;
 pub use call::Call;
 pub use event::Event;
 pub use laws::{
     a_causal_list_contains_those_of_its_blocks, a_first_of_the_base_gets_no_vote,
     a_legal_history_leaves_a_sound_state, ancestors_in_a_view_are_the_states, step_is_a_function,
 };
-pub use plain::Plain;
 pub use reply::{CausalReply, CertifyReply, Reply, WriteReply};
-pub use view::View;
-pub use walks::walk;
-
-#[cfg(test)]
-mod tests;

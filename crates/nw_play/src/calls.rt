@@ -1,9 +1,10 @@
 //! The calls of a script, all of session 0.
 
 use crate::fault::LineFault;
-use nw_book::{Book, Command, Limits, NoStep, Ticket};
+use nw_book::{Book, Command, NoStep, Ticket};
 use nw_committee::Committee;
 use nw_digest::{Digest, Shared};
+use nw_history::Limits;
 use nw_model::{CausalReply, Reply};
 use nw_sig::DemoScheme;
 use std::alloc::Global;

@@ -1,10 +1,11 @@
 //! Books that go on without their history.
 ghost use Rattle.std.specs.Prelude.{◌≡◌, [], IfOk, IfErr};
-ghost use Rattle.nw_book.specs.Story.{AreCounts, StandFor, reopened};
+ghost use Rattle.nw_history.specs.Story.{reopened};
+ghost use Rattle.nw_book.specs.Turn.{AreCounts, StandFor};
 
 use super::Book;
-use crate::History;
 use nw_digest::NoMemory;
+use nw_history::History;
 use nw_sig::Scheme;
 use std::alloc::Global;
 
@@ -32,8 +33,8 @@ impl<S: Scheme> Book<S> {
     fn restarted(&self, alloc: Global) -> Result<(History<S>, Vec<u32>), NoMemory>
         ensures { IfOk result (λ made. (made.0 ≡ reopened self.now) × AreCounts made.1.items (reopened self.now)) }
     {
-        let start = self.history.front().restart(alloc)?;
-        let calls = vec![in alloc; 0u32; start.limits().sessions as usize]?;
-        Ok((History::new(alloc, start)?, calls))
+        let history = self.history.restarted(alloc)?;
+        let calls = vec![in alloc; 0u32; history.limits().sessions as usize]?;
+        Ok((history, calls))
     }
 }

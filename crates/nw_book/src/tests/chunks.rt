@@ -1,69 +1,58 @@
 //! Fronts of long histories.
 use super::*;
 
-/// How many events and how many parts the front of a read has.
-fn measured(
-    book: &mut Book<DemoScheme>,
-    alloc: Global,
-    number: u32,
-) -> Result<(usize, usize), Fail> {
-    let command = Command::Read(Digest([0; 32]));
-    let front = book.step(alloc, 0, number, &command)?.front;
-    Ok((front.len(), front.parts()))
-}
+/// The number of a read, and how many parts its front has: none copies what is in a full chunk.
+const PARTS: [(u32, usize); 5] = [(1, 1), (255, 255), (256, 1), (257, 2), (513, 3)];
 
-/// How many parts the fronts of the first 513 reads have, the first at index 0: none copies what is in a full chunk.
-fn parts(book: &mut Book<DemoScheme>, alloc: Global) -> Result<Vec<usize>, Fail> {
-    let mut parts = Vec::new(alloc);
-    for number in 1..=513 {
-        let (events, links) = measured(book, alloc, number)?;
-        if u32::try_from(events) != Ok(number) {
-            return Err(Fail::from("a front has each event"));
-        }
-        parts.push(links)?;
-    }
-    Ok(parts)
-}
-
-#[test]
-fn fronts_of_513_events_share_two_chunks(rt: HostRuntime) -> Result<(), Fail> {
-    let mut book = book_of_one(rt.alloc(), limits(16, 513, 4, 1))?;
-    let parts = parts(&mut book, rt.alloc())?;
-    for (read, links) in [(0, 1), (254, 255), (255, 1), (256, 2), (512, 3)] {
-        assert_eq!(rt; parts.get(read).copied(), Some(links), "read {read}");
-    }
-    assert_eq!(rt;
-        refusal(&mut book, rt.alloc(), 0, 514),
-        Some(NoStep::HistoryFull)
-    );
-    Ok(())
-}
-
-/// The fronts of the reads 255, 256, 257 and 513.
-fn fronts(book: &mut Book<DemoScheme>, alloc: Global) -> Result<Vec<Front<DemoScheme>>, Fail> {
+/// The fronts of those reads, of a book with room for 513 events.
+fn fronts(alloc: Global) -> Result<Vec<Front<DemoScheme>>, Fail> {
+    let mut book = book_of_one(alloc, limits(513, 1))?;
     let mut fronts = Vec::new(alloc);
     for number in 1..=513 {
-        let command = Command::Read(Digest([0; 32]));
-        let front = book.step(alloc, 0, number, &command)?.front;
-        if [255, 256, 257, 513].contains(&number) {
+        let front = read(&mut book, alloc, number)?;
+        if PARTS.iter().any(|(read, _)| *read == number) {
             fronts.push(front)?;
         }
     }
     Ok(fronts)
 }
 
+/// Whether the front has so many events and parts, and its last event is the call of that number.
+fn is_front_of(front: &Front<DemoScheme>, number: u32, parts: usize) -> bool {
+    let last = front.event(front.len().saturating_sub(1));
+    u32::try_from(front.len()) == Ok(number)
+        && front.parts() == parts
+        && last.map(|event| event.number) == Some(number)
+}
+
+#[test]
+fn fronts_of_513_events_share_two_chunks(rt: HostRuntime) -> Result<(), Fail> {
+    let fronts = fronts(rt.alloc())?;
+    assert_eq!(rt; fronts.len(), PARTS.len());
+    for (front, (number, parts)) in fronts.iter().zip(&PARTS) {
+        assert!(rt; is_front_of(front, *number, *parts), "read {number}");
+    }
+    Ok(())
+}
+
+/// Whether the front at this place begins exactly those from there on.
+fn begins_the_longer(fronts: &[Front<DemoScheme>], place: usize) -> bool {
+    let Some(front) = fronts.get(place) else {
+        return false;
+    };
+    for (other, longer) in fronts.iter().enumerate() {
+        if front.is_prefix_of(longer) != (place <= other) {
+            return false;
+        }
+    }
+    true
+}
+
 #[test]
 fn a_front_begins_each_longer_one_of_its_history(rt: HostRuntime) -> Result<(), Fail> {
-    let mut book = book_of_one(rt.alloc(), limits(16, 513, 4, 1))?;
-    let fronts = fronts(&mut book, rt.alloc())?;
-    for (place, front) in fronts.iter().enumerate() {
-        assert_eq!(rt;
-            last(front).map(|(_, number, _)| number as usize),
-            Some(front.len())
-        );
-        for (other, longer) in fronts.iter().enumerate() {
-            assert_eq!(rt; front.is_prefix_of(longer), place <= other);
-        }
+    let fronts = fronts(rt.alloc())?;
+    for place in 0..PARTS.len() {
+        assert!(rt; begins_the_longer(&fronts, place), "place {place}");
     }
     Ok(())
 }

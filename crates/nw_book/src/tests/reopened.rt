@@ -1,5 +1,4 @@
 //! Books that go on without their history, and fronts over a base.
-use super::causal::{ask, certify, open, write_child};
 use super::*;
 use nw_digest::Round;
 use values::block_with;
@@ -11,131 +10,132 @@ fn reopen(book: Book<DemoScheme>, alloc: Global) -> Result<Book<DemoScheme>, Fai
     }
 }
 
-/// A book in which a block of round 0 was written, certified and read, with its digest.
-fn book_with_a_block(alloc: Global) -> Result<(Book<DemoScheme>, Digest), Fail> {
-    let mut book = book_of_one(alloc, limits(16, 16, 4, 1))?;
-    let digest = write_child(&mut book, alloc, 1, 0, &[])?;
-    certify(&mut book, alloc, 2, 0, digest)?;
-    Ok((book, digest))
+/// A book that was reopened with a certified block of round 0, and the block's digest.
+fn reopened(alloc: Global) -> Result<(Book<DemoScheme>, Digest), Fail> {
+    let (book, digest) = book_with_a_block(alloc)?;
+    Ok((reopen(book, alloc)?, digest))
 }
 
-/// What a write of the other block of round 0 gets, as this call of session 0.
-fn write_other(book: &mut Book<DemoScheme>, alloc: Global, number: u32) -> Result<Reply, Fail> {
-    let other = block_with(alloc, &committee(alloc, 1)?, b"x")?;
-    ask(book, alloc, number, &Command::Write(other))
-}
-
-fn equivocates(reply: &Reply, first: Digest) -> bool {
+/// What the book answers to the block of round 0 with this transaction or none, as this call of session 0.
+fn answer(
+    book: &mut Book<DemoScheme>,
+    alloc: Global,
+    number: u32,
+    transaction: Option<&[u8]>,
+) -> Result<WriteReply, Fail> {
+    let one = committee(alloc, 1)?;
+    let block = match transaction {
+        None => block(alloc, &one, 0, 0, &[])?,
+        Some(bytes) => block_with(alloc, &one, bytes)?,
+    };
+    let Done { reply, .. } = ask(book, alloc, number, &Command::Write(block))?;
     match reply {
-        Reply::Write(WriteReply::Equivocates(other)) => *other == first,
-        _ => false,
+        Reply::Write(reply) => Ok(reply),
+        _ => Err(Fail::from("a write got another reply")),
     }
 }
 
-fn is_held(reply: &Reply) -> bool {
-    matches!(reply, Reply::Write(WriteReply::Held))
+/// What the book answers to another block of the slot, and then to the first block again.
+fn answers(book: &mut Book<DemoScheme>, alloc: Global) -> Result<(WriteReply, WriteReply), Fail> {
+    let other = answer(book, alloc, 1, Some(b"x"))?;
+    Ok((other, answer(book, alloc, 2, None)?))
 }
 
-/// Writes the first block of round 0 again.
-fn write_again(book: &mut Book<DemoScheme>, alloc: Global, number: u32) -> Result<Reply, Fail> {
-    let block = block(alloc, &committee(alloc, 1)?, 0, 0, &[])?;
-    ask(book, alloc, number, &Command::Write(block))
+/// Whether a reopened book votes for no second block of a slot, holds the first, and still does when it is reopened again.
+fn keeps_its_votes(alloc: Global) -> Result<bool, Fail> {
+    let (mut book, digest) = reopened(alloc)?;
+    let first = answers(&mut book, alloc)?;
+    let mut book = reopen(book, alloc)?;
+    let expected = (WriteReply::Equivocates(digest), WriteReply::Held);
+    Ok(book.history().is_empty() && first == expected && answers(&mut book, alloc)? == expected)
 }
 
 #[test]
 fn a_reopened_book_votes_for_no_second_block_of_a_slot(rt: HostRuntime) -> Result<(), Fail> {
-    let alloc = rt.alloc();
-    let (book, digest) = book_with_a_block(alloc)?;
-    let mut book = reopen(book, alloc)?;
-    assert!(rt; book.history().is_empty());
-    assert!(rt; equivocates(&write_other(&mut book, alloc, 1)?, digest));
-    assert!(rt; is_held(&write_again(&mut book, alloc, 2)?));
-    let mut book = reopen(book, alloc)?;
-    assert!(rt; equivocates(&write_other(&mut book, alloc, 1)?, digest));
+    assert!(rt; keeps_its_votes(rt.alloc())?);
     Ok(())
 }
 
-/// How many blocks a ticket lists that was opened before the book was reopened, and one that was opened after.
-fn walks(alloc: Global) -> Result<(usize, usize), Fail> {
+/// A ticket whose book was reopened since.
+fn ticket_of_before(alloc: Global) -> Result<Ticket<DemoScheme>, Fail> {
     let (mut book, digest) = book_with_a_block(alloc)?;
-    let before = walked(&mut book, alloc, 3, digest)?;
-    let mut book = reopen(book, alloc)?;
-    let after = walked(&mut book, alloc, 1, digest)?;
-    Ok((before.walk(alloc)?.len(), after.walk(alloc)?.len()))
+    let ticket = open(&mut book, alloc, 3, digest)?;
+    reopen(book, alloc)?;
+    Ok(ticket)
 }
 
-fn walked(
-    book: &mut Book<DemoScheme>,
-    alloc: Global,
-    number: u32,
-    digest: Digest,
-) -> Result<Ticket<DemoScheme>, Fail> {
-    match open(book, alloc, number, digest)? {
-        Ok(ticket) => Ok(ticket),
-        Err(_) => Err(Fail::from("the read was not opened")),
-    }
+/// A ticket of a book that was reopened.
+fn ticket_of_after(alloc: Global) -> Result<Ticket<DemoScheme>, Fail> {
+    let (mut book, digest) = reopened(alloc)?;
+    open(&mut book, alloc, 1, digest)
+}
+
+/// How many blocks the ticket lists.
+fn length(alloc: Global, ticket: &Ticket<DemoScheme>) -> Result<usize, Fail> {
+    Ok(ticket.walk(alloc)?.len())
 }
 
 #[test]
 fn a_ticket_of_before_is_walked_after_the_book_is_reopened(rt: HostRuntime) -> Result<(), Fail> {
-    assert_eq!(rt; walks(rt.alloc())?, (1, 1));
+    assert_eq!(rt; length(rt.alloc(), &ticket_of_before(rt.alloc())?)?, 1);
+    assert_eq!(rt; length(rt.alloc(), &ticket_of_after(rt.alloc())?)?, 1);
     Ok(())
 }
 
-/// The front of a read, as this call of session 0.
-fn front(
-    book: &mut Book<DemoScheme>,
-    alloc: Global,
-    number: u32,
-) -> Result<Front<DemoScheme>, Fail> {
-    Ok(
-        book.step(alloc, 0, number, &Command::Read(Digest([0; 32])))?
-            .front,
-    )
+/// The front of the first read of a book with these limits and members.
+fn first_front(alloc: Global, members: u16, limits: Limits) -> Result<Front<DemoScheme>, Fail> {
+    let mut book = Book::new(alloc, committee(alloc, members)?, limits)?;
+    read(&mut book, alloc, 1)
+}
+
+/// The front of the first read of a book that was reopened with a block, and the block's digest.
+fn front_over_a_block(alloc: Global) -> Result<(Front<DemoScheme>, Digest), Fail> {
+    let (mut book, digest) = reopened(alloc)?;
+    Ok((read(&mut book, alloc, 1)?, digest))
+}
+
+/// Whether the front starts from a base with this certified block of round 0 and author 0, and nothing else.
+fn starts_with(front: &Front<DemoScheme>, digest: Digest) -> bool {
+    let Some(base) = front.base() else {
+        return false;
+    };
+    base.floor() == Round::ZERO
+        && base.first(Round::ZERO, 0) == Some(digest)
+        && base.first(Round::ZERO, 1).is_none()
+        && base.block(&digest).is_some()
+        && base.certificate(&digest).is_some()
+        && base.block(&Digest([0; 32])).is_none()
 }
 
 #[test]
 fn a_front_has_the_base_of_its_history(rt: HostRuntime) -> Result<(), Fail> {
-    let alloc = rt.alloc();
-    let (mut book, digest) = book_with_a_block(alloc)?;
-    assert!(rt; front(&mut book, alloc, 3)?.base().is_none());
-    let mut book = reopen(book, alloc)?;
-    let front = front(&mut book, alloc, 1)?;
-    let Some(base) = front.base() else {
-        return Err(Fail::from("the front has no base"));
-    };
-    assert_eq!(rt; base.floor(), Round::ZERO);
-    assert_eq!(rt; base.first(Round::ZERO, 0), Some(digest));
-    assert_eq!(rt; base.first(Round::ZERO, 1), None);
-    assert!(rt; base.block(&digest).is_some());
-    assert!(rt; base.certificate(&digest).is_some());
-    assert!(rt; base.block(&Digest([0; 32])).is_none());
+    assert!(rt; first_front(rt.alloc(), 1, limits(16, 1))?.base().is_none());
+    let (front, digest) = front_over_a_block(rt.alloc())?;
+    assert!(rt; starts_with(&front, digest));
     Ok(())
 }
 
-/// The front of the first read of a book.
-fn first_front(alloc: Global, members: u16, limits: Limits) -> Result<Front<DemoScheme>, Fail> {
-    let mut book = Book::new(alloc, committee(alloc, members)?, limits)?;
-    front(&mut book, alloc, 1)
+/// Whether the front of one book of one member and 16 events begins that of another with these.
+fn begins(alloc: Global, members: u16, events: u32) -> Result<bool, Fail> {
+    let one = first_front(alloc, 1, limits(16, 1))?;
+    Ok(one.is_prefix_of(&first_front(alloc, members, limits(events, 1))?))
 }
 
-/// The front of the first read of a book that was reopened with a block.
-fn front_over_a_block(alloc: Global) -> Result<Front<DemoScheme>, Fail> {
-    let (book, _) = book_with_a_block(alloc)?;
-    let mut book = reopen(book, alloc)?;
-    front(&mut book, alloc, 1)
+/// Whether the front of a new book begins one over a base, and whether one over a base begins another over the same.
+fn begin_over_a_block(alloc: Global) -> Result<(bool, bool), Fail> {
+    let (front, _) = front_over_a_block(alloc)?;
+    let one = first_front(alloc, 1, limits(16, 1))?.is_prefix_of(&front);
+    let (other, _) = front_over_a_block(alloc)?;
+    Ok((one, other.is_prefix_of(&front)))
 }
 
 #[test]
 fn a_front_is_no_prefix_where_only_limits_committee_or_base_differ(
     rt: HostRuntime,
 ) -> Result<(), Fail> {
-    let alloc = rt.alloc();
-    let one = first_front(alloc, 1, limits(16, 16, 4, 1))?;
-    assert!(rt; one.is_prefix_of(&first_front(alloc, 1, limits(16, 16, 4, 1))?));
-    assert!(rt; !one.is_prefix_of(&first_front(alloc, 1, limits(16, 17, 4, 1))?));
-    assert!(rt; !one.is_prefix_of(&first_front(alloc, 4, limits(16, 16, 4, 1))?));
-    assert!(rt; !one.is_prefix_of(&front_over_a_block(alloc)?));
-    assert!(rt; front_over_a_block(alloc)?.is_prefix_of(&front_over_a_block(alloc)?));
+    for (members, events, is_prefix) in [(1, 16, true), (1, 17, false), (4, 16, false)] {
+        assert!(rt; begins(rt.alloc(), members, events)? == is_prefix);
+    }
+    assert_eq!(rt; begin_over_a_block(rt.alloc())?, (false, true));
     Ok(())
 }

@@ -1,7 +1,8 @@
 use Rattle.std.proofs.Common.{◌≤◌, ap, arith}
 use Rattle.nw_model.specs.Step.{IsReply}
 use Rattle.nw_model.specs.declared.call.Call.TheVariants as calls
-use Rattle.nw_book.specs.Story.{IsInTurn, HasRoom, bounds_of, state_of}
+use Rattle.nw_history.specs.Story.{bounds_of, state_of}
+use Rattle.nw_book.specs.Turn.{IsInTurn, HasRoom}
 use Rattle.nw_book.proofs.Stands.{legal_any, stand_next, causal_leaves}
 use Rattle.nw_book.proofs.book.Book.record_causal.Goals as goal
 

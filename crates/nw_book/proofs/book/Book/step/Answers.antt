@@ -1,6 +1,6 @@
 use Rattle.std.proofs.Common.{◌≤◌, ap, arith}
 use Rattle.nw_book.specs.Command.{IsUnder}
-use Rattle.nw_book.specs.Story.{IsInTurn, HasRoom}
+use Rattle.nw_book.specs.Turn.{IsInTurn, HasRoom}
 use Rattle.nw_book.proofs.Stands.{legal_next, stand_next}
 use Rattle.nw_book.proofs.book.Book.step.Goals as goal
 

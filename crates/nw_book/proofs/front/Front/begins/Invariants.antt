@@ -1,5 +1,0 @@
-use Rattle.nw_book.proofs.Prefixes.{AlikeBelow}
-use Rattle.nw_book.proofs.front.Front.begins.Given as goal
-
-abbrev pub invariant-loop-index : goal.invariant-loop-index
-invariant-loop-index g l = AlikeBelow l.self.events l.other.events l.index

@@ -1,0 +1,54 @@
+-- A history with the committee and the limits under which it is legal, and the base that it starts from.
+use Rattle.std.specs.Prelude.{List, [], ◌∷◌, ◌++◌}
+use Rattle.nw_committee.specs.declared.member.Member.{Member}
+use Rattle.nw_sig.specs.Signed.{Meaning}
+use Rattle.nw_model.specs.State.{State}
+use Rattle.nw_model.specs.Step.{Bounds, Tables}
+use Rattle.nw_model.specs.History.{Terms, IsLegal, replay}
+use Rattle.nw_model.specs.declared.event.Event.{Event}
+use Rattle.nw_history.specs.declared.limits.Limits.{Limits}
+
+-- a list of events, the state that they start from, and the committee and limits
+pub record Story : Type 0 where
+  pub committee : List Member
+  pub limits : Limits
+  pub base : State
+  pub events : List Event
+
+-- what a history starts with
+pub record Origin : Type 0 where
+  pub committee : List Member
+  pub limits : Limits
+  pub base : State
+
+-- the history of these events
+abbrev pub story_of : Origin → List Event → Story
+story_of o es = record { committee = o.committee; limits = o.limits; base = o.base; events = es }
+
+-- the bounds under which the tables take their steps
+abbrev pub bounds_of : Limits → Bounds
+bounds_of l = record { blocks = l.blocks; window = l.window }
+
+-- what the history is legal under
+abbrev pub terms_of : Story → Terms
+terms_of s = record { committee = s.committee; bounds = bounds_of s.limits; events = s.limits.events; sessions = s.limits.sessions }
+
+-- the history is legal under its committee and limits, from its base on
+abbrev pub IsLegalStory : Meaning → Story → Type 0
+IsLegalStory accepts s = IsLegal accepts (terms_of s) s.base s.events
+
+-- the state after the history
+abbrev pub state_of : Story → State
+state_of s = replay (bounds_of s.limits) s.base s.events
+
+-- the history without events that starts where this one ends
+abbrev pub reopened : Story → Story
+reopened s = record { committee = s.committee; limits = s.limits; base = state_of s; events = [] }
+
+-- the tables after the history
+abbrev pub tables_of : Story → Tables
+tables_of s = record { bounds = bounds_of s.limits; state = state_of s }
+
+-- the history with one more event
+abbrev pub with_event : Story → Event → Story
+with_event s e = record { committee = s.committee; limits = s.limits; base = s.base; events = s.events ++ e ∷ [] }

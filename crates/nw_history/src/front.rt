@@ -1,0 +1,214 @@
+//! Legal histories that never change.
+ghost use Rattle.std.specs.Prelude.{◌≡◌, ◌↔◌, ◌==◌, ◌+◌, ◌/◌, ◌%◌, ◌++◌, ◌∷◌, ◌^◌, ◌<◌, [], IfOk, OnOk, IfSome, IsNone, IsTrue, length, slice_get};
+ghost use Rattle.std.specs.Option.{option_copied};
+ghost use mathlib.Core.List.{IsPrefix};
+ghost use Rattle.nw_model.specs.State.{opening};
+ghost use Rattle.nw_model.specs.Step.{after};
+ghost use Rattle.nw_history.specs.Story.{IsLegalStory, bounds_of, reopened, story_of, tables_of, with_event};
+ghost use Rattle.nw_history.specs.Prefix.{IsPrefixOf, AreAlike};
+
+use crate::Limits;
+use crate::start::Start;
+use nw_chunks::Chunks;
+use nw_committee::Committee;
+use nw_digest::{NoMemory, Shared};
+use nw_model::{Call, Event};
+use nw_plain::{Base, Plain};
+use nw_sig::Scheme;
+use std::alloc::Global;
+use std::marker::{Model, PhantomData};
+
+/// A stored legal history that never changes, with the committee and the limits under which it is legal and the base that
+/// it starts from, where `S` says which signatures are accepted.
+///
+/// Each answer carries one: its last event is the call that was answered. It shares its events with the history and with
+/// every other front of it, in chunks of 256.
+#[derive(Drop)]
+pub struct Front<S: Scheme> {
+    start: Shared<Start>,
+    events: Chunks<Event>,
+    scheme: PhantomData<S>,
+}
+
+impl<S: Scheme> Model for Front<S> {
+    ghost use Rattle.std.specs.Coded.{codes};
+    ghost use Rattle.nw_model.specs.State.{coded_state};
+    ghost use Rattle.nw_history.specs.Story.{Story, IsLegalStory, story_of};
+
+    ghost Value = { Story };
+
+    ghost coded = { Prim.hlevel (codes, coded_state) };
+
+    ghost view = { λ f. story_of f.start f.events };
+
+    ghost invariant = { λ f. IsLegalStory S.accepts (story_of f.start f.events) };
+}
+
+impl<S: Scheme> Front<S> {
+    /// The front of these events.
+    pub(crate) fn new(start: Shared<Start>, events: Chunks<Event>) -> Front<S>
+        requires { IsLegalStory S.accepts (story_of start events) }
+        ensures { result ≡ story_of start events }
+    {
+        Front {
+            start,
+            events,
+            scheme: PhantomData,
+        }
+    }
+
+    /// The same history, with one more owner of its events. Its cost is the same for every history.
+    pub fn try_clone(&self) -> Result<Front<S>, NoMemory>
+        ensures same { IfOk result (λ front. front ≡ self.now) }
+        ensures legal { IsLegalStory S.accepts self.now }
+    {
+        Ok(Front::new(self.start.try_clone()?, self.events.try_clone()?))
+    }
+
+    /// The history with one more event. It shares all that came before.
+    pub(crate) fn with(&self, alloc: Global, event: &Shared<Event>) -> Result<Front<S>, NoMemory>
+        requires legal { IsLegalStory S.accepts (with_event self.now event.now) }
+        requires room { length self.now.events < 2 ^ 32 }
+        ensures { IfOk result (λ front. front ≡ with_event self.now event.now) }
+    {
+        let events = self.events.with(alloc, event.try_clone()?)?;
+        Ok(Front::new(self.start.try_clone()?, events))
+    }
+
+    /// How many events it has.
+    pub fn len(&self) -> usize
+        ensures length { result ≡ length self.now.events }
+        ensures legal { IsLegalStory S.accepts self.now }
+    {
+        self.events.len()
+    }
+
+    /// Whether it has no event.
+    pub fn is_empty(&self) -> bool
+        ensures empty { result ≡ (length self.now.events == 0) }
+        ensures legal { IsLegalStory S.accepts self.now }
+    {
+        self.events.is_empty()
+    }
+
+    /// How many links it holds: one to each full chunk of 256 events, and one to each event behind them.
+    pub fn parts(&self) -> usize
+        ensures parts { result ≡ length self.now.events / 256 + length self.now.events % 256 }
+        ensures legal { IsLegalStory S.accepts self.now }
+    {
+        self.events.parts()
+    }
+
+    /// The event at the index, counted from 0, or `None` where it has no more than `index` events. It takes a constant number of
+    /// steps in a full chunk, and at most 255 behind the last one.
+    pub fn event(&self, index: usize) -> Option<&Event>
+        ensures event { option_copied result ≡ slice_get self.now.events index }
+        ensures legal { IsLegalStory S.accepts self.now }
+    {
+        self.events.get(index)
+    }
+
+    /// The committee under which it is legal.
+    pub fn committee(&self) -> &Shared<Committee>
+        ensures committee { result.now ≡ self.now.committee }
+        ensures legal { IsLegalStory S.accepts self.now }
+    {
+        self.start.get().committee()
+    }
+
+    /// The limits under which it is legal.
+    pub fn limits(&self) -> Limits
+        ensures limits { result ≡ self.now.limits }
+        ensures legal { IsLegalStory S.accepts self.now }
+    {
+        self.start.get().limits()
+    }
+
+    /// The base that its calls are replayed from, or `None` where that is the opening state.
+    pub fn base(&self) -> Option<&Base>
+        ensures base { IfSome result (λ base. base.now ≡ record { bounds = bounds_of self.now.limits; state = self.now.base }) }
+        ensures opening { IsNone result ↔ self.now.base ≡ opening }
+        ensures legal { IsLegalStory S.accepts self.now }
+    {
+        self.start.get().base()
+    }
+
+    /// Whether the other front goes on where this one ends: it has the same committee, limits and base, and its events begin
+    /// with this one's.
+    ///
+    /// It takes no memory. It goes over this one's events once, and compares their sessions, numbers and calls; where these are
+    /// the same in two legal histories, so are the replies.
+    pub fn is_prefix_of(&self, other: &Front<S>) -> bool
+        ensures prefix { IsTrue result ↔ IsPrefixOf self.now other.now }
+        ensures legal { IsLegalStory S.accepts self.now }
+    {
+        self.start.get().is_same(other.start.get()) && self.begins(other)
+    }
+
+    /// Whether the other front, which starts where this one does, goes on where this one ends.
+    fn begins(&self, other: &Front<S>) -> bool
+        requires committee { self.now.committee ≡ other.now.committee }
+        requires limits { self.now.limits ≡ other.now.limits }
+        requires base { self.now.base ≡ other.now.base }
+        ensures { IsTrue result ↔ IsPrefix self.now.events other.now.events }
+    {
+        if self.len() > other.len() {
+            return false;
+        }
+        for index in 0..self.len() {
+            if !self.is_alike(other, index) {
+                return false;
+            }
+        }
+        true
+    }
+
+    /// Whether both have an event at the index, of one session, with one number and one call.
+    fn is_alike(&self, other: &Front<S>, index: usize) -> bool
+        ensures { IsTrue result ↔ AreAlike (slice_get self.now.events index) (slice_get other.now.events index) }
+    {
+        match (self.event(index), other.event(index)) {
+            (Some(one), Some(other)) => {
+                one.session == other.session
+                    && one.number == other.number
+                    && one.call.is_same(&other.call)
+            }
+            _ => false,
+        }
+    }
+
+    /// The tables that its calls leave, made anew: the calls are taken again by a store over the base.
+    fn replayed(&self, alloc: Global) -> Result<Plain, NoMemory>
+        ensures { IfOk result (λ tables. tables ≡ tables_of self.now) }
+    {
+        let mut tables = self.start.get().tables(alloc)?;
+        for index in 0..self.len() {
+            if let Some(event) = self.event(index) {
+                take_again(&mut tables, &event.call)?;
+            }
+        }
+        Ok(tables)
+    }
+
+    /// What a history starts with that goes on where this one ends, under the same committee and limits.
+    pub(crate) fn restart(&self, alloc: Global) -> Result<Start, NoMemory>
+        ensures start { IfOk result (λ start. story_of start [] ≡ reopened self.now) }
+        ensures legal { OnOk result (IsLegalStory S.accepts self.now) }
+    {
+        let base = Base::of(self.replayed(alloc)?);
+        Ok(Start::new(self.committee().try_clone()?, self.limits(), base))
+    }
+}
+
+/// Takes the step of the call again, whose reply is known: only what is written changes the tables.
+fn take_again(tables: &mut Plain, call: &Call) -> Result<(), NoMemory>
+    ensures { OnOk result (tables.new ≡ record tables.old { state = after tables.old.bounds tables.old.state call.now }) }
+{
+    match call {
+        Call::Write(_, _) | Call::Certify(_) => {
+            tables.call(call)?;
+        }
+        Call::Certificate(_) | Call::Read(_) | Call::Causal(_) => {}
+    }
+    Ok(())
+}

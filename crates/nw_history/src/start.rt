@@ -1,0 +1,89 @@
+//! What a history starts with.
+ghost use Rattle.std.specs.Prelude.{◌≡◌, ◌≢◌, ◌↔◌, IsTrue, IfOk, IfSome, IsNone, Some};
+ghost use Rattle.nw_model.specs.State.{opening};
+ghost use Rattle.nw_history.specs.Story.{Origin, bounds_of, story_of, tables_of};
+
+use crate::Limits;
+use nw_committee::Committee;
+use nw_digest::{NoMemory, Shared};
+use nw_plain::{Base, Plain};
+use std::alloc::Global;
+use std::marker::Model;
+
+/// What a history starts with: the committee, the limits, and the base from which its calls are replayed. All fronts of
+/// a history share it.
+#[derive(Drop)]
+pub(crate) struct Start {
+    committee: Shared<Committee>,
+    limits: Limits,
+    base: Base,
+}
+
+impl Model for Start {
+    ghost use Rattle.std.specs.Prelude.{◌≡◌};
+    ghost use Rattle.std.specs.Coded.{codes};
+    ghost use Rattle.nw_model.specs.State.{coded_state};
+    ghost use Rattle.nw_history.specs.Story.{Origin, bounds_of};
+
+    ghost Value = { Origin };
+
+    ghost coded = { Prim.hlevel (codes, coded_state) };
+
+    ghost view = { λ s. record { committee = s.committee; limits = s.limits; base = s.base.state } };
+
+    ghost invariant = { λ s. s.base.bounds ≡ bounds_of s.limits };
+}
+
+impl Start {
+    /// The start with these, where the store has the bounds of the limits. It takes no memory.
+    pub(crate) fn new(committee: Shared<Committee>, limits: Limits, base: Base) -> Start
+        requires { base.bounds ≡ bounds_of limits }
+        ensures { result ≡ record { committee = committee; limits = limits; base = base.state } }
+    {
+        Start {
+            committee,
+            limits,
+            base,
+        }
+    }
+
+    pub(crate) fn committee(&self) -> &Shared<Committee>
+        ensures { result.now ≡ self.now.committee }
+    {
+        &self.committee
+    }
+
+    pub(crate) fn limits(&self) -> Limits
+        ensures { result ≡ self.now.limits }
+    {
+        self.limits
+    }
+
+    /// The base, or `None` where it is the opening state.
+    pub(crate) fn base(&self) -> Option<&Base>
+        ensures base { IfSome result (λ base. base.now ≡ record { bounds = bounds_of self.now.limits; state = self.now.base }) }
+        ensures opening { IsNone result ↔ self.now.base ≡ opening }
+    {
+        if self.base.is_opening() {
+            None
+        } else {
+            Some(&self.base)
+        }
+    }
+
+    /// A store over the base.
+    pub(crate) fn tables(&self, alloc: Global) -> Result<Plain, NoMemory>
+        ensures { IfOk result (λ tables. tables ≡ record { bounds = bounds_of self.now.limits; state = self.now.base }) }
+    {
+        Plain::over(alloc, &self.base)
+    }
+
+    /// Whether the other start has the same committee, limits and base. (`eq` is called by its name, for its clause `same`.)
+    pub(crate) fn is_same(&self, other: &Start) -> bool
+        ensures { IsTrue result ↔ self.now ≡ other.now }
+    {
+        self.committee.get().eq(other.committee.get())
+            && self.limits.is_same(&other.limits)
+            && self.base.is_same(&other.base)
+    }
+}

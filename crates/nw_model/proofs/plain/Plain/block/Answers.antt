@@ -1,9 +1,0 @@
-use Rattle.std.proofs.Common.{Some, sym, ◌∙◌, ap}
-use Rattle.nw_model.proofs.Maps.{get_lookup, digests_total}
-use Rattle.nw_model.proofs.plain.Plain.block.Goals as goal
-
-pub returns-in-None : goal.returns-in-None
-returns-in-None c = rw (← c.self.view_is) (c.in-None.ensures.value ∙ sym (get_lookup digests_total _ _))
-
-pub returns-in-Some : goal.returns-in-Some
-returns-in-Some c = rw (← c.self.view_is) (ap Some c.get-in-Some.ensures ∙ c.in-Some.ensures.value ∙ sym (get_lookup digests_total _ _))

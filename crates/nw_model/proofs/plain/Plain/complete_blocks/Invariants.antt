@@ -1,7 +1,0 @@
-use Rattle.std.specs.FinMap.{from_entries}
-use Rattle.nw_model.specs.State.{digest_cmp}
-use Rattle.nw_model.proofs.Freezing.{SoFar}
-use Rattle.nw_model.proofs.plain.Plain.complete_blocks.Given as goal
-
-abbrev pub invariant-loop-slot : goal.invariant-loop-slot
-invariant-loop-slot l = SoFar l.self.state l._slot-iterator (from_entries {R = digest_cmp} l.complete.entries)

@@ -1,6 +1,0 @@
-use Rattle.std.proofs.Common.{sym, ◌∙◌}
-use Rattle.nw_model.proofs.Maps.{get_lookup, slots_total}
-use Rattle.nw_model.proofs.plain.Plain.first.Goals as goal
-
-pub returns : goal.returns
-returns c = rw (← c.self.view_is) (c.copied.ensures ∙ c.get.ensures.value ∙ sym (get_lookup slots_total _ _))

@@ -1,9 +1,0 @@
-use Rattle.std.proofs.Common.{Some, sym, ◌∙◌, ap}
-use Rattle.nw_model.proofs.Maps.{get_lookup, digests_total}
-use Rattle.nw_model.proofs.plain.Plain.read.Goals as goal
-
-pub returns-in-None : goal.returns-in-None
-returns-in-None c = rw (← c.self.view_is) (c.in-None.ensures.value ∙ sym (get_lookup digests_total _ _))
-
-pub returns-in_ok-try_clone-in-Some : goal.returns-in_ok-try_clone-in-Some
-returns-in_ok-try_clone-in-Some c = rw (← c.self.view_is) (ap Some c.in_ok-try_clone-in-Some.ensures ∙ c.in-Some.ensures.value ∙ sym (get_lookup digests_total _ _))

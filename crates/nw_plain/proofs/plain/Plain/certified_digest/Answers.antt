@@ -1,0 +1,19 @@
+use Rattle.std.proofs.Common.{sym, ◌∙◌, ap}
+use Rattle.std.specs.FinMap.{from_entries}
+use Rattle.nw_model.specs.State.{State, digest_cmp, slot_cmp}
+use Rattle.nw_model.specs.Step.{certified_digest}
+use Rattle.nw_model.proofs.Maps.{get_lookup, slots_total}
+use Rattle.nw_model.proofs.Kept.{index_answers}
+use Rattle.nw_plain.proofs.plain.Plain.certified_digest.Goals as goal
+
+pub returns : goal.returns
+returns c =
+    let s : State = record {
+      blocks = from_entries {R = digest_cmp} c.self.inside.blocks.entries;
+      certificates = from_entries {R = digest_cmp} c.self.inside.certificates.entries;
+      firsts = from_entries {R = slot_cmp} c.self.inside.firsts.entries;
+      floor = c.self.inside.floor;
+    } in
+    c.copied.ensures ∙ c.get.ensures.value ∙ sym (get_lookup slots_total c.self.inside.certified.entries c.args.slot)
+    ∙ index_answers s (from_entries {R = slot_cmp} c.self.inside.certified.entries) c.args.slot c.self.invariant.indexed
+    ∙ ap (λ t. certified_digest t.state c.args.slot) c.self.view_is

@@ -1,0 +1,38 @@
+use Rattle.std.proofs.Common.{Bor, ◌≡◌, true, Option, Some, None, IsSome, is_some, ap, sym, ◌∙◌}
+use Rattle.std.specs.Option.{option_copied}
+use Rattle.std.specs.FinMap.{from_entries}
+use Rattle.nw_model.specs.State.{State, digest_cmp}
+use Rattle.nw_model.specs.Sound.{IsSound}
+use Rattle.nw_model.specs.View.{Frozen}
+use Rattle.nw_model.proofs.Maps.{get_lookup, digests_total}
+use Rattle.nw_model.proofs.Complete.{closed, shown, complete_there, complete_not_there}
+use Rattle.nw_plain.proofs.plain.Plain.freeze_for.Goals as goal
+
+-- what is lent is there
+held : {X : Type 0} (lent : Option (Bor X)) (found : Option X) → option_copied lent ≡ found → is_some lent ≡ true → IsSome found
+held (Some b) found same is = ap is_some (sym same)
+held None found same is = absurd cc
+
+pub returns-then-not-contains_key : goal.returns-then-not-contains_key
+returns-then-not-contains_key c = (
+  held c.block.result _ c.block.ensures c.if-is_none.ensures,
+  held c.certificate.result _ c.certificate.ensures c.if-is_none-2.ensures,
+  complete_not_there c.args.self.now.state (from_entries {R = digest_cmp} c.in_ok-complete.complete.entries) c.args.digest c.in_ok-complete.ensures
+      (ap is_some (get_lookup digests_total c.in_ok-complete.complete.entries c.args.digest) ∙ sym c.if-not-contains_key.ensures),
+)
+
+pub new-requires : goal.new-requires
+new-requires c =
+    let s : State = c.args.self.now.state in
+    let sound : IsSound s = rw (← c.self.view_is) c.self.invariant.sound in
+    let v : Frozen = record { blocks = from_entries {R = digest_cmp} c.in_ok-complete.complete.entries; floor = c.self.inside.floor } in
+    closed s v sound (ap (λ t. t.state.floor) c.self.view_is) c.in_ok-complete.ensures
+
+pub returns : goal.returns
+returns c =
+    let s : State = c.args.self.now.state in
+    let v : Frozen = record { blocks = from_entries {R = digest_cmp} c.in_ok-complete.complete.entries; floor = c.self.inside.floor } in (
+      complete_there s v.blocks c.args.digest c.in_ok-complete.ensures
+          (ap is_some (get_lookup digests_total c.in_ok-complete.complete.entries c.args.digest) ∙ sym c.if-not-contains_key.ensures),
+      rw c.new.ensures (shown s v (ap (λ t. t.state.floor) c.self.view_is) c.in_ok-complete.ensures),
+    )

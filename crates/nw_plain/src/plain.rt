@@ -1,0 +1,280 @@
+//! A slow store over ordered maps.
+ghost use Rattle.std.specs.Prelude.{◌≡◌, ◌≢◌, ◌↔◌, ◌≤◌, ℕ, IfOk, OnOk, OnErr, IsNone, None, IsTrue, true, false, All, if◌then◌else◌};
+ghost use Rattle.std.specs.Option.{option_copied};
+ghost use Rattle.std.specs.Result.{MatchResult};
+ghost use Rattle.std.specs.BTreeMap.{get, insert_entry, IsUnchanged};
+ghost use Rattle.std.specs.FinMap as map;
+ghost use Rattle.nw_model.specs.State.{Slot, opening, block_slot, certificate_slot, digest_cmp, slot_cmp};
+ghost use Rattle.nw_model.specs.Paths.{IsComplete};
+ghost use Rattle.nw_model.specs.View.{Shows, AreComplete, AddsIfComplete, HasParent};
+ghost use Rattle.nw_model.specs.Step.{IsReply, IsCausalReply, after, write_reply, certify_reply, certified_digest, is_elsewhere, rival, with_block, with_certificate};
+
+mod causal;
+mod certificates;
+mod copies;
+mod sameness;
+
+use nw_codec::{Block, Certificate};
+use nw_digest::{Digest, NoMemory, Round, Shared};
+use nw_model::{Call, CertifyReply, Reply, WriteReply};
+use std::alloc::Global;
+use std::collections::BTreeMap;
+use std::collections::btree_map::Entry;
+use std::marker::Model;
+
+/// A slow store over ordered maps, which shows what each call means. Contracts see its state, and the bounds under which
+/// it takes its steps.
+#[derive(Drop)]
+pub struct Plain {
+    blocks: BTreeMap<Digest, Shared<Block>>,
+    certificates: BTreeMap<Digest, Shared<Certificate>>,
+    firsts: BTreeMap<(Round, u16), Digest>,
+    /// The digest that is certified for each round and author.
+    certified: BTreeMap<(Round, u16), Digest>,
+    floor: Round,
+    most: u32,
+    window: u32,
+    alloc: Global,
+}
+
+impl Model for Plain {
+    ghost use Rattle.std.specs.FinMap as map;
+    ghost use Rattle.nw_model.specs.Sound.{IsKept};
+    ghost use Rattle.nw_model.specs.Step.{Tables, coded_tables};
+
+    ghost Value = { Tables };
+
+    ghost coded = { coded_tables };
+
+    ghost view = { λ p. record {
+      bounds = record { blocks = p.most; window = p.window };
+      state = record { blocks = map.from_entries p.blocks.entries; certificates = map.from_entries p.certificates.entries; firsts = map.from_entries p.firsts.entries; floor = p.floor };
+    } };
+
+    ghost invariant = { λ p. IsKept
+        (record { blocks = map.from_entries p.blocks.entries; certificates = map.from_entries p.certificates.entries; firsts = map.from_entries p.firsts.entries; floor = p.floor })
+        (map.from_entries p.certified.entries) };
+}
+
+impl Plain {
+    /// An empty store, with garbage round 0. It takes no memory.
+    ///
+    /// It keeps at most `blocks` blocks, and takes blocks of `window` rounds from the garbage round on.
+    pub fn new(alloc: Global, blocks: u32, window: u32) -> Plain
+        ensures { result ≡ record { bounds = record { blocks = blocks; window = window }; state = opening } }
+    {
+        Plain {
+            blocks: BTreeMap::new(alloc),
+            certificates: BTreeMap::new(alloc),
+            firsts: BTreeMap::new(alloc),
+            certified: BTreeMap::new(alloc),
+            floor: Round::ZERO,
+            most: blocks,
+            window,
+            alloc,
+        }
+    }
+
+    /// Takes the step of the call and answers its reply: of a causal read of a complete digest its list, never `Ready`.
+    ///
+    /// Want of memory leaves the store as it was.
+    pub fn call(&mut self, call: &Call) -> Result<Reply, NoMemory>
+        ensures reply { IfOk result (λ reply. IsReply self.old.bounds self.old.state call.now reply) }
+        ensures listed { IfOk result (λ reply. reply ≢ Reply.Ready) }
+        ensures state { OnOk result (self.new.state ≡ after self.old.bounds self.old.state call.now) }
+        ensures bounds { self.new.bounds ≡ self.old.bounds }
+        ensures unchanged { OnErr result (self.new ≡ self.old) }
+    {
+        let reply = self.reply(call)?;
+        match (call, &reply) {
+            (Call::Write(digest, block), Reply::Write(WriteReply::Stored { vote })) => {
+                self.store(*digest, block.try_clone()?, *vote)?;
+            }
+            (Call::Certify(certificate), Reply::Certify(CertifyReply::Certified)) => {
+                self.certify(certificate.try_clone()?)?;
+            }
+            _ => {}
+        }
+        Ok(reply)
+    }
+
+    /// The reply that the call would get now. A causal read of a complete digest gets its list, never `Ready`.
+    pub fn reply(&self, call: &Call) -> Result<Reply, NoMemory>
+        ensures reply { IfOk result (IsReply self.now.bounds self.now.state call.now) }
+        ensures listed { IfOk result (λ reply. reply ≢ Reply.Ready) }
+    {
+        match call {
+            Call::Write(digest, block) => {
+                Ok(Reply::Write(self.write_reply(digest, block.get())))
+            }
+            Call::Certify(certificate) => {
+                Ok(Reply::Certify(self.certify_reply(certificate.get())))
+            }
+            Call::Certificate(digest) => Ok(Reply::Certificate(self.read_certificate(digest)?)),
+            Call::Read(digest) => Ok(Reply::Read(self.read(digest)?)),
+            Call::Causal(digest) => self.causal_reply(*digest),
+        }
+    }
+
+    /// The block that is held under the digest.
+    fn read(&self, digest: &Digest) -> Result<Option<Shared<Block>>, NoMemory>
+        ensures { IfOk result (λ found. found ≡ map.get self.now.state.blocks digest.now) }
+    {
+        match self.blocks.get(digest) {
+            None => Ok(None),
+            Some(block) => Ok(Some(block.try_clone()?)),
+        }
+    }
+
+    /// The reply that a write would get now.
+    fn write_reply(&self, digest: &Digest, block: &Block) -> WriteReply
+        ensures { result ≡ write_reply self.now.bounds self.now.state digest.now block.now }
+    {
+        if block.round < self.floor {
+            return WriteReply::Collected(self.floor);
+        }
+        if block.round.get() >= self.floor.get() + u64::from(self.window) {
+            return WriteReply::TooFar;
+        }
+        if let Some(held) = self.block(digest) {
+            return if block == held {
+                WriteReply::Held
+            } else {
+                WriteReply::Clash
+            };
+        }
+        if self.is_misfit(digest, block) {
+            return WriteReply::Misfit;
+        }
+        if let Some(first) = self.rival(digest, block) {
+            return WriteReply::Equivocates(first);
+        }
+        if self.held() >= self.most as usize {
+            return WriteReply::Full;
+        }
+        WriteReply::Stored {
+            vote: self.first(block.round, block.author).is_none(),
+        }
+    }
+
+    /// Whether the digest is certified for another round or author than the block's.
+    fn is_misfit(&self, digest: &Digest, block: &Block) -> bool
+        ensures { result ≡ is_elsewhere certificate_slot (map.get self.now.state.certificates digest.now) (block_slot block.now) }
+    {
+        match self.certificate(digest) {
+            None => false,
+            Some(certificate) => {
+                (certificate.round, certificate.author) != (block.round, block.author)
+            }
+        }
+    }
+
+    /// The first digest of the block's slot, where it is another and this one is not certified.
+    fn rival(&self, digest: &Digest, block: &Block) -> Option<Digest>
+        ensures { result ≡ rival self.now.state digest.now (block_slot block.now) }
+    {
+        if self.certificate(digest).is_some() {
+            return None;
+        }
+        match self.first(block.round, block.author) {
+            Some(first) if first != *digest => Some(first),
+            _ => None,
+        }
+    }
+
+    /// The garbage round.
+    pub(crate) fn floor(&self) -> Round
+        ensures { result ≡ self.now.state.floor }
+    {
+        self.floor
+    }
+
+    /// The block that is held under the digest.
+    pub(crate) fn block(&self, digest: &Digest) -> Option<&Block>
+        ensures { option_copied result ≡ map.get self.now.state.blocks digest.now }
+    {
+        match self.blocks.get(digest) {
+            None => None,
+            Some(block) => Some(block.get()),
+        }
+    }
+
+    /// The certificate that is kept for the digest.
+    pub(crate) fn certificate(&self, digest: &Digest) -> Option<&Certificate>
+        ensures { option_copied result ≡ map.get self.now.state.certificates digest.now }
+    {
+        match self.certificates.get(digest) {
+            None => None,
+            Some(certificate) => Some(certificate.get()),
+        }
+    }
+
+    /// The first digest of the round and author.
+    pub(crate) fn first(&self, round: Round, author: u16) -> Option<Digest>
+        ensures { result ≡ map.get self.now.state.firsts (round, author) }
+    {
+        self.firsts.get(&(round, author)).copied()
+    }
+
+    fn held(&self) -> usize
+        ensures { result ≡ map.len self.now.state.blocks }
+    {
+        self.blocks.len()
+    }
+
+    /// Puts the block under the digest, which is the first of the block's slot where there is a vote.
+    fn store(&mut self, digest: Digest, block: Shared<Block>, vote: bool) -> Result<(), NoMemory>
+        requires absent { IsNone (map.get self.old.state.blocks digest) }
+        requires open { IsTrue vote → IsNone (map.get self.old.state.firsts (block_slot block)) }
+        requires misfit { is_elsewhere certificate_slot (map.get self.old.state.certificates digest) (block_slot block) ≡ false }
+        requires kept { self.old.state.floor ≤ block.round }
+        ensures state { OnOk result (self.new.state ≡ with_block self.old.state digest block vote) }
+        ensures bounds { self.new.bounds ≡ self.old.bounds }
+        ensures unchanged { OnErr result (self.new ≡ self.old) }
+    {
+        if vote {
+            return self.store_first(digest, block);
+        }
+        self.blocks.insert(digest, block)?;
+        Ok(())
+    }
+
+    /// Puts the block under the digest, which is the first of the block's slot from now on.
+    fn store_first(&mut self, digest: Digest, block: Shared<Block>) -> Result<(), NoMemory>
+        requires absent { IsNone (map.get self.old.state.blocks digest) }
+        requires open { IsNone (map.get self.old.state.firsts (block_slot block)) }
+        requires misfit { is_elsewhere certificate_slot (map.get self.old.state.certificates digest) (block_slot block) ≡ false }
+        requires kept { self.old.state.floor ≤ block.round }
+        ensures state { OnOk result (self.new.state ≡ with_block self.old.state digest block true) }
+        ensures bounds { self.new.bounds ≡ self.old.bounds }
+        ensures unchanged { OnErr result (self.new ≡ self.old) }
+    {
+        let held = block.get();
+        let slot = (held.round, held.author);
+        insert_both(&mut self.blocks, digest, block, &mut self.firsts, slot)
+    }
+}
+
+/// Puts the value under the digest, and the digest under the slot. Room for both is made before either map changes.
+fn insert_both<T: Drop>(
+    held: &mut BTreeMap<Digest, T>,
+    digest: Digest,
+    value: T,
+    slots: &mut BTreeMap<(Round, u16), Digest>,
+    slot: (Round, u16),
+) -> Result<(), NoMemory>
+    requires { IsNone (get slot_cmp slots.old slot) }
+    ensures both { OnOk result ((held.new.entries ≡ insert_entry digest_cmp held.old.entries digest value)
+        × (slots.new.entries ≡ insert_entry slot_cmp slots.old.entries slot digest)) }
+    ensures same_held { OnErr result (IsUnchanged held.old held.new) }
+    ensures same_slots { OnErr result (IsUnchanged slots.old slots.new) }
+{
+    match slots.entry(slot)? {
+        Entry::Occupied(_) => unreachable!(),
+        Entry::Vacant(place) => {
+            held.insert(digest, value)?;
+            place.insert_entry(digest);
+            Ok(())
+        }
+    }
+}

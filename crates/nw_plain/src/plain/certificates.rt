@@ -1,0 +1,92 @@
+//! Certificates of a store.
+ghost use Rattle.std.specs.Prelude.{◌≡◌, ◌≤◌, IfOk, OnOk, OnErr, IsNone, None, false};
+ghost use Rattle.std.specs.FinMap as map;
+ghost use Rattle.nw_model.specs.State.{block_slot, certificate_slot};
+ghost use Rattle.nw_model.specs.Step.{certify_reply, certified_digest, is_elsewhere, with_certificate};
+
+use super::{Plain, insert_both};
+use nw_codec::Certificate;
+use nw_digest::{Digest, NoMemory, Round, Shared};
+use nw_model::CertifyReply;
+
+impl Plain {
+    /// The certificate that is held for the digest.
+    pub(super) fn read_certificate(
+        &self,
+        digest: &Digest,
+    ) -> Result<Option<Shared<Certificate>>, NoMemory>
+        ensures { IfOk result (λ found. found ≡ map.get self.now.state.certificates digest.now) }
+    {
+        match self.certificates.get(digest) {
+            None => Ok(None),
+            Some(certificate) => Ok(Some(certificate.try_clone()?)),
+        }
+    }
+
+    /// The reply that a certificate would get now.
+    pub(super) fn certify_reply(&self, certificate: &Certificate) -> CertifyReply
+        ensures { result ≡ certify_reply self.now.bounds self.now.state certificate.now }
+    {
+        let slot = (certificate.round, certificate.author);
+        if certificate.round < self.floor {
+            return CertifyReply::Collected(self.floor);
+        }
+        if certificate.round.get() >= self.floor.get() + u64::from(self.window) {
+            return CertifyReply::TooFar;
+        }
+        if let Some(held) = self.certificate(&certificate.digest) {
+            return if (held.round, held.author) == slot {
+                CertifyReply::Already
+            } else {
+                CertifyReply::Misfit
+            };
+        }
+        if let Some(block) = self.block(&certificate.digest) {
+            if (block.round, block.author) != slot {
+                return CertifyReply::Misfit;
+            }
+        }
+        if let Some(other) = self.certified_digest(slot) {
+            return CertifyReply::Conflict(other);
+        }
+        if self.kept() >= self.most as usize {
+            return CertifyReply::Full;
+        }
+        CertifyReply::Certified
+    }
+
+    /// The digest that is certified for the slot.
+    fn certified_digest(&self, slot: (Round, u16)) -> Option<Digest>
+        ensures { result ≡ certified_digest self.now.state slot }
+    {
+        self.certified.get(&slot).copied()
+    }
+
+    /// Keeps the certificate.
+    pub(super) fn certify(&mut self, certificate: Shared<Certificate>) -> Result<(), NoMemory>
+        requires absent { IsNone (map.get self.old.state.certificates certificate.digest) }
+        requires open { certified_digest self.old.state (certificate_slot certificate) ≡ None }
+        requires misfit { is_elsewhere block_slot (map.get self.old.state.blocks certificate.digest) (certificate_slot certificate) ≡ false }
+        requires kept { self.old.state.floor ≤ certificate.round }
+        ensures state { OnOk result (self.new.state ≡ with_certificate self.old.state certificate) }
+        ensures bounds { self.new.bounds ≡ self.old.bounds }
+        ensures unchanged { OnErr result (self.new ≡ self.old) }
+    {
+        let held = certificate.get();
+        let digest = held.digest;
+        let slot = (held.round, held.author);
+        insert_both(
+            &mut self.certificates,
+            digest,
+            certificate,
+            &mut self.certified,
+            slot,
+        )
+    }
+
+    pub(super) fn kept(&self) -> usize
+        ensures { result ≡ map.len self.now.state.certificates }
+    {
+        self.certificates.len()
+    }
+}

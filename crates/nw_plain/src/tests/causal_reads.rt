@@ -1,0 +1,209 @@
+//! Causal reads, their lists, and views that are walked later.
+use super::*;
+
+/// The digest that stands for the block of a slot.
+fn digest_at(slot: Slot) -> Digest {
+    let mut bytes = [0; 32];
+    bytes[..8].copy_from_slice(&slot.0.to_be_bytes());
+    bytes[30..].copy_from_slice(&slot.1.to_be_bytes());
+    Digest(bytes)
+}
+
+/// References to the blocks of so many authors in the round before.
+fn references(alloc: Global, round: u64, authors: u16) -> Result<Vec<Ref>, Fail> {
+    let mut references = Vec::new(alloc);
+    for author in 0..authors {
+        references.push(Ref {
+            author,
+            digest: digest_at((round.saturating_sub(1), author)),
+        })?;
+    }
+    Ok(references)
+}
+
+/// Writes the block of a slot, whose parents are so many authors' of the round before.
+fn write_at(plain: &mut Plain, alloc: Global, slot: Slot, parents: u16) -> Result<(), Fail> {
+    let block = block_of(alloc, slot, references(alloc, slot.0, parents)?, b"")?;
+    match write(plain, digest_at(slot), block)? {
+        WriteReply::Stored { vote: true } => Ok(()),
+        _ => Err(Fail::from("the block is the first of its slot")),
+    }
+}
+
+fn certify_at(plain: &mut Plain, alloc: Global, slot: Slot) -> Result<(), Fail> {
+    match certify(plain, alloc, digest_at(slot), slot)? {
+        CertifyReply::Certified => Ok(()),
+        _ => Err(Fail::from("the certificate is the first of its slot")),
+    }
+}
+
+/// The rounds and authors of these blocks.
+fn slots(alloc: Global, blocks: &[Shared<Block>]) -> Result<Vec<Slot>, Fail> {
+    let mut slots = Vec::new(alloc);
+    for block in blocks {
+        slots.push((block.get().round.get(), block.get().author))?;
+    }
+    Ok(slots)
+}
+
+/// The slots of the list of a causal read.
+fn listed(plain: &mut Plain, alloc: Global, digest: Digest) -> Result<Vec<Slot>, Fail> {
+    match call(plain, &Call::Causal(digest))? {
+        Reply::List(blocks) => slots(alloc, blocks.as_slice()),
+        _ => Err(Fail::from("the block is complete")),
+    }
+}
+
+/// The reply to a causal read, in words.
+fn why(plain: &mut Plain, digest: Digest) -> Result<&'static str, Fail> {
+    Ok(words(&call(plain, &Call::Causal(digest))?))
+}
+
+/// So many authors over so many rounds, each block with all of the round before; all are certified but one slot.
+fn grid(alloc: Global, authors: u16, rounds: u64, missing: Option<Slot>) -> Result<Plain, Fail> {
+    let mut plain = Plain::new(alloc, 1_000, 4_096);
+    for round in 0..rounds {
+        let parents = if round == 0 { 0 } else { authors };
+        for author in 0..authors {
+            let slot = (round, author);
+            write_at(&mut plain, alloc, slot, parents)?;
+            if missing != Some(slot) {
+                certify_at(&mut plain, alloc, slot)?;
+            }
+        }
+    }
+    Ok(plain)
+}
+
+/// The replies to the causal read of a child: at first, and after each of it and its parent is written and certified.
+fn whys(alloc: Global) -> Result<Vec<&'static str>, Fail> {
+    let mut plain = Plain::new(alloc, 16, 4);
+    let child = digest_at((1, 0));
+    let mut whys = Vec::new(alloc);
+    whys.push(why(&mut plain, child)?)?;
+    for slot in [(1, 0), (0, 0)] {
+        write_at(&mut plain, alloc, slot, slot.0 as u16)?;
+        whys.push(why(&mut plain, child)?)?;
+        certify_at(&mut plain, alloc, slot)?;
+        whys.push(why(&mut plain, child)?)?;
+    }
+    Ok(whys)
+}
+
+#[test]
+fn a_causal_read_waits_for_blocks_and_certificates(rt: HostRuntime) -> Result<(), Fail> {
+    let expected = [
+        "unknown",
+        "uncertified",
+        "incomplete",
+        "incomplete",
+        "listed",
+    ];
+    assert!(rt; whys(rt.alloc())?.as_slice() == expected.as_slice());
+    Ok(())
+}
+
+/// Why a certified block gets no list whose one parent is held under another author than it names.
+fn why_of_a_stranger(alloc: Global) -> Result<&'static str, Fail> {
+    let mut plain = grid(alloc, 1, 1, None)?;
+    let mut parents = references(alloc, 1, 1)?;
+    for parent in parents.iter_mut() {
+        parent.author = 1;
+    }
+    write(&mut plain, A, block_of(alloc, (1, 0), parents, b"")?)?;
+    certify(&mut plain, alloc, A, (1, 0))?;
+    why(&mut plain, A)
+}
+
+#[test]
+fn a_parent_of_another_author_is_no_parent(rt: HostRuntime) -> Result<(), Fail> {
+    assert!(rt; why_of_a_stranger(rt.alloc())? == "incomplete");
+    Ok(())
+}
+
+/// The slots that a block lists over a whole grid of four authors: all of the rounds before its own, and its own.
+fn whole(alloc: Global, slot: Slot) -> Result<Vec<Slot>, Fail> {
+    let mut slots = Vec::new(alloc);
+    for round in 0..slot.0 {
+        for author in 0..4 {
+            slots.push((round, author))?;
+        }
+    }
+    slots.push(slot)?;
+    Ok(slots)
+}
+
+/// What the block of the slot lists in a whole grid of so many rounds.
+fn listed_in_a_grid(alloc: Global, rounds: u64, slot: Slot) -> Result<Vec<Slot>, Fail> {
+    listed(&mut grid(alloc, 4, rounds, None)?, alloc, digest_at(slot))
+}
+
+// A walk that took a block again for each reference to it would go over 4^39 paths.
+#[test]
+fn a_diamond_lists_each_block_once(rt: HostRuntime) -> Result<(), Fail> {
+    let alloc = rt.alloc();
+    for (rounds, slot) in [(4, (3, 2)), (40, (39, 2))] {
+        assert!(rt; listed_in_a_grid(alloc, rounds, slot)? == whole(alloc, slot)?);
+    }
+    Ok(())
+}
+
+/// Why the top of a diamond gets no list while the slot is not certified, and once it is.
+fn whys_without(alloc: Global, slot: Slot) -> Result<(&'static str, &'static str), Fail> {
+    let mut plain = grid(alloc, 4, 4, Some(slot))?;
+    let before = why(&mut plain, digest_at((3, 2)))?;
+    certify_at(&mut plain, alloc, slot)?;
+    Ok((before, why(&mut plain, digest_at((3, 2)))?))
+}
+
+#[test]
+fn a_block_is_incomplete_at_each_depth(rt: HostRuntime) -> Result<(), Fail> {
+    for depth in 0..3 {
+        let whys = whys_without(rt.alloc(), (depth, 1))?;
+        assert!(rt; whys == ("incomplete", "listed"));
+    }
+    Ok(())
+}
+
+/// Whether the last block of a chain of so many lists one of each round.
+fn is_chain_listed(alloc: Global, rounds: u64) -> Result<bool, Fail> {
+    let mut plain = grid(alloc, 1, rounds, None)?;
+    let slots = listed(&mut plain, alloc, digest_at((rounds.saturating_sub(1), 0)))?;
+    Ok(slots.iter().map(|slot| slot.0).eq(0..rounds))
+}
+
+#[test]
+fn a_chain_of_1000_blocks_is_listed(rt: HostRuntime) -> Result<(), Fail> {
+    assert!(rt; is_chain_listed(rt.alloc(), 1_000)?);
+    Ok(())
+}
+
+/// A view of a diamond without its last block, after that one was certified.
+fn view_of_before(alloc: Global) -> Result<View, Fail> {
+    let mut plain = grid(alloc, 4, 4, Some((3, 3)))?;
+    let Ok(view) = plain.freeze_for(digest_at((1, 0)))? else {
+        return Err(Fail::from("the block is complete"));
+    };
+    certify_at(&mut plain, alloc, (3, 3))?;
+    Ok(view)
+}
+
+/// The slots of a walk, where the block is in the view.
+fn walked(alloc: Global, view: &View, digest: Digest) -> Result<Vec<Slot>, Fail> {
+    match view.get(&digest) {
+        Some(block) if view.floor() <= block.get().round => {
+            slots(alloc, walk(alloc, view, digest)?.as_slice())
+        }
+        _ => Err(Fail::from("the block is there")),
+    }
+}
+
+#[test]
+fn a_view_is_walked_as_it_was(rt: HostRuntime) -> Result<(), Fail> {
+    let view = view_of_before(rt.alloc())?;
+    assert!(rt; view.floor() == Round::ZERO && view.get(&digest_at((3, 3))).is_none());
+    let slots = walked(rt.alloc(), &view, digest_at((1, 0)))?;
+    let expected = [(0, 0), (0, 1), (0, 2), (0, 3), (1, 0)];
+    assert!(rt; slots.as_slice() == expected.as_slice());
+    Ok(())
+}
