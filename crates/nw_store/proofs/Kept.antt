@@ -1,0 +1,77 @@
+-- What the lock and a session keep, over one more answer.
+use Rattle.std.proofs.Common.{◌≡◌, ℕ, ◌+◌, ◌<◌, ◌≤◌, List, [], ◌∷◌, ◌++◌, length, sym, ap, ◌∙◌, subst, arith, length-append}
+use Rattle.std.specs.Prelude.{All}
+use Rattle.std.specs.List.{Contains}
+use Rattle.std.proofs.lemmas.List.Elements.{All-push, Contains-push}
+use mathlib.Core.List.{IsPrefix}
+use Rattle.nw_sig.specs.Signed.{Meaning}
+use Rattle.nw_model.specs.declared.event.Event.{Event}
+use Rattle.nw_history.specs.Limits.{AreInRange}
+use Rattle.nw_history.specs.Story.{Story, IsLegalStory, with_event}
+use Rattle.nw_history.specs.Prefix.{IsPrefixOf}
+use Rattle.nw_store.specs.Held.{Answer, Journal, AreAmong, IsAnswer, AreAnswers}
+use Rattle.nw_store.specs.Kept.{IsKept, IsSession}
+use Rattle.nw_store.proofs.Begun.{among_longer, told_more, answers_last}
+
+pub kept_more : (accepts : Meaning) (h next front : Story) (made total more spare idle : ℕ) (told longer : List Story) (e : Event)
+    → IsKept accepts (record { history = h; made = made }) total spare idle told
+    → next ≡ with_event h e → IsLegalStory accepts next → front ≡ next → more ≡ total + 1 → longer ≡ told ++ front ∷ []
+    → IsKept accepts (record { history = next; made = made }) more spare idle longer
+kept_more accepts h next front made total more spare idle told longer e kept is legal front_is one tell = record {
+  in_range = subst (λ (s : Story). AreInRange s.limits) (sym is) kept.in_range;
+  legal = legal;
+  few = subst (λ (s : Story). made ≤ s.limits.sessions) (sym is) kept.few;
+  shared = kept.shared;
+  unused = kept.unused;
+  counted = one ∙ (ap (λ n. n + 1) kept.counted ∙ sym (ap (λ (s : Story). length s.events) is ∙ length-append h.events (e ∷ [])));
+  begun = subst (λ (l : List Story). All (λ f. IsPrefixOf f next) l) (sym (tell ∙ ap (λ (f : Story). told ++ f ∷ []) front_is)) (told_more h next e told is kept.begun);
+}
+
+-- the session with one more answer, whose front is claimed
+pub session_more : (id parts same amount more : ℕ) (claim longer : List Story) (answers after : List Answer) (a : Answer)
+    → IsSession parts amount claim (record { id = id; answers = answers })
+    → same ≡ parts → more ≡ amount + 1 → IsPrefix claim longer → Contains longer a.front → after ≡ answers ++ a ∷ [] → IsAnswer id (1 + length answers) a
+    → IsSession same more longer (record { id = id; answers = after })
+session_more id parts same amount more claim longer answers after a s part one p claimed items is = record {
+  id_below = s.id_below;
+  part = part ∙ s.part;
+  counted = one ∙ (ap (λ n. n + 1) s.counted ∙ sym (ap length items ∙ length-append answers (a ∷ [])));
+  claimed = subst (λ l. AreAmong longer l) (sym items) (All-push (λ (x : Answer). Contains longer x.front) answers a (among_longer claim longer answers p s.claimed) claimed);
+  numbered = subst (λ l. AreAnswers id 1 l) (sym items) (answers_last id 1 answers a s.numbered is);
+}
+
+pub answer_is : (id number : ℕ) (h front : Story) (e : Event) (a : Answer) → front ≡ with_event h e → e.session ≡ id → e.number ≡ number → a.front ≡ front → a.event ≡ e → IsAnswer id number a
+answer_is id number h front e a is session number_is same event = record {
+  session = ap (λ (x : Event). x.session) event ∙ session;
+  number_is = ap (λ (x : Event). x.number) event ∙ number_is;
+  last = (h.events, ap (λ (s : Story). s.events) (same ∙ is) ∙ ap (λ (x : Event). h.events ++ x ∷ []) (sym event));
+}
+
+-- what was told last is claimed
+pub told_last : (told longer claim : List Story) (front f : Story) → longer ≡ told ++ front ∷ [] → claim ≡ longer → f ≡ front → Contains claim f
+told_last told longer claim front f tell is same = subst (λ l. Contains l f) (sym (is ∙ tell ∙ ap (λ (x : Story). told ++ x ∷ []) (sym same))) (Contains-push told f)
+
+-- the session once its claim is renewed
+pub session_renewed : (parts amount : ℕ) (claim told longer : List Story) (j : Journal) → IsSession parts amount claim j → IsPrefix claim told → longer ≡ told → IsSession parts amount longer j
+session_renewed parts amount claim told longer j s p is = record {
+  id_below = s.id_below;
+  part = s.part;
+  counted = s.counted;
+  claimed = subst (λ l. AreAmong l j.answers) (sym is) (among_longer claim told j.answers p s.claimed);
+  numbered = s.numbered;
+}
+
+-- one more session is made, and has one of the spare parts
+pub kept_made : (accepts : Meaning) (h : Story) (made total spare left idle none : ℕ) (told same : List Story) → IsKept accepts (record { history = h; made = made }) total spare idle told
+    → made < h.limits.sessions → left + 1 ≡ spare → none + 0 ≡ idle → same ≡ told → IsKept accepts (record { history = h; made = made + 1 }) total left none same
+kept_made accepts h made total spare left idle none told same kept room parts amount is =
+    let shared = kept.shared in
+    let unused = kept.unused in record {
+      in_range = kept.in_range;
+      legal = kept.legal;
+      few = omega (arith, room);
+      shared = omega (arith, shared, parts);
+      unused = omega (arith, unused, amount);
+      counted = kept.counted;
+      begun = subst (λ (l : List Story). All (λ f. IsPrefixOf f h) l) (sym is) kept.begun;
+    }

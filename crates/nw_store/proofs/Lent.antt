@@ -1,0 +1,9 @@
+-- What a vector holds once a slice of all of it was lent.
+use Rattle.std.proofs.Common.{◌≡◌, ℕ, List, [], ◌∷◌, ◌++◌, length, take, drop, refl, ap, subst}
+
+take_whole : {X : Type 0} (ys zs : List X) → take (length ys) (ys ++ zs) ≡ ys
+take_whole [] zs = refl
+take_whole (y ∷ ys) zs = ap (λ l. y ∷ l) (take_whole ys zs)
+
+pub lent : {X : Type 0} (n : ℕ) (ys xs : List X) → length ys ≡ n → take n (ys ++ drop (length ys) xs) ≡ ys
+lent n ys xs len = subst (λ m. take m (ys ++ drop (length ys) xs) ≡ ys) len (take_whole ys (drop (length ys) xs))

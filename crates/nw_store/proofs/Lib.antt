@@ -1,0 +1,6 @@
+pub mod Begun
+pub mod Kept
+pub mod Answered
+pub mod Interleaved
+pub mod Lent
+pub mod Ordered

@@ -1,0 +1,10 @@
+use Rattle.nw_store.specs.Kept.{parts_of_a_ledger}
+use Rattle.nw_store.proofs.tests.a_store_makes_no_more_sessions_than_its_limit.Given as goal
+
+-- the ledger that was opened
+abbrev pub ghosts-second_is_refused-L-Ledger : goal.ghosts-second_is_refused-L-Ledger
+ghosts-second_is_refused-L-Ledger g a = record { name = a.opening.ledger; parts = parts_of_a_ledger }
+
+-- the log that was opened
+abbrev pub ghosts-second_is_refused-L-Place : goal.ghosts-second_is_refused-L-Place
+ghosts-second_is_refused-L-Place g a = record { log = a.opening.log }

@@ -1,0 +1,4 @@
+pub mod Held
+pub mod Kept
+pub mod Answered
+pub mod Settled

@@ -1,0 +1,47 @@
+-- When journals are those of one history.
+use Rattle.std.specs.Prelude.{◌≡◌, ℕ, ◌+◌, ◌<◌, ◌≤◌, List, [], ◌∷◌, Some, length, map, slice_get, All}
+use Rattle.std.specs.List.{range_with_len}
+use Rattle.std.specs.List.Sorted.{IsPermutation}
+use Rattle.nw_model.specs.History.{events_of}
+use Rattle.nw_model.specs.declared.event.Event.{Event}
+use Rattle.nw_history.specs.Story.{Story}
+use Rattle.nw_store.specs.Held.{Answer, Journal, AreBegun}
+use Rattle.nw_store.specs.declared.error.SettleFault.{SettleFault}
+use Rattle.nw_store.specs.declared.error.SettleFault.TheVariants as faults
+
+-- the calls of these answers, in order
+abbrev pub events_in : List Answer → List Event
+events_in answers = map (λ a. a.event) answers
+
+-- the journals are of the sessions from this one on, in order
+abbrev pub AreInOrder : ℕ → List Journal → Type 0
+AreInOrder n [] = Unit {0}
+AreInOrder n (j ∷ js) = (j.id ≡ n) × AreInOrder (n + 1) js
+
+abbrev pub ids_of : List Journal → List ℕ
+ids_of js = map (λ j. j.id) js
+
+-- the journals are of all sessions that were made: their ids are 0 up to the last one made, each once, in any order
+abbrev pub AreAll : ℕ → List Journal → Type 0
+AreAll made js = IsPermutation (ids_of js) (range_with_len 0 made)
+
+-- the journal is this session's, and has all calls of it that the history has; each front is a beginning of the history
+pub record IsJournalOf (history : Story) (session : ℕ) (j : Journal) : Type 0 where
+  pub id_is : j.id ≡ session
+  pub events : events_of session history.events ≡ events_in j.answers
+  pub begun : AreBegun history j.answers
+
+-- the history is an interleaving of the journals, and each front is a beginning of it
+pub record AreSettled (history : Story) (js : List Journal) : Type 0 where
+  pub each : (session : ℕ) (j : Journal) → slice_get js session ≡ Some j → IsJournalOf history session j
+  pub others : All (λ e. e.session < length js) history.events
+
+-- what is settled: the history, and the journals in the order of their sessions
+pub record Ledgers : Type 0 where
+  pub history : Story
+  pub journals : List Journal
+
+-- why journals do not settle: there are fewer than sessions were made; else they are not those that were made, each once
+abbrev pub IsFault : ℕ → List Journal → SettleFault → Type 0
+IsFault made js (faults.Unfinished m given) = (m ≡ made) × (given ≡ length js) × (given < m)
+IsFault made js faults.Differs = (made ≤ length js) × (AreAll made js → ⊥)

@@ -1,0 +1,191 @@
+//! Stores, which lock, call and let go.
+ghost use Rattle.std.specs.Prelude.{◌≡◌, ◌↔◌, ◌<◌, [], IsOk, IfOk, IfErr, OnErr};
+ghost use Rattle.std.specs.Result.{IsErrOf, MatchResult};
+ghost use Rattle.nw_model.specs.Checks.{digest_of};
+ghost use Rattle.nw_model.specs.declared.call.Call.TheVariants as Call;
+ghost use Rattle.nw_history.specs.Limits.{AreInRange};
+ghost use Rattle.nw_book.specs.Command.{call_of};
+ghost use Rattle.nw_store.specs.Kept.{parts_of_a_ledger};
+ghost use Rattle.nw_store.specs.Answered.{IsExplained, IsOpenedOnce, IsRefusedOnce};
+
+use crate::locked::{call_locked, open_locked, session_locked};
+use crate::{Locked, Session, TooMany};
+use nw_book::{Book, BookError, Command, Done, NoStep, Ticket};
+use nw_check::{CheckedBlock, CheckedCert};
+use nw_committee::Committee;
+use nw_digest::{Digest, Shared};
+use nw_history::{Front, Limits};
+use nw_log::{Opened, Place};
+use nw_sig::Scheme;
+use std::alloc::{AllocError, Global};
+use std::marker::Model;
+use std::sync::ledger::Blank;
+use std::sync::{Mutex, Wait};
+
+/// An empty log and an empty ledger that no type stands for yet. Contracts see which they are.
+#[derive(Drop)]
+pub struct Opening<S: Scheme> {
+    pub(crate) log: Opened<Front<S>>,
+    pub(crate) blank: Blank,
+}
+
+impl<S: Scheme> Model for Opening<S> {
+    ghost use Rattle.std.specs.Prelude.{◌≡◌};
+    ghost use Rattle.nw_store.specs.Held.{Names};
+    ghost use Rattle.nw_store.specs.Kept.{parts_of_a_ledger};
+
+    ghost Value = { Names };
+
+    ghost view = { λ o. record { log = o.log; ledger = o.blank.name } };
+
+    ghost invariant = { λ o. o.blank.parts ≡ parts_of_a_ledger };
+}
+
+impl<S: Scheme> Opening<S> {
+    /// An empty log and an empty ledger. It takes two blocks of a few bytes.
+    pub fn new(alloc: Global) -> Result<Opening<S>, AllocError> {
+        Ok(Opening {
+            log: Opened::new(alloc)?,
+            blank: Blank::new(257),
+        })
+    }
+}
+
+/// A store that threads share: one lock round a book. `L` names it, so that no session of another store fits.
+///
+/// A function generic in such a name is called with `Brand`, for which the proof of the call picks the opening's log and
+/// ledger.
+#[derive(Drop)]
+pub struct Store<S: Scheme, L: Place> {
+    pub(crate) locked: Mutex<Locked<S, L>>,
+}
+
+impl<S: Scheme, L: Place> Store<S, L> {
+    /// A store with an empty history and no sessions. `BadLimits` exactly where a limit is outside its range, else `NoMemory`
+    /// where memory is refused.
+    pub fn new(
+        alloc: Global,
+        opening: Opening<S>,
+        committee: Shared<Committee>,
+        limits: Limits,
+    ) -> Result<Store<S, L>, BookError>
+        requires log { opening.log ≡ L.log }
+        requires ledger { (opening.ledger ≡ L.name) × (L.parts ≡ parts_of_a_ledger) }
+        ensures bad_limits { IsErrOf result BookError.BadLimits ↔ (AreInRange limits → ⊥) }
+        ensures no_memory { IsErrOf result BookError.NoMemory → AreInRange limits }
+    {
+        let book = Book::new(alloc, committee, limits)?;
+        Ok(Store {
+            locked: Mutex::new(Locked::over(opening, book)),
+        })
+    }
+
+    /// A store over the book, without sessions. The book is handed back exactly where its history is not empty. It takes no
+    /// memory.
+    pub fn over(opening: Opening<S>, book: Book<S>) -> Result<Store<S, L>, Book<S>>
+        requires log { opening.log ≡ L.log }
+        requires ledger { (opening.ledger ≡ L.name) × (L.parts ≡ parts_of_a_ledger) }
+        requires in_range { AreInRange book.limits }
+        ensures taken { IsOk result ↔ (book.events ≡ []) }
+        ensures back { IfErr result (λ refused. refused ≡ book) }
+    {
+        if !book.history().is_empty() {
+            return Err(book);
+        }
+        Ok(Store {
+            locked: Mutex::new(Locked::over(opening, book)),
+        })
+    }
+
+    /// A new session. `TooMany` where as many were made as the limit allows.
+    pub fn session<R: Wait>(&self, rt: &R, alloc: Global) -> Result<Session<S, L>, TooMany>
+        ensures { IfOk result (λ session. (session.answers ≡ []) × (session.id < 256)) }
+    {
+        session_locked(&mut *self.locked.lock(rt), alloc)
+    }
+
+    /// Makes the session's next call. The answer has a legal history that ends with the call, and that each earlier answer's of
+    /// the session begins. A refusal leaves the session as it was.
+    pub fn call<R: Wait>(
+        &self,
+        rt: &R,
+        alloc: Global,
+        session: &mut Session<S, L>,
+        command: &Command<S>,
+    ) -> Result<Done<S>, NoStep>
+        ensures answered { IfOk result (IsExplained S.accepts session.old session.new (call_of command.now)) }
+        ensures unchanged { OnErr result (session.new ≡ session.old) }
+    {
+        call_locked(&mut *self.locked.lock(rt), alloc, session, command)
+    }
+
+    /// Stores the block under its digest: a call of the session.
+    pub fn write<R: Wait>(
+        &self,
+        rt: &R,
+        alloc: Global,
+        session: &mut Session<S, L>,
+        block: CheckedBlock<S>,
+    ) -> Result<Done<S>, NoStep>
+        ensures answered { IfOk result (IsExplained S.accepts session.old session.new (Call.Write (digest_of block.block) block.block)) }
+        ensures unchanged { OnErr result (session.new ≡ session.old) }
+    {
+        self.call(rt, alloc, session, &Command::Write(block))
+    }
+
+    /// Keeps the certificate: a call of the session.
+    pub fn certify<R: Wait>(
+        &self,
+        rt: &R,
+        alloc: Global,
+        session: &mut Session<S, L>,
+        certificate: CheckedCert<S>,
+    ) -> Result<Done<S>, NoStep>
+        ensures answered { IfOk result (IsExplained S.accepts session.old session.new (Call.Certify certificate.certificate)) }
+        ensures unchanged { OnErr result (session.new ≡ session.old) }
+    {
+        self.call(rt, alloc, session, &Command::Certify(certificate))
+    }
+
+    /// Reads the certificate that is kept for the digest: a call of the session.
+    pub fn certificate<R: Wait>(
+        &self,
+        rt: &R,
+        alloc: Global,
+        session: &mut Session<S, L>,
+        digest: Digest,
+    ) -> Result<Done<S>, NoStep>
+        ensures answered { IfOk result (IsExplained S.accepts session.old session.new (Call.Certificate digest)) }
+        ensures unchanged { OnErr result (session.new ≡ session.old) }
+    {
+        self.call(rt, alloc, session, &Command::Certificate(digest))
+    }
+
+    /// Reads the block that is held under the digest: a call of the session.
+    pub fn read<R: Wait>(
+        &self,
+        rt: &R,
+        alloc: Global,
+        session: &mut Session<S, L>,
+        digest: Digest,
+    ) -> Result<Done<S>, NoStep>
+        ensures answered { IfOk result (IsExplained S.accepts session.old session.new (Call.Read digest)) }
+        ensures unchanged { OnErr result (session.new ≡ session.old) }
+    {
+        self.call(rt, alloc, session, &Command::Read(digest))
+    }
+
+    /// Opens a causal read of the digest: a call of the session. The ticket is walked later, without the lock.
+    pub fn open_causal<R: Wait>(
+        &self,
+        rt: &R,
+        alloc: Global,
+        session: &mut Session<S, L>,
+        digest: Digest,
+    ) -> Result<Result<Ticket<S>, Done<S>>, NoStep>
+        ensures answered { IfOk result (λ answer. MatchResult answer (IsOpenedOnce S.accepts session.old session.new digest) (IsRefusedOnce S.accepts session.old session.new digest)) }
+        ensures unchanged { OnErr result (session.new ≡ session.old) }
+    {
+        open_locked(&mut *self.locked.lock(rt), alloc, session, digest)
+    }
+}
