@@ -1,7 +1,8 @@
 //! Plays a script from standard input to standard output.
 //!
 //! The exit status is 0 where the end of the script was reached, 1 where it could not be read, was too long, its answers
-//! could not be written, or memory was refused, and 2 where a line is bad, or the program was given any argument.
+//! could not be written, or memory was refused, 2 where a line is bad, or the program was given any argument, and 3 where
+//! the sessions of a store differ.
 #![tactic(auto)]
 
 use nw_play::{PlayFault, play};
@@ -22,7 +23,7 @@ fn main(rt: HostRuntime) -> ExitCode {
     if words > 1 {
         return ExitCode::from(BAD_ARGUMENTS);
     }
-    ExitCode::from(status(play(rt.alloc(), rt.stdin(), rt.stdout())))
+    ExitCode::from(status(play(&rt, rt.alloc(), rt.stdin(), rt.stdout())))
 }
 
 fn status(outcome: Result<(), PlayFault>) -> u8 {
@@ -30,6 +31,7 @@ fn status(outcome: Result<(), PlayFault>) -> u8 {
         Ok(()) => 0,
         Err(PlayFault::Read | PlayFault::Write | PlayFault::TooLong | PlayFault::NoMemory) => 1,
         Err(PlayFault::BadLine { .. }) => 2,
+        Err(PlayFault::Differs { .. }) => 3,
     }
 }
 
@@ -49,5 +51,6 @@ mod tests {
             assert_eq!(rt; status(Err(fault)), 1, "{fault}");
         }
         assert_eq!(rt; status(Err(PlayFault::BadLine { line: 3 })), 2);
+        assert_eq!(rt; status(Err(PlayFault::Differs { session: 1 })), 3);
     }
 }

@@ -1,4 +1,4 @@
 pub mod Longer
 pub mod Stands
 pub mod Opened
-pub mod Making
+pub mod Sent

@@ -2,4 +2,3 @@ pub mod Turn
 pub mod Ticket
 pub mod Command
 pub mod Takes
-pub mod Run

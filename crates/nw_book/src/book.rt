@@ -16,8 +16,9 @@ use nw_committee::Committee;
 use nw_digest::{Digest, NoMemory, Shared};
 use nw_history::{Front, History, Limits};
 use nw_model::{Call, CausalReply, Event, Reply};
-use nw_plain::{Plain, View};
+use nw_plain::Plain;
 use nw_sig::Scheme;
+use nw_views::View;
 use std::alloc::Global;
 use std::marker::Model;
 
@@ -85,6 +86,7 @@ impl<S: Scheme> Book<S> {
     pub fn history(&self) -> &History<S>
         ensures history { result.now ≡ self.now }
         ensures legal { IsLegalStory S.accepts self.now }
+        ensures in_range { AreInRange self.now.limits }
     {
         &self.history
     }
@@ -205,8 +207,9 @@ impl<S: Scheme> Book<S> {
         Ok(front)
     }
 
-    /// The number of the session's next call; else why it takes no step, whatever it asks.
-    pub(crate) fn next_number(&self, session: u16) -> Result<u32, NoStep>
+    /// The number of the session's next call. `OutOfTurn` exactly where the session is not below its limit, and so takes no
+    /// step, whatever it asks.
+    pub fn next_number(&self, session: u16) -> Result<u32, NoStep>
         ensures number { IfOk result (λ number. number ≡ next_number self.now session) }
         ensures turn { OnOk result (IsInTurn self.now session (next_number self.now session)) }
         ensures refused { IfErr result (λ why. (why ≡ NoStep.OutOfTurn) × (IsInTurn self.now session (next_number self.now session) → ⊥)) }
@@ -217,13 +220,9 @@ impl<S: Scheme> Book<S> {
         }
     }
 
-    /// Whether a call of the session with the number may take the step of the command; else why not. It takes no memory.
-    pub(crate) fn may_step(
-        &self,
-        session: u16,
-        number: u32,
-        command: &Command<S>,
-    ) -> Result<(), NoStep>
+    /// Whether a call of the session with the number may take the step of the command: what [`Book::step`] tests first. Else
+    /// it is refused in the same order: `OutOfTurn`, `OtherCommittee`, `HistoryFull`. It takes no memory.
+    pub fn may_step(&self, session: u16, number: u32, command: &Command<S>) -> Result<(), NoStep>
         ensures taken { OnOk result (IsInTurn self.now session number × IsUnder self.now.committee command.now × HasRoom self.now) }
         ensures refused { IfErr result (IsRefusal self.now session number (IsUnder self.now.committee command.now)) }
         ensures no_memory { IsErrOf result NoStep.NoMemory → ⊥ }
@@ -240,8 +239,9 @@ impl<S: Scheme> Book<S> {
         Ok(())
     }
 
-    /// Whether a causal read of the session with the number may take a step; else why not. It takes no memory.
-    pub(crate) fn may_open(&self, session: u16, number: u32) -> Result<(), NoStep>
+    /// Whether a causal read of the session with the number may take a step: what [`Book::open`] tests first. Else it is
+    /// refused in the same order: `OutOfTurn`, `HistoryFull`. It takes no memory.
+    pub fn may_open(&self, session: u16, number: u32) -> Result<(), NoStep>
         ensures taken { OnOk result (IsInTurn self.now session number × HasRoom self.now) }
         ensures refused { IfErr result (IsRefusal self.now session number (Unit {0})) }
         ensures no_memory { IsErrOf result NoStep.NoMemory → ⊥ }

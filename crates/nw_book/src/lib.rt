@@ -9,13 +9,11 @@
 mod book;
 mod command;
 mod error;
-mod run;
 mod ticket;
 
 pub use book::{Book, Done};
 pub use command::Command;
 pub use error::{BookError, NoStep};
-pub use run::{Answer, Cause, Move, Run, Stop};
 pub use ticket::Ticket;
 
 #[cfg(test)]

@@ -3,19 +3,17 @@ use nw_committee::Committee;
 use nw_digest::{Digest, Shared};
 use nw_history::{Front, Limits};
 use nw_model::{Call, Reply, WriteReply};
+use nw_sample_checked::{block, certificate, committee};
 use nw_sig::DemoScheme;
 use std::alloc::Global;
 use std::test::Fail;
-use values::{block, certificate, committee};
 
 mod answers;
 mod causal;
 mod chunks;
 mod committees;
 mod reopened;
-mod runs;
 mod turns;
-mod values;
 
 /// The limits of a book that takes 16 blocks over four rounds.
 fn limits(events: u32, sessions: u32) -> Limits {

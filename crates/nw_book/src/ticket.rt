@@ -10,8 +10,8 @@ ghost use Rattle.nw_book.specs.Ticket.{IsTicket, IsTicketWith};
 use nw_codec::Block;
 use nw_digest::{Digest, NoMemory, Shared};
 use nw_history::Front;
-use nw_plain::{View, walk};
 use nw_sig::Scheme;
+use nw_views::{View, walk};
 use std::alloc::Global;
 use std::marker::Model;
 

@@ -1,10 +1,9 @@
-//! Why a script ends before its end, and why a line is not played.
+//! Why a script ends before its end.
 ghost use Rattle.std.specs.Prelude.{◌≡◌};
 
-use nw_book::BookError;
-use nw_codec::EncodeError;
-use nw_committee::CommitteeFault;
+use nw_desk::LineFault;
 use nw_digest::NoMemory;
+use nw_store::SettleFault;
 use std::alloc::{AllocError, AllocFailed};
 use thiserror::Error;
 
@@ -26,6 +25,21 @@ pub enum PlayFault {
     /// Memory was refused.
     #[error("out of memory")]
     NoMemory,
+    /// The sessions of a store do not settle: the first by its id that is not one of those that the store made.
+    #[error("differs {session} 0")]
+    Differs { session: u16 },
+}
+
+impl From<NoMemory> for PlayFault {
+    fn from(_error: NoMemory) -> PlayFault {
+        PlayFault::NoMemory
+    }
+}
+
+impl<T: Drop> From<AllocFailed<T>> for PlayFault {
+    fn from(_error: AllocFailed<T>) -> PlayFault {
+        PlayFault::NoMemory
+    }
 }
 
 impl From<AllocError> for PlayFault {
@@ -39,77 +53,20 @@ impl From<AllocError> for PlayFault {
     }
 }
 
-/// Why a line was not played.
-#[derive(Clone, Copy, Debug, PartialEq, Eq)]
-pub enum LineFault {
-    /// The line is bad.
-    Bad,
-    /// Memory was refused.
-    NoMemory,
-}
-
-impl LineFault {
-    /// The fault of the script, where this is that of its line of this number.
-    pub fn at(self, line: usize) -> PlayFault {
-        match self {
+impl PlayFault {
+    /// The fault of the script, where this is that of its line with this number.
+    pub(crate) fn at(line: usize, fault: LineFault) -> PlayFault {
+        match fault {
             LineFault::Bad => PlayFault::BadLine { line },
             LineFault::NoMemory => PlayFault::NoMemory,
         }
     }
-}
 
-impl From<nw_script::LineFault> for LineFault {
-    fn from(fault: nw_script::LineFault) -> LineFault {
+    /// The fault of the script, whose line with this number settles. It gives all sessions.
+    pub(crate) fn unsettled(line: usize, fault: SettleFault) -> PlayFault {
         match fault {
-            nw_script::LineFault::Bad => LineFault::Bad,
-            nw_script::LineFault::NoMemory => LineFault::NoMemory,
-        }
-    }
-}
-
-impl From<AllocError> for LineFault {
-    fn from(_error: AllocError) -> LineFault {
-        LineFault::NoMemory
-    }
-}
-
-impl<T: Drop> From<AllocFailed<T>> for LineFault {
-    fn from(_error: AllocFailed<T>) -> LineFault {
-        LineFault::NoMemory
-    }
-}
-
-impl From<NoMemory> for LineFault {
-    fn from(_error: NoMemory) -> LineFault {
-        LineFault::NoMemory
-    }
-}
-
-impl From<EncodeError> for LineFault {
-    fn from(error: EncodeError) -> LineFault {
-        match error {
-            EncodeError::OverLimit => LineFault::Bad,
-            EncodeError::NoMemory => LineFault::NoMemory,
-        }
-    }
-}
-
-impl From<CommitteeFault> for LineFault {
-    fn from(fault: CommitteeFault) -> LineFault {
-        match fault {
-            CommitteeFault::NoMemory => LineFault::NoMemory,
-            CommitteeFault::BadSize | CommitteeFault::RepeatedKey | CommitteeFault::BadWeight => {
-                LineFault::Bad
-            }
-        }
-    }
-}
-
-impl From<BookError> for LineFault {
-    fn from(error: BookError) -> LineFault {
-        match error {
-            BookError::BadLimits => LineFault::Bad,
-            BookError::NoMemory => LineFault::NoMemory,
+            SettleFault::Unfinished { .. } => PlayFault::BadLine { line },
+            SettleFault::Differs { session } => PlayFault::Differs { session },
         }
     }
 }

@@ -1,138 +1,144 @@
-//! Lines, played on a book.
+//! Lines, played on one store.
+ghost use Rattle.std.specs.Prelude.{◌≡◌};
+ghost use Rattle.nw_store.specs.Held.{origin_of};
+ghost use Rattle.nw_store.specs.Kept.{parts_of_a_ledger};
 
-use crate::calls::Calls;
-use crate::fault::LineFault;
-use crate::members;
-use crate::names::Names;
-use crate::print::Answer;
-use nw_book::{Command, Ticket};
-use nw_digest::{Shared, digest_of};
-use nw_history::Limits;
-use nw_model::Reply;
-use nw_script::{CommitteeLine, LimitsLine, Line, Name, Request};
+use crate::calls::{Calls, Opened};
+use nw_book::{Book, Command};
+use nw_desk::{Answer, Desk, LineFault};
+use nw_script::{Name, Request};
 use nw_sig::DemoScheme;
+use nw_store::{Home, Opening};
 use std::alloc::Global;
-use std::collections::BTreeMap;
+use std::sync::Wait;
 
-// The limits of a script without a line of its own for them.
-const DEFAULT_LIMITS: Limits = Limits {
-    blocks: 1024,
-    events: 1024,
-    window: 64,
-    sessions: 16,
-};
-
-/// A script that is being played: its calls, from the line with the committee on, and its names.
+/// A store that a script asks, and what the names of the script stand for.
 #[derive(Drop)]
-pub struct Player<'a> {
-    /// Whether the line with the limits may still come.
-    may_limit: bool,
-    pub calls: Option<Calls>,
-    pub names: Names<'a>,
-    pub tickets: BTreeMap<Name<'a>, Ticket<DemoScheme>>,
+pub struct Player<'a, L: Home> {
+    pub calls: Calls<L>,
+    pub desk: Desk<'a>,
 }
 
-impl<'a> Player<'a> {
-    /// A script before its first line. It takes no memory.
-    pub fn new(alloc: Global) -> Player<'a> {
-        Player {
-            may_limit: false,
-            calls: None,
-            names: Names::new(alloc),
-            tickets: BTreeMap::new(alloc),
-        }
+impl<'a, L: Home> Player<'a, L> {
+    /// A store over the book, whose history is empty, before the first line that asks it.
+    pub fn over<R: Wait>(
+        rt: &R,
+        alloc: Global,
+        opening: Opening<DemoScheme>,
+        book: Book<DemoScheme>,
+        desk: Desk<'a>,
+    ) -> Result<Player<'a, L>, LineFault>
+        requires log { opening.log ≡ L.log }
+        requires ledger { (opening.ledger ≡ L.name) × (L.parts ≡ parts_of_a_ledger) }
+        requires origin { origin_of book ≡ L.origin }
+    {
+        let calls = Calls::over(rt, alloc, opening, book)?;
+        Ok(Player { calls, desk })
     }
 
-    /// Whether the line with the committee came.
-    pub fn has_committee(&self) -> bool {
-        self.calls.is_some()
-    }
-
-    /// Plays the line, and gives its answer if it has one.
-    pub fn play(&mut self, alloc: Global, line: Line<'a>) -> Result<Option<Answer<'a>>, LineFault> {
-        match line {
-            Line::Skipped => Ok(None),
-            Line::Committee(line) => {
-                self.begin(alloc, &line)?;
-                Ok(None)
+    /// The answer to the request.
+    pub fn answer<R: Wait>(
+        &mut self,
+        rt: &R,
+        alloc: Global,
+        request: Request<'a>,
+    ) -> Result<Answer<'a>, LineFault> {
+        let committee = self.calls.committee();
+        match request {
+            Request::Block(line) => self.desk.block(alloc, &line),
+            Request::Body(name) => self.desk.body(alloc, name),
+            Request::Digest(name) => self.desk.digest(alloc, name),
+            Request::Hash(word) => Desk::hash(alloc, word),
+            Request::Valid { name, signers } => {
+                self.desk.valid(alloc, committee.get(), name, &signers)
             }
-            Line::Limits(line) => {
-                self.limit(alloc, line)?;
-                Ok(None)
+            Request::Gather { name, signers } => {
+                self.desk.gather(alloc, committee, name, &signers)
             }
-            Line::Request(request) => {
-                if self.calls.is_none() {
-                    return Err(LineFault::Bad);
+            Request::Walk(ticket) => self.desk.walk(alloc, ticket),
+            Request::Write { name, signer } => {
+                match self.desk.checked_block(alloc, committee, name, signer)? {
+                    Ok(block) => self.call(rt, alloc, name, &Command::Write(block)),
+                    Err(refused) => Ok(refused),
                 }
-                self.may_limit = false;
-                Ok(Some(self.answer(alloc, request)?))
             }
+            Request::Certify { name, signers } => {
+                match self
+                    .desk
+                    .checked_certificate(alloc, committee, name, &signers)?
+                {
+                    Ok(certificate) => self.call(rt, alloc, name, &Command::Certify(certificate)),
+                    Err(refused) => Ok(refused),
+                }
+            }
+            Request::Certificate(name) => {
+                let command = Command::Certificate(self.desk.digest_of(name)?);
+                self.call(rt, alloc, name, &command)
+            }
+            Request::Read(name) => {
+                let command = Command::Read(self.desk.digest_of(name)?);
+                self.call(rt, alloc, name, &command)
+            }
+            Request::Causal(name) => self.causal(rt, alloc, name),
+            Request::Open { ticket, name } => self.open(rt, alloc, ticket, name),
+            Request::Session(id) => self.select(rt, alloc, id),
         }
     }
 
-    // The first line that counts: the committee, under the default limits.
-    fn begin(&mut self, alloc: Global, line: &CommitteeLine) -> Result<(), LineFault> {
-        if self.calls.is_some() {
+    // Makes the call on the name.
+    fn call<R: Wait>(
+        &mut self,
+        rt: &R,
+        alloc: Global,
+        name: Name<'a>,
+        command: &Command<DemoScheme>,
+    ) -> Result<Answer<'a>, LineFault> {
+        match self.calls.step(rt, alloc, command)? {
+            Some(reply) => self.desk.told(alloc, name, &reply),
+            None => Ok(Answer::HistoryFull),
+        }
+    }
+
+    // Reads the block's digest with its causal history, and walks it.
+    fn causal<R: Wait>(
+        &mut self,
+        rt: &R,
+        alloc: Global,
+        name: Name<'a>,
+    ) -> Result<Answer<'a>, LineFault> {
+        let digest = self.desk.digest_of(name)?;
+        match self.calls.open(rt, alloc, digest)? {
+            Opened::Ready(ticket) => self.desk.listed(alloc, name, &ticket),
+            Opened::Refused(reply) => self.desk.told(alloc, name, &reply),
+            Opened::HistoryFull => Ok(Answer::HistoryFull),
+        }
+    }
+
+    // Reads the block's digest with its causal history, and keeps the ticket.
+    fn open<R: Wait>(
+        &mut self,
+        rt: &R,
+        alloc: Global,
+        ticket: Name<'a>,
+        name: Name<'a>,
+    ) -> Result<Answer<'a>, LineFault> {
+        let digest = self.desk.digest_of(name)?;
+        if self.desk.has_ticket(ticket) {
             return Err(LineFault::Bad);
         }
-        let committee = Shared::new(alloc, members::committee(alloc, line)?)?;
-        self.calls = Some(Calls::new(alloc, committee, DEFAULT_LIMITS)?);
-        self.may_limit = true;
-        Ok(())
-    }
-
-    // The line after it: other limits.
-    fn limit(&mut self, alloc: Global, line: LimitsLine) -> Result<(), LineFault> {
-        match &self.calls {
-            Some(calls) if self.may_limit => {
-                let committee = calls.committee().try_clone()?;
-                self.calls = Some(Calls::new(alloc, committee, limits_of(line))?);
-                self.may_limit = false;
-                Ok(())
-            }
-            _ => Err(LineFault::Bad),
+        match self.calls.open(rt, alloc, digest)? {
+            Opened::Ready(opened) => self.desk.keep(ticket, opened),
+            Opened::Refused(reply) => self.desk.told(alloc, ticket, &reply),
+            Opened::HistoryFull => Ok(Answer::HistoryFull),
         }
     }
 
-    fn answer(&mut self, alloc: Global, request: Request<'a>) -> Result<Answer<'a>, LineFault> {
-        match request {
-            Request::Block(line) => self.block(alloc, &line),
-            Request::Body(name) => self.body(alloc, name),
-            Request::Digest(name) => self.digest(alloc, name),
-            Request::Hash(word) => {
-                let digest = digest_of(word.as_bytes());
-                Ok(Answer::Hash(hex::encode(alloc, digest.0.as_slice())?))
-            }
-            Request::Write { name, signer } => self.write(alloc, name, signer),
-            Request::Read(name) => self.read(alloc, name),
-            Request::Certify { name, signers } => self.certify(alloc, name, &signers),
-            Request::Valid { name, signers } => self.valid(alloc, name, &signers),
-            Request::Gather { name, signers } => self.gather(alloc, name, &signers),
-            Request::Certificate(name) => self.certificate(alloc, name),
-            Request::Causal(name) => self.causal(alloc, name),
-            Request::Open { ticket, name } => self.open(alloc, ticket, name),
-            Request::Walk(ticket) => self.walk(alloc, ticket),
-        }
-    }
-
-    /// The reply to the next call, or `None` where the history is full.
-    pub fn step(
-        &mut self,
-        alloc: Global,
-        command: &Command<DemoScheme>,
-    ) -> Result<Option<Reply>, LineFault> {
-        self.calls
-            .as_mut()
-            .ok_or(LineFault::Bad)?
-            .step(alloc, command)
-    }
-}
-
-fn limits_of(line: LimitsLine) -> Limits {
-    Limits {
-        blocks: line.blocks,
-        events: line.events,
-        window: line.window,
-        sessions: line.sessions,
+    // Lets the session make the calls from here on.
+    fn select<R: Wait>(&mut self, rt: &R, alloc: Global, id: u16) -> Result<Answer<'a>, LineFault> {
+        Ok(if self.calls.select(rt, alloc, id)? {
+            Answer::Session(id)
+        } else {
+            Answer::TooMany
+        })
     }
 }

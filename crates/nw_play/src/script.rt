@@ -1,18 +1,37 @@
 //! A whole script.
 ghost use Rattle.std.specs.Prelude.{◌<◌, length, IfSome, IsErr};
 
-use crate::fault::{LineFault, PlayFault};
+use crate::fault::PlayFault;
 use crate::input::read_script;
-use crate::player::Player;
-use nw_script::parse_line;
+use crate::lines::{Lines, read_line};
+use crate::stores::{Start, play_store};
+use nw_book::Book;
+use nw_desk::{LineFault, committee};
+use nw_digest::Shared;
+use nw_history::Limits;
+use nw_script::{CommitteeLine, Line};
+use nw_sig::DemoScheme;
+use nw_store::Opening;
 use std::alloc::Global;
 use std::io::{BufWriter, Read, Write};
+use std::marker::Brand;
+use std::sync::Wait;
+
+// The limits of a script without a line of its own for them.
+const DEFAULT_LIMITS: Limits = Limits {
+    blocks: 1024,
+    events: 1024,
+    window: 64,
+    sessions: 16,
+};
 
 /// Plays the script that the reader gives, and prints its answers to the writer, a line each.
 ///
 /// The whole script is read before its first line is played. What was printed before a fault stands, and a bad line
-/// prints its fault. `Read` and `TooLong` print nothing.
-pub fn play<R: Read + Drop, W: Write + Drop>(
+/// prints its fault, as sessions do that differ. `Read` and `TooLong` print nothing. It waits for the lock of its stores,
+/// which nobody else holds.
+pub fn play<Rt: Wait, R: Read + Drop, W: Write + Drop>(
+    rt: &Rt,
     alloc: Global,
     mut reader: R,
     writer: W,
@@ -21,7 +40,7 @@ pub fn play<R: Read + Drop, W: Write + Drop>(
 {
     let script = read_script(alloc, &mut reader)?;
     let mut out = BufWriter::new(alloc, writer).map_err(|_| PlayFault::NoMemory)?;
-    let played = play_script(alloc, script.as_slice(), &mut out);
+    let played = play_script(rt, alloc, script.as_slice(), &mut out);
     let outcome = match played {
         Err(PlayFault::Write) => Err(PlayFault::Write),
         _ => out.flush().map_err(|_| PlayFault::Write).and(played),
@@ -31,29 +50,55 @@ pub fn play<R: Read + Drop, W: Write + Drop>(
     outcome
 }
 
-fn play_script<W: Write>(alloc: Global, script: &[u8], out: &mut W) -> Result<(), PlayFault> {
-    let played = play_lines(alloc, script, out);
-    if let Err(fault @ PlayFault::BadLine { .. }) = played {
+fn play_script<Rt: Wait, W: Write>(
+    rt: &Rt,
+    alloc: Global,
+    script: &[u8],
+    out: &mut W,
+) -> Result<(), PlayFault> {
+    let played = play_stores(rt, alloc, script, out);
+    if let Err(fault @ (PlayFault::BadLine { .. } | PlayFault::Differs { .. })) = played {
         writeln!(out, "{fault}").map_err(|_| PlayFault::Write)?;
     }
     played
 }
 
-// The lines are numbered from 1. A script without a committee has its fault behind its last line end.
-fn play_lines<W: Write>(alloc: Global, script: &[u8], out: &mut W) -> Result<(), PlayFault> {
-    let mut player = Player::new(alloc);
-    let mut last = 1;
-    for (line, text) in (1..=script.len() + 1).zip(script.split(|byte| *byte == b'\n')) {
-        last = line;
-        let parsed = parse_line(alloc, text).map_err(|fault| LineFault::from(fault).at(line))?;
-        let answer = player.play(alloc, parsed).map_err(|fault| fault.at(line))?;
-        if let Some(answer) = answer {
-            writeln!(out, "{answer}").map_err(|_| PlayFault::Write)?;
+// Each store but the first goes on behind a line of its own, so that there are no more stores than lines.
+fn play_stores<Rt: Wait, W: Write>(
+    rt: &Rt,
+    alloc: Global,
+    script: &[u8],
+    out: &mut W,
+) -> Result<(), PlayFault> {
+    let mut lines = Lines::new(script);
+    let mut start = Start::first(alloc, first_book(alloc, &mut lines)?);
+    for _ in 0..=script.len() {
+        let opening = Opening::new(alloc)?;
+        match play_store::<Brand, Rt, W>(rt, alloc, opening, start, &mut lines, out)? {
+            Some(next) => start = next,
+            None => return Ok(()),
         }
     }
-    if player.has_committee() {
-        Ok(())
-    } else {
-        Err(LineFault::Bad.at(last))
+    Ok(())
+}
+
+// The book of the committee in the first line that counts, under the default limits.
+fn first_book(alloc: Global, lines: &mut Lines<'_>) -> Result<Book<DemoScheme>, PlayFault> {
+    for (number, text) in lines.by_ref() {
+        match read_line(alloc, number, text)? {
+            Line::Skipped => {}
+            Line::Committee(line) => {
+                return book_of(alloc, &line).map_err(|fault| PlayFault::at(number, fault));
+            }
+            _ => return Err(PlayFault::BadLine { line: number }),
+        }
     }
+    Err(PlayFault::BadLine {
+        line: lines.taken(),
+    })
+}
+
+fn book_of(alloc: Global, line: &CommitteeLine) -> Result<Book<DemoScheme>, LineFault> {
+    let committee = Shared::new(alloc, committee(alloc, line)?)?;
+    Ok(Book::new(alloc, committee, DEFAULT_LIMITS)?)
 }

@@ -4,6 +4,8 @@ use std::alloc::{Allocator, Global};
 use std::process::Abort;
 use std::test::Fail;
 
+mod random;
+
 // A digest that begins with this byte.
 fn digest(first: u8) -> Digest {
     let mut bytes = [0; 32];

@@ -15,7 +15,11 @@ pub enum Line<'a> {
     Committee(CommitteeLine),
     /// `limits <blocks> <events> <window> <sessions>`
     Limits(LimitsLine),
-    /// A line that prints an answer.
+    /// `settle`
+    Settle,
+    /// `reopen`
+    Reopen,
+    /// A line that asks a store that is not settled.
     Request(Request<'a>),
 }
 
@@ -51,7 +55,7 @@ pub struct BlockLine<'a> {
     pub transactions: Vec<&'a str>,
 }
 
-/// A line that prints an answer.
+/// A line that asks a store that is not settled, and prints an answer.
 #[derive(Debug, Drop)]
 pub enum Request<'a> {
     /// `block <name> <author> <round> <parents> <words>`
@@ -80,6 +84,8 @@ pub enum Request<'a> {
     Open { ticket: Name<'a>, name: Name<'a> },
     /// `walk <ticket>`
     Walk(Name<'a>),
+    /// `session <id>`
+    Session(u16),
 }
 
 /// The line that the bytes spell, without their line end. It is bad where they are not ASCII, or no line of the grammar.
@@ -95,6 +101,8 @@ pub fn parse_line(alloc: Global, bytes: &[u8]) -> Result<Line<'_>, LineFault> {
     let line = match words.next()? {
         "committee" => Line::Committee(committee(alloc, &mut words)?),
         "limits" => Line::Limits(limits(&mut words)?),
+        "settle" => Line::Settle,
+        "reopen" => Line::Reopen,
         keyword => Line::Request(read_request(alloc, keyword, &mut words)?),
     };
     if words.is_empty() {
@@ -145,6 +153,7 @@ fn read_request<'a>(
             name: words.name()?,
         },
         "walk" => Request::Walk(words.name()?),
+        "session" => Request::Session(words.member()?),
         _ => return Err(LineFault::Bad),
     })
 }

@@ -3,7 +3,7 @@ use std::alloc::Global;
 use std::test::Fail;
 
 // Lines, and what they say as `{:?}` prints it.
-const LINES: [(&str, &str); 24] = [
+const LINES: [(&str, &str); 27] = [
     ("", "Skipped"),
     ("# a comment", "Skipped"),
     ("committee v1 4", "Committee(Equal { members: 4 })"),
@@ -59,6 +59,9 @@ const LINES: [(&str, &str); 24] = [
         "Request(Open { ticket: Name { text: \"t\" }, name: Name { text: \"a\" } })",
     ),
     ("walk t", "Request(Walk(Name { text: \"t\" }))"),
+    ("session 65535", "Request(Session(65535))"),
+    ("settle", "Settle"),
+    ("reopen", "Reopen"),
     (
         "read abcdefghijklmno1",
         "Request(Read(Name { text: \"abcdefghijklmno1\" }))",
@@ -70,7 +73,7 @@ const LINES: [(&str, &str); 24] = [
 ];
 
 // Lines that are none of a script.
-const BAD: [(&str, &str); 22] = [
+const BAD: [(&str, &str); 26] = [
     ("a request with a word too few", "read"),
     ("a request with a word too many", "read a a"),
     ("two spaces", "read  a"),
@@ -92,6 +95,10 @@ const BAD: [(&str, &str); 22] = [
     ("valid with an empty word among its signers", "valid a 0,,1"),
     ("gather without signers", "gather a"),
     ("gather of a name that is none", "gather 1 0"),
+    ("a session over 65535", "session 65536"),
+    ("a session that is a name", "session a"),
+    ("a word behind settle", "settle 0"),
+    ("a word behind reopen", "reopen a"),
     ("a byte over 127", "read \u{e9}"),
 ];
 

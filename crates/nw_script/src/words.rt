@@ -58,7 +58,7 @@ impl<'a> Words<'a> {
         Round::new(self.number()?).ok_or(LineFault::Bad)
     }
 
-    /// The next word, which must be the number of a member.
+    /// The next word, which must be a number below 2^16: a member's or a session's.
     pub fn member(&mut self) -> Result<u16, LineFault> {
         member(self.next()?).ok_or(LineFault::Bad)
     }

@@ -1,19 +1,22 @@
 -- What an answer means, from what the book says of its step.
 use Rattle.std.proofs.Common.{◌≡◌, ℕ, ◌+◌, List, [], ◌∷◌, ◌++◌, length, Result, Ok, Err, refl, sym, ap, ◌∙◌, subst}
-use Rattle.std.specs.Result.{MatchResult, IfOk}
+use Rattle.std.specs.Result.{MatchResult, IfOk, IfErr}
 use Rattle.nw_digest.specs.declared.digest.Digest.{Digest}
+use Rattle.nw_committee.specs.declared.member.Member.{Member}
 use Rattle.nw_sig.specs.Signed.{Meaning}
 use Rattle.nw_model.specs.declared.call.Call.{Call}
 use Rattle.nw_model.specs.declared.call.Call.TheVariants as calls
 use Rattle.nw_model.specs.declared.event.Event.{Event}
 use Rattle.nw_model.specs.declared.reply.Reply.{Reply}
 use Rattle.nw_model.specs.declared.reply.Reply.TheVariants as replies
-use Rattle.nw_history.specs.Story.{Story, IsLegalStory, with_event}
+use Rattle.nw_history.specs.Story.{Story, Origin, IsLegalStory, with_event}
 use Rattle.nw_book.specs.Takes.{Takes, Refuses}
 use Rattle.nw_book.specs.Ticket.{Given, Opens, causal_event}
+use Rattle.nw_book.specs.Turn.{IsRefusal}
 use Rattle.nw_book.specs.declared.book.Done.{Done}
-use Rattle.nw_store.specs.Held.{Answer, Journal, AreBegun, next_event, with_answer}
-use Rattle.nw_store.specs.Answered.{IsAnswered, IsOpened, IsRefused, IsExplained, IsOpenedOnce, IsRefusedOnce, front_of}
+use Rattle.nw_book.specs.declared.error.NoStep.{NoStep}
+use Rattle.nw_store.specs.Held.{Answer, Journal, AreBegun, IsHistoryOf, next_number, next_event, with_answer}
+use Rattle.nw_store.specs.Answered.{IsAnswered, IsOpened, IsRefused, IsExplained, IsOpenedOnce, IsRefusedOnce, TakesNoStep, front_of}
 
 -- the event of a call
 abbrev event : ℕ → ℕ → Call → Reply → Event
@@ -88,12 +91,19 @@ answered_either accepts h next id number d (Ok given) answers after a o is begin
 answered_either accepts h next id number d (Err done) answers after a r is begins items same event_is = refused accepts h next id number d done answers after a r is begins items same event_is
 
 -- what is known under the lock, once it is let go
-pub explained : {S E : Type 0} (accepts : Meaning) (h : Story) (old new : Journal) (asked : Call) (r : Result (Done S) E) → IfOk r (IsAnswered accepts h old new asked) → IfOk r (IsExplained accepts old new asked)
-explained accepts h old new asked (Ok done) is = (h, is)
-explained accepts h old new asked (Err e) is = tt
+pub explained : {S E : Type 0} (accepts : Meaning) (origin : Origin) (h : Story) (old new : Journal) (asked : Call) (r : Result (Done S) E) → IsHistoryOf accepts origin h
+    → IfOk r (IsAnswered accepts h old new asked) → IfOk r (IsExplained accepts origin old new asked)
+explained accepts origin h old new asked (Ok done) of is = (h, of, is)
+explained accepts origin h old new asked (Err e) of is = tt
 
-pub explained_either : {S E : Type 0} (accepts : Meaning) (h : Story) (old new : Journal) (d : Digest) (r : Result (Result Given (Done S)) E)
-    → IfOk r (λ answer. MatchResult answer (IsOpened accepts h old new d) (IsRefused accepts h old new d)) → IfOk r (λ answer. MatchResult answer (IsOpenedOnce accepts old new d) (IsRefusedOnce accepts old new d))
-explained_either accepts h old new d (Ok (Ok given)) is = (h, is)
-explained_either accepts h old new d (Ok (Err done)) is = (h, is)
-explained_either accepts h old new d (Err e) is = tt
+pub explained_either : {S E : Type 0} (accepts : Meaning) (origin : Origin) (h : Story) (old new : Journal) (d : Digest) (r : Result (Result Given (Done S)) E) → IsHistoryOf accepts origin h
+    → IfOk r (λ answer. MatchResult answer (IsOpened accepts h old new d) (IsRefused accepts h old new d)) → IfOk r (λ answer. MatchResult answer (IsOpenedOnce accepts origin old new d) (IsRefusedOnce accepts origin old new d))
+explained_either accepts origin h old new d (Ok (Ok given)) of is = (h, of, is)
+explained_either accepts origin h old new d (Ok (Err done)) of is = (h, of, is)
+explained_either accepts origin h old new d (Err e) of is = tt
+
+-- the committee of the history is the store's
+pub unanswered : {A : Type 0} (accepts : Meaning) (origin : Origin) (h : Story) (old : Journal) (Under : List Member → Type 0) (r : Result A NoStep) → IsHistoryOf accepts origin h
+    → IfErr r (IsRefusal h old.id (next_number old) (Under h.committee)) → IfErr r (TakesNoStep accepts origin old (Under origin.committee))
+unanswered accepts origin h old Under (Ok a) of is = tt
+unanswered accepts origin h old Under (Err e) of is = (h, of, subst (λ (o : Origin). IsRefusal h old.id (next_number old) (Under o.committee) e) of.starts is)

@@ -7,9 +7,9 @@ use mathlib.Core.List.{IsPrefix}
 use Rattle.nw_sig.specs.Signed.{Meaning}
 use Rattle.nw_model.specs.declared.event.Event.{Event}
 use Rattle.nw_history.specs.Limits.{AreInRange}
-use Rattle.nw_history.specs.Story.{Story, IsLegalStory, with_event}
+use Rattle.nw_history.specs.Story.{Story, Origin, IsLegalStory, with_event}
 use Rattle.nw_history.specs.Prefix.{IsPrefixOf}
-use Rattle.nw_store.specs.Held.{Answer, Journal, AreAmong, IsAnswer, AreAnswers}
+use Rattle.nw_store.specs.Held.{Answer, Journal, AreAmong, IsAnswer, AreAnswers, origin_of}
 use Rattle.nw_store.specs.Kept.{IsKept, IsSession}
 use Rattle.nw_store.proofs.Begun.{among_longer, told_more, answers_last}
 
@@ -26,6 +26,10 @@ kept_more accepts h next front made total more spare idle told longer e kept is 
   counted = one ∙ (ap (λ n. n + 1) kept.counted ∙ sym (ap (λ (s : Story). length s.events) is ∙ length-append h.events (e ∷ [])));
   begun = subst (λ (l : List Story). All (λ f. IsPrefixOf f next) l) (sym (tell ∙ ap (λ (f : Story). told ++ f ∷ []) front_is)) (told_more h next e told is kept.begun);
 }
+
+-- a history with one more event starts as before
+pub starts_so : (h next : Story) (e : Event) (o : Origin) → next ≡ with_event h e → origin_of h ≡ o → origin_of next ≡ o
+starts_so h next e o is starts = ap origin_of is ∙ starts
 
 -- the session with one more answer, whose front is claimed
 pub session_more : (id parts same amount more : ℕ) (claim longer : List Story) (answers after : List Answer) (a : Answer)

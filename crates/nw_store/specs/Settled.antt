@@ -1,11 +1,12 @@
 -- When journals are those of one history.
-use Rattle.std.specs.Prelude.{◌≡◌, ℕ, ◌+◌, ◌<◌, ◌≤◌, List, [], ◌∷◌, Some, length, map, slice_get, All}
+use Rattle.std.specs.Prelude.{◌≡◌, ℕ, ◌+◌, ◌==◌, ◌<◌, ◌≤◌, List, [], ◌∷◌, Some, length, map, count_by, slice_get, All}
 use Rattle.std.specs.List.{range_with_len}
 use Rattle.std.specs.List.Sorted.{IsPermutation}
+use mathlib.Core.Logic.{◌⊎◌}
 use Rattle.nw_model.specs.History.{events_of}
 use Rattle.nw_model.specs.declared.event.Event.{Event}
 use Rattle.nw_history.specs.Story.{Story}
-use Rattle.nw_store.specs.Held.{Answer, Journal, AreBegun}
+use Rattle.nw_store.specs.Held.{Answer, Journal, AreBegun, AreComparable}
 use Rattle.nw_store.specs.declared.error.SettleFault.{SettleFault}
 use Rattle.nw_store.specs.declared.error.SettleFault.TheVariants as faults
 
@@ -25,6 +26,18 @@ ids_of js = map (λ j. j.id) js
 abbrev pub AreAll : ℕ → List Journal → Type 0
 AreAll made js = IsPermutation (ids_of js) (range_with_len 0 made)
 
+-- how often the id is given
+abbrev pub times : List ℕ → ℕ → ℕ
+times ids id = count_by (λ x. x == id) ids
+
+-- the id is given twice, or it is given and is not below the number of sessions that were made
+abbrev pub IsStray : ℕ → List ℕ → ℕ → Type 0
+IsStray made ids id = (1 < times ids id) ⊎ ((0 < times ids id) × (made ≤ id))
+
+-- the least stray id
+abbrev pub IsFirstStray : ℕ → List ℕ → ℕ → Type 0
+IsFirstStray made ids id = IsStray made ids id × ((other : ℕ) → IsStray made ids other → id ≤ other)
+
 -- the journal is this session's, and has all calls of it that the history has; each front is a beginning of the history
 pub record IsJournalOf (history : Story) (session : ℕ) (j : Journal) : Type 0 where
   pub id_is : j.id ≡ session
@@ -36,12 +49,16 @@ pub record AreSettled (history : Story) (js : List Journal) : Type 0 where
   pub each : (session : ℕ) (j : Journal) → slice_get js session ≡ Some j → IsJournalOf history session j
   pub others : All (λ e. e.session < length js) history.events
 
+-- of any two answers of any two journals, one's front is a beginning of the other's
+abbrev pub AreAllComparable : List Journal → Type 0
+AreAllComparable js = (i k : ℕ) (one two : Journal) → slice_get js i ≡ Some one → slice_get js k ≡ Some two → AreComparable one.answers two.answers
+
 -- what is settled: the history, and the journals in the order of their sessions
 pub record Ledgers : Type 0 where
   pub history : Story
   pub journals : List Journal
 
--- why journals do not settle: there are fewer than sessions were made; else they are not those that were made, each once
+-- why journals do not settle: there are fewer than sessions were made; else an id strays, and the least that does is named
 abbrev pub IsFault : ℕ → List Journal → SettleFault → Type 0
 IsFault made js (faults.Unfinished m given) = (m ≡ made) × (given ≡ length js) × (given < m)
-IsFault made js faults.Differs = (made ≤ length js) × (AreAll made js → ⊥)
+IsFault made js (faults.Differs session) = (made ≤ length js) × IsFirstStray made (ids_of js) session

@@ -18,6 +18,9 @@ pub enum SettleFault {
         given: usize,
     },
     /// The sessions are not those that were made, each once.
-    #[error("other sessions")]
-    Differs,
+    #[error("session {session} was not made, or is given twice")]
+    Differs {
+        /// The least id that is given twice, or is given and was not made.
+        session: u16,
+    },
 }

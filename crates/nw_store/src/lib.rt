@@ -1,19 +1,21 @@
 //! A store that threads share: one lock round a book, and sessions that keep a journal of their answers.
 //!
-//! Its contract: each answer carries a legal history that ends with its call, and that begins with every earlier answer's of
-//! the session; and each history that was ever handed out is a beginning of the one under the lock. The calls of [`Store`]
-//! wait for the lock and do nothing else; what they do under it is done by functions that do not wait. Once all sessions are
-//! given back, the history is an interleaving of their journals, which is proved and not tested. It stands on
-//! `nw_book` for steps, on `nw_log` for what is known across threads, and on std's ledger for what is counted.
+//! Its contract: each answer carries a legal history that starts as the store was made and ends with its call, and that begins
+//! with every earlier answer's of the session; and each history that was ever handed out is a beginning of the one under the
+//! lock. The calls of [`Store`] wait for the lock and do nothing else; what they do under it is done by functions that do not
+//! wait. Once all sessions are given back, the history is an interleaving of their journals, which is proved and not tested. It
+//! stands on `nw_book` for steps, on `nw_log` for what is known across threads, and on std's ledger for what is counted.
 #![tactic(auto)]
 
 mod error;
+mod home;
 mod locked;
 mod session;
 mod settlement;
 mod store;
 
 pub use error::{SettleFault, TooMany};
+pub use home::Home;
 pub use locked::{Locked, call_locked, compare_locked, open_locked, renew_locked, session_locked};
 pub use session::{Entry, Session};
 pub use settlement::{Settled, Unsettled, settle, settle_locked};

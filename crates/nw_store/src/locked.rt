@@ -4,18 +4,19 @@ ghost use Rattle.std.specs.Result.{MatchResult};
 ghost use mathlib.Core.List.{IsPrefix};
 ghost use Rattle.nw_history.specs.Limits.{AreInRange};
 ghost use Rattle.nw_history.specs.Story.{IsLegalStory, reopened};
-ghost use Rattle.nw_book.specs.Command.{call_of};
-ghost use Rattle.nw_store.specs.Held.{AreBegun, AreComparable, AreAnswers};
+ghost use Rattle.nw_book.specs.Command.{IsUnder, call_of};
+ghost use Rattle.nw_book.specs.Turn.{IsInTurn, HasRoom, IsRefusal};
+ghost use Rattle.nw_store.specs.Held.{AreBegun, AreComparable, AreAnswers, next_number, origin_of};
 ghost use Rattle.nw_store.specs.Kept.{parts_of_a_ledger};
 ghost use Rattle.nw_store.specs.Answered.{IsAnswered, IsOpened, IsRefused, front_of};
 
-use crate::TooMany;
 use crate::session::{Entry, Session};
 use crate::store::Opening;
+use crate::{Home, TooMany};
 use nw_book::{Book, Command, Done, NoStep, Ticket};
 use nw_digest::{Digest, NoMemory};
-use nw_history::Front;
-use nw_log::{Claim, Keeper, Place};
+use nw_history::{Front, History};
+use nw_log::{Claim, Keeper};
 use nw_sig::Scheme;
 use std::alloc::Global;
 use std::marker::Model;
@@ -24,7 +25,7 @@ use std::sync::ledger::Share;
 
 /// What is known of all sessions together: how many calls they made, and which fronts they were handed.
 #[derive(Drop)]
-pub(crate) struct Tally<S: Scheme, L: Place> {
+pub(crate) struct Tally<S: Scheme, L: Home> {
     pub(crate) calls: ledger::Book<L>,
     pub(crate) keeper: Keeper<Front<S>, L>,
 }
@@ -32,12 +33,12 @@ pub(crate) struct Tally<S: Scheme, L: Place> {
 /// What a session carries out of the lock, without bytes: its share of the calls, and a claim of the fronts that were handed
 /// out when it was last answered.
 #[derive(Drop)]
-pub(crate) struct Pass<S: Scheme, L: Place> {
+pub(crate) struct Pass<S: Scheme, L: Home> {
     pub(crate) mine: Share<L>,
     pub(crate) claim: Claim<Front<S>, L>,
 }
 
-impl<S: Scheme, L: Place> Tally<S, L> {
+impl<S: Scheme, L: Home> Tally<S, L> {
     /// Tells of one more call of a session, whose answer has this front.
     fn tell(&mut self, pass: &mut Pass<S, L>, front: &Front<S>)
         requires { 0 < pass.old.mine.parts }
@@ -71,18 +72,18 @@ impl<S: Scheme, L: Place> Tally<S, L> {
 
 /// What lies under a store's lock. Contracts see the history, and how many sessions were made.
 #[derive(Drop)]
-pub struct Locked<S: Scheme, L: Place> {
+pub struct Locked<S: Scheme, L: Home> {
     pub(crate) book: Book<S>,
     pub(crate) made: u16,
     pub(crate) tally: Tally<S, L>,
     pub(crate) spare: Share<L>,
 }
 
-impl<S: Scheme, L: Place> Model for Locked<S, L> {
+impl<S: Scheme, L: Home> Model for Locked<S, L> {
     ghost use Rattle.std.specs.Prelude.{◌≡◌};
     ghost use Rattle.std.specs.Coded.{codes};
     ghost use Rattle.nw_model.specs.State.{coded_state};
-    ghost use Rattle.nw_store.specs.Held.{Held};
+    ghost use Rattle.nw_store.specs.Held.{Held, origin_of};
     ghost use Rattle.nw_store.specs.Kept.{IsKept, parts_of_a_ledger};
 
     ghost Value = { Held };
@@ -91,14 +92,15 @@ impl<S: Scheme, L: Place> Model for Locked<S, L> {
 
     ghost view = { λ l. record { history = l.book; made = l.made } };
 
-    ghost invariant = { λ l. (L.parts ≡ parts_of_a_ledger) × IsKept S.accepts (record { history = l.book; made = l.made }) l.tally.calls.total l.spare.parts l.spare.amount l.tally.keeper };
+    ghost invariant = { λ l. (L.parts ≡ parts_of_a_ledger) × IsKept S.accepts (record { history = l.book; made = l.made }) l.tally.calls.total l.spare.parts l.spare.amount l.tally.keeper × (origin_of l.book ≡ L.origin) };
 }
 
-impl<S: Scheme, L: Place> Locked<S, L> {
+impl<S: Scheme, L: Home> Locked<S, L> {
     /// What the lock of a store over the book holds at first: no session is made, and the history is empty.
     pub(crate) fn over(opening: Opening<S>, book: Book<S>) -> Locked<S, L>
         requires log { opening.log ≡ L.log }
         requires ledger { (opening.ledger ≡ L.name) × (L.parts ≡ parts_of_a_ledger) }
+        requires origin { origin_of book ≡ L.origin }
         requires in_range { AreInRange book.limits }
         requires legal { IsLegalStory S.accepts book }
         requires empty { book.events ≡ [] }
@@ -115,10 +117,18 @@ impl<S: Scheme, L: Place> Locked<S, L> {
         }
     }
 
+    /// The history so far.
+    pub fn history(&self) -> &History<S>
+        ensures history { result.now ≡ self.now.history }
+        ensures starts { origin_of self.now.history ≡ L.origin }
+        ensures legal { IsLegalStory S.accepts self.now.history }
+    {
+        self.book.history()
+    }
+
     /// The book reopened, which ends the store. Where memory is refused, everything comes back as it was.
     pub(crate) fn reopen(self, alloc: Global) -> Result<Book<S>, (NoMemory, Locked<S, L>)>
         ensures reopened { IfOk result (λ book. book ≡ reopened self.history) }
-        ensures in_range { OnOk result (AreInRange self.history.limits) }
         ensures back { IfErr result (λ refused. refused.1 ≡ self) }
     {
         let Locked {
@@ -144,7 +154,7 @@ impl<S: Scheme, L: Place> Locked<S, L> {
 
 /// A new session, while the guard is lent. `TooMany` exactly where as many were made as the limit allows, and nothing is changed.
 /// It takes no memory.
-pub fn session_locked<S: Scheme, L: Place>(
+pub fn session_locked<S: Scheme, L: Home>(
     locked: &mut Locked<S, L>,
     alloc: Global,
 ) -> Result<Session<S, L>, TooMany>
@@ -170,23 +180,30 @@ pub fn session_locked<S: Scheme, L: Place>(
 
 /// Takes the step of the session's next call, while the guard is lent.
 ///
-/// `NoMemory` where memory is refused, be it for the journal before the call is looked at; else the call is refused as the
-/// book refuses it. A refusal changes neither what the lock holds nor the session.
-pub fn call_locked<S: Scheme, L: Place>(
+/// It is refused as the book refuses it: `OutOfTurn` exactly where it is not the turn of the session's next number, else
+/// `OtherCommittee` exactly where what is handed in was checked under another committee, else `HistoryFull` exactly where the
+/// history has as many events as its limit, else `NoMemory` where memory is refused, which is asked for after these tests. A
+/// refusal changes neither what the lock holds nor the session.
+pub fn call_locked<S: Scheme, L: Home>(
     locked: &mut Locked<S, L>,
     alloc: Global,
     session: &mut Session<S, L>,
     command: &Command<S>,
 ) -> Result<Done<S>, NoStep>
     ensures answered { IfOk result (IsAnswered S.accepts locked.old.history session.old session.new (call_of command.now)) }
+    ensures starts { origin_of locked.old.history ≡ L.origin }
+    ensures legal { IsLegalStory S.accepts locked.old.history }
     ensures history { IfOk result (λ done. locked.new ≡ record { history = done.front; made = locked.old.made }) }
+    ensures may { OnOk result (IsInTurn locked.old.history session.old.id (next_number session.old) × IsUnder locked.old.history.committee command.now × HasRoom locked.old.history) }
+    ensures refused { IfErr result (IsRefusal locked.old.history session.old.id (next_number session.old) (IsUnder locked.old.history.committee command.now)) }
     ensures unchanged { OnErr result (locked.new ≡ locked.old) }
     ensures session { OnErr result (session.new ≡ session.old) }
 {
-    session.journal.reserve(1)?;
     let number = locked
         .tally
         .next_number(&mut session.pass, session.journal.len());
+    locked.book.may_step(session.id, number, command)?;
+    session.journal.reserve(1)?;
     let done = locked.book.step(alloc, session.id, number, command)?;
     locked.tally.tell(&mut session.pass, &done.front);
     session.journal.push_reserved(Entry::of(&done.front));
@@ -196,22 +213,29 @@ pub fn call_locked<S: Scheme, L: Place>(
 /// Takes the step of a causal read as the session's next call, while the guard is lent: a ticket where there is a list, else an
 /// answer that says why there is none.
 ///
-/// It is refused as a call is, and a refusal changes neither what the lock holds nor the session.
-pub fn open_locked<S: Scheme, L: Place>(
+/// It is refused as the book refuses it: `OutOfTurn` exactly where it is not the turn of the session's next number, else
+/// `HistoryFull` exactly where the history has as many events as its limit, else `NoMemory` where memory is refused, which is
+/// asked for after these tests. A refusal changes neither what the lock holds nor the session.
+pub fn open_locked<S: Scheme, L: Home>(
     locked: &mut Locked<S, L>,
     alloc: Global,
     session: &mut Session<S, L>,
     digest: Digest,
 ) -> Result<Result<Ticket<S>, Done<S>>, NoStep>
     ensures answered { IfOk result (λ answer. MatchResult answer (IsOpened S.accepts locked.old.history session.old session.new digest) (IsRefused S.accepts locked.old.history session.old session.new digest)) }
+    ensures starts { origin_of locked.old.history ≡ L.origin }
+    ensures legal { IsLegalStory S.accepts locked.old.history }
     ensures history { IfOk result (λ answer. locked.new ≡ record { history = front_of answer; made = locked.old.made }) }
+    ensures may { OnOk result (IsInTurn locked.old.history session.old.id (next_number session.old) × HasRoom locked.old.history) }
+    ensures refused { IfErr result (IsRefusal locked.old.history session.old.id (next_number session.old) (Unit {0})) }
     ensures unchanged { OnErr result (locked.new ≡ locked.old) }
     ensures session { OnErr result (session.new ≡ session.old) }
 {
-    session.journal.reserve(1)?;
     let number = locked
         .tally
         .next_number(&mut session.pass, session.journal.len());
+    locked.book.may_open(session.id, number)?;
+    session.journal.reserve(1)?;
     let answer = locked.book.open(alloc, session.id, number, digest)?;
     let front = front_of(&answer);
     locked.tally.tell(&mut session.pass, front);
@@ -231,8 +255,9 @@ fn front_of<S: Scheme>(answer: &Result<Ticket<S>, Done<S>>) -> &Front<S>
 
 /// Each front of the session is a beginning of the history, whatever other sessions did since. Nothing is changed, and no event
 /// is compared.
-pub fn renew_locked<S: Scheme, L: Place>(locked: &mut Locked<S, L>, session: &mut Session<S, L>)
+pub fn renew_locked<S: Scheme, L: Home>(locked: &mut Locked<S, L>, session: &mut Session<S, L>)
     ensures begun { AreBegun locked.old.history session.old.answers }
+    ensures starts { origin_of locked.old.history ≡ L.origin }
     ensures legal { IsLegalStory S.accepts locked.old.history }
     ensures numbered { AreAnswers session.old.id 1 session.old.answers }
     ensures same { locked.new ≡ locked.old }
@@ -243,7 +268,7 @@ pub fn renew_locked<S: Scheme, L: Place>(locked: &mut Locked<S, L>, session: &mu
 
 /// Of any two answers of the two sessions, one's history is a beginning of the other's. Nothing is changed, and no event is
 /// compared.
-pub fn compare_locked<S: Scheme, L: Place>(
+pub fn compare_locked<S: Scheme, L: Home>(
     locked: &mut Locked<S, L>,
     one: &mut Session<S, L>,
     two: &mut Session<S, L>,

@@ -2,9 +2,9 @@
 ghost use Rattle.std.specs.Prelude.{◌≡◌, ◌+◌, ◌<◌, ◌^◌, ◌++◌, ◌∷◌, [], List, length};
 ghost use Rattle.nw_model.specs.declared.event.Event.{Event};
 
+use crate::Home;
 use crate::locked::Pass;
 use nw_history::Front;
-use nw_log::Place;
 use nw_model::Event;
 use nw_sig::Scheme;
 use std::marker::Model;
@@ -62,13 +62,13 @@ impl<S: Scheme> Entry<S> {
 ///
 /// It may cross to another thread, and it is of the one store that `L` names.
 #[derive(Drop)]
-pub struct Session<S: Scheme, L: Place> {
+pub struct Session<S: Scheme, L: Home> {
     pub(crate) id: u16,
     pub(crate) journal: Vec<Entry<S>>,
     pub(crate) pass: Pass<S, L>,
 }
 
-impl<S: Scheme, L: Place> Model for Session<S, L> {
+impl<S: Scheme, L: Home> Model for Session<S, L> {
     ghost use Rattle.std.specs.Coded.{codes};
     ghost use Rattle.nw_model.specs.State.{coded_state};
     ghost use Rattle.nw_store.specs.Held.{Journal};
@@ -83,7 +83,7 @@ impl<S: Scheme, L: Place> Model for Session<S, L> {
     ghost invariant = { λ s. IsSession s.pass.mine.parts s.pass.mine.amount s.pass.claim (record { id = s.id; answers = s.journal.items }) };
 }
 
-impl<S: Scheme, L: Place> Session<S, L> {
+impl<S: Scheme, L: Home> Session<S, L> {
     /// The session's id: sessions are numbered from 0 in the order in which they were made.
     pub fn id(&self) -> u16
         ensures id { result ≡ self.now.id }

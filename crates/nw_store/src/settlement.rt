@@ -1,17 +1,15 @@
 //! Settlement: the journals of all sessions, and the history that they are.
-ghost use Rattle.std.specs.Prelude.{◌≡◌, ◌↔◌, ◌+◌, ◌<◌, ◌^◌, ◌≤◌, IsOk, IsTrue, OnOk, IfOk, IfErr, IfSome, IfNone, Some, All, length, slice_get, sum_by};
+ghost use Rattle.std.specs.Prelude.{ℕ, ◌≡◌, ◌↔◌, ◌+◌, ◌<◌, ◌^◌, ◌≤◌, IsOk, IsNone, IsTrue, OnOk, IfOk, IfErr, IfSome, IfNone, Some, All, length, slice_get, sum_by};
 ghost use Rattle.std.specs.List.Sorted.{IsPermutation, IsNonDecreasingBy};
-ghost use Rattle.nw_history.specs.Limits.{AreInRange};
-ghost use Rattle.nw_history.specs.Story.{reopened};
-ghost use Rattle.nw_store.specs.Held.{Journal, AreBegun, AreAnswers};
-ghost use Rattle.nw_store.specs.Settled.{AreAll, AreInOrder, AreSettled, IsFault};
+ghost use Rattle.nw_history.specs.Story.{IsLegalStory, reopened};
+ghost use Rattle.nw_store.specs.Held.{Journal, AreBegun, AreAnswers, origin_of};
+ghost use Rattle.nw_store.specs.Settled.{AreAll, AreAllComparable, AreInOrder, AreSettled, IsFault, IsFirstStray, IsStray, ids_of};
 
 use crate::locked::renew_locked;
-use crate::{Entry, Locked, Session, SettleFault, Store};
+use crate::{Entry, Home, Locked, Session, SettleFault, Store};
 use nw_book::Book;
 use nw_digest::NoMemory;
 use nw_history::History;
-use nw_log::Place;
 use nw_sig::Scheme;
 use std::alloc::Global;
 use std::marker::Model;
@@ -20,12 +18,12 @@ use std::sync::ledger::Share;
 
 /// A history that no session adds to any more, and the journals that it is. Contracts see these.
 #[derive(Drop)]
-pub struct Settled<S: Scheme, L: Place> {
+pub struct Settled<S: Scheme, L: Home> {
     locked: Locked<S, L>,
     sessions: Vec<Session<S, L>>,
 }
 
-impl<S: Scheme, L: Place> Model for Settled<S, L> {
+impl<S: Scheme, L: Home> Model for Settled<S, L> {
     ghost use Rattle.std.specs.Coded.{codes};
     ghost use Rattle.nw_model.specs.State.{coded_state};
     ghost use Rattle.nw_store.specs.Settled.{Ledgers, AreSettled};
@@ -39,20 +37,23 @@ impl<S: Scheme, L: Place> Model for Settled<S, L> {
     ghost invariant = { λ s. AreSettled s.locked.history s.sessions.items };
 }
 
-impl<S: Scheme, L: Place> Settled<S, L> {
-    /// The history: an interleaving of the journals.
+impl<S: Scheme, L: Home> Settled<S, L> {
+    /// The history: an interleaving of the journals, which starts as the store was made. Of any two answers in them, one's front
+    /// is a beginning of the other's.
     pub fn history(&self) -> &History<S>
         ensures history { result.now ≡ self.now.history }
         ensures settled { AreSettled self.now.history self.now.journals }
+        ensures comparable { AreAllComparable self.now.journals }
+        ensures starts { origin_of self.now.history ≡ L.origin }
+        ensures legal { IsLegalStory S.accepts self.now.history }
     {
-        self.locked.book.history()
+        self.locked.history()
     }
 
     /// The book of the history, with the same tables, committee and limits and an empty history, which a new store may go on
     /// with. Where memory is refused, everything comes back as it was.
     pub fn reopen(self, alloc: Global) -> Result<Book<S>, (NoMemory, Settled<S, L>)>
         ensures reopened { IfOk result (λ book. book ≡ reopened self.history) }
-        ensures in_range { OnOk result (AreInRange self.history.limits) }
         ensures back { IfErr result (λ refused. refused.1 ≡ self) }
     {
         let Settled { locked, sessions } = self;
@@ -76,7 +77,7 @@ impl<S: Scheme, L: Place> Settled<S, L> {
 
 /// Settles the sessions with what the lock held. It is done exactly where they are all sessions that were made, each once, in any
 /// order; a refusal hands everything back, the sessions perhaps in another order. No event is compared, and no memory is taken.
-pub fn settle_locked<S: Scheme, L: Place>(
+pub fn settle_locked<S: Scheme, L: Home>(
     locked: Locked<S, L>,
     sessions: Vec<Session<S, L>>,
 ) -> Result<Settled<S, L>, (SettleFault, Locked<S, L>, Vec<Session<S, L>>)>
@@ -89,43 +90,49 @@ pub fn settle_locked<S: Scheme, L: Place>(
 {
     let mut locked = locked;
     let mut sessions = sessions;
-    let given = sessions.len();
-    if given < usize::from(locked.made) {
-        let made = locked.made;
-        return Err((SettleFault::Unfinished { made, given }, locked, sessions));
+    match settle_in_place(&mut locked, sessions.as_mut_slice()) {
+        Ok(()) => Ok(Settled { locked, sessions }),
+        Err(fault) => Err((fault, locked, sessions)),
     }
-    if !settles(&mut locked, sessions.as_mut_slice()) {
-        return Err((SettleFault::Differs, locked, sessions));
-    }
-    Ok(Settled { locked, sessions })
 }
 
-/// Whether the sessions are all that were made; they are put in order, and settled where they are.
-fn settles<S: Scheme, L: Place>(locked: &mut Locked<S, L>, sessions: &mut [Session<S, L>]) -> bool
-    ensures exactly { IsTrue result ↔ AreAll locked.old.made sessions.old }
-    ensures settled { IsTrue result → AreSettled locked.old.history sessions.new }
+/// Puts the sessions in order and settles them where they are, if they are all that were made.
+fn settle_in_place<S: Scheme, L: Home>(
+    locked: &mut Locked<S, L>,
+    sessions: &mut [Session<S, L>],
+) -> Result<(), SettleFault>
+    ensures exactly { IsOk result ↔ AreAll locked.old.made sessions.old }
+    ensures settled { OnOk result (AreSettled locked.old.history sessions.new) }
+    ensures refused { IfErr result (λ fault. IsFault locked.old.made sessions.old fault) }
     ensures permutation { IsPermutation sessions.old sessions.new }
     ensures same { locked.new ≡ locked.old }
 {
-    if !put_in_order(sessions, locked.made) {
-        return false;
+    let made = locked.made;
+    let given = sessions.len();
+    if given < usize::from(made) {
+        return Err(SettleFault::Unfinished { made, given });
+    }
+    if let Some(session) = put_in_order(sessions, made) {
+        return Err(SettleFault::Differs { session });
     }
     join(locked, sessions);
-    true
+    Ok(())
 }
 
-/// Puts the sessions in the order of their ids, and says whether they are all that were made.
-fn put_in_order<S: Scheme, L: Place>(sessions: &mut [Session<S, L>], made: u16) -> bool
-    ensures exactly { IsTrue result ↔ AreAll made sessions.old }
-    ensures in_order { IsTrue result → (length sessions.new ≡ made) × AreInOrder 0 sessions.new }
+/// Puts the sessions in the order of their ids, and answers the least stray one, or `None` where they are all that were made.
+fn put_in_order<S: Scheme, L: Home>(sessions: &mut [Session<S, L>], made: u16) -> Option<u16>
+    requires enough { made ≤ length sessions.old }
+    ensures exactly { IsNone result ↔ AreAll made sessions.old }
+    ensures stray { IfSome result (λ id. IsFirstStray made (ids_of sessions.old) id) }
+    ensures in_order { IfNone result ((length sessions.new ≡ made) × AreInOrder 0 sessions.new) }
     ensures permutation { IsPermutation sessions.old sessions.new }
 {
     sort(sessions);
-    sessions.len() == usize::from(made) && are_in_order(sessions, 0)
+    first_stray(sessions, made)
 }
 
 /// Sorts the sessions by their ids.
-fn sort<S: Scheme, L: Place>(sessions: &mut [Session<S, L>])
+fn sort<S: Scheme, L: Home>(sessions: &mut [Session<S, L>])
     ensures sorted { IsNonDecreasingBy (λ s. s.id) sessions.new }
     ensures permutation { IsPermutation sessions.old sessions.new }
 {
@@ -133,7 +140,7 @@ fn sort<S: Scheme, L: Place>(sessions: &mut [Session<S, L>])
 }
 
 /// The sessions that were made, in order, have the history among them. Nothing is changed.
-fn join<S: Scheme, L: Place>(locked: &mut Locked<S, L>, sessions: &mut [Session<S, L>])
+fn join<S: Scheme, L: Home>(locked: &mut Locked<S, L>, sessions: &mut [Session<S, L>])
     requires { (length sessions.old ≡ locked.old.made) × AreInOrder 0 sessions.old }
     ensures settled { AreSettled locked.old.history sessions.old }
     ensures same { locked.new ≡ locked.old }
@@ -144,7 +151,7 @@ fn join<S: Scheme, L: Place>(locked: &mut Locked<S, L>, sessions: &mut [Session<
 }
 
 /// Each front of these sessions begins the history, and their answers are to their calls. Nothing is changed.
-fn renew_all<S: Scheme, L: Place>(locked: &mut Locked<S, L>, sessions: &mut [Session<S, L>])
+fn renew_all<S: Scheme, L: Home>(locked: &mut Locked<S, L>, sessions: &mut [Session<S, L>])
     ensures begun { All (λ s. AreBegun locked.old.history s.answers × AreAnswers s.id 1 s.answers) sessions.old }
     ensures same { locked.new ≡ locked.old }
     ensures sessions { sessions.new ≡ sessions.old }
@@ -157,7 +164,7 @@ fn renew_all<S: Scheme, L: Place>(locked: &mut Locked<S, L>, sessions: &mut [Ses
 
 /// The calls of these sessions, and those that were gathered, are all calls. Nothing is changed: each session lends its share
 /// and gets it back.
-fn add_up<S: Scheme, L: Place>(
+fn add_up<S: Scheme, L: Home>(
     calls: &mut ledger::Book<L>,
     sessions: &mut [Session<S, L>],
     gathered: &mut Share<L>,
@@ -181,20 +188,32 @@ fn add_up<S: Scheme, L: Place>(
     }
 }
 
-/// Whether the sessions are those from this one on, in order.
-fn are_in_order<S: Scheme, L: Place>(sessions: &[Session<S, L>], from: usize) -> bool
-    requires { from + length sessions.now < 2 ^ 64 }
-    ensures { IsTrue result ↔ AreInOrder from sessions.now }
+/// The least id of these sessions, sorted by id, that two of them have or that is not below `made`.
+fn first_stray<S: Scheme, L: Home>(sessions: &[Session<S, L>], made: u16) -> Option<u16>
+    requires sorted { IsNonDecreasingBy (λ s. s.id) sessions.now }
+    ensures stray { IfSome result (λ id. IsFirstStray made (ids_of sessions.now) id) }
+    ensures none { IfNone result ((id : ℕ) → IsStray made (ids_of sessions.now) id → ⊥) }
+{
+    let (first, rest) = sessions.split_first()?;
+    if first.id >= made || starts_at(rest, first.id) {
+        return Some(first.id);
+    }
+    first_stray(rest, made)
+}
+
+/// Whether the first of these sessions has this id.
+fn starts_at<S: Scheme, L: Home>(sessions: &[Session<S, L>], id: u16) -> bool
+    ensures { IsTrue result ↔ (slice_get (ids_of sessions.now) 0 ≡ Some id) }
 {
     match sessions.split_first() {
-        None => true,
-        Some((first, rest)) => usize::from(first.id) == from && are_in_order(rest, from + 1),
+        None => false,
+        Some((first, _)) => first.id == id,
     }
 }
 
 /// What is handed back where sessions do not settle: why, and everything that was given.
 #[derive(Drop)]
-pub struct Unsettled<S: Scheme, L: Place> {
+pub struct Unsettled<S: Scheme, L: Home> {
     /// Why they do not settle.
     pub fault: SettleFault,
     /// What the lock held.
@@ -205,7 +224,7 @@ pub struct Unsettled<S: Scheme, L: Place> {
 
 /// Settles the sessions with the store that made them, in the order of their ids. A refusal is the one that `settle_locked`
 /// answers for what the lock held, and hands everything back.
-pub fn settle<S: Scheme, L: Place>(
+pub fn settle<S: Scheme, L: Home>(
     store: Store<S, L>,
     sessions: Vec<Session<S, L>>,
 ) -> Result<Settled<S, L>, Unsettled<S, L>>

@@ -1,21 +1,22 @@
 //! Stores, which lock, call and let go.
-ghost use Rattle.std.specs.Prelude.{◌≡◌, ◌↔◌, ◌<◌, [], IsOk, IfOk, IfErr, OnErr};
+ghost use Rattle.std.specs.Prelude.{◌≡◌, ◌↔◌, ◌<◌, [], IsOk, IfOk, IfErr, OnOk, OnErr};
 ghost use Rattle.std.specs.Result.{IsErrOf, MatchResult};
 ghost use Rattle.nw_model.specs.Checks.{digest_of};
 ghost use Rattle.nw_model.specs.declared.call.Call.TheVariants as Call;
 ghost use Rattle.nw_history.specs.Limits.{AreInRange};
-ghost use Rattle.nw_book.specs.Command.{call_of};
+ghost use Rattle.nw_book.specs.Command.{IsUnder, call_of};
+ghost use Rattle.nw_store.specs.Held.{first_origin, origin_of};
 ghost use Rattle.nw_store.specs.Kept.{parts_of_a_ledger};
-ghost use Rattle.nw_store.specs.Answered.{IsExplained, IsOpenedOnce, IsRefusedOnce};
+ghost use Rattle.nw_store.specs.Answered.{IsExplained, IsOpenedOnce, IsRefusedOnce, TakesNoStep};
 
 use crate::locked::{call_locked, open_locked, session_locked};
-use crate::{Locked, Session, TooMany};
+use crate::{Home, Locked, Session, TooMany};
 use nw_book::{Book, BookError, Command, Done, NoStep, Ticket};
 use nw_check::{CheckedBlock, CheckedCert};
 use nw_committee::Committee;
 use nw_digest::{Digest, Shared};
 use nw_history::{Front, Limits};
-use nw_log::{Opened, Place};
+use nw_log::Opened;
 use nw_sig::Scheme;
 use std::alloc::{AllocError, Global};
 use std::marker::Model;
@@ -51,18 +52,16 @@ impl<S: Scheme> Opening<S> {
     }
 }
 
-/// A store that threads share: one lock round a book. `L` names it, so that no session of another store fits.
-///
-/// A function generic in such a name is called with `Brand`, for which the proof of the call picks the opening's log and
-/// ledger.
+/// A store that threads share: one lock round a book. `L` names it, so that no session of another store fits, and says with
+/// which committee and limits it was made, and on which base.
 #[derive(Drop)]
-pub struct Store<S: Scheme, L: Place> {
+pub struct Store<S: Scheme, L: Home> {
     pub(crate) locked: Mutex<Locked<S, L>>,
 }
 
-impl<S: Scheme, L: Place> Store<S, L> {
-    /// A store with an empty history and no sessions. `BadLimits` exactly where a limit is outside its range, else `NoMemory`
-    /// where memory is refused.
+impl<S: Scheme, L: Home> Store<S, L> {
+    /// A store with an empty history under the committee and limits, and no sessions. `BadLimits` exactly where a limit is
+    /// outside its range, else `NoMemory` where memory is refused.
     pub fn new(
         alloc: Global,
         opening: Opening<S>,
@@ -71,6 +70,7 @@ impl<S: Scheme, L: Place> Store<S, L> {
     ) -> Result<Store<S, L>, BookError>
         requires log { opening.log ≡ L.log }
         requires ledger { (opening.ledger ≡ L.name) × (L.parts ≡ parts_of_a_ledger) }
+        requires origin { first_origin committee limits ≡ L.origin }
         ensures bad_limits { IsErrOf result BookError.BadLimits ↔ (AreInRange limits → ⊥) }
         ensures no_memory { IsErrOf result BookError.NoMemory → AreInRange limits }
     {
@@ -80,12 +80,12 @@ impl<S: Scheme, L: Place> Store<S, L> {
         })
     }
 
-    /// A store over the book, without sessions. The book is handed back exactly where its history is not empty. It takes no
-    /// memory.
+    /// A store that goes on with the book, without sessions. The book is handed back exactly where its history is not empty. It
+    /// takes no memory.
     pub fn over(opening: Opening<S>, book: Book<S>) -> Result<Store<S, L>, Book<S>>
         requires log { opening.log ≡ L.log }
         requires ledger { (opening.ledger ≡ L.name) × (L.parts ≡ parts_of_a_ledger) }
-        requires in_range { AreInRange book.limits }
+        requires origin { origin_of book ≡ L.origin }
         ensures taken { IsOk result ↔ (book.events ≡ []) }
         ensures back { IfErr result (λ refused. refused ≡ book) }
     {
@@ -104,8 +104,11 @@ impl<S: Scheme, L: Place> Store<S, L> {
         session_locked(&mut *self.locked.lock(rt), alloc)
     }
 
-    /// Makes the session's next call. The answer has a legal history that ends with the call, and that each earlier answer's of
-    /// the session begins. A refusal leaves the session as it was.
+    /// Makes the session's next call. The answer has a legal history that starts as the store was made and ends with the call,
+    /// and that each earlier answer's of the session begins.
+    ///
+    /// A refusal leaves the session as it was, and names what stood in the way after some history of the store: the turn, else
+    /// the committee, else the room, else memory.
     pub fn call<R: Wait>(
         &self,
         rt: &R,
@@ -113,7 +116,9 @@ impl<S: Scheme, L: Place> Store<S, L> {
         session: &mut Session<S, L>,
         command: &Command<S>,
     ) -> Result<Done<S>, NoStep>
-        ensures answered { IfOk result (IsExplained S.accepts session.old session.new (call_of command.now)) }
+        ensures answered { IfOk result (IsExplained S.accepts L.origin session.old session.new (call_of command.now)) }
+        ensures own_committee { OnOk result (IsUnder L.origin.committee command.now) }
+        ensures no_step { IfErr result (TakesNoStep S.accepts L.origin session.old (IsUnder L.origin.committee command.now)) }
         ensures unchanged { OnErr result (session.new ≡ session.old) }
     {
         call_locked(&mut *self.locked.lock(rt), alloc, session, command)
@@ -127,7 +132,9 @@ impl<S: Scheme, L: Place> Store<S, L> {
         session: &mut Session<S, L>,
         block: CheckedBlock<S>,
     ) -> Result<Done<S>, NoStep>
-        ensures answered { IfOk result (IsExplained S.accepts session.old session.new (Call.Write (digest_of block.block) block.block)) }
+        ensures answered { IfOk result (IsExplained S.accepts L.origin session.old session.new (Call.Write (digest_of block.block) block.block)) }
+        ensures own_committee { OnOk result (block.committee ≡ L.origin.committee) }
+        ensures no_step { IfErr result (TakesNoStep S.accepts L.origin session.old (block.committee ≡ L.origin.committee)) }
         ensures unchanged { OnErr result (session.new ≡ session.old) }
     {
         self.call(rt, alloc, session, &Command::Write(block))
@@ -141,7 +148,9 @@ impl<S: Scheme, L: Place> Store<S, L> {
         session: &mut Session<S, L>,
         certificate: CheckedCert<S>,
     ) -> Result<Done<S>, NoStep>
-        ensures answered { IfOk result (IsExplained S.accepts session.old session.new (Call.Certify certificate.certificate)) }
+        ensures answered { IfOk result (IsExplained S.accepts L.origin session.old session.new (Call.Certify certificate.certificate)) }
+        ensures own_committee { OnOk result (certificate.committee ≡ L.origin.committee) }
+        ensures no_step { IfErr result (TakesNoStep S.accepts L.origin session.old (certificate.committee ≡ L.origin.committee)) }
         ensures unchanged { OnErr result (session.new ≡ session.old) }
     {
         self.call(rt, alloc, session, &Command::Certify(certificate))
@@ -155,7 +164,8 @@ impl<S: Scheme, L: Place> Store<S, L> {
         session: &mut Session<S, L>,
         digest: Digest,
     ) -> Result<Done<S>, NoStep>
-        ensures answered { IfOk result (IsExplained S.accepts session.old session.new (Call.Certificate digest)) }
+        ensures answered { IfOk result (IsExplained S.accepts L.origin session.old session.new (Call.Certificate digest)) }
+        ensures no_step { IfErr result (TakesNoStep S.accepts L.origin session.old (Unit {0})) }
         ensures unchanged { OnErr result (session.new ≡ session.old) }
     {
         self.call(rt, alloc, session, &Command::Certificate(digest))
@@ -169,7 +179,8 @@ impl<S: Scheme, L: Place> Store<S, L> {
         session: &mut Session<S, L>,
         digest: Digest,
     ) -> Result<Done<S>, NoStep>
-        ensures answered { IfOk result (IsExplained S.accepts session.old session.new (Call.Read digest)) }
+        ensures answered { IfOk result (IsExplained S.accepts L.origin session.old session.new (Call.Read digest)) }
+        ensures no_step { IfErr result (TakesNoStep S.accepts L.origin session.old (Unit {0})) }
         ensures unchanged { OnErr result (session.new ≡ session.old) }
     {
         self.call(rt, alloc, session, &Command::Read(digest))
@@ -183,7 +194,8 @@ impl<S: Scheme, L: Place> Store<S, L> {
         session: &mut Session<S, L>,
         digest: Digest,
     ) -> Result<Result<Ticket<S>, Done<S>>, NoStep>
-        ensures answered { IfOk result (λ answer. MatchResult answer (IsOpenedOnce S.accepts session.old session.new digest) (IsRefusedOnce S.accepts session.old session.new digest)) }
+        ensures answered { IfOk result (λ answer. MatchResult answer (IsOpenedOnce S.accepts L.origin session.old session.new digest) (IsRefusedOnce S.accepts L.origin session.old session.new digest)) }
+        ensures no_step { IfErr result (TakesNoStep S.accepts L.origin session.old (Unit {0})) }
         ensures unchanged { OnErr result (session.new ≡ session.old) }
     {
         open_locked(&mut *self.locked.lock(rt), alloc, session, digest)

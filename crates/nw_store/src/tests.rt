@@ -1,40 +1,69 @@
 ghost use Rattle.std.specs.Prelude.{◌≡◌};
+ghost use Rattle.nw_store.specs.Held.{first_origin, origin_of};
 ghost use Rattle.nw_store.specs.Kept.{parts_of_a_ledger};
 
 use super::*;
-use nw_committee::{Committee, Key};
-use nw_digest::Shared;
+use nw_book::{Book, NoStep};
+use nw_check::CheckedBlock;
+use nw_committee::Committee;
+use nw_digest::{Digest, Shared};
 use nw_history::Limits;
-use nw_log::Place;
+use nw_model::Reply;
+use nw_sample_checked::{block, block_with, committee};
 use nw_sig::DemoScheme;
 use std::alloc::Global;
 use std::marker::Brand;
 use std::sync::Wait;
 use std::test::Fail;
 
-/// A committee of one member.
-fn committee(alloc: Global) -> Result<Shared<Committee>, Fail> {
-    let mut keys = Vec::new(alloc);
-    keys.push(Key([0; 32]))?;
-    Ok(Shared::new(alloc, Committee::new(alloc, keys)?)?)
+mod answers;
+mod chains;
+mod settling;
+mod threads;
+
+/// The limits of a store that takes 256 blocks over four rounds.
+fn limits(events: u32, sessions: u32) -> Limits {
+    Limits {
+        blocks: 256,
+        events,
+        window: 4,
+        sessions,
+    }
+}
+
+/// A book of one member without events.
+fn book(alloc: Global, events: u32, sessions: u32) -> Result<Book<DemoScheme>, Fail> {
+    Ok(Book::new(alloc, committee(alloc, 1)?, limits(events, sessions))?)
+}
+
+/// A store that goes on with the book.
+fn store_over<L: Home>(
+    opening: Opening<DemoScheme>,
+    book: Book<DemoScheme>,
+) -> Result<Store<DemoScheme, L>, Fail>
+    requires log { opening.log ≡ L.log }
+    requires ledger { (opening.ledger ≡ L.name) × (L.parts ≡ parts_of_a_ledger) }
+    requires origin { origin_of book ≡ L.origin }
+{
+    match Store::over(opening, book) {
+        Ok(store) => Ok(store),
+        Err(_) => Err(Fail::from("the book has events")),
+    }
 }
 
 /// Whether a second session is refused by a store that allows one.
-fn second_is_refused<L: Place, R: Wait>(
+fn second_is_refused<L: Home, R: Wait>(
     rt: &R,
     alloc: Global,
     opening: Opening<DemoScheme>,
+    committee: Shared<Committee>,
+    limits: Limits,
 ) -> Result<bool, Fail>
     requires log { opening.log ≡ L.log }
     requires ledger { (opening.ledger ≡ L.name) × (L.parts ≡ parts_of_a_ledger) }
+    requires origin { first_origin committee limits ≡ L.origin }
 {
-    let limits = Limits {
-        blocks: 16,
-        events: 16,
-        window: 4,
-        sessions: 1,
-    };
-    let store = Store::<DemoScheme, L>::new(alloc, opening, committee(alloc)?, limits)?;
+    let store = Store::<DemoScheme, L>::new(alloc, opening, committee, limits)?;
     let _first = store.session(rt, alloc)?;
     Ok(store.session(rt, alloc).is_err())
 }
@@ -42,6 +71,14 @@ fn second_is_refused<L: Place, R: Wait>(
 #[test]
 fn a_store_makes_no_more_sessions_than_its_limit(rt: HostRuntime) -> Result<(), Fail> {
     let opening = Opening::new(rt.alloc())?;
-    assert!(rt; second_is_refused::<Brand, _>(&rt, rt.alloc(), opening)?);
+    let committee = committee(rt.alloc(), 1)?;
+    let refused = second_is_refused::<Brand, _>(
+        &rt,
+        rt.alloc(),
+        opening,
+        committee,
+        limits(16, 1),
+    )?;
+    assert!(rt; refused);
     Ok(())
 }

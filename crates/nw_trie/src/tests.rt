@@ -1,6 +1,8 @@
 use super::*;
 use linked_list_allocator::LocalHeap;
 use nw_digest::{Digest, InRound, NoMemory, Round};
+use rand_core::utils::NextWord;
+use rand_pcg::Pcg32;
 use std::alloc::{Allocator, Global};
 use std::collections::BTreeMap;
 use std::process::Abort;
@@ -84,19 +86,12 @@ fn a_refused_insert_hands_its_value_back(rt: HostRuntime) -> Result<(), Fail> {
     Ok(())
 }
 
-// A number that follows this one, by a linear congruence.
-fn next_number(number: u64) -> u64 {
-    number
-        .wrapping_mul(6_364_136_223_846_793_005)
-        .wrapping_add(1_442_695_040_888_963_407)
-}
-
 // One of 1024 digests, whose first bytes and last bytes are often equal.
-fn random_digest(number: u64) -> Digest {
+fn random_digest(word: u32) -> Digest {
     let mut bytes = [0; 32];
-    bytes[0] = ((number >> 40) % 4) as u8;
-    bytes[1] = ((number >> 42) % 16) as u8;
-    bytes[31] = ((number >> 46) % 16) as u8;
+    bytes[0] = (word % 4) as u8;
+    bytes[1] = (word / 4 % 16) as u8;
+    bytes[31] = (word / 64 % 16) as u8;
     Digest(bytes)
 }
 
@@ -104,11 +99,11 @@ fn random_digest(number: u64) -> Digest {
 fn random_steps_answer_as_an_ordered_map(rt: HostRuntime) -> Result<(), Fail> {
     let mut trie = Trie::new_in(rt.alloc());
     let mut map = BTreeMap::new(rt.alloc());
-    let mut number = 1;
+    let mut random = Pcg32::new(1, 1);
     for step in 0..100_000u64 {
-        number = next_number(number);
-        let key = random_digest(number);
-        match (number >> 60) % 4 {
+        let word = random.next_word();
+        let key = random_digest(word);
+        match word / 1024 % 4 {
             0 => assert_eq!(rt; trie.get(&key), map.get(&key)),
             1 => assert_eq!(rt; trie.remove(&key), map.remove(&key)),
             _ => match trie.insert(key, step) {

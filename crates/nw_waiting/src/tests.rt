@@ -3,6 +3,8 @@ use nw_digest::{Digest, Round};
 use std::alloc::{Allocator, Global};
 use std::test::Fail;
 
+mod random;
+
 // A digest that begins with this byte.
 fn digest(first: u8) -> Digest {
     let mut bytes = [0; 32];

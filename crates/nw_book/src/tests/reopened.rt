@@ -1,7 +1,7 @@
 //! Books that go on without their history, and fronts over a base.
 use super::*;
 use nw_digest::Round;
-use values::block_with;
+use nw_sample_checked::block_with;
 
 fn reopen(book: Book<DemoScheme>, alloc: Global) -> Result<Book<DemoScheme>, Fail> {
     match book.reopen(alloc) {

@@ -1,14 +1,14 @@
 //! Views whose walks are compared.
 use super::*;
+use nw_codec::Block;
+use nw_sample_blocks::{block, put};
+use nw_trie::Trie;
 
 /// The view of one block of round 0, with this transaction.
 fn alone(alloc: Global, text: &[u8]) -> Result<View<Global>, Fail> {
     let mut trie = Trie::new_in(alloc);
-    put(
-        &mut trie,
-        name(0, 0),
-        block(alloc, (0, 0), Vec::new(alloc), text)?,
-    )?;
+    let only = block(alloc, (Round::ZERO, 0), Vec::new(alloc), text)?;
+    put(&mut trie, name(0, 0), only)?;
     let mut generations = Vec::new(alloc);
     generations.push(frozen(alloc, trie)?)?;
     Ok(View::new(generations, Round::ZERO))
@@ -83,8 +83,8 @@ fn different_parents_of_the_same_block_collide(rt: HostRuntime) -> Result<(), Fa
 
 #[test]
 fn views_that_differ_below_the_floor_agree(rt: HostRuntime) -> Result<(), Fail> {
-    let one = both(rt.alloc(), round(1)?, b"x")?;
-    let other = both(rt.alloc(), round(1)?, b"y")?;
+    let one = both(rt.alloc(), round(1), b"x")?;
+    let other = both(rt.alloc(), round(1), b"y")?;
     let agreement = compared(rt.alloc(), &one, &other, name(1, 0))?;
     assert!(rt; matches!(agreement, Agreement::Same));
     Ok(())

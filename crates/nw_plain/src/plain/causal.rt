@@ -7,10 +7,10 @@ ghost use Rattle.nw_model.specs.View.{Shows, AreComplete, AddsIfComplete, HasPar
 ghost use Rattle.nw_model.specs.Step.{IsCausalReply};
 
 use super::Plain;
-use crate::{View, walk};
 use nw_codec::{Block, Ref};
 use nw_digest::{Digest, NoMemory, Round, Sequence, Shared};
 use nw_model::{CausalReply, Reply};
+use nw_views::{View, walk};
 use std::collections::BTreeMap;
 
 impl Plain {

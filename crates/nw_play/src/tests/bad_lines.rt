@@ -1,7 +1,7 @@
 //! Lines that end a play.
 
 // Lines that are bad behind a committee and a block `a`.
-pub const BAD: [(&str, &str); 57] = [
+pub const BAD: [(&str, &str); 60] = [
     ("an unknown request", "frob a"),
     ("two spaces", "body  a"),
     ("a space in front", " body a"),
@@ -68,15 +68,19 @@ pub const BAD: [(&str, &str); 57] = [
     ("valid without signers", "valid a"),
     ("a name that is not bound, in valid", "valid b 0"),
     ("a name that is not bound, in gather", "gather b 0"),
+    ("a session beyond the next", "session 2"),
+    ("a session of 01", "session 01"),
+    ("reopen before settle", "reopen"),
 ];
 
 // Scripts that end on a bad line before they print anything, with its number.
-pub const NEVER_BEGUN: [(&str, &str, usize); 25] = [
+pub const NEVER_BEGUN: [(&str, &str, usize); 26] = [
     ("an empty script", "", 1),
     ("a comment alone", "# x", 1),
     ("empty lines and comments alone", "\n\n# x\n", 4),
     ("a block before the committee", "block a 0 0 - -\n", 1),
     ("limits before the committee", "\nlimits 16 16 4 1\n", 2),
+    ("settle before the committee", "settle\n", 1),
     ("a committee of another kind", "committee v3 1\n", 1),
     ("a committee of two", "committee v1 2\n", 1),
     ("a committee of 103", "committee v1 103\n", 1),

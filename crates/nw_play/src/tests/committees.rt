@@ -1,6 +1,8 @@
 //! Scripts of four members and of members with weights, and what they print.
 use super::{Case, played};
 use crate::*;
+use std::alloc::Global;
+use std::sync::Wait;
 use std::test::Fail;
 
 // Behind the line with the committee.
@@ -61,8 +63,8 @@ const WEIGHTED: [Case; 2] = [
 ];
 
 // Whether the script is played to its end and prints this.
-fn prints(rt: &HostRuntime, script: &[u8], case: &Case) -> Result<bool, Fail> {
-    let (outcome, printed) = played(rt, script)?;
+fn prints(rt: &impl Wait, alloc: Global, script: &[u8], case: &Case) -> Result<bool, Fail> {
+    let (outcome, printed) = played(rt, alloc, script)?;
     Ok(outcome == Ok(()) && printed.as_slice() == case.prints.as_bytes())
 }
 
@@ -71,7 +73,11 @@ fn four_equal_members_and_four_of_weight_one_play_the_same(rt: HostRuntime) -> R
     for case in &FOUR {
         for committee in ["v1 4", "v2 1,1,1,1"] {
             let script = format!(in rt.alloc(); "committee {committee}\n{}", case.script)?;
-            assert!(rt; prints(&rt, script.as_bytes(), case)?, "{}", case.shows);
+            assert!(rt;
+                prints(&rt, rt.alloc(), script.as_bytes(), case)?,
+                "{}",
+                case.shows
+            );
         }
     }
     Ok(())
@@ -81,7 +87,7 @@ fn four_equal_members_and_four_of_weight_one_play_the_same(rt: HostRuntime) -> R
 fn weights_add_up_to_the_quorum(rt: HostRuntime) -> Result<(), Fail> {
     for case in &WEIGHTED {
         assert!(rt;
-            prints(&rt, case.script.as_bytes(), case)?,
+            prints(&rt, rt.alloc(), case.script.as_bytes(), case)?,
             "{}",
             case.shows
         );
@@ -90,41 +96,47 @@ fn weights_add_up_to_the_quorum(rt: HostRuntime) -> Result<(), Fail> {
 }
 
 /// The play of a committee of so many members of weight 1.
-fn members(rt: &HostRuntime, count: usize) -> Result<Result<(), PlayFault>, Fail> {
-    let mut script = format!(in rt.alloc(); "committee v2 1")?;
+fn members(rt: &impl Wait, alloc: Global, count: usize) -> Result<Result<(), PlayFault>, Fail> {
+    let mut script = format!(in alloc; "committee v2 1")?;
     for _ in 1..count {
         script.push_str(",1")?;
     }
-    let (outcome, _printed) = played(rt, script.as_bytes())?;
+    let (outcome, _printed) = played(rt, alloc, script.as_bytes())?;
     Ok(outcome)
 }
 
 #[test]
 fn a_committee_has_a_hundred_members_at_most(rt: HostRuntime) -> Result<(), Fail> {
-    assert_eq!(rt; members(&rt, 100)?, Ok(()));
-    assert_eq!(rt; members(&rt, 101)?, Err(PlayFault::BadLine { line: 1 }));
-    let (outcome, printed) = played(&rt, b"committee v1 100\n")?;
+    assert_eq!(rt; members(&rt, rt.alloc(), 100)?, Ok(()));
+    assert_eq!(rt;
+        members(&rt, rt.alloc(), 101)?,
+        Err(PlayFault::BadLine { line: 1 })
+    );
+    let (outcome, printed) = played(&rt, rt.alloc(), b"committee v1 100\n")?;
     assert_eq!(rt; outcome, Ok(()));
     assert!(rt; printed.is_empty());
     Ok(())
 }
 
-/// A script of so many reads of one block, in a history with room for 513 events.
-fn reads(rt: &HostRuntime, count: usize) -> Result<String, Fail> {
-    let mut script = format!(in rt.alloc();
+/// A script of so many reads of one block, in a history with room for 513 events, which is settled then.
+fn reads(alloc: Global, count: usize) -> Result<String, Fail> {
+    let mut script = format!(in alloc;
         "committee v1 1\nlimits 16 513 4 1\nblock a 0 0 - -\nwrite a\n"
     )?;
     for _ in 0..count {
         script.push_str("read a\n")?;
     }
+    script.push_str("settle\n")?;
     Ok(script)
 }
 
 #[test]
 fn a_script_of_513_reads_ends_in_a_full_history(rt: HostRuntime) -> Result<(), Fail> {
-    let script = reads(&rt, 513)?;
-    let (outcome, printed) = played(&rt, script.as_bytes())?;
+    let script = reads(rt.alloc(), 513)?;
+    let (outcome, printed) = played(&rt, rt.alloc(), script.as_bytes())?;
     assert_eq!(rt; outcome, Ok(()));
-    assert!(rt; printed.ends_with(b"a found 13\na found 13\nrefused history full\n"));
+    assert!(rt;
+        printed.ends_with(b"a found 13\na found 13\nrefused history full\nsettled 513 513\n")
+    );
     Ok(())
 }

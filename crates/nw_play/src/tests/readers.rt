@@ -40,7 +40,7 @@ fn a_reader_of_one_byte_at_a_time_is_heard_out(rt: HostRuntime) -> Result<(), Fa
         asked: 0,
     };
     let mut printed = Vec::new(rt.alloc());
-    assert_eq!(rt; play(rt.alloc(), &mut reader, &mut printed), Ok(()));
+    assert_eq!(rt; play(&rt, rt.alloc(), &mut reader, &mut printed), Ok(()));
     assert_eq!(rt; printed.as_slice(), PLAYED[0].prints.as_bytes());
     assert_eq!(rt; reader.asked, script.len() + 1);
     Ok(())
@@ -56,7 +56,7 @@ fn a_reader_is_asked_so_often_and_no_more(rt: HostRuntime) -> Result<(), Fail> {
     };
     let mut printed = Vec::new(rt.alloc());
     assert_eq!(rt;
-        play(rt.alloc(), &mut reader, &mut printed),
+        play(&rt, rt.alloc(), &mut reader, &mut printed),
         Err(PlayFault::TooLong)
     );
     assert!(rt; printed.is_empty());
@@ -74,7 +74,7 @@ fn a_reader_that_fails_is_a_fault_and_nothing_is_printed(rt: HostRuntime) -> Res
     };
     let mut printed = Vec::new(rt.alloc());
     assert_eq!(rt;
-        play(rt.alloc(), &mut reader, &mut printed),
+        play(&rt, rt.alloc(), &mut reader, &mut printed),
         Err(PlayFault::Read)
     );
     assert!(rt; printed.is_empty());
@@ -114,7 +114,7 @@ fn a_writer_that_fails_at_its_second_line_keeps_the_first(rt: HostRuntime) -> Re
         text: Vec::new(rt.alloc()),
         failed: 0,
     };
-    let outcome = play(rt.alloc(), PLAYED[0].script.as_bytes(), &mut writer);
+    let outcome = play(&rt, rt.alloc(), PLAYED[0].script.as_bytes(), &mut writer);
     assert_eq!(rt; outcome, Err(PlayFault::Write));
     assert_eq!(rt; writer.text.as_slice(), b"block a 18\n".as_slice());
     assert_eq!(rt; writer.failed, 1);
@@ -148,7 +148,7 @@ impl Write for Page {
 #[test]
 fn a_ticket_is_bound_once(rt: HostRuntime) -> Result<(), Fail> {
     let script = "committee v1 1\nblock a 0 0 - -\nwrite a\ncertify a 0\nopen a a\nopen a a\n";
-    let (outcome, printed) = played(&rt, script.as_bytes())?;
+    let (outcome, printed) = played(&rt, rt.alloc(), script.as_bytes())?;
     assert_eq!(rt; outcome, Err(PlayFault::BadLine { line: 6 }));
     let prints = "block a 13\na stored vote\na certified\na ready\nline 6 bad\n";
     assert_eq!(rt; printed.as_slice(), prints.as_bytes());
@@ -161,7 +161,7 @@ fn a_play_without_memory_prints_a_front(rt: HostRuntime) {
         bytes: [0; 64],
         used: 0,
     };
-    let outcome = play(rt.alloc(), PLAYED[0].script.as_bytes(), &mut page);
+    let outcome = play(&rt, rt.alloc(), PLAYED[0].script.as_bytes(), &mut page);
     let whole = PLAYED[0].prints.as_bytes();
     let printed = page.bytes.get(..page.used).unwrap_or(&[]);
     assert!(rt; whole.starts_with(printed));

@@ -6,7 +6,7 @@ use Rattle.nw_book.specs.Command.{call_of}
 use Rattle.nw_store.specs.Held.{Held, Journal, Answer}
 use Rattle.nw_store.specs.Answered.{IsAnswered}
 use Rattle.nw_store.proofs.Begun.{begun_claimed}
-use Rattle.nw_store.proofs.Kept.{kept_more, session_more, answer_is, told_last}
+use Rattle.nw_store.proofs.Kept.{kept_more, starts_so, session_more, answer_is, told_last}
 use Rattle.nw_store.proofs.Answered.{answered}
 use Rattle.nw_store.proofs.locked.call_locked.Goals as goal
 
@@ -17,6 +17,7 @@ invariant_of-locked-2 g c =
       c.locked.invariant.0,
       kept_more g.S.Scheme.accepts _ _ _ _ _ _ _ _ _ _ _ c.locked.invariant.1 t.history t.legal t.front
           (c.tell.ensures.counted ∙ ap (λ k. k + 1) n.total) (c.tell.ensures.told ∙ ap (λ (l : List Story). l ++ c.in_ok-done.done.front ∷ []) n.keeper),
+      starts_so _ _ _ _ t.history c.locked.invariant.2,
     )
 
 pub invariant_of-session-2 : goal.invariant_of-session-2
@@ -26,7 +27,7 @@ invariant_of-session-2 g c =
     let e : Event = record { session = c.session.inside.id; number = c.next_number-number.result; call = call_of c.args.command.now; reply = c.in_ok-done.done.reply } in
     let begins : IsPrefix c.session.inside.pass.claim c.tell.new.pass.claim = subst (λ l. IsPrefix c.session.inside.pass.claim l) (sym c.tell.ensures.claim) (subst (λ l. IsPrefix l c.tell.new.self.keeper) n.claim c.tell.ensures.begins) in
     let items : c.push_reserved.new.self.items ≡ c.session.inside.journal.items ++ c.of.result ∷ [] = c.push_reserved.ensures.items ∙ ap (λ (l : List Answer). l ++ c.of.result ∷ []) c.reserve.ensures.items in
-    let number : c.next_number-number.result ≡ 1 + length c.session.inside.journal.items = (let m = n.number in let len = c.len.ensures in let same = ap length c.reserve.ensures.items in omega (arith, m, len, same)) in
+    let number : c.next_number-number.result ≡ 1 + length c.session.inside.journal.items = (let m = n.number in let len = c.len.ensures in omega (arith, m, len)) in
     let event : c.of.result.event ≡ e = c.of.ensures.event c.locked.inside.book.events e (ap (λ (s : Story). s.events) (t.front ∙ t.history)) in
     session_more c.session.inside.id _ _ _ _ _ _ _ _ _ c.session.invariant (c.tell.ensures.parts ∙ n.parts) (c.tell.ensures.amount ∙ ap (λ k. k + 1) n.amount) begins
     (told_last _ _ _ _ _ c.tell.ensures.told c.tell.ensures.claim c.of.ensures.front) items
@@ -40,7 +41,7 @@ returns-clause-answered g c =
     let before : Journal = record { id = c.session.inside.id; answers = c.session.inside.journal.items } in
     let after : Journal = record { id = c.session.inside.id; answers = c.push_reserved.new.self.items } in
     let items : c.push_reserved.new.self.items ≡ c.session.inside.journal.items ++ c.of.result ∷ [] = c.push_reserved.ensures.items ∙ ap (λ (l : List Answer). l ++ c.of.result ∷ []) c.reserve.ensures.items in
-    let number : c.next_number-number.result ≡ length c.session.inside.journal.items + 1 = (let m = n.number in let len = c.len.ensures in let same = ap length c.reserve.ensures.items in omega (arith, m, len, same)) in
+    let number : c.next_number-number.result ≡ length c.session.inside.journal.items + 1 = (let m = n.number in let len = c.len.ensures in omega (arith, m, len)) in
     let event : c.of.result.event ≡ e = c.of.ensures.event c.locked.inside.book.events e (ap (λ (s : Story). s.events) (t.front ∙ t.history)) in
     let kept = kept_more g.S.Scheme.accepts _ _ _ _ _ _ _ _ _ _ _ c.locked.invariant.1 t.history t.legal t.front
     (c.tell.ensures.counted ∙ ap (λ k. k + 1) n.total) (c.tell.ensures.told ∙ ap (λ (l : List Story). l ++ c.in_ok-done.done.front ∷ []) n.keeper) in

@@ -1,0 +1,110 @@
+//! The members of a script's committee, each with the key of its number.
+ghost use Rattle.std.specs.Prelude.{◌≡◌, IfOk, List, length, map, min};
+ghost use Rattle.nw_committee.specs.Committee.{equal_members};
+ghost use Rattle.nw_committee.specs.declared.member.Key.{Key};
+ghost use Rattle.nw_desk.specs.Members.{AreMembersOf};
+
+use crate::fault::LineFault;
+use nw_codec::{Block, Certificate, Seal, Signature, Vote};
+use nw_committee::{Committee, Key, Member};
+use nw_digest::{Digest, Sequence};
+use nw_script::CommitteeLine;
+use nw_sig::{DemoSigner, Signer, block_text, vote_text};
+use std::alloc::Global;
+
+// How many members a committee has at most.
+const MAX_MEMBERS: u32 = 100;
+
+/// The committee of the line. The line is bad where no committee has such members.
+pub fn committee(alloc: Global, line: &CommitteeLine) -> Result<Committee, LineFault>
+    ensures members { IfOk result (AreMembersOf line.now) }
+{
+    match line {
+        CommitteeLine::Equal { members } => equal(alloc, *members),
+        CommitteeLine::Weighted { weights } => weighted(alloc, weights),
+    }
+}
+
+fn equal(alloc: Global, count: u32) -> Result<Committee, LineFault>
+    ensures { IfOk result (λ members. (keys : List Key) × (members ≡ equal_members keys) × (length keys ≡ count)) }
+{
+    let keys = keys(alloc, count)?;
+    Ok(Committee::new(alloc, keys)?)
+}
+
+fn weighted(alloc: Global, weights: &[u32]) -> Result<Committee, LineFault>
+    ensures { IfOk result (λ members. map (λ m. m.weight) members ≡ weights.now) }
+{
+    let members = members(alloc, weights)?;
+    Ok(Committee::weighted(members)?)
+}
+
+fn keys(alloc: Global, count: u32) -> Result<Vec<Key>, LineFault>
+    ensures { IfOk result (λ keys. length keys.items ≡ min count 101) }
+{
+    let mut keys = Vec::new(alloc);
+    for number in 0..count.min(MAX_MEMBERS + 1) {
+        keys.push(key(u16::try_from(number).map_err(|_| LineFault::Bad)?))?;
+    }
+    Ok(keys)
+}
+
+fn members(alloc: Global, weights: &[u32]) -> Result<Vec<Member>, LineFault>
+    ensures { IfOk result (λ members. map (λ m. m.weight) members.items ≡ weights.now) }
+{
+    let mut members = Vec::new(alloc);
+    for (number, weight) in weights.iter().enumerate() {
+        let number = u16::try_from(number).map_err(|_| LineFault::Bad)?;
+        members.push(Member {
+            key: key(number),
+            weight: *weight,
+        })?;
+    }
+    Ok(members)
+}
+
+// 30 bytes 00, and the number.
+fn key(number: u16) -> Key {
+    let mut bytes = [0; 32];
+    bytes[30..].copy_from_slice(&number.to_be_bytes());
+    Key(bytes)
+}
+
+/// The signature that the member makes as the creator of the block with this digest.
+pub fn sign_block(member: u16, digest: &Digest) -> Signature {
+    DemoSigner::new(key(member)).sign(&block_text(digest))
+}
+
+/// The member's vote for the block with this digest.
+pub fn vote(member: u16, digest: Digest, block: &Block) -> Vote {
+    let text = vote_text(&digest, block.round, block.author);
+    Vote {
+        digest,
+        round: block.round,
+        author: block.author,
+        signer: member,
+        signature: DemoSigner::new(key(member)).sign(&text),
+    }
+}
+
+/// The certificate of the members' votes for the block with this digest, in the order of the members.
+pub fn certificate(
+    alloc: Global,
+    members: &[u16],
+    digest: Digest,
+    block: &Block,
+) -> Result<Certificate, LineFault> {
+    let mut votes = Vec::with_capacity(alloc, members.len())?;
+    for member in members {
+        votes.push(Seal {
+            signer: *member,
+            signature: vote(*member, digest, block).signature,
+        })?;
+    }
+    Ok(Certificate {
+        digest,
+        round: block.round,
+        author: block.author,
+        votes: Sequence::new(votes),
+    })
+}

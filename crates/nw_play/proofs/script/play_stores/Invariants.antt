@@ -1,0 +1,15 @@
+use Rattle.nw_store.specs.Held.{origin_of}
+use Rattle.nw_store.specs.Kept.{parts_of_a_ledger}
+use Rattle.nw_play.proofs.script.play_stores.Given as goal
+
+-- the ledger that was opened
+abbrev pub ghosts-play_store-L-Ledger : goal.ghosts-play_store-L-Ledger
+ghosts-play_store-L-Ledger g a = record { name = a.opening.ledger; parts = parts_of_a_ledger }
+
+-- the log that was opened
+abbrev pub ghosts-play_store-L-Place : goal.ghosts-play_store-L-Place
+ghosts-play_store-L-Place g a = record { log = a.opening.log }
+
+-- what the book starts with
+abbrev pub ghosts-play_store-L-Home : goal.ghosts-play_store-L-Home
+ghosts-play_store-L-Home g a = record { origin = origin_of a.start.book }

@@ -1,0 +1,54 @@
+//! The lines of a script, one after another.
+ghost use Rattle.std.specs.Iterator.{at_most};
+ghost use Rattle.nw_play.specs.Lines.{lines_left};
+
+use crate::fault::PlayFault;
+use nw_desk::LineFault;
+use nw_script::{Line, parse_line};
+use std::alloc::Global;
+
+/// The lines of a script that are not yet taken, each with its number, from 1. A script has at least one line, which may be
+/// empty.
+#[derive(Drop)]
+pub struct Lines<'a> {
+    rest: Option<&'a [u8]>,
+    taken: usize,
+}
+
+impl<'a> Lines<'a> {
+    /// All lines of the script.
+    pub fn new(script: &'a [u8]) -> Lines<'a> {
+        Lines {
+            rest: Some(script),
+            taken: 0,
+        }
+    }
+
+    /// How many lines were taken: the number of the last of them.
+    pub fn taken(&self) -> usize {
+        self.taken
+    }
+}
+
+impl<'a> Iterator for Lines<'a> {
+    type Item = (usize, &'a [u8]);
+
+    ghost remaining = { λ lines. at_most (lines_left lines.rest) };
+
+    fn next(&mut self) -> Option<(usize, &'a [u8])> {
+        let rest = self.rest.take()?;
+        self.taken = self.taken.saturating_add(1);
+        match rest.iter().position(|byte| *byte == b'\n') {
+            None => Some((self.taken, rest)),
+            Some(end) => {
+                self.rest = Some(&rest[end + 1..]);
+                Some((self.taken, &rest[..end]))
+            }
+        }
+    }
+}
+
+/// What the line with this number says.
+pub fn read_line(alloc: Global, number: usize, text: &[u8]) -> Result<Line<'_>, PlayFault> {
+    parse_line(alloc, text).map_err(|fault| PlayFault::at(number, LineFault::from(fault)))
+}

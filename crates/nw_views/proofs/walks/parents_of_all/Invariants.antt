@@ -1,0 +1,8 @@
+use Rattle.std.proofs.Common.{take, []}
+use Rattle.std.specs.FinMap.{from_entries}
+use Rattle.nw_model.specs.Search.{IsParentOfAny, Finds}
+use Rattle.nw_views.proofs.walks.parents_of_all.Given as goal
+
+abbrev pub invariant-loop-digest : goal.invariant-loop-digest
+invariant-loop-digest l =
+    Finds l.view (IsParentOfAny l.view (take l.digest-index l.frontier)) (from_entries l.fn.found.entries) (from_entries l.found.entries) [] l.parents.items
