@@ -222,7 +222,7 @@ passing_found held test (d ∷ digests) (b ∷ blocks) found =
     by first false rest = rest
 
 -- a filter keeps exactly the elements that pass
-kept : {X : Type 0} (test : X → Bool) (xs : List X) (x : X) → Contains (filter test xs) x ↔ (Contains xs x × (test x ≡ true))
+pub kept : {X : Type 0} (test : X → Bool) (xs : List X) (x : X) → Contains (filter test xs) x ↔ (Contains xs x × (test x ≡ true))
 kept test [] x = (λ among. absurd (contains_none x among), λ both. absurd (contains_none x both.0))
 kept test (y ∷ ys) x = by (test y) refl (kept test ys x)
   where

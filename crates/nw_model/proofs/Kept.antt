@@ -170,7 +170,7 @@ sound_with_certificate s c sound first fits above = record {
       ];
 }
 
-some_none : {X : Type 0} (x : X) → Some x ≡ None → ⊥
+pub some_none : {X : Type 0} (x : X) → Some x ≡ None → ⊥
 some_none x e = cc
 
 -- what stands at a slot after a write at one
@@ -189,7 +189,7 @@ pub at_slot : (m : FinMap slot_cmp Digest) (k : Slot) (v : Digest) → get (inse
 at_slot m k v = get-insert slots_total m k v k ∙ ap (λ b. cond b (Some v) (get m k)) ((eq_by_cmp_equiv slots_total).refl k)
 
 -- what stood elsewhere still does
-still_insert : {X : Type 0} (m : FinMap digest_cmp X) (k : Digest) (v : X) (q : Digest) (x : X) → get m k ≡ None → get m q ≡ Some x → get (insert m k v) q ≡ Some x
+pub still_insert : {X : Type 0} (m : FinMap digest_cmp X) (k : Digest) (v : X) (q : Digest) (x : X) → get m k ≡ None → get m q ≡ Some x → get (insert m k v) q ≡ Some x
 still_insert m k v q x none at = by (eq_by_cmp digest_cmp q k) refl
   where
     by : (b : Bool) → eq_by_cmp digest_cmp q k ≡ b → get (insert m k v) q ≡ Some x

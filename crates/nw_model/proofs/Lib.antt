@@ -12,3 +12,8 @@ pub mod Ancestors
 pub mod Walked
 pub mod Sames
 pub mod Firsts
+pub mod Carried
+pub mod Stable
+pub mod Admitted
+pub mod Quorums
+pub mod Integrity

@@ -4,7 +4,6 @@ use Rattle.std.specs.Prelude.{take}
 use Rattle.std.specs.Cmp.{IsTotalOrder}
 use Rattle.std.specs.declared.cmp.Ordering.{Ordering}
 use Rattle.std.specs.FinMap.{get}
-use Rattle.nw_waiting.specs.Pairs.{wanted_cmp}
 use Rattle.nw_waiting.proofs.Orders.{wanted_total}
 use Rattle.nw_waiting.specs.declared.wanted.Wanted.{Wanted}
 use Rattle.nw_model.specs.Missing.{IsWanted, AreExactly, HasCount, AreFirstWanted, AreCounts}
@@ -41,7 +40,7 @@ to_certify : (bounds : Bounds) (s : State) (c : Certificate) (r : Reply) → IsR
 to_certify bounds s c (reply.Certify w) is = ap reply.Certify is
 to_certify bounds s c other is = absurd is
 
-to_collect : (bounds : Bounds) (s : State) (round : ℕ) (r : Reply) → IsReply bounds s (call.Collect round) r → r ≡ reply.Collect (collect_reply s round)
+pub to_collect : (bounds : Bounds) (s : State) (round : ℕ) (r : Reply) → IsReply bounds s (call.Collect round) r → r ≡ reply.Collect (collect_reply s round)
 to_collect bounds s round (reply.Collect w) is = ap reply.Collect is
 to_collect bounds s round other is = absurd is
 

@@ -42,9 +42,9 @@ abbrev pub is_stored : WriteReply → Bool
 is_stored (write.Stored vote) = true
 is_stored other = false
 
-abbrev is_kept : CertifyReply → Bool
-is_kept certify.Certified = true
-is_kept other = false
+abbrev pub is_certified : CertifyReply → Bool
+is_certified certify.Certified = true
+is_certified other = false
 
 stored : (bounds : Bounds) (s : State) (d : Digest) (b : Block) (vote : Bool) → write_reply bounds s d b ≡ write.Stored vote
     → (s.floor ≤ b.round) × (is_elsewhere certificate_slot (get s.certificates d) (block_slot b) ≡ false)
@@ -59,12 +59,12 @@ stored bounds s d b vote is =
 certified : (bounds : Bounds) (s : State) (c : Certificate) → certify_reply bounds s c ≡ certify.Certified
     → (s.floor ≤ c.round) × (is_elsewhere block_slot (get s.blocks c.digest) (certificate_slot c) ≡ false) × (certified_digest s (certificate_slot c) ≡ None)
 certified bounds s c is =
-    let low = past is_kept (nat_lt c.round s.floor) (certify.Collected s.floor) _ certify.Certified refl refl is in
-    let far = past is_kept _ certify.TooFar _ certify.Certified refl refl low.1 in
-    let already = past is_kept _ certify.Already _ certify.Certified refl refl far.1 in
-    let misfit = past is_kept _ certify.Misfit _ certify.Certified refl refl already.1 in
-    let elsewhere = past is_kept _ certify.Misfit _ certify.Certified refl refl misfit.1 in
-    let conflict = past_found is_kept certify.Conflict (certified_digest s (certificate_slot c)) _ certify.Certified (λ _. refl) refl elsewhere.1 in
+    let low = past is_certified (nat_lt c.round s.floor) (certify.Collected s.floor) _ certify.Certified refl refl is in
+    let far = past is_certified _ certify.TooFar _ certify.Certified refl refl low.1 in
+    let already = past is_certified _ certify.Already _ certify.Certified refl refl far.1 in
+    let misfit = past is_certified _ certify.Misfit _ certify.Certified refl refl already.1 in
+    let elsewhere = past is_certified _ certify.Misfit _ certify.Certified refl refl misfit.1 in
+    let conflict = past_found is_certified certify.Conflict (certified_digest s (certificate_slot c)) _ certify.Certified (λ _. refl) refl elsewhere.1 in
     (not_below c.round s.floor low.0, elsewhere.0, conflict.0)
 
 -- ---- what each call leaves

@@ -1,10 +1,12 @@
 -- Laws over the definitions.
-use Rattle.std.specs.Prelude.{◌≡◌, ◌↔◌, ℕ, true, List, Some, All, Contains, IsSome, slice_get}
+use Rattle.std.specs.Prelude.{◌≡◌, ◌≢◌, ◌==◌, ◌↔◌, ◌⊎◌, ℕ, ◌≤◌, ◌<◌, true, nat_le, List, ◌++◌, Some, All, Contains, IsSome, filter, map, slice_get}
 use Rattle.nw_digest.specs.declared.digest.Digest.{Digest}
 use Rattle.nw_codec.specs.declared.block.Block.{Block}
+use Rattle.nw_committee.specs.Committee.{ReachesQuorum}
 use Rattle.nw_sig.specs.Signed.{Meaning}
 use Rattle.std.specs.FinMap.{get}
 use Rattle.nw_model.specs.State.{State, Slot, block_slot}
+use Rattle.nw_model.specs.Checks.{digest_of}
 use Rattle.nw_model.specs.Paths.{IsAncestor, IsComplete, IsCausalList}
 use Rattle.nw_model.specs.View.{Frozen, IsAncestorIn, Shows}
 use Rattle.nw_model.specs.Sound.{IsSound}
@@ -12,6 +14,7 @@ use Rattle.nw_model.specs.History.{Terms, IsLegal, replay}
 use Rattle.nw_model.specs.declared.call.Call.TheVariants as call
 use Rattle.nw_model.specs.declared.event.Event.{Event}
 use Rattle.nw_model.specs.declared.reply.Reply.TheVariants as reply
+use Rattle.nw_model.specs.declared.reply.CollectReply.TheVariants as collect
 use Rattle.nw_model.specs.declared.reply.WriteReply.TheVariants as write
 
 -- what the calls of a legal history leave is sound: at most one digest is certified for a slot, and the block under it has that slot
@@ -44,3 +47,55 @@ abbrev pub FirstsOfABaseGetNoVote : Type 0
 FirstsOfABaseGetNoVote =
     (accepts : Meaning) (terms : Terms) (base : State) (es : List Event) → IsLegal accepts terms base es
     → (slot : Slot) → IsSome (get base.firsts slot) → (i : ℕ) (e : Event) → slice_get es i ≡ Some e → IsVote slot e → ⊥
+
+-- a legal history leaves s after its first events, and t after more
+pub record LeadsOn (accepts : Meaning) (terms : Terms) (s t : State) : Type 0 where
+  pub base : State
+  pub first : List Event
+  pub more : List Event
+  pub legal : IsLegal accepts terms base (first ++ more)
+  pub earlier : s ≡ replay terms.bounds base first
+  pub later : t ≡ replay terms.bounds s more
+
+-- a complete block that is not below a later garbage round is complete then too, and its causal list is the one of before without the blocks of rounds below that garbage round
+abbrev pub CausalListsStay : Type 0
+CausalListsStay =
+    (accepts : Meaning) (terms : Terms) (s t : State) → LeadsOn accepts terms s t
+    → (d : Digest) (b : Block) (blocks : List Block) → IsComplete s d → IsCausalList s d blocks → get s.blocks d ≡ Some b → t.floor ≤ b.round
+    → IsComplete t d × IsCausalList t d (filter (λ x. nat_le t.floor x.round) blocks)
+
+-- the authors of the blocks of this round
+abbrev pub authors_in : ℕ → List Block → List ℕ
+authors_in round blocks = map (λ b. b.author) (filter (λ b. b.round == round) blocks)
+
+-- after a legal history, the causal list of a complete block has in each round, from the garbage round up to the one before the block's, blocks whose authors reach the quorum
+abbrev pub CausalListsReachQuorums : Type 0
+CausalListsReachQuorums =
+    (accepts : Meaning) (terms : Terms) (base : State) (es : List Event) → IsLegal accepts terms base es → (s : State) → s ≡ replay terms.bounds base es
+    → (d : Digest) (b : Block) (blocks : List Block) → IsComplete s d → IsCausalList s d blocks → get s.blocks d ≡ Some b
+    → (round : ℕ) → s.floor ≤ round → round < b.round → ReachesQuorum terms.committee (authors_in round blocks)
+
+-- the event is a read of d, which is answered with b
+abbrev pub IsReadOf : Digest → Block → Event → Type 0
+IsReadOf d b e = (e.call ≡ call.Read d) × (e.reply ≡ reply.Read (Some b))
+
+-- the event is a collection that raised the garbage round above this round
+abbrev pub RaisesAbove : ℕ → Event → Type 0
+RaisesAbove round e = (floor dropped : ℕ) × (e.call ≡ call.Collect floor) × (e.reply ≡ reply.Collect (collect.Raised dropped)) × (round < floor)
+
+-- an event between these two raised the garbage round above this round
+abbrev pub IsCollectedBetween : List Event → ℕ → ℕ → ℕ → Type 0
+IsCollectedBetween es i j round = (k : ℕ) × (e : Event) × (i < k) × (k < j) × (slice_get es k ≡ Some e) × RaisesAbove round e
+
+-- two different blocks whose digest is d
+pub record AreCollision (d : Digest) (b c : Block) : Type 0 where
+  pub differ : b ≢ c
+  pub first : digest_of b ≡ d
+  pub second : digest_of c ≡ d
+
+-- a digest that is read twice in a legal history is answered with one block, or the first was collected in between and the two blocks share their digest
+abbrev pub ReadsAgree : Type 0
+ReadsAgree =
+    (accepts : Meaning) (terms : Terms) (base : State) (es : List Event) → IsLegal accepts terms base es
+    → (d : Digest) (b c : Block) (i j : ℕ) (e f : Event) → i < j → slice_get es i ≡ Some e → slice_get es j ≡ Some f → IsReadOf d b e → IsReadOf d c f
+    → (b ≡ c) ⊎ (IsCollectedBetween es i j b.round × AreCollision d b c)

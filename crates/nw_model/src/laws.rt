@@ -5,6 +5,9 @@ ghost use Rattle.nw_model.specs.Laws.{
   LegalHistoriesVoteOnce,
   ViewsShowTheAncestors,
   FirstsOfABaseGetNoVote,
+  CausalListsStay,
+  CausalListsReachQuorums,
+  ReadsAgree,
 };
 ghost use Rattle.nw_model.specs.Step.{StepIsAFunction};
 
@@ -36,4 +39,20 @@ pub fn a_legal_history_votes_once_for_a_slot()
 /// A slot that has a first digest in the base of a legal history gets no vote in that history.
 pub fn a_first_of_the_base_gets_no_vote()
     ensures { FirstsOfABaseGetNoVote }
+{}
+
+/// The causal list of a complete block stays, but for blocks of rounds below a later garbage round.
+pub fn a_causal_list_stays()
+    ensures { CausalListsStay }
+{}
+
+/// In each round from the garbage round up to the one before its own, a complete block has in its causal list blocks whose
+/// authors reach the quorum.
+pub fn a_causal_list_reaches_a_quorum_in_each_round()
+    ensures { CausalListsReachQuorums }
+{}
+
+/// Two reads of a digest give one block, or the first block was collected in between and the two share the digest.
+pub fn reads_of_a_digest_agree()
+    ensures { ReadsAgree }
 {}

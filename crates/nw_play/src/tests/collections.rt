@@ -1,7 +1,7 @@
 //! Scripts that collect rounds, or ask what is missing and how much is kept, and what they print.
 use super::Case;
 
-pub const COLLECTED: [Case; 11] = [
+pub const COLLECTED: [Case; 12] = [
     Case {
         shows: "nothing is missing where no block is held",
         script: "committee v1 1\nblock a 0 0 - -\nread a\ncausal a\nmissing 3\n",
@@ -56,5 +56,10 @@ pub const COLLECTED: [Case; 11] = [
         shows: "what is missing stands in the order of rounds, authors and digests, as many as are asked for",
         script: "committee v1 4\nblock a0 0 0 - -\nblock a1 1 0 - -\nblock a2 2 0 - -\nblock b 0 1 a0,a1,a2 -\nwrite b\nmissing 2\nmissing 0\nmissing 65535\n",
         prints: "block a0 13\nblock a1 13\nblock a2 13\nblock b 115\nb stored vote\nmissing 0.0.a0 0.1.a1\nmissing none\nmissing 0.0.a0 0.1.a1 0.2.a2\n",
+    },
+    Case {
+        shows: "a block and its child are certified, its round is collected, and a ticket is walked after that",
+        script: "committee v1 1\nblock a 0 0 - x\nblock b 0 1 a -\nwrite a\nwrite b\ncertify a 0\ncertify b 0\nopen t b\ncollect 1\nread a\nwalk t\nstatus\n",
+        prints: "block a 18\nblock b 47\na stored vote\nb stored vote\na certified\nb certified\nt ready\nraised 1\na unknown\nt causal a b\nstatus g=1 blocks=1 certificates=1 complete=1 wanted=0\n",
     },
 ];

@@ -1,0 +1,72 @@
+-- Each block that is held was admitted.
+use Rattle.std.proofs.Common.{◌≡◌, ℕ, List, [], ◌∷◌, Some, ap, sym, ◌∙◌, subst, inl, inr}
+use Rattle.std.specs.Prelude.{All}
+use Rattle.std.specs.FinMap.{get, get-empty}
+use Rattle.std.proofs.lemmas.List.Elements.{All-head, All-tail}
+use Rattle.nw_digest.specs.declared.digest.Digest.{Digest}
+use Rattle.nw_codec.specs.declared.block.Block.{Block}
+use Rattle.nw_codec.specs.declared.certificate.Certificate.{Certificate}
+use Rattle.nw_committee.specs.declared.member.Member.{Member}
+use Rattle.nw_sig.specs.Signed.{Meaning}
+use Rattle.nw_model.specs.State.{State, digest_cmp, opening}
+use Rattle.nw_model.specs.Checks.{digest_of, IsWellFormed}
+use Rattle.nw_model.specs.Step.{Bounds, after, after_write, after_certify, after_collect, write_reply, certify_reply, collect_reply}
+use Rattle.nw_model.specs.History.{Terms, IsAdmitted, IsBase, IsLegal, replay}
+use Rattle.nw_model.specs.declared.call.Call.{Call}
+use Rattle.nw_model.specs.declared.call.Call.TheVariants as call
+use Rattle.nw_model.specs.declared.event.Event.{Event}
+use Rattle.nw_model.specs.declared.reply.WriteReply.{WriteReply}
+use Rattle.nw_model.specs.declared.reply.WriteReply.TheVariants as write
+use Rattle.nw_model.specs.declared.reply.CertifyReply.{CertifyReply}
+use Rattle.nw_model.specs.declared.reply.CertifyReply.TheVariants as certify
+use Rattle.nw_model.specs.declared.reply.CollectReply.{CollectReply}
+use Rattle.nw_model.specs.declared.reply.CollectReply.TheVariants as collect
+use Rattle.nw_model.proofs.Kept.{after_insert, some_none}
+use Rattle.nw_model.proofs.Raised.{was_there}
+
+module _ (accepts : Meaning) (members : List Member) where
+  -- each block that is held stands under its own digest and is well formed
+  abbrev pub AreAdmitted : State → Type 0
+  AreAdmitted s = (d : Digest) (b : Block) → get s.blocks d ≡ Some b → (d ≡ digest_of b) × IsWellFormed accepts members b
+
+  admitted_after_write : (s : State) (d : Digest) (b : Block) (r : WriteReply) → (d ≡ digest_of b) × IsWellFormed accepts members b → AreAdmitted s → AreAdmitted (after_write s d b r)
+  admitted_after_write s d b (write.Stored vote) this are = λ e x at. elim (after_insert s.blocks d b e x at) [
+    | inl new ↦ (new.0 ∙ this.0 ∙ ap digest_of new.1, subst (IsWellFormed accepts members) new.1 this.1)
+    | inr old ↦ are e x old
+  ]
+  admitted_after_write s d b other this are = are
+
+  admitted_after_certify : (s : State) (c : Certificate) (r : CertifyReply) → AreAdmitted s → AreAdmitted (after_certify s c r)
+  admitted_after_certify s c certify.Certified are = are
+  admitted_after_certify s c other are = are
+
+  admitted_after_collect : (s : State) (round : ℕ) (r : CollectReply) → AreAdmitted s → AreAdmitted (after_collect s round r)
+  admitted_after_collect s round (collect.Raised dropped) are = λ d b at. are d b (was_there (λ (x : Block). x.round) round s.blocks d b at).0
+  admitted_after_collect s round (collect.NotHigher floor) are = are
+
+  -- an admitted call leaves it so
+  pub admitted_after : (bounds : Bounds) (s : State) (asked : Call) → IsAdmitted accepts members asked → AreAdmitted s → AreAdmitted (after bounds s asked)
+  admitted_after bounds s (call.Write d b) this are = admitted_after_write s d b (write_reply bounds s d b) this are
+  admitted_after bounds s (call.Certify c) this are = admitted_after_certify s c (certify_reply bounds s c) are
+  admitted_after bounds s (call.Collect round) this are = admitted_after_collect s round (collect_reply s round) are
+  admitted_after bounds s other this are = are
+
+  -- so do the calls of these events
+  pub admitted_replay : (bounds : Bounds) (s : State) (es : List Event) → All (λ e. IsAdmitted accepts members e.call) es → AreAdmitted s → AreAdmitted (replay bounds s es)
+  admitted_replay bounds s [] each are = are
+  admitted_replay bounds s (e ∷ es) each are =
+      admitted_replay bounds (after bounds s e.call) es (All-tail (λ (x : Event). IsAdmitted accepts members x.call) e es each)
+      (admitted_after bounds s e.call (All-head (λ (x : Event). IsAdmitted accepts members x.call) e es each) are)
+
+  admitted_opening : AreAdmitted opening
+  admitted_opening d b at = absurd (some_none b (sym at ∙ get-empty digest_cmp d))
+
+-- it is so of a base
+pub admitted_base : (accepts : Meaning) (terms : Terms) (base : State) → IsBase accepts terms base → AreAdmitted accepts terms.committee base
+admitted_base accepts terms base based =
+    subst (AreAdmitted accepts terms.committee) (sym based.left)
+    (admitted_replay accepts terms.committee terms.bounds opening based.earlier based.admitted (admitted_opening accepts terms.committee))
+
+-- and of what a legal history leaves
+pub admitted_left : (accepts : Meaning) (terms : Terms) (base : State) (es : List Event) → IsLegal accepts terms base es → AreAdmitted accepts terms.committee (replay terms.bounds base es)
+admitted_left accepts terms base es legal = admitted_replay accepts terms.committee terms.bounds base es legal.admitted (admitted_base accepts terms base legal.based)
