@@ -21,15 +21,32 @@ use std::mem;
 #[cycle(tree)]
 #[derive(Drop)]
 pub(crate) struct Tree<V: Drop, A: Allocator> {
-    link: Option<Box<Node<V, A>, A>>,
+    link: Link<V, A>,
 }
 
-/// One digest with its value, or the digests on both sides of a bit.
+/// No digest, one digest with its value, or the digests on both sides of a bit. The bit stands beside the address of the
+/// fork, so that a look-up reads one side of a fork alone.
 #[cycle(tree)]
 #[derive(Drop)]
-pub(crate) enum Node<V: Drop, A: Allocator> {
-    Leaf(Digest, V),
-    Fork(u8, Tree<V, A>, Tree<V, A>),
+pub(crate) enum Link<V: Drop, A: Allocator> {
+    Empty,
+    Leaf(Box<Entry<V>, A>),
+    Fork(u8, Box<Sides<V, A>, A>),
+}
+
+/// One digest with its value.
+#[derive(Drop)]
+pub(crate) struct Entry<V: Drop> {
+    digest: Digest,
+    value: V,
+}
+
+/// The digests without a bit, and those with it.
+#[cycle(tree)]
+#[derive(Drop)]
+pub(crate) struct Sides<V: Drop, A: Allocator> {
+    left: Tree<V, A>,
+    right: Tree<V, A>,
 }
 
 impl<V: Drop, A: Allocator> Model for Tree<V, A> {
@@ -56,7 +73,7 @@ impl<V: Drop, A: Allocator> Tree<V, A> {
     pub(crate) fn empty() -> Tree<V, A>
         ensures { result ≡ [] }
     {
-        Tree { link: None }
+        Tree { link: Link::Empty }
     }
 
     /// The digest with its value, or the value where memory is refused.
@@ -70,29 +87,29 @@ impl<V: Drop, A: Allocator> Tree<V, A> {
         let Ok(alloc) = alloc.clone() else {
             return Err(value);
         };
-        match Box::new(alloc, Node::Leaf(digest, value)) {
-            Ok(node) => Ok(Tree { link: Some(node) }),
-            Err(refused) => match refused.value {
-                Node::Leaf(_, value) => Err(value),
-                Node::Fork(..) => unreachable!(),
-            },
+        match Box::new(alloc, Entry { digest, value }) {
+            Ok(leaf) => Ok(Tree {
+                link: Link::Leaf(leaf),
+            }),
+            Err(refused) => Err(refused.value.value),
         }
     }
 
     /// The memory of a fork.
-    pub(crate) fn spare(alloc: &A) -> Option<Box<Node<V, A>, A>>
+    pub(crate) fn spare(alloc: &A) -> Option<Box<Sides<V, A>, A>>
     where
         A: Clone,
     {
         let alloc = alloc.clone().ok()?;
-        Box::new(alloc, Node::Fork(0, Tree::empty(), Tree::empty())).ok()
+        let (left, right) = (Tree::empty(), Tree::empty());
+        Box::new(alloc, Sides { left, right }).ok()
     }
 
     /// Whether it has no digest.
     pub(crate) fn is_empty(&self) -> bool
         ensures { MatchBool result (self.now ≡ []) (0 < length self.now) }
     {
-        self.link.is_none()
+        matches!(&self.link, Link::Empty)
     }
 
     /// The value of the digest.
@@ -100,17 +117,15 @@ impl<V: Drop, A: Allocator> Tree<V, A> {
         ensures { option_copied result ≡ lookup (is_at (digest_cmp digest.now)) self.now }
     {
         let mut tree = self;
-        while let Some(node) = &tree.link {
-            match &**node {
-                Node::Leaf(key, value) => {
-                    return if digest == key { Some(value) } else { None };
-                }
-                Node::Fork(bit, left, right) => {
-                    tree = if is_set(digest, *bit) { right } else { left };
-                }
-            }
+        while let Link::Fork(bit, sides) = &tree.link {
+            let Sides { left, right } = &**sides;
+            tree = if is_set(digest, *bit) { right } else { left };
         }
-        None
+        let Link::Leaf(leaf) = &tree.link else {
+            return None;
+        };
+        let Entry { digest: key, value } = &**leaf;
+        if digest == key { Some(value) } else { None }
     }
 
     /// The first digest, with its value.
@@ -120,13 +135,15 @@ impl<V: Drop, A: Allocator> Tree<V, A> {
     {
         let _ = &self.link;
         let mut tree = self;
-        while let Some(node) = &tree.link {
-            match &**node {
-                Node::Leaf(key, value) => return Some((key, value)),
-                Node::Fork(_bit, left, _right) => tree = left,
-            }
+        while let Link::Fork(_bit, sides) = &tree.link {
+            let Sides { left, right: _ } = &**sides;
+            tree = left;
         }
-        None
+        let Link::Leaf(leaf) = &tree.link else {
+            return None;
+        };
+        let Entry { digest, value } = &**leaf;
+        Some((digest, value))
     }
 
     /// The digest after this one, with its value.
@@ -134,12 +151,10 @@ impl<V: Drop, A: Allocator> Tree<V, A> {
         requires { HasKey digest.now self.now }
         ensures { option_map deref_pair result ≡ first_entry (after digest.now self.now) }
     {
-        let Some(node) = &self.link else {
+        let Link::Fork(bit, sides) = &self.link else {
             return None;
         };
-        let Node::Fork(bit, left, right) = &**node else {
-            return None;
-        };
+        let Sides { left, right } = &**sides;
         if is_set(digest, *bit) {
             return right.after(digest);
         }
@@ -155,17 +170,16 @@ impl<V: Drop, A: Allocator> Tree<V, A> {
         ensures { MatchOption result (HasKey digest.now self.now) (λ bit. BranchesAt digest.now bit self.now) }
     {
         match &self.link {
-            None => None,
-            Some(node) => match &**node {
-                Node::Leaf(key, _) => first_difference(digest, key),
-                Node::Fork(bit, left, right) => {
-                    if is_set(digest, *bit) {
-                        right.branch(digest)
-                    } else {
-                        left.branch(digest)
-                    }
+            Link::Empty => None,
+            Link::Leaf(leaf) => first_difference(digest, &leaf.digest),
+            Link::Fork(bit, sides) => {
+                let Sides { left, right } = &**sides;
+                if is_set(digest, *bit) {
+                    right.branch(digest)
+                } else {
+                    left.branch(digest)
                 }
-            },
+            }
         }
     }
 
@@ -177,17 +191,16 @@ impl<V: Drop, A: Allocator> Tree<V, A> {
         ensures len { length self.new ≡ length self.old }
     {
         match &mut self.link {
-            None => unreachable!(),
-            Some(node) => match &mut **node {
-                Node::Leaf(_key, place) => mem::replace(place, value),
-                Node::Fork(bit, left, right) => {
-                    if is_set(digest, *bit) {
-                        right.replace(digest, value)
-                    } else {
-                        left.replace(digest, value)
-                    }
+            Link::Empty => unreachable!(),
+            Link::Leaf(leaf) => mem::replace(&mut leaf.value, value),
+            Link::Fork(bit, sides) => {
+                let Sides { left, right } = &mut **sides;
+                if is_set(digest, *bit) {
+                    right.replace(digest, value)
+                } else {
+                    left.replace(digest, value)
                 }
-            },
+            }
         }
     }
 
@@ -196,7 +209,7 @@ impl<V: Drop, A: Allocator> Tree<V, A> {
         &mut self,
         digest: &Digest,
         bit: u8,
-        fork: Box<Node<V, A>, A>,
+        fork: Box<Sides<V, A>, A>,
         leaf: Tree<V, A>,
     )
         requires branches { BranchesAt digest.now bit self.old }
@@ -204,23 +217,22 @@ impl<V: Drop, A: Allocator> Tree<V, A> {
         ensures entries { (value : V) → leaf ≡ (digest.now, value) ∷ [] → self.new ≡ insert_entry digest_cmp self.old digest.now value }
         ensures len { length self.new ≡ length self.old + 1 }
     {
-        if let Some(node) = &mut self.link {
-            if let Node::Fork(at, left, right) = &mut **node {
-                if *at < bit {
-                    if is_set(digest, *at) {
-                        right.graft(digest, bit, fork, leaf);
-                    } else {
-                        left.graft(digest, bit, fork, leaf);
-                    }
-                    return;
+        if let Link::Fork(at, sides) = &mut self.link {
+            if *at < bit {
+                let Sides { left, right } = &mut **sides;
+                if is_set(digest, *at) {
+                    right.graft(digest, bit, fork, leaf);
+                } else {
+                    left.graft(digest, bit, fork, leaf);
                 }
+                return;
             }
         }
         self.split(digest, bit, fork, leaf);
     }
 
     /// Puts the leaf beside all others, which its digest differs from first at the bit.
-    fn split(&mut self, digest: &Digest, bit: u8, fork: Box<Node<V, A>, A>, leaf: Tree<V, A>)
+    fn split(&mut self, digest: &Digest, bit: u8, fork: Box<Sides<V, A>, A>, leaf: Tree<V, A>)
         requires differ { EachKey (λ k. DifferFirst bit digest.now k) self.old }
         requires full { 0 < length self.old }
         requires leaf { (value : V) × (leaf ≡ (digest.now, value) ∷ []) }
@@ -238,7 +250,7 @@ impl<V: Drop, A: Allocator> Tree<V, A> {
 
     /// The two sides of the bit, in a fork that was made before.
     fn forked(
-        mut node: Box<Node<V, A>, A>,
+        mut sides: Box<Sides<V, A>, A>,
         bit: u8,
         left: Tree<V, A>,
         right: Tree<V, A>,
@@ -247,7 +259,8 @@ impl<V: Drop, A: Allocator> Tree<V, A> {
         requires entries { AreEntries (left ++ right) }
         ensures { result ≡ left ++ right }
     {
-        let _empty = Box::replace(&mut node, Node::Fork(bit, left, right));
-        Tree { link: Some(node) }
+        let _empty = Box::replace(&mut sides, Sides { left, right });
+        let link = Link::Fork(bit, sides);
+        Tree { link }
     }
 }
