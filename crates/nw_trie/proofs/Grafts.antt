@@ -1,7 +1,8 @@
 -- A digest goes down to its place.
-use Rattle.std.proofs.Common.{◌≡◌, ◌∙◌, inl, inr, ℕ, ◌+◌, ◌<◌, ◌≤◌, true, false, cond, List, [], ◌∷◌, ◌++◌, Option, Some, None, Box, length, refl, sym, ap, subst, arith, length-append}
+use Rattle.std.proofs.Common.{◌≡◌, ◌∙◌, inl, inr, ℕ, ◌+◌, ◌<◌, ◌≤◌, Bool, true, false, cond, List, [], ◌∷◌, ◌++◌, Option, Some, None, Box, length, refl, sym, ap, subst, arith, length-append}
 use Rattle.std.specs.Ordering.{is_eq, match_ordering}
 use Rattle.std.specs.declared.cmp.Ordering.TheVariants.{Equal}
+use Rattle.std.specs.Option.{MatchOption}
 use Rattle.std.specs.Map.{lookup}
 use Rattle.std.specs.BTreeMap.{insert_entry, is_at}
 use Rattle.std.proofs.lemmas.Bool.{cases_lt}
@@ -12,7 +13,7 @@ use Rattle.nw_trie.specs.declared.tree.Link.TheVariants.{Empty, Leaf, Fork}
 use Rattle.nw_trie.specs.declared.tree.Sides.{Sides}
 use Rattle.nw_trie.specs.Bits.{AgreeBelow, AreBytes, DifferFirst, bit_of, digest_cmp}
 use Rattle.nw_trie.specs.Entries.{AreEntries, BranchesAt, EachKey, HasKey, IsFork, SomeKey}
-use Rattle.nw_trie.specs.Tree.{entries_of, IsTree}
+use Rattle.nw_trie.specs.Tree.{entries_of, IsTree, side_of, with_side}
 use Rattle.nw_trie.proofs.Keys.{each_left, each_right, each_more, each_pair, some_side, some_of_each}
 use Rattle.nw_trie.proofs.Inserts.{digest_equal, entries_insert, left_fork, left_insert, right_fork, right_insert}
 use Rattle.nw_trie.proofs.Sides.{AtFork, at_Leaf}
@@ -34,6 +35,11 @@ pub differ_alone : {V A : Type 0} (k : Digest) (bit : ℕ) (link : Link V A) →
 differ_alone k bit Empty no_fork b = tt
 differ_alone k bit (Leaf leaf) no_fork b = each_differ k leaf.value.digest bit bit ((leaf.value.digest, leaf.value.value) ∷ []) ((λ j h. refl), tt) (omega arith) b
 differ_alone k bit (Fork at sides) no_fork b = absurd (no_fork at sides refl)
+
+-- what a digest differs in from one other
+pub branch_leaf : {V : Type 0} (k x : Digest) (v : V) (o : Option ℕ) → MatchOption o (k ≡ x) (λ bit. DifferFirst bit k x) → MatchOption o (HasKey k ((x, v) ∷ [])) (λ bit. BranchesAt k bit ((x, v) ∷ []))
+branch_leaf k x v None h = inl (sym h)
+branch_leaf k x v (Some bit) h = record { near = inl h.same; apart = ((λ agree. h.differ (agree bit (omega arith))), tt) }
 
 -- some entry is there
 pub some_full : {V : Type 0} (P : Digest → Type 0) (es : List (Digest × V)) → SomeKey P es → 0 < length es
@@ -108,6 +114,17 @@ module _ {V : Type 0} {d : List (Digest × V)} {bit : ℕ} {l r : List (Digest �
 
     pub key_left : bit_of k bit ≡ false → HasKey k l
     key_left unset = near_left (λ x. x ≡ k) (λ x e. ap (λ y. bit_of y bit) (sym e)) unset has
+
+-- a digest goes down on the side of its bit, and what is put there is in its place
+module _ {V A : Type 0} {d : List (Digest × V)} {bit : ℕ} (s : Sides V A) (at : AtFork d bit s.left s.right) (k : Digest) where
+  pub down_side : (n : ℕ) → bit < n → BranchesAt k n d → (set : Bool) → set ≡ bit_of k bit → (length (side_of s set) < length d) × BranchesAt k n (side_of s set)
+  down_side n later b true h = ((sides_shorter at k).1, down_right at k n later b (sym h))
+  down_side n later b false h = ((sides_shorter at k).0, down_left at k n later b (sym h))
+
+  pub grown_side : (v : V) → AgreeBelow bit at.fork.front k → AreBytes k.0 → (set : Bool) → set ≡ bit_of k bit → (es : List (Digest × V)) → es ≡ insert_entry digest_cmp (side_of s set) k v
+      → Grown d bit (with_side s set es).left (with_side s set es).right k v
+  grown_side v fits bytes true h es is = grown_right at k v fits bytes es (sym h) is
+  grown_side v fits bytes false h es is = grown_left at k v fits bytes es (sym h) is
 
 -- the value of the one entry
 module _ {V : Type 0} (k x : Digest) (u v : V) (has : HasKey k ((x, u) ∷ [])) where

@@ -1,8 +1,9 @@
 -- What a tree of digests is seen as.
-use Rattle.std.specs.Prelude.{◌<◌, length, List, [], ◌∷◌, ◌++◌}
+use Rattle.std.specs.Prelude.{◌<◌, length, Bool, true, false, List, [], ◌∷◌, ◌++◌}
 use Rattle.nw_digest.specs.declared.digest.Digest.{Digest}
 use Rattle.nw_trie.specs.declared.tree.Link.{Link}
 use Rattle.nw_trie.specs.declared.tree.Link.TheVariants.{Empty, Leaf, Fork}
+use Rattle.nw_trie.specs.declared.tree.Sides.{Sides}
 use Rattle.nw_trie.specs.Entries.{AreEntries, IsFork}
 
 module _ {V A : Type 0} where
@@ -23,3 +24,13 @@ module _ {V A : Type 0} where
   IsNearlyTree Empty = Unit {0}
   IsNearlyTree (Leaf leaf) = AreEntries ((leaf.value.digest, leaf.value.value) ∷ [])
   IsNearlyTree (Fork bit sides) = (0 < length sides.value.left → 0 < length sides.value.right → IsFork bit sides.value.left sides.value.right) × AreEntries (sides.value.left ++ sides.value.right)
+
+  -- the side of a set bit, or the other
+  abbrev pub side_of : Sides V A → Bool → List (Digest × V)
+  side_of s true = s.right
+  side_of s false = s.left
+
+  -- the same sides, but for that one
+  abbrev pub with_side : Sides V A → Bool → List (Digest × V) → Sides V A
+  with_side s true w = record { left = s.left; right = w }
+  with_side s false w = record { left = w; right = s.right }

@@ -8,6 +8,10 @@ ghost use Rattle.nw_trie.specs.Bits.{DifferFirst, digest_cmp};
 ghost use Rattle.nw_trie.specs.Entries.{AreEntries, BranchesAt, EachKey, HasKey, IsFork};
 ghost use Rattle.std.specs.Map.Iter.{deref_pair};
 ghost use Rattle.nw_trie.specs.After.{after, first_entry};
+ghost use Rattle.std.specs.Borrow.{sem, follows};
+ghost use Rattle.nw_trie.specs.contracts.tree.Tree as tree;
+ghost use Rattle.nw_trie.specs.contracts.tree.Sides as sides;
+ghost use Rattle.nw_trie.specs.Tree.{side_of, with_side};
 
 mod removal;
 
@@ -169,18 +173,19 @@ impl<V: Drop, A: Allocator> Tree<V, A> {
         requires { 0 < length self.now }
         ensures { MatchOption result (HasKey digest.now self.now) (λ bit. BranchesAt digest.now bit self.now) }
     {
-        match &self.link {
-            Link::Empty => None,
-            Link::Leaf(leaf) => first_difference(digest, &leaf.digest),
-            Link::Fork(bit, sides) => {
-                let Sides { left, right } = &**sides;
-                if is_set(digest, *bit) {
-                    right.branch(digest)
-                } else {
-                    left.branch(digest)
-                }
-            }
+        let mut near = self;
+        while let Link::Fork(bit, sides) = &near.link {
+            let Sides { left, right } = &**sides;
+            near = if is_set(digest, *bit) { right } else { left };
         }
+        let Link::Leaf(leaf) = &near.link else {
+            return None;
+        };
+        let Entry {
+            digest: key,
+            value: _,
+        } = &**leaf;
+        first_difference(digest, key)
     }
 
     /// Puts the value in the place of the digest's, and hands that one back.
@@ -219,12 +224,8 @@ impl<V: Drop, A: Allocator> Tree<V, A> {
     {
         if let Link::Fork(at, sides) = &mut self.link {
             if *at < bit {
-                let Sides { left, right } = &mut **sides;
-                if is_set(digest, *at) {
-                    right.graft(digest, bit, fork, leaf);
-                } else {
-                    left.graft(digest, bit, fork, leaf);
-                }
+                let side = sides.side_mut(is_set(digest, *at));
+                side.graft(digest, bit, fork, leaf);
                 return;
             }
         }
@@ -262,5 +263,15 @@ impl<V: Drop, A: Allocator> Tree<V, A> {
         let _empty = Box::replace(&mut sides, Sides { left, right });
         let link = Link::Fork(bit, sides);
         Tree { link }
+    }
+}
+
+impl<V: Drop, A: Allocator> Sides<V, A> {
+    /// The side of the digests that have the bit set, or the other side.
+    fn side_mut(&mut self, set: bool) -> &mut Tree<V, A>
+        ensures* writes_back { sem 𝓛 (follows (sides.the_row V.row A.row A.Allocator) (tree.the_row V.row A.row A.Allocator) self.entry.ghost_name result.ghost_name (with_side self.old set)) }
+        ensures value { result.now ≡ side_of self.old set }
+    {
+        if set { &mut self.right } else { &mut self.left }
     }
 }
