@@ -1,16 +1,19 @@
 -- A digest goes down to its place.
-use Rattle.std.proofs.Common.{◌≡◌, ◌∙◌, inl, inr, ℕ, ◌+◌, ◌<◌, ◌≤◌, true, false, cond, List, [], ◌∷◌, ◌++◌, Option, Some, None, Box, length, refl, sym, ap, subst, arith, length-append}
+use Rattle.std.proofs.Common.{◌≡◌, ◌∙◌, inl, inr, ℕ, ◌+◌, ◌<◌, ◌≤◌, Bool, true, false, cond, List, [], ◌∷◌, ◌++◌, Option, Some, None, Box, length, refl, sym, ap, subst, arith, length-append}
 use Rattle.std.specs.Ordering.{is_eq, match_ordering}
 use Rattle.std.specs.declared.cmp.Ordering.TheVariants.{Equal}
+use Rattle.std.specs.Option.{MatchOption}
 use Rattle.std.specs.Map.{lookup}
 use Rattle.std.specs.BTreeMap.{insert_entry, is_at}
 use Rattle.std.proofs.lemmas.Bool.{cases_lt}
 use Rattle.nw_digest.specs.declared.digest.Digest.{Digest}
-use Rattle.nw_trie.specs.declared.tree.Node.{Node}
-use Rattle.nw_trie.specs.declared.tree.Node.TheVariants.{Leaf, Fork}
+use Rattle.nw_trie.specs.declared.tree.Entry.{Entry}
+use Rattle.nw_trie.specs.declared.tree.Link.{Link}
+use Rattle.nw_trie.specs.declared.tree.Link.TheVariants.{Empty, Leaf, Fork}
+use Rattle.nw_trie.specs.declared.tree.Sides.{Sides}
 use Rattle.nw_trie.specs.Bits.{AgreeBelow, AreBytes, DifferFirst, bit_of, digest_cmp}
 use Rattle.nw_trie.specs.Entries.{AreEntries, BranchesAt, EachKey, HasKey, IsFork, SomeKey}
-use Rattle.nw_trie.specs.Tree.{entries_in, entries_of, IsNode, IsTree}
+use Rattle.nw_trie.specs.Tree.{entries_of, IsTree, side_of, with_side}
 use Rattle.nw_trie.proofs.Keys.{each_left, each_right, each_more, each_pair, some_side, some_of_each}
 use Rattle.nw_trie.proofs.Inserts.{digest_equal, entries_insert, left_fork, left_insert, right_fork, right_insert}
 use Rattle.nw_trie.proofs.Sides.{AtFork, at_Leaf}
@@ -28,19 +31,15 @@ each_differ k front bit n es agree low b =
     let differ : DifferFirst bit k x = record { same = same; differ = λ e. h.1 (agree_more bit k x same e) } in
     differ) es (each_pair _ _ es agree b.apart)
 
-differ_node : {V A : Type 0} (k : Digest) (bit : ℕ) (n : Node V A) → IsNode n → ((at : ℕ) (l r : List (Digest × V)) → n ≡ Fork at l r → bit ≤ at) → BranchesAt k bit (entries_in n) → EachKey (λ x. DifferFirst bit k x) (entries_in n)
-differ_node k bit (Leaf x v) good low b = each_differ k x bit bit ((x, v) ∷ []) ((λ j h. refl), tt) (omega arith) b
-differ_node k bit (Fork at l r) good low b = each_differ k good.front bit at (l ++ r) good.agree (low at l r refl) b
+pub differ_alone : {V A : Type 0} (k : Digest) (bit : ℕ) (link : Link V A) → ((at : ℕ) (sides : Box (Sides V A) A) → link ≡ Fork at sides → ⊥) → BranchesAt k bit (entries_of link) → EachKey (λ x. DifferFirst bit k x) (entries_of link)
+differ_alone k bit Empty no_fork b = tt
+differ_alone k bit (Leaf leaf) no_fork b = each_differ k leaf.value.digest bit bit ((leaf.value.digest, leaf.value.value) ∷ []) ((λ j h. refl), tt) (omega arith) b
+differ_alone k bit (Fork at sides) no_fork b = absurd (no_fork at sides refl)
 
-pub differ_below : {V A : Type 0} (k : Digest) (bit : ℕ) {link : Option (Box (Node V A) A)} {d : List (Digest × V)} {node : Box (Node V A) A} (n : Node V A) → entries_of link ≡ d → IsTree link → link ≡ Some node → n ≡ node.value
-    → ((at : ℕ) (l r : List (Digest × V)) → n ≡ Fork at l r → ⊥) → BranchesAt k bit d → EachKey (λ x. DifferFirst bit k x) (entries_in n)
-differ_below k bit n view_is good some behind no_fork b =
-    let same : entries_in n ≡ _ = ap entries_in behind ∙ sym (ap entries_of some) ∙ view_is in
-    differ_node k bit n (subst IsNode (sym behind) (subst IsTree some good).0) (λ at l r is. absurd (no_fork at l r is)) (subst (BranchesAt k bit) (sym same) b)
-
-pub differ_none : {V A : Type 0} (k : Digest) (bit : ℕ) (link : Option (Box (Node V A) A)) → ((node : Box (Node V A) A) → link ≡ Some node → ⊥) → EachKey (λ x. DifferFirst bit k x) (entries_of link)
-differ_none k bit None no_node = tt
-differ_none k bit (Some node) no_node = absurd (no_node node refl)
+-- what a digest differs in from one other
+pub branch_leaf : {V : Type 0} (k x : Digest) (v : V) (o : Option ℕ) → MatchOption o (k ≡ x) (λ bit. DifferFirst bit k x) → MatchOption o (HasKey k ((x, v) ∷ [])) (λ bit. BranchesAt k bit ((x, v) ∷ []))
+branch_leaf k x v None h = inl (sym h)
+branch_leaf k x v (Some bit) h = record { near = inl h.same; apart = ((λ agree. h.differ (agree bit (omega arith))), tt) }
 
 -- some entry is there
 pub some_full : {V : Type 0} (P : Digest → Type 0) (es : List (Digest × V)) → SomeKey P es → 0 < length es
@@ -116,6 +115,17 @@ module _ {V : Type 0} {d : List (Digest × V)} {bit : ℕ} {l r : List (Digest �
     pub key_left : bit_of k bit ≡ false → HasKey k l
     key_left unset = near_left (λ x. x ≡ k) (λ x e. ap (λ y. bit_of y bit) (sym e)) unset has
 
+-- a digest goes down on the side of its bit, and what is put there is in its place
+module _ {V A : Type 0} {d : List (Digest × V)} {bit : ℕ} (s : Sides V A) (at : AtFork d bit s.left s.right) (k : Digest) where
+  pub down_side : (n : ℕ) → bit < n → BranchesAt k n d → (set : Bool) → set ≡ bit_of k bit → (length (side_of s set) < length d) × BranchesAt k n (side_of s set)
+  down_side n later b true h = ((sides_shorter at k).1, down_right at k n later b (sym h))
+  down_side n later b false h = ((sides_shorter at k).0, down_left at k n later b (sym h))
+
+  pub grown_side : (v : V) → AgreeBelow bit at.fork.front k → AreBytes k.0 → (set : Bool) → set ≡ bit_of k bit → (es : List (Digest × V)) → es ≡ insert_entry digest_cmp (side_of s set) k v
+      → Grown d bit (with_side s set es).left (with_side s set es).right k v
+  grown_side v fits bytes true h es is = grown_right at k v fits bytes es (sym h) is
+  grown_side v fits bytes false h es is = grown_left at k v fits bytes es (sym h) is
+
 -- the value of the one entry
 module _ {V : Type 0} (k x : Digest) (u v : V) (has : HasKey k ((x, u) ∷ [])) where
   same_key : x ≡ k
@@ -136,14 +146,14 @@ pub record AtLeaf {V : Type 0} (d : List (Digest × V)) (k x : Digest) (u v : V)
   pub is : (x, v) ∷ [] ≡ insert_entry digest_cmp d k v
   pub all : AreEntries ((x, v) ∷ [])
 
-pub at_leaf : {V A : Type 0} {link : Option (Box (Node V A) A)} {d : List (Digest × V)} {node : Box (Node V A) A} {n : Node V A} {x : Digest} {u : V} (k : Digest) (v : V)
-    → entries_of link ≡ d → IsTree link → link ≡ Some node → n ≡ node.value → n ≡ Leaf x u → HasKey k d → AtLeaf d k x u v
-at_leaf {x = x} {u = u} k v view_is good some behind is has =
-    let e = at_Leaf view_is some behind is in
-    let here = subst (HasKey k) e has in
-    let all : AreEntries ((x, u) ∷ []) = subst (λ y. AreEntries (entries_in y)) (sym behind ∙ is) (subst IsTree some good).1 in
+pub at_leaf : {V A : Type 0} {link : Link V A} {d : List (Digest × V)} {leaf : Box (Entry V) A} {e : Entry V} (k : Digest) (v : V)
+    → entries_of link ≡ d → IsTree link → link ≡ Leaf leaf → e ≡ leaf.value → HasKey k d → AtLeaf d k e.digest e.value v
+at_leaf {V} {e = e} k v view_is good at behind has =
+    let alone = at_Leaf view_is at behind in
+    let here = subst (HasKey k) alone has in
+    let all : AreEntries ((e.digest, e.value) ∷ []) = subst (λ (x : Entry V). AreEntries ((x.digest, x.value) ∷ [])) (sym behind) (subst IsTree at good) in
     record {
-      found = ap (lookup (is_at (digest_cmp k))) e ∙ leaf_found k x u v here;
-      is = leaf_replaced k x u v here ∙ ap (λ es. insert_entry digest_cmp es k v) (sym e);
+      found = ap (lookup (is_at (digest_cmp k))) alone ∙ leaf_found k e.digest e.value v here;
+      is = leaf_replaced k e.digest e.value v here ∙ ap (λ es. insert_entry digest_cmp es k v) (sym alone);
       all = record { ascending = all.ascending; bytes = all.bytes };
     }

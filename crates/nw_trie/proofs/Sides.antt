@@ -10,9 +10,11 @@ use Rattle.std.proofs.lemmas.Bool.{cases_lt}
 use Rattle.nw_digest.specs.declared.digest.Digest.{Digest}
 use Rattle.nw_trie.specs.Bits.{AgreeBelow, bit_of, digest_cmp}
 use Rattle.nw_trie.specs.Entries.{AreEntries, BranchesAt, EachKey, HasKey, IsFork}
-use Rattle.nw_trie.specs.Tree.{entries_in, entries_of, IsNode, IsTree}
-use Rattle.nw_trie.specs.declared.tree.Node.{Node}
-use Rattle.nw_trie.specs.declared.tree.Node.TheVariants.{Leaf, Fork}
+use Rattle.nw_trie.specs.Tree.{entries_of, IsTree}
+use Rattle.nw_trie.specs.declared.tree.Entry.{Entry}
+use Rattle.nw_trie.specs.declared.tree.Link.{Link}
+use Rattle.nw_trie.specs.declared.tree.Link.TheVariants.{Leaf, Fork}
+use Rattle.nw_trie.specs.declared.tree.Sides.{Sides}
 use Rattle.nw_trie.proofs.DigestBits.{same_bits}
 use Rattle.nw_trie.proofs.Keys.{each_left, each_right, each_both, each_more, each_pair, some_left, some_right, some_of_each}
 
@@ -22,20 +24,17 @@ pub record AtFork {V : Type 0} (d : List (Digest × V)) (bit : ℕ) (l r : List 
   pub fork : IsFork bit l r
   pub all : AreEntries (l ++ r)
 
-pub at_Fork : {V A : Type 0} {link : Option (Box (Node V A) A)} {d : List (Digest × V)} {node : Box (Node V A) A} {n : Node V A} {bit : ℕ} {l r : List (Digest × V)}
-    → entries_of link ≡ d → IsTree link → link ≡ Some node → n ≡ node.value → n ≡ Fork bit l r → AtFork d bit l r
-at_Fork view_is good some behind is =
-    let e = ap entries_of some in
-    let f = sym behind ∙ is in
-    record {
-      is = sym view_is ∙ ap entries_of some ∙ ap entries_in f;
-      fork = subst IsNode f (subst IsTree some good).0;
-      all = subst (λ x. AreEntries (entries_in x)) f (subst IsTree some good).1;
-    }
+pub at_Fork : {V A : Type 0} {link : Link V A} {d : List (Digest × V)} {bit : ℕ} {sides : Box (Sides V A) A} {s : Sides V A}
+    → entries_of link ≡ d → IsTree link → link ≡ Fork bit sides → s ≡ sides.value → AtFork d bit s.left s.right
+at_Fork {V} {A} {bit = bit} view_is good at behind = record {
+  is = sym view_is ∙ ap entries_of at ∙ ap (λ (x : Sides V A). x.left ++ x.right) (sym behind);
+  fork = subst (λ (x : Sides V A). IsFork bit x.left x.right) (sym behind) (subst IsTree at good).0;
+  all = subst (λ (x : Sides V A). AreEntries (x.left ++ x.right)) (sym behind) (subst IsTree at good).1;
+}
 
-pub at_Leaf : {V A : Type 0} {link : Option (Box (Node V A) A)} {d : List (Digest × V)} {node : Box (Node V A) A} {n : Node V A} {k : Digest} {v : V}
-    → entries_of link ≡ d → link ≡ Some node → n ≡ node.value → n ≡ Leaf k v → d ≡ (k, v) ∷ []
-at_Leaf view_is some behind is = sym view_is ∙ ap entries_of some ∙ ap entries_in (sym behind ∙ is)
+pub at_Leaf : {V A : Type 0} {link : Link V A} {d : List (Digest × V)} {leaf : Box (Entry V) A} {e : Entry V}
+    → entries_of link ≡ d → link ≡ Leaf leaf → e ≡ leaf.value → d ≡ (e.digest, e.value) ∷ []
+at_Leaf {V} view_is at behind = sym view_is ∙ ap entries_of at ∙ ap (λ (x : Entry V). (x.digest, x.value) ∷ []) (sym behind)
 
 module _ {V : Type 0} where
   -- a look-up passes what does not match

@@ -1,15 +1,17 @@
 -- A leaf beside all other entries.
-use Rattle.std.proofs.Common.{◌≡◌, ◌∙◌, ℕ, ◌<◌, Bool, true, false, List, [], ◌∷◌, ◌++◌, Option, Some, None, Box, length, refl, sym, ap, subst, arith}
+use Rattle.std.proofs.Common.{◌≡◌, ◌∙◌, ℕ, ◌<◌, Bool, true, false, List, [], ◌∷◌, ◌++◌, None, Box, length, refl, sym, ap, subst, arith}
 use Rattle.std.specs.List.Sorted.{IsStrictlySortedBy}
 use Rattle.std.specs.Map.{lookup}
 use Rattle.std.specs.BTreeMap.{insert_entry, is_at}
 use Rattle.std.proofs.lemmas.List.{append-nil}
 use Rattle.nw_digest.specs.declared.digest.Digest.{Digest}
-use Rattle.nw_trie.specs.declared.tree.Node.{Node}
-use Rattle.nw_trie.specs.declared.tree.Node.TheVariants.{Leaf}
+use Rattle.nw_trie.specs.declared.tree.Entry.{Entry}
+use Rattle.nw_trie.specs.declared.tree.Link.{Link}
+use Rattle.nw_trie.specs.declared.tree.Link.TheVariants.{Empty, Leaf, Fork}
+use Rattle.nw_trie.specs.declared.tree.Sides.{Sides}
 use Rattle.nw_trie.specs.Bits.{AgreeBelow, AreBytes, DifferFirst, bit_of, digest_cmp}
 use Rattle.nw_trie.specs.Entries.{AreEntries, BranchesAt, EachKey, IsFork}
-use Rattle.nw_trie.specs.Tree.{entries_in, entries_of, IsNode, IsTree}
+use Rattle.nw_trie.specs.Tree.{entries_of, IsTree}
 use Rattle.nw_trie.proofs.DigestBits.{digest_less, digest_greater, same_bits}
 use Rattle.nw_trie.proofs.Keys.{each_both, each_more, each_pair}
 use Rattle.nw_trie.proofs.Sides.{none_found, unlike}
@@ -19,9 +21,16 @@ no_entries : {V : Type 0} → AreEntries {V = V} []
 unfolding IsStrictlySortedBy
 no_entries = record { ascending = tt; bytes = tt }
 
-pub tree_entries : {V A : Type 0} (link : Option (Box (Node V A) A)) (d : List (Digest × V)) → entries_of link ≡ d → IsTree link → AreEntries d
-tree_entries None d is good = subst AreEntries is no_entries
-tree_entries (Some node) d is good = subst AreEntries is good.1
+pub tree_entries : {V A : Type 0} (link : Link V A) (d : List (Digest × V)) → entries_of link ≡ d → IsTree link → AreEntries d
+tree_entries Empty d is good = subst AreEntries is no_entries
+tree_entries (Leaf leaf) d is good = subst AreEntries is good
+tree_entries (Fork bit sides) d is good = subst AreEntries is good.1
+
+-- what is neither a fork nor a leaf has no entries
+pub none_there : {V A : Type 0} (link : Link V A) → ((bit : ℕ) (sides : Box (Sides V A) A) → link ≡ Fork bit sides → ⊥) → ((leaf : Box (Entry V) A) → link ≡ Leaf leaf → ⊥) → entries_of link ≡ []
+none_there Empty no_fork no_leaf = refl
+none_there (Leaf leaf) no_fork no_leaf = absurd (no_leaf leaf refl)
+none_there (Fork bit sides) no_fork no_leaf = absurd (no_fork bit sides refl)
 
 other : (b c : Bool) → b ≡ true → (b ≡ c → ⊥) → c ≡ false
 other b true is apart = absurd (apart is)
@@ -84,10 +93,8 @@ module _ {V : Type 0} (d : Digest) (bit : ℕ) (es : List (Digest × V)) (differ
     entries_before off = one d leaf is (λ l. AreEntries (l ++ es)) (λ v. subst AreEntries (sym (before_all off v)) (entries_insert d v es bytes all))
 
 -- a leaf alone
-pub leaf_node : {V A : Type 0} (n : Node V A) (d : Digest) (v : V) → AreBytes d.0 → n ≡ Leaf d v → IsNode n × AreEntries (entries_in n)
-leaf_node n d v bytes is =
-    let all = entries_insert d v [] bytes no_entries in
-    rw is (tt, all)
+pub leaf_entries : {V : Type 0} (e : Entry V) (d : Digest) (v : V) → AreBytes d.0 → e ≡ record { digest = d; value = v } → AreEntries ((e.digest, e.value) ∷ [])
+leaf_entries e d v bytes is = rw is (entries_insert d v [] bytes no_entries)
 
 -- a digest that branches off is not there
 pub absent_branch : {V : Type 0} (k : Digest) (bit : ℕ) (d es : List (Digest × V)) → es ≡ d → BranchesAt k bit es → lookup (is_at (digest_cmp k)) d ≡ None

@@ -1,16 +1,13 @@
 -- Each side of a fork has fewer entries than the fork.
-use Rattle.std.specs.Prelude.{◌≤◌, length, Option, Some, None}
-use Rattle.std.proofs.Common.{Box, arith, length-append}
+use Rattle.std.specs.Prelude.{◌≤◌, length}
+use Rattle.std.proofs.Common.{arith, length-append}
 use Rattle.std.specs.declared.alloc.Allocator.{Ghosts}
-use Rattle.nw_trie.specs.declared.tree.Node.{Node}
-use Rattle.nw_trie.specs.declared.tree.Node.TheVariants.{Leaf, Fork}
-use Rattle.nw_trie.specs.declared.tree.Tree.TheDeep.{deep-Node, deep-Tree}
-use Rattle.nw_trie.specs.Tree.{entries_in, entries_of, IsNode, IsTree}
+use Rattle.nw_trie.specs.declared.tree.Link.{Link}
+use Rattle.nw_trie.specs.declared.tree.Link.TheVariants.{Empty, Leaf, Fork}
+use Rattle.nw_trie.specs.declared.tree.Tree.TheDeep.{deep-Tree}
+use Rattle.nw_trie.specs.Tree.{entries_of, IsTree}
 
-deep_node : {V A : Type 0} (G : Ghosts A) (n : Node V A) → IsNode n → deep-Node V A G n ≤ length (entries_in n)
-deep_node G (Leaf digest value) h = omega arith
-deep_node G (Fork bit left right) h = omega (arith, length-append left right, h.left_full, h.right_full)
-
-pub deep_link : {V A : Type 0} (G : Ghosts A) (link : Option (Box (Node V A) A)) → IsTree link → deep-Tree V A G (record { link = link }) ≤ length (entries_of link)
-deep_link G None h = omega arith
-deep_link {V} {A} G (Some node) h = omega (arith, deep_node G node.value h.0)
+pub deep_link : {V A : Type 0} (G : Ghosts A) (link : Link V A) → IsTree link → deep-Tree V A G (record { link = link }) ≤ length (entries_of link)
+deep_link G Empty h = omega arith
+deep_link G (Leaf leaf) h = omega arith
+deep_link G (Fork bit sides) h = omega (arith, length-append sides.value.left sides.value.right, h.0.left_full, h.0.right_full)

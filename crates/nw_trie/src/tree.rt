@@ -8,6 +8,10 @@ ghost use Rattle.nw_trie.specs.Bits.{DifferFirst, digest_cmp};
 ghost use Rattle.nw_trie.specs.Entries.{AreEntries, BranchesAt, EachKey, HasKey, IsFork};
 ghost use Rattle.std.specs.Map.Iter.{deref_pair};
 ghost use Rattle.nw_trie.specs.After.{after, first_entry};
+ghost use Rattle.std.specs.Borrow.{sem, follows};
+ghost use Rattle.nw_trie.specs.contracts.tree.Tree as tree;
+ghost use Rattle.nw_trie.specs.contracts.tree.Sides as sides;
+ghost use Rattle.nw_trie.specs.Tree.{side_of, with_side};
 
 mod removal;
 
@@ -21,15 +25,32 @@ use std::mem;
 #[cycle(tree)]
 #[derive(Drop)]
 pub(crate) struct Tree<V: Drop, A: Allocator> {
-    link: Option<Box<Node<V, A>, A>>,
+    link: Link<V, A>,
 }
 
-/// One digest with its value, or the digests on both sides of a bit.
+/// No digest, one digest with its value, or the digests on both sides of a bit. The bit stands beside the address of the
+/// fork, so that a look-up reads one side of a fork alone.
 #[cycle(tree)]
 #[derive(Drop)]
-pub(crate) enum Node<V: Drop, A: Allocator> {
-    Leaf(Digest, V),
-    Fork(u8, Tree<V, A>, Tree<V, A>),
+pub(crate) enum Link<V: Drop, A: Allocator> {
+    Empty,
+    Leaf(Box<Entry<V>, A>),
+    Fork(u8, Box<Sides<V, A>, A>),
+}
+
+/// One digest with its value.
+#[derive(Drop)]
+pub(crate) struct Entry<V: Drop> {
+    digest: Digest,
+    value: V,
+}
+
+/// The digests without a bit, and those with it.
+#[cycle(tree)]
+#[derive(Drop)]
+pub(crate) struct Sides<V: Drop, A: Allocator> {
+    left: Tree<V, A>,
+    right: Tree<V, A>,
 }
 
 impl<V: Drop, A: Allocator> Model for Tree<V, A> {
@@ -56,7 +77,7 @@ impl<V: Drop, A: Allocator> Tree<V, A> {
     pub(crate) fn empty() -> Tree<V, A>
         ensures { result ≡ [] }
     {
-        Tree { link: None }
+        Tree { link: Link::Empty }
     }
 
     /// The digest with its value, or the value where memory is refused.
@@ -70,29 +91,29 @@ impl<V: Drop, A: Allocator> Tree<V, A> {
         let Ok(alloc) = alloc.clone() else {
             return Err(value);
         };
-        match Box::new(alloc, Node::Leaf(digest, value)) {
-            Ok(node) => Ok(Tree { link: Some(node) }),
-            Err(refused) => match refused.value {
-                Node::Leaf(_, value) => Err(value),
-                Node::Fork(..) => unreachable!(),
-            },
+        match Box::new(alloc, Entry { digest, value }) {
+            Ok(leaf) => Ok(Tree {
+                link: Link::Leaf(leaf),
+            }),
+            Err(refused) => Err(refused.value.value),
         }
     }
 
     /// The memory of a fork.
-    pub(crate) fn spare(alloc: &A) -> Option<Box<Node<V, A>, A>>
+    pub(crate) fn spare(alloc: &A) -> Option<Box<Sides<V, A>, A>>
     where
         A: Clone,
     {
         let alloc = alloc.clone().ok()?;
-        Box::new(alloc, Node::Fork(0, Tree::empty(), Tree::empty())).ok()
+        let (left, right) = (Tree::empty(), Tree::empty());
+        Box::new(alloc, Sides { left, right }).ok()
     }
 
     /// Whether it has no digest.
     pub(crate) fn is_empty(&self) -> bool
         ensures { MatchBool result (self.now ≡ []) (0 < length self.now) }
     {
-        self.link.is_none()
+        matches!(&self.link, Link::Empty)
     }
 
     /// The value of the digest.
@@ -100,17 +121,15 @@ impl<V: Drop, A: Allocator> Tree<V, A> {
         ensures { option_copied result ≡ lookup (is_at (digest_cmp digest.now)) self.now }
     {
         let mut tree = self;
-        while let Some(node) = &tree.link {
-            match &**node {
-                Node::Leaf(key, value) => {
-                    return if digest == key { Some(value) } else { None };
-                }
-                Node::Fork(bit, left, right) => {
-                    tree = if is_set(digest, *bit) { right } else { left };
-                }
-            }
+        while let Link::Fork(bit, sides) = &tree.link {
+            let Sides { left, right } = &**sides;
+            tree = if is_set(digest, *bit) { right } else { left };
         }
-        None
+        let Link::Leaf(leaf) = &tree.link else {
+            return None;
+        };
+        let Entry { digest: key, value } = &**leaf;
+        if digest == key { Some(value) } else { None }
     }
 
     /// The first digest, with its value.
@@ -120,13 +139,15 @@ impl<V: Drop, A: Allocator> Tree<V, A> {
     {
         let _ = &self.link;
         let mut tree = self;
-        while let Some(node) = &tree.link {
-            match &**node {
-                Node::Leaf(key, value) => return Some((key, value)),
-                Node::Fork(_bit, left, _right) => tree = left,
-            }
+        while let Link::Fork(_bit, sides) = &tree.link {
+            let Sides { left, right: _ } = &**sides;
+            tree = left;
         }
-        None
+        let Link::Leaf(leaf) = &tree.link else {
+            return None;
+        };
+        let Entry { digest, value } = &**leaf;
+        Some((digest, value))
     }
 
     /// The digest after this one, with its value.
@@ -134,12 +155,10 @@ impl<V: Drop, A: Allocator> Tree<V, A> {
         requires { HasKey digest.now self.now }
         ensures { option_map deref_pair result ≡ first_entry (after digest.now self.now) }
     {
-        let Some(node) = &self.link else {
+        let Link::Fork(bit, sides) = &self.link else {
             return None;
         };
-        let Node::Fork(bit, left, right) = &**node else {
-            return None;
-        };
+        let Sides { left, right } = &**sides;
         if is_set(digest, *bit) {
             return right.after(digest);
         }
@@ -154,19 +173,19 @@ impl<V: Drop, A: Allocator> Tree<V, A> {
         requires { 0 < length self.now }
         ensures { MatchOption result (HasKey digest.now self.now) (λ bit. BranchesAt digest.now bit self.now) }
     {
-        match &self.link {
-            None => None,
-            Some(node) => match &**node {
-                Node::Leaf(key, _) => first_difference(digest, key),
-                Node::Fork(bit, left, right) => {
-                    if is_set(digest, *bit) {
-                        right.branch(digest)
-                    } else {
-                        left.branch(digest)
-                    }
-                }
-            },
+        let mut near = self;
+        while let Link::Fork(bit, sides) = &near.link {
+            let Sides { left, right } = &**sides;
+            near = if is_set(digest, *bit) { right } else { left };
         }
+        let Link::Leaf(leaf) = &near.link else {
+            return None;
+        };
+        let Entry {
+            digest: key,
+            value: _,
+        } = &**leaf;
+        first_difference(digest, key)
     }
 
     /// Puts the value in the place of the digest's, and hands that one back.
@@ -177,17 +196,16 @@ impl<V: Drop, A: Allocator> Tree<V, A> {
         ensures len { length self.new ≡ length self.old }
     {
         match &mut self.link {
-            None => unreachable!(),
-            Some(node) => match &mut **node {
-                Node::Leaf(_key, place) => mem::replace(place, value),
-                Node::Fork(bit, left, right) => {
-                    if is_set(digest, *bit) {
-                        right.replace(digest, value)
-                    } else {
-                        left.replace(digest, value)
-                    }
+            Link::Empty => unreachable!(),
+            Link::Leaf(leaf) => mem::replace(&mut leaf.value, value),
+            Link::Fork(bit, sides) => {
+                let Sides { left, right } = &mut **sides;
+                if is_set(digest, *bit) {
+                    right.replace(digest, value)
+                } else {
+                    left.replace(digest, value)
                 }
-            },
+            }
         }
     }
 
@@ -196,7 +214,7 @@ impl<V: Drop, A: Allocator> Tree<V, A> {
         &mut self,
         digest: &Digest,
         bit: u8,
-        fork: Box<Node<V, A>, A>,
+        fork: Box<Sides<V, A>, A>,
         leaf: Tree<V, A>,
     )
         requires branches { BranchesAt digest.now bit self.old }
@@ -204,23 +222,18 @@ impl<V: Drop, A: Allocator> Tree<V, A> {
         ensures entries { (value : V) → leaf ≡ (digest.now, value) ∷ [] → self.new ≡ insert_entry digest_cmp self.old digest.now value }
         ensures len { length self.new ≡ length self.old + 1 }
     {
-        if let Some(node) = &mut self.link {
-            if let Node::Fork(at, left, right) = &mut **node {
-                if *at < bit {
-                    if is_set(digest, *at) {
-                        right.graft(digest, bit, fork, leaf);
-                    } else {
-                        left.graft(digest, bit, fork, leaf);
-                    }
-                    return;
-                }
+        if let Link::Fork(at, sides) = &mut self.link {
+            if *at < bit {
+                let side = sides.side_mut(is_set(digest, *at));
+                side.graft(digest, bit, fork, leaf);
+                return;
             }
         }
         self.split(digest, bit, fork, leaf);
     }
 
     /// Puts the leaf beside all others, which its digest differs from first at the bit.
-    fn split(&mut self, digest: &Digest, bit: u8, fork: Box<Node<V, A>, A>, leaf: Tree<V, A>)
+    fn split(&mut self, digest: &Digest, bit: u8, fork: Box<Sides<V, A>, A>, leaf: Tree<V, A>)
         requires differ { EachKey (λ k. DifferFirst bit digest.now k) self.old }
         requires full { 0 < length self.old }
         requires leaf { (value : V) × (leaf ≡ (digest.now, value) ∷ []) }
@@ -238,7 +251,7 @@ impl<V: Drop, A: Allocator> Tree<V, A> {
 
     /// The two sides of the bit, in a fork that was made before.
     fn forked(
-        mut node: Box<Node<V, A>, A>,
+        mut sides: Box<Sides<V, A>, A>,
         bit: u8,
         left: Tree<V, A>,
         right: Tree<V, A>,
@@ -247,7 +260,18 @@ impl<V: Drop, A: Allocator> Tree<V, A> {
         requires entries { AreEntries (left ++ right) }
         ensures { result ≡ left ++ right }
     {
-        let _empty = Box::replace(&mut node, Node::Fork(bit, left, right));
-        Tree { link: Some(node) }
+        let _empty = Box::replace(&mut sides, Sides { left, right });
+        let link = Link::Fork(bit, sides);
+        Tree { link }
+    }
+}
+
+impl<V: Drop, A: Allocator> Sides<V, A> {
+    /// The side of the digests that have the bit set, or the other side.
+    fn side_mut(&mut self, set: bool) -> &mut Tree<V, A>
+        ensures* writes_back { sem 𝓛 (follows (sides.the_row V.row A.row A.Allocator) (tree.the_row V.row A.row A.Allocator) self.entry.ghost_name result.ghost_name (with_side self.old set)) }
+        ensures value { result.now ≡ side_of self.old set }
+    {
+        if set { &mut self.right } else { &mut self.left }
     }
 }

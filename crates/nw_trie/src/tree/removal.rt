@@ -5,10 +5,11 @@ ghost use Rattle.std.specs.BTreeMap.{is_at};
 ghost use Rattle.nw_trie.specs.Bits.{digest_cmp};
 ghost use Rattle.nw_trie.specs.Tree.{IsNearlyTree, IsTree, entries_of};
 
-use super::{Node, Tree};
+use super::{Entry, Link, Sides, Tree};
 use crate::bits::is_set;
 use nw_digest::{Digest, InRound, Round};
 use std::alloc::Allocator;
+use std::mem;
 
 impl<V: Drop, A: Allocator> Tree<V, A> {
     /// Takes the digest out, with its value.
@@ -16,12 +17,10 @@ impl<V: Drop, A: Allocator> Tree<V, A> {
         ensures value { result ≡ lookup (is_at (digest_cmp digest.now)) self.old }
         ensures entries { self.new ≡ remove_entry (is_at (digest_cmp digest.now)) self.old }
     {
-        let Some(node) = &mut self.link else {
-            return None;
-        };
-        let Node::Fork(bit, left, right) = &mut **node else {
+        let Link::Fork(bit, sides) = &mut self.link else {
             return self.remove_leaf(digest);
         };
+        let Sides { left, right } = &mut **sides;
         let value = if is_set(digest, *bit) {
             right.remove(digest)
         } else {
@@ -40,9 +39,9 @@ impl<V: Drop, A: Allocator> Tree<V, A> {
         if self.get(digest).is_none() {
             return None;
         }
-        match Box::into_inner(self.link.take()?) {
-            Node::Leaf(_, value) => Some(value),
-            Node::Fork(..) => unreachable!(),
+        match mem::replace(&mut self.link, Link::Empty) {
+            Link::Leaf(leaf) => Some(Box::into_inner(leaf).value),
+            Link::Empty | Link::Fork(..) => unreachable!(),
         }
     }
 
@@ -54,18 +53,18 @@ impl<V: Drop, A: Allocator> Tree<V, A> {
         ensures kept { self.new ≡ filter (λ e. nat_le floor (V.round_of e.1)) self.old }
         ensures counted { length self.new + result ≡ length self.old }
     {
-        let Some(node) = &mut self.link else {
-            return 0;
-        };
-        match &mut **node {
-            Node::Leaf(_key, value) => {
+        match &mut self.link {
+            Link::Empty => 0,
+            Link::Leaf(leaf) => {
+                let Entry { digest: _, value } = &mut **leaf;
                 if value.round() >= floor {
                     return 0;
                 }
-                self.link = None;
+                self.link = Link::Empty;
                 1
             }
-            Node::Fork(_bit, left, right) => {
+            Link::Fork(_bit, sides) => {
+                let Sides { left, right } = &mut **sides;
                 let dropped = left.retain_rounds(floor) + right.retain_rounds(floor);
                 drop_empty_side(&mut self.link);
                 dropped
@@ -75,20 +74,18 @@ impl<V: Drop, A: Allocator> Tree<V, A> {
 }
 
 /// Puts the other side in the place of a fork that has lost one.
-fn drop_empty_side<V: Drop, A: Allocator>(link: &mut Option<Box<Node<V, A>, A>>)
+fn drop_empty_side<V: Drop, A: Allocator>(link: &mut Link<V, A>)
     requires { IsNearlyTree link.old }
     ensures tree { IsTree link.new }
     ensures entries { entries_of link.new ≡ entries_of link.old }
 {
-    let Some(node) = link else {
-        return;
-    };
-    if let Node::Fork(_bit, left, right) = &mut **node {
+    if let Link::Fork(_bit, sides) = link {
+        let Sides { left, right } = &mut **sides;
         if left.is_empty() {
-            let rest = right.link.take();
+            let rest = mem::replace(&mut right.link, Link::Empty);
             *link = rest;
         } else if right.is_empty() {
-            let rest = left.link.take();
+            let rest = mem::replace(&mut left.link, Link::Empty);
             *link = rest;
         }
     }

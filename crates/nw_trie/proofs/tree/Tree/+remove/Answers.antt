@@ -6,7 +6,7 @@ use Rattle.nw_trie.proofs.tree.Tree.+remove.Goals.{then-is_set, else-is_set}
 
 pub drop_empty_side-requires : goal.drop_empty_side-requires
 drop_empty_side-requires g t c =
-    let fork = at_Fork c.self.view_is c.self.invariant c.in-Some.is c.deref_mut.ensures.value c.in-Fork.is in
+    let fork = at_Fork c.self.view_is c.self.invariant c.in-Fork.is c.deref_mut.ensures.value in
     elim c.if-is_set.branch [
       | then-is_set w ↦
           let shrunk = shrunk_right fork c.args.digest.now w.remove-value.new.self (sym c.is_set.ensures.bit ∙ w.if-is_set.true) w.remove-value.ensures.entries in
@@ -18,7 +18,7 @@ drop_empty_side-requires g t c =
 
 pub returns-clause-value : goal.returns-clause-value
 returns-clause-value g t c =
-    let fork = at_Fork c.self.view_is c.self.invariant c.in-Some.is c.deref_mut.ensures.value c.in-Fork.is in
+    let fork = at_Fork c.self.view_is c.self.invariant c.in-Fork.is c.deref_mut.ensures.value in
     elim c.if-is_set.branch [
       | then-is_set w ↦ w.value-is ∙ w.remove-value.ensures.value ∙ lookup_right fork c.args.digest.now (sym c.is_set.ensures.bit ∙ w.if-is_set.true)
       | else-is_set w ↦ w.value-is ∙ w.remove-value-else-is_set.ensures.value ∙ lookup_left fork c.args.digest.now (sym c.is_set.ensures.bit ∙ w.if-is_set.false)
@@ -26,7 +26,7 @@ returns-clause-value g t c =
 
 pub returns-clause-entries : goal.returns-clause-entries
 returns-clause-entries g t c =
-    let fork = at_Fork c.self.view_is c.self.invariant c.in-Some.is c.deref_mut.ensures.value c.in-Fork.is in
+    let fork = at_Fork c.self.view_is c.self.invariant c.in-Fork.is c.deref_mut.ensures.value in
     elim c.if-is_set.branch [
       | then-is_set w ↦
           let shrunk = shrunk_right fork c.args.digest.now w.remove-value.new.self (sym c.is_set.ensures.bit ∙ w.if-is_set.true) w.remove-value.ensures.entries in
