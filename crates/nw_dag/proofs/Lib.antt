@@ -1,0 +1,5 @@
+pub mod Opening
+pub mod Pairs
+pub mod Cascade
+pub mod Complete
+pub mod Arrival

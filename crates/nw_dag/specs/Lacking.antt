@@ -1,0 +1,59 @@
+-- What held blocks lack.
+use Rattle.std.specs.Prelude.{◌≡◌, ◌↔◌, ℕ, ◌+◌, ◌<◌, ◌⊎◌, List, Some, All, Contains}
+use Rattle.std.specs.FinMap.{get}
+use Rattle.nw_digest.specs.declared.digest.Digest.{Digest}
+use Rattle.nw_codec.specs.declared.block.Ref.{Ref}
+use Rattle.nw_codec.specs.declared.block.Block.{Block}
+use Rattle.nw_waiting.specs.Pairs.{Pairs, Lacks, without_wanted}
+use Rattle.nw_waiting.specs.declared.wanted.Wanted.{Wanted}
+use Rattle.nw_model.specs.State.{State}
+use Rattle.nw_model.specs.Paths.{IsStanding}
+
+-- what a reference of a block of this round names: its author and digest, in the round before
+abbrev pub IsNamedBy : ℕ → Ref → Wanted → Type 0
+IsNamedBy round r w = (w.round + 1 ≡ round) × (w.author ≡ r.author) × (w.digest ≡ r.digest)
+
+-- one of these references of a block of this round names it
+abbrev pub IsNamedAmong : ℕ → List Ref → Wanted → Type 0
+IsNamedAmong round refs w = (r : Ref) × Contains refs r × IsNamedBy round r w
+
+-- the block under d is of a round above the garbage round, and one of its references names w
+abbrev pub Names : State → Digest → Wanted → Type 0
+Names s d w = (b : Block) × (get s.blocks d ≡ Some b) × (s.floor < b.round) × IsNamedAmong b.round b.parents w
+
+-- a block stands under d
+abbrev pub Stands : State → Digest → Type 0
+Stands s d = (b : Block) × IsStanding s d b
+
+-- what w names stands, of that round and author
+abbrev pub IsMet : State → Wanted → Type 0
+IsMet s w = (b : Block) × IsStanding s w.digest b × (b.author ≡ w.author) × (b.round ≡ w.round)
+
+-- d stands and lacks nothing
+abbrev pub IsReady : State → Pairs → Digest → Type 0
+IsReady s lacking d = Stands s d × ((w : Wanted) → Lacks lacking d w → ⊥)
+
+-- d is ready, and not due
+abbrev pub IsPromoted : State → Pairs → List Digest → Digest → Type 0
+IsPromoted s lacking due d = IsReady s lacking d × (Contains due d → ⊥)
+
+-- what d lacks are exactly the parents that it names and that do not stand
+abbrev pub AreUnmet : State → Pairs → Type 0
+AreUnmet s unmet = (d : Digest) (w : Wanted) → Lacks unmet d w ↔ (Names s d w × (IsMet s w → ⊥))
+
+-- what d lacks are exactly the parents that it names and that do not stand or were not promoted; what is due is ready
+pub record AreLacking (s : State) (lacking : Pairs) (due : List Digest) : Type 0 where
+  pub each : (d : Digest) (w : Wanted) → Names s d w → Lacks lacking d w ⊎ (IsMet s w × IsPromoted s lacking due w.digest)
+  pub only : (d : Digest) (w : Wanted) → Lacks lacking d w → Names s d w × (IsMet s w → IsPromoted s lacking due w.digest → ⊥)
+  pub ready : All (IsReady s lacking) due
+
+-- what names the block under d
+abbrev pub named_as : Digest → Block → Wanted
+named_as d b = record { round = b.round; author = b.author; digest = d }
+
+-- what is due after e was promoted, whose block nobody lacks any more: the rest, and what lacked it and is ready now
+pub record Promotes (s : State) (old new : Pairs) (e : Digest) (rest due : List Digest) : Type 0 where
+  pub block : Block
+  pub held : get s.blocks e ≡ Some block
+  pub lost : new ≡ without_wanted old (named_as e block)
+  pub exactly : (x : Digest) → Contains due x ↔ (Contains rest x ⊎ (Lacks old x (named_as e block) × IsReady s new x))
