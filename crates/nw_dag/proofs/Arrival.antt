@@ -1,16 +1,18 @@
 -- What is lacked after one more block stands.
-use Rattle.std.proofs.Common.{◌≡◌, ◌↔◌, ◌⊎◌, ℕ, List, [], get_or, Some, All, refl, ap, sym, ◌∙◌, subst, arith, inl, inr}
+use Rattle.std.proofs.Common.{◌≡◌, ◌↔◌, ◌⊎◌, ℕ, List, [], ◌∷◌, Some, All, refl, ap, sym, ◌∙◌, subst, arith, inl, inr}
 use Rattle.std.specs.Prelude.{Contains}
 use Rattle.std.specs.FinMap.{get}
-use Rattle.std.proofs.lemmas.List.Elements.{Contains-get_or}
+use Rattle.std.proofs.lemmas.List.Elements.{All-weaker, All-contains}
 use Rattle.nw_digest.specs.declared.digest.Digest.{Digest}
 use Rattle.nw_codec.specs.declared.block.Block.{Block}
 use Rattle.nw_waiting.specs.declared.wanted.Wanted.{Wanted}
 use Rattle.nw_waiting.specs.Pairs.{Pairs, Lacks, without_wanted}
 use Rattle.nw_model.specs.State.{State}
 use Rattle.nw_model.specs.Paths.{IsStanding}
-use Rattle.nw_dag.specs.Lacking.{Names, Stands, IsMet, IsReady, IsPromoted, AreLacking, AreUnmet, named_as}
-use Rattle.nw_dag.proofs.Pairs.{without_wanted_lacks, same_or_not}
+use Rattle.nw_model.proofs.Listed.{contains_cases, contains_first, contains_none}
+use Rattle.nw_dag.specs.Lacking.{Names, Stands, IsMet, IsReady, IsPromoted, AreLacking, AreUnmet, AreUnmetBut, named_as}
+use Rattle.nw_dag.specs.Settled.{AreFresh}
+use Rattle.nw_dag.proofs.Pairs.{without_wanted_lacks}
 use Rattle.nw_dag.proofs.Cascade.{met_under}
 
 -- t is s, where d does not stand; the other digests stand in both or in none
@@ -33,24 +35,27 @@ module _ (s t : State) (d : Digest) (arrives : Arrives s t d) where
   met_before : (w : Wanted) → IsMet t w → (w.digest ≡ d → ⊥) → IsMet s w
   met_before w (b, stands, author, round) other = (b, (arrives.others w.digest b other).0 stands, author, round)
 
-  module _ (old new : Pairs) (due : List Digest) (since : AreLackingSince s t d old new) (exactly : (x : Digest) → Contains due x ↔ ((x ≡ d) × IsReady t new d)) where
+  module _ (old new : Pairs) (since : AreLackingSince s t d old new) where
     apart : (x : Digest) → IsReady s old x → x ≡ d → ⊥
     apart x ready same = arrives.absent (subst (λ q. Stands s q) same ready.0)
 
-    promoted_still : (x : Digest) → IsReady s old x → IsPromoted t new due x
-    promoted_still x ready =
+    pub ready_still : (x : Digest) → IsReady s old x → IsReady t new x
+    ready_still x ready =
         let other = apart x ready in
-        (((ready.0.0, (arrives.others x ready.0.0 other).1 ready.0.1), λ w lacks. ready.1 w ((since.same x w other).0 lacks)), λ among. other ((exactly x).0 among).0)
+        ((ready.0.0, (arrives.others x ready.0.0 other).1 ready.0.1), λ w lacks. ready.1 w ((since.same x w other).0 lacks))
 
-    not_d : (x : Digest) → IsPromoted t new due x → x ≡ d → ⊥
-    not_d x promoted same = promoted.1 ((exactly x).1 (same, subst (λ q. IsReady t new q) same promoted.0))
+    not_d : (x : Digest) → IsPromoted t new (d ∷ []) x → x ≡ d → ⊥
+    not_d x promoted same = promoted.1 (subst (Contains (d ∷ [])) (sym same) (contains_first d []))
 
-    ready_before : (x : Digest) → IsPromoted t new due x → IsReady s old x
+    promoted_still : (x : Digest) → IsReady s old x → IsPromoted t new (d ∷ []) x
+    promoted_still x ready = (ready_still x ready, λ among. elim (contains_cases d [] x among) [ inl here ↦ apart x ready (sym here) | inr there ↦ contains_none x there ])
+
+    ready_before : (x : Digest) → IsPromoted t new (d ∷ []) x → IsReady s old x
     ready_before x promoted =
         let other = not_d x promoted in
         ((promoted.0.0.0, (arrives.others x promoted.0.0.0 other).0 promoted.0.0.1), λ w lacks. promoted.0.1 w ((since.same x w other).1 lacks))
 
-    pub arrived : AreLacking t new due
+    pub arrived : AreLacking t new (d ∷ [])
     arrived = record {
       each = λ h w names. elim (since.each h w names) [
         | inl lacks ↦ inl lacks
@@ -58,33 +63,56 @@ module _ (s t : State) (d : Digest) (arrives : Arrives s t d) where
       ];
       only = λ h w lacks. let both = since.only h w lacks in
           (both.0, λ met promoted. both.1 (met_before w met (not_d w.digest promoted)) (ready_before w.digest promoted));
-      ready = λ k x lt.
-          let at = (exactly (get_or due k x)).0 (Contains-get_or due k x lt) in
-          subst (λ q. IsReady t new q) (sym at.0) at.1;
     }
 
-  -- nobody lacks it any more
-  pub met_arrived : (b : Block) (old new : Pairs) → IsStanding t d b → ((h : Digest) (w : Wanted) → Lacks old h w ↔ (Names t h w × (IsMet s w → ⊥))) → new ≡ without_wanted old (named_as d b) → AreUnmet t new
-  met_arrived b old new stands since is h w = (
-    λ lacks.
-        let was = (without_wanted_lacks old (named_as d b) w h).0 (subst (λ (m : Pairs). Lacks m h w) is lacks) in
-        let both = (since h w).0 was.0 in (
-          both.0,
-          λ met. elim (same_or_not w.digest d) [
-            | inl here ↦ was.1 (sym (met_under t d b w stands.0 met here))
-            | inr other ↦ both.1 (met_before w met other)
-          ],
-        ),
-    λ (names, unmet). subst (λ (m : Pairs). Lacks m h w) (sym is) ((without_wanted_lacks old (named_as d b) w h).1 (
-      (since h w).1 (names, λ met. unmet (met_still w met)),
-      λ same. unmet (subst (λ (v : Wanted). IsMet t v) same (b, stands, refl, refl)),
-    )),
+    pub fresh_arrived : (fresh : List Digest) → AreFresh s old fresh → AreFresh t new fresh
+    fresh_arrived fresh listed = record { ready = All-weaker (IsReady s old) (IsReady t new) ready_still fresh listed.ready; once = listed.once }
+
+    pub fresh_apart : (fresh : List Digest) → AreFresh s old fresh → Contains fresh d → ⊥
+    fresh_apart fresh listed among = arrives.absent (All-contains (IsReady s old) fresh d listed.ready among).0
+
+  -- what was not met in s is what is not met in t but for d
+  pub unmet_arrived : (new : Pairs) → ((h : Digest) (w : Wanted) → Lacks new h w ↔ (Names t h w × (IsMet s w → ⊥))) → AreUnmetBut t d new
+  unmet_arrived new since h w = (
+    λ lacks. let both = (since h w).0 lacks in (both.0, λ met other. both.1 (met_before w met other)),
+    λ (names, unmet). (since h w).1 (names, λ met. unmet (met_still w met) (λ same. arrives.absent (subst (λ q. Stands s q) same (met.0, met.1)))),
   )
 
-  -- it does not stand yet
-  pub met_not_yet : (old : Pairs) → (Stands t d → ⊥) → ((h : Digest) (w : Wanted) → Lacks old h w ↔ (Names t h w × (IsMet s w → ⊥))) → AreUnmet t old
-  met_not_yet old not_yet since h w = (
-    λ lacks. let both = (since h w).0 lacks in
-        (both.0, λ met. both.1 (met_before w met (λ same. not_yet (subst (λ q. Stands t q) same (met.0, met.1))))),
-    λ (names, unmet). (since h w).1 (names, λ met. unmet (met_still w met)),
-  )
+-- nobody lacks d any more, which stands
+pub met_now : (t : State) (d : Digest) (b : Block) (old new : Pairs) → IsStanding t d b → AreUnmetBut t d old → new ≡ without_wanted old (named_as d b) → AreUnmet t new
+met_now t d b old new stands since is h w = (
+  λ lacks.
+      let was = (without_wanted_lacks old (named_as d b) w h).0 (subst (λ (m : Pairs). Lacks m h w) is lacks) in
+      let both = (since h w).0 was.0 in
+      (both.0, λ met. both.1 met (λ here. was.1 (sym (met_under t d b w stands.0 met here)))),
+  λ (names, unmet). subst (λ (m : Pairs). Lacks m h w) (sym is) ((without_wanted_lacks old (named_as d b) w h).1 (
+    (since h w).1 (names, λ met other. unmet met),
+    λ same. unmet (subst (λ (v : Wanted). IsMet t v) same (b, stands, refl, refl)),
+  )),
+)
+
+-- d does not stand
+pub met_not_yet : (t : State) (d : Digest) (old : Pairs) → (Stands t d → ⊥) → AreUnmetBut t d old → AreUnmet t old
+met_not_yet t d old not_yet since h w = (
+  λ lacks. let both = (since h w).0 lacks in (both.0, λ met. both.1 met (λ same. not_yet (subst (λ q. Stands t q) same (met.0, met.1)))),
+  λ (names, unmet). (since h w).1 (names, λ met other. unmet met),
+)
+
+-- d is not ready, so nothing is due
+pub not_ready_yet : (t : State) (d : Digest) (lacking : Pairs) → (IsReady t lacking d → ⊥) → AreLacking t lacking (d ∷ []) → AreLacking t lacking []
+not_ready_yet t d lacking not_yet far = record {
+  each = λ h w names. elim (far.each h w names) [
+    | inl lacks ↦ inl lacks
+    | inr (met, promoted) ↦ inr (met, (promoted.0, contains_none w.digest))
+  ];
+  only = λ h w lacks. let both = far.only h w lacks in (
+    both.0,
+    λ met promoted. both.1 met (
+      promoted.0,
+      λ among. elim (contains_cases d [] w.digest among) [
+        | inl here ↦ not_yet (subst (λ q. IsReady t lacking q) (sym here) promoted.0)
+        | inr there ↦ contains_none w.digest there
+      ],
+    ),
+  );
+}

@@ -1,8 +1,8 @@
 -- What is lacked after one more block was promoted.
-use Rattle.std.proofs.Common.{◌≡◌, ◌↔◌, ◌⊎◌, ℕ, ◌<◌, List, [], ◌∷◌, length, get_or, Option, Some, All, refl, ap, sym, ◌∙◌, subst, arith, inl, inr}
+use Rattle.std.proofs.Common.{◌≡◌, ◌↔◌, ◌⊎◌, ℕ, ◌<◌, List, [], ◌∷◌, ◌++◌, Option, Some, All, refl, ap, sym, ◌∙◌, subst, arith, inl, inr}
 use Rattle.std.specs.Prelude.{Contains}
 use Rattle.std.specs.FinMap.{get}
-use Rattle.std.proofs.lemmas.List.Elements.{All-head, All-tail, All-contains, Contains-get_or}
+use Rattle.std.proofs.lemmas.List.Elements.{Contains-append_cases, Contains-append_left, Contains-append_right}
 use Rattle.nw_digest.specs.declared.digest.Digest.{Digest}
 use Rattle.nw_codec.specs.declared.block.Block.{Block}
 use Rattle.nw_waiting.specs.declared.wanted.Wanted.{Wanted}
@@ -11,7 +11,8 @@ use Rattle.nw_model.specs.State.{State}
 use Rattle.nw_model.specs.Paths.{IsStanding}
 use Rattle.nw_model.proofs.Complete.{one_block}
 use Rattle.nw_model.proofs.Listed.{contains_cases, contains_later, contains_first}
-use Rattle.nw_dag.specs.Lacking.{Names, IsMet, IsReady, IsPromoted, AreLacking, Promotes, named_as}
+use Rattle.nw_dag.specs.Lacking.{Names, IsMet, IsReady, IsPromoted, AreLacking, named_as}
+use Rattle.nw_dag.specs.Changes.{Promotes}
 use Rattle.nw_dag.proofs.Pairs.{without_wanted_lacks, lacks_or_not, same_or_not, wanted_or_not}
 
 same_wanted : (w : Wanted) (e : Digest) (b : Block) → w.digest ≡ e → w.author ≡ b.author → w.round ≡ b.round → w ≡ named_as e b
@@ -23,9 +24,13 @@ met_under s e b w held (p, stands, author, round) same =
     let here : p ≡ b = one_block p b (ap (get s.blocks) (sym same) ∙ stands.0) held in
     same_wanted w e b same (sym author ∙ ap (λ (x : Block). x.author) here) (sym round ∙ ap (λ (x : Block). x.round) here)
 
-module _ (s : State) (old new : Pairs) (e : Digest) (rest due : List Digest) (far : AreLacking s old (e ∷ rest)) (once : Contains rest e → ⊥) (step : Promotes s old new e rest due) where
+module _ (s : State) (e : Digest) (old new : Pairs) (fresh more rest : List Digest) (far : AreLacking s old (e ∷ rest)) (ready_e : IsReady s old e) (once : Contains rest e → ⊥)
+    (step : Promotes s e old new fresh more) where
   abbrev v : Wanted
   v = named_as e step.block
+
+  abbrev due : List Digest
+  due = rest ++ step.added
 
   fewer : (d : Digest) (w : Wanted) → Lacks new d w → Lacks old d w × (v ≡ w → ⊥)
   fewer d w lacks = (without_wanted_lacks old v w d).0 (subst (λ (m : Pairs). Lacks m d w) step.lost lacks)
@@ -33,17 +38,14 @@ module _ (s : State) (old new : Pairs) (e : Digest) (rest due : List Digest) (fa
   kept : (d : Digest) (w : Wanted) → Lacks old d w → (v ≡ w → ⊥) → Lacks new d w
   kept d w lacks other = subst (λ (m : Pairs). Lacks m d w) (sym step.lost) ((without_wanted_lacks old v w d).1 (lacks, other))
 
-  ready_e : IsReady s old e
-  ready_e = All-head (IsReady s old) e rest far.ready
-
   stands_e : IsStanding s e step.block
   stands_e = (step.held, ready_e.0.1.1)
 
-  still_ready : (x : Digest) → IsReady s old x → IsReady s new x
+  pub still_ready : (x : Digest) → IsReady s old x → IsReady s new x
   still_ready x ready = (ready.0, λ w lacks. ready.1 w (fewer x w lacks).0)
 
   not_due : (x : Digest) → IsReady s old x → (Contains rest x → ⊥) → Contains due x → ⊥
-  not_due x ready apart among = elim ((step.exactly x).0 among) [ inl before ↦ apart before | inr lacked ↦ ready.1 v lacked.0 ]
+  not_due x ready apart among = elim (Contains-append_cases rest step.added x among) [ inl before ↦ apart before | inr added ↦ ready.1 v ((step.exactly x).0 added).0 ]
 
   keeps : (x : Digest) → IsPromoted s old (e ∷ rest) x → IsPromoted s new due x
   keeps x promoted = (still_ready x promoted.0, not_due x promoted.0 (λ among. promoted.1 (contains_later e rest x among)))
@@ -54,10 +56,10 @@ module _ (s : State) (old new : Pairs) (e : Digest) (rest due : List Digest) (fa
   -- what is promoted now and is another was promoted before
   before : (x : Digest) → IsPromoted s new due x → (x ≡ e → ⊥) → IsPromoted s old (e ∷ rest) x
   before x promoted other = elim (lacks_or_not old x v) [
-    | inl lacked ↦ absurd (promoted.1 ((step.exactly x).1 (inr (lacked, promoted.0))))
+    | inl lacked ↦ absurd (promoted.1 (Contains-append_right rest step.added x ((step.exactly x).1 (lacked, promoted.0))))
     | inr never ↦ (
       (promoted.0.0, λ w lacks. promoted.0.1 w (kept x w lacks (λ same. never (subst (λ (y : Wanted). Lacks old x y) (sym same) lacks)))),
-      λ among. elim (contains_cases e rest x among) [ inl first ↦ other (sym first) | inr later ↦ promoted.1 ((step.exactly x).1 (inl later)) ],
+      λ among. elim (contains_cases e rest x among) [ inl first ↦ other (sym first) | inr later ↦ promoted.1 (Contains-append_left rest step.added x later) ],
     )
   ]
 
@@ -76,11 +78,5 @@ module _ (s : State) (old new : Pairs) (e : Digest) (rest due : List Digest) (fa
       let names = far.only d w was.0 in
       (names.0, λ met promoted. names.1 met (before w.digest promoted (λ same. was.1 (sym (met_under s e step.block w step.held met same)))))
 
-  ready : (x : Digest) → Contains due x → IsReady s new x
-  ready x among = elim ((step.exactly x).0 among) [
-    | inl later ↦ still_ready x (All-contains (IsReady s old) rest x (All-tail (IsReady s old) e rest far.ready) later)
-    | inr lacked ↦ lacked.1
-  ]
-
-  pub promoted : AreLacking s new due
-  promoted = record { each = each; only = only; ready = λ k d lt. ready (get_or due k d) (Contains-get_or due k d lt) }
+  pub promoted : AreLacking s new (rest ++ step.added)
+  promoted = record { each = each; only = only }

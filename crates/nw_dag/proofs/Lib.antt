@@ -3,3 +3,7 @@ pub mod Pairs
 pub mod Cascade
 pub mod Complete
 pub mod Arrival
+pub mod Puts
+pub mod Wanting
+pub mod Fresh
+pub mod Steps

@@ -40,7 +40,6 @@ settled_opening capacity = record {
   promoted = record {
     each = λ d w names. absurd (names_nothing d w names);
     only = λ d w lacks. absurd (lacks_nothing d w lacks);
-    ready = All-nil _;
   };
   listed = record { ready = All-nil _; once = once_none };
   room = omega (arith, len-empty digest_cmp Block);

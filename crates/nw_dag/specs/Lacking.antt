@@ -1,10 +1,10 @@
 -- What held blocks lack.
-use Rattle.std.specs.Prelude.{◌≡◌, ◌↔◌, ℕ, ◌+◌, ◌<◌, ◌⊎◌, List, Some, All, Contains}
+use Rattle.std.specs.Prelude.{◌≡◌, ◌↔◌, ℕ, ◌+◌, ◌<◌, ◌⊎◌, List, Some, Contains}
 use Rattle.std.specs.FinMap.{get}
 use Rattle.nw_digest.specs.declared.digest.Digest.{Digest}
 use Rattle.nw_codec.specs.declared.block.Ref.{Ref}
 use Rattle.nw_codec.specs.declared.block.Block.{Block}
-use Rattle.nw_waiting.specs.Pairs.{Pairs, Lacks, without_wanted}
+use Rattle.nw_waiting.specs.Pairs.{Pairs, Lacks}
 use Rattle.nw_waiting.specs.declared.wanted.Wanted.{Wanted}
 use Rattle.nw_model.specs.State.{State}
 use Rattle.nw_model.specs.Paths.{IsStanding}
@@ -41,19 +41,15 @@ IsPromoted s lacking due d = IsReady s lacking d × (Contains due d → ⊥)
 abbrev pub AreUnmet : State → Pairs → Type 0
 AreUnmet s unmet = (d : Digest) (w : Wanted) → Lacks unmet d w ↔ (Names s d w × (IsMet s w → ⊥))
 
--- what d lacks are exactly the parents that it names and that do not stand or were not promoted; what is due is ready
+-- the same, where this digest counts as one that does not stand
+abbrev pub AreUnmetBut : State → Digest → Pairs → Type 0
+AreUnmetBut s but unmet = (d : Digest) (w : Wanted) → Lacks unmet d w ↔ (Names s d w × (IsMet s w → (w.digest ≡ but → ⊥) → ⊥))
+
+-- what d lacks are exactly the parents that it names and that do not stand or were not promoted
 pub record AreLacking (s : State) (lacking : Pairs) (due : List Digest) : Type 0 where
   pub each : (d : Digest) (w : Wanted) → Names s d w → Lacks lacking d w ⊎ (IsMet s w × IsPromoted s lacking due w.digest)
   pub only : (d : Digest) (w : Wanted) → Lacks lacking d w → Names s d w × (IsMet s w → IsPromoted s lacking due w.digest → ⊥)
-  pub ready : All (IsReady s lacking) due
 
 -- what names the block under d
 abbrev pub named_as : Digest → Block → Wanted
 named_as d b = record { round = b.round; author = b.author; digest = d }
-
--- what is due after e was promoted, whose block nobody lacks any more: the rest, and what lacked it and is ready now
-pub record Promotes (s : State) (old new : Pairs) (e : Digest) (rest due : List Digest) : Type 0 where
-  pub block : Block
-  pub held : get s.blocks e ≡ Some block
-  pub lost : new ≡ without_wanted old (named_as e block)
-  pub exactly : (x : Digest) → Contains due x ↔ (Contains rest x ⊎ (Lacks old x (named_as e block) × IsReady s new x))

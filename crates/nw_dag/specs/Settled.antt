@@ -1,22 +1,33 @@
--- What the tables of a store have between two calls.
-use Rattle.std.specs.Prelude.{◌↔◌, ℕ, ◌≤◌, List, [], All}
+-- What the tables of a store have between two calls, and within one.
+use Rattle.std.specs.Prelude.{ℕ, ◌≤◌, List, [], ◌∷◌, All, Contains}
 use Rattle.std.specs.List.{IsDistinct}
 use Rattle.std.specs.Ordering.{eq_by_cmp}
 use Rattle.std.specs.FinMap.{len}
 use Rattle.nw_digest.specs.declared.digest.Digest.{Digest}
 use Rattle.nw_waiting.specs.Pairs.{Pairs}
 use Rattle.nw_model.specs.State.{State, digest_cmp}
-use Rattle.nw_model.specs.Paths.{IsComplete}
-use Rattle.nw_dag.specs.Lacking.{AreUnmet, AreLacking, IsReady}
+use Rattle.nw_dag.specs.Lacking.{AreUnmet, AreUnmetBut, AreLacking, IsReady}
 
 -- each of the digests is ready, and stands there once
 pub record AreFresh (s : State) (lacking : Pairs) (fresh : List Digest) : Type 0 where
   pub ready : All (IsReady s lacking) fresh
   pub once : IsDistinct (eq_by_cmp digest_cmp) fresh
 
--- what is lacked is known, nothing is due, what became complete is listed once, and there is room to list each block
-pub record IsSettled (s : State) (unmet lacking : Pairs) (fresh : List Digest) (capacity : ℕ) : Type 0 where
+-- what is lacked is known, these are due, what became complete is listed once, and there is room to list each block
+pub record IsSettling (s : State) (unmet lacking : Pairs) (fresh due : List Digest) (capacity : ℕ) : Type 0 where
   pub standing : AreUnmet s unmet
-  pub promoted : AreLacking s lacking []
+  pub promoted : AreLacking s lacking due
   pub listed : AreFresh s lacking fresh
+  pub room : len s.blocks ≤ capacity
+
+-- the same, where nothing is due
+abbrev pub IsSettled : State → Pairs → Pairs → List Digest → ℕ → Type 0
+IsSettled s unmet lacking fresh capacity = IsSettling s unmet lacking fresh [] capacity
+
+-- the same, where d counts as one that does not stand
+pub record IsSettledBut (s : State) (d : Digest) (unmet lacking : Pairs) (fresh : List Digest) (capacity : ℕ) : Type 0 where
+  pub standing : AreUnmetBut s d unmet
+  pub promoted : AreLacking s lacking (d ∷ [])
+  pub listed : AreFresh s lacking fresh
+  pub apart : Contains fresh d → ⊥
   pub room : len s.blocks ≤ capacity

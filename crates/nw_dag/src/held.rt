@@ -1,8 +1,10 @@
 //! What a store holds.
-ghost use Rattle.std.specs.Prelude.{◌≡◌, ◌≤◌, IfOk, OnOk, OnErr, IsNone, None, IsTrue, false};
-ghost use Rattle.std.specs.Option.{option_copied};
+ghost use Rattle.std.specs.Prelude.{◌≡◌, ◌↔◌, ◌≤◌, OnOk, OnErr, IsNone, None, IsTrue, false};
+ghost use Rattle.std.specs.Option.{option_copied, option_map};
+ghost use Rattle.std.specs.BTreeMap.{insert_entry};
 ghost use Rattle.std.specs.FinMap as map;
-ghost use Rattle.nw_model.specs.State.{opening, block_slot, certificate_slot};
+ghost use Rattle.nw_model.specs.State.{digest_cmp, opening, block_slot, certificate_slot};
+ghost use Rattle.nw_dag.specs.Lacking.{Stands, IsMet, named_as};
 ghost use Rattle.nw_model.specs.Step.{certified_digest, is_elsewhere, with_block, with_certificate};
 
 mod replies;
@@ -11,6 +13,7 @@ use nw_codec::{Block, Certificate};
 use nw_digest::{Digest, NoMemory, Round, Shared};
 use nw_rounds::Rounds;
 use nw_trie::Trie;
+use nw_waiting::Wanted;
 use std::alloc::Global;
 use std::marker::Model;
 
@@ -105,5 +108,102 @@ impl Held {
         ensures { result ≡ map.len self.now.state.certificates }
     {
         self.certificates.len()
+    }
+
+    /// Whether the block under the digest stands: it is held and certified.
+    pub(crate) fn stands(&self, digest: &Digest) -> bool
+        ensures { IsTrue result ↔ Stands self.now.state digest.now }
+    {
+        self.block(digest).is_some() && self.certificate(digest).is_some()
+    }
+
+    /// Whether what is wanted stands, of that round and author.
+    pub(crate) fn is_met(&self, wanted: &Wanted) -> bool
+        ensures { IsTrue result ↔ IsMet self.now.state wanted.now }
+    {
+        if self.certificate(&wanted.digest).is_none() {
+            return false;
+        }
+        match self.block(&wanted.digest) {
+            None => false,
+            Some(block) => {
+                let block = block.get();
+                block.author == wanted.author && block.round == wanted.round
+            }
+        }
+    }
+
+    /// What names the block that is held under the digest.
+    pub(crate) fn name(&self, digest: Digest) -> Option<Wanted>
+        ensures { result ≡ option_map (named_as digest) (map.get self.now.state.blocks digest) }
+    {
+        let block = self.block(&digest)?.get();
+        Some(Wanted {
+            round: block.round,
+            author: block.author,
+            digest,
+        })
+    }
+
+    /// Puts the block under the digest, which is the first of the block's slot where there is a vote.
+    pub(crate) fn put_block(
+        &mut self,
+        digest: Digest,
+        block: Shared<Block>,
+        vote: bool,
+    ) -> Result<(), NoMemory>
+        requires absent { IsNone (map.get self.old.state.blocks digest) }
+        requires open { IsTrue vote → IsNone (map.get self.old.state.firsts (block_slot block)) }
+        requires misfit { is_elsewhere certificate_slot (map.get self.old.state.certificates digest) (block_slot block) ≡ false }
+        requires kept { self.old.state.floor ≤ block.round }
+        ensures state { OnOk result (self.new.state ≡ with_block self.old.state digest block vote) }
+        ensures bounds { self.new.bounds ≡ self.old.bounds }
+        ensures unchanged { OnErr result (self.new ≡ self.old) }
+    {
+        let held = block.get();
+        let (round, author) = (held.round, held.author);
+        insert(&mut self.blocks, digest, block)?;
+        if vote {
+            if let Err(refused) = self.slots.put_first(round, author, digest) {
+                let _block = self.blocks.remove(&digest);
+                return Err(refused);
+            }
+        }
+        Ok(())
+    }
+
+    /// Keeps the certificate.
+    pub(crate) fn put_certificate(
+        &mut self,
+        certificate: Shared<Certificate>,
+    ) -> Result<(), NoMemory>
+        requires absent { IsNone (map.get self.old.state.certificates certificate.digest) }
+        requires open { certified_digest self.old.state (certificate_slot certificate) ≡ None }
+        requires misfit { is_elsewhere block_slot (map.get self.old.state.blocks certificate.digest) (certificate_slot certificate) ≡ false }
+        requires kept { self.old.state.floor ≤ certificate.round }
+        ensures state { OnOk result (self.new.state ≡ with_certificate self.old.state certificate) }
+        ensures bounds { self.new.bounds ≡ self.old.bounds }
+        ensures unchanged { OnErr result (self.new ≡ self.old) }
+    {
+        let kept = certificate.get();
+        let digest = kept.digest;
+        let (round, author) = (kept.round, kept.author);
+        insert(&mut self.certificates, digest, certificate)?;
+        if let Err(refused) = self.slots.put_certified(round, author, digest) {
+            let _certificate = self.certificates.remove(&digest);
+            return Err(refused);
+        }
+        Ok(())
+    }
+}
+
+/// Puts the value at the digest.
+fn insert<V: Drop>(entries: &mut Trie<V, Global>, digest: Digest, value: V) -> Result<(), NoMemory>
+    ensures put { OnOk result (entries.new ≡ insert_entry digest_cmp entries.old digest value) }
+    ensures unchanged { OnErr result (entries.new ≡ entries.old) }
+{
+    match entries.insert(digest, value) {
+        Ok(_) => Ok(()),
+        Err((refused, _)) => Err(refused),
     }
 }

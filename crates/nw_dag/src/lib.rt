@@ -6,5 +6,6 @@
 
 mod dag;
 mod held;
+mod waits;
 
 pub use dag::Dag;

@@ -1,0 +1,113 @@
+-- The tables, from one step of the cascade to the next.
+use Rattle.std.proofs.Common.{◌≡◌, ◌↔◌, ◌⊎◌, ℕ, ◌+◌, ◌<◌, ◌≤◌, true, false, List, [], ◌∷◌, ◌++◌, length, get_or, drop, Option, Some, None, All, refl, ap, sym, ◌∙◌, subst, arith, inl, inr}
+use Rattle.std.specs.Prelude.{Contains}
+use Rattle.std.specs.List.{IsDistinct}
+use Rattle.std.specs.Option.{option_map}
+use Rattle.std.specs.Ordering.{eq_by_cmp}
+use Rattle.std.specs.Cmp.{eq_by_cmp_equiv}
+use Rattle.std.specs.FinMap.{get, len}
+use Rattle.std.proofs.lemmas.List.{drop_more, drop_all, drop-append-le, drop_at, get_or-drop, get_or_default, length-drop}
+use Rattle.std.proofs.lemmas.List.Elements.{All-weaker, All-contains}
+use Rattle.std.proofs.lemmas.Map.Keys.{apart_from_distinct}
+use Rattle.nw_digest.specs.declared.digest.Digest.{Digest}
+use Rattle.nw_codec.specs.declared.block.Block.{Block}
+use Rattle.nw_waiting.specs.declared.wanted.Wanted.{Wanted}
+use Rattle.nw_waiting.specs.Pairs.{Pairs, Lacks, AreHolders, without_wanted}
+use Rattle.nw_model.specs.State.{State, digest_cmp}
+use Rattle.nw_model.specs.Paths.{IsStanding}
+use Rattle.nw_model.proofs.Complete.{one_block}
+use Rattle.nw_model.proofs.Maps.{digests_total}
+use Rattle.nw_dag.specs.Lacking.{Stands, IsReady, AreUnmet, AreUnmetBut, AreLacking, named_as}
+use Rattle.nw_dag.specs.Changes.{Adds, Promotes}
+use Rattle.nw_dag.specs.Settled.{AreFresh, IsSettling, IsSettled, IsSettledBut}
+use Rattle.nw_dag.proofs.Pairs.{without_wanted_lacks}
+use Rattle.nw_dag.proofs.Cascade.{promoted}
+use Rattle.nw_dag.proofs.Arrival.{met_now}
+use Rattle.nw_dag.proofs.Fresh.{fresh_fits}
+
+-- ---- one block is promoted
+
+-- what names a block that is held
+pub name_is : (d : Digest) (found : Option Block) (w : Wanted) → Some w ≡ option_map (named_as d) found → (b : Block) × (found ≡ Some b) × (w ≡ named_as d b)
+name_is d (Some b) w e = (b, refl, cc)
+name_is d None w e = absurd cc
+
+-- what was ready still is
+ready_fewer : (s : State) (old new : Pairs) (v : Wanted) → new ≡ without_wanted old v → (x : Digest) → IsReady s old x → IsReady s new x
+ready_fewer s old new v is x ready = (ready.0, λ w lacks. ready.1 w ((without_wanted_lacks old v w x).0 (subst (λ (m : Pairs). Lacks m x w) is lacks)).0)
+
+pub fresh_fewer : (s : State) (old new : Pairs) (v : Wanted) (fresh : List Digest) → new ≡ without_wanted old v → AreFresh s old fresh → AreFresh s new fresh
+fresh_fewer s old new v fresh is listed = record { ready = All-weaker (IsReady s old) (IsReady s new) (ready_fewer s old new v is) fresh listed.ready; once = listed.once }
+
+-- what lacks something is not listed
+pub holders_apart : (s : State) (old : Pairs) (v : Wanted) (fresh holders : List Digest) → AreFresh s old fresh → AreHolders old v holders → (x : Digest) → Contains holders x → Contains fresh x → ⊥
+holders_apart s old v fresh holders listed are x among before = (All-contains (IsReady s old) fresh x listed.ready before).1 v ((are.exactly x).0 among)
+
+-- nobody lacks it any more, and those of its holders that are ready now are added
+pub promotes : (s : State) (e : Digest) (old new : Pairs) (v : Wanted) (fresh more holders : List Digest) → Some v ≡ option_map (named_as e) (get s.blocks e) → AreHolders old v holders
+    → new ≡ without_wanted old v → Adds (IsReady s new) holders fresh more → Promotes s e old new fresh more
+promotes s e old new v fresh more holders name are is adds =
+    let (b, held, same) = name_is e (get s.blocks e) v name in
+    record {
+      block = b;
+      held = held;
+      lost = is ∙ ap (without_wanted old) same;
+      added = adds.added;
+      are = adds.are;
+      exactly = λ x. (
+        λ among. let both = (adds.exactly x).0 among in (subst (λ (w : Wanted). Lacks old x w) same ((are.exactly x).0 both.0), both.1),
+        λ both. (adds.exactly x).1 ((are.exactly x).1 (subst (λ (w : Wanted). Lacks old x w) (sym same) both.0), both.1),
+      );
+    }
+
+-- ---- one place of the list
+
+-- nothing stands twice in a list
+once_only : (fresh : List Digest) (place : ℕ) (d : Digest) → IsDistinct (eq_by_cmp digest_cmp) fresh → place < length fresh → Contains (drop (place + 1) fresh) (get_or fresh place d) → ⊥
+once_only fresh place d once lt (k, below, at) =
+    let e = get_or fresh place d in
+    let within : place + 1 + k < length fresh = omega (arith, below, length-drop (place + 1) fresh) in
+    let differ = apart_from_distinct (eq_by_cmp digest_cmp) fresh place (place + 1 + k) e once (omega arith) within in
+    let here : get_or fresh place e ≡ e = get_or_default fresh place e d lt in
+    let there : get_or fresh (place + 1 + k) e ≡ e = sym (get_or-drop (place + 1) fresh k e) ∙ at in
+    wrong (sym ((eq_by_cmp_equiv digests_total).refl e) ∙ ap (λ y. eq_by_cmp digest_cmp y e) (sym here) ∙ ap (eq_by_cmp digest_cmp (get_or fresh place e)) (sym there) ∙ differ)
+  where
+    wrong : true ≡ false → ⊥
+    wrong e = cc
+
+pub stands_at : (s : State) (lacking : Pairs) (fresh : List Digest) (place : ℕ) (d : Digest) → AreFresh s lacking fresh → place < length fresh → Stands s (get_or fresh place d)
+stands_at s lacking fresh place d listed lt = (listed.ready place d lt).0
+
+pub cascaded : (s : State) (unmet met old new : Pairs) (fresh more : List Digest) (room wider place : ℕ) (d : Digest) → IsSettling s unmet old fresh (drop place fresh) room → place < length fresh
+    → met ≡ unmet → Promotes s (get_or fresh place d) old new fresh more → AreFresh s new more → room ≤ wider → IsSettling s met new more (drop (place + 1) more) wider
+cascaded s unmet met old new fresh more room wider place d far lt same step listed wide =
+    let e = get_or fresh place d in
+    let rest = drop (place + 1) fresh in
+    let due : AreLacking s old (e ∷ rest) = subst (AreLacking s old) (drop_more fresh place d lt) far.promoted in
+    let left : drop (place + 1) more ≡ rest ++ step.added = ap (drop (place + 1)) step.are ∙ drop-append-le (place + 1) fresh step.added (omega arith) in
+    record {
+      standing = subst (AreUnmet s) (sym same) far.standing;
+      promoted = subst (AreLacking s new) (sym left) (promoted s e old new fresh more rest due (far.listed.ready place d lt) (once_only fresh place d far.listed.once lt) step);
+      listed = listed;
+      room = omega (arith, far.room, wide);
+    }
+
+-- nothing is left
+pub none_due : (s : State) (unmet lacking : Pairs) (fresh : List Digest) (room place : ℕ) → IsSettling s unmet lacking fresh (drop place fresh) room → length fresh ≤ place → IsSettled s unmet lacking fresh room
+none_due s unmet lacking fresh room place far past = record {
+  standing = far.standing;
+  promoted = subst (AreLacking s lacking) (drop_all place fresh past) far.promoted;
+  listed = far.listed;
+  room = far.room;
+}
+
+-- each place was looked at
+pub all_due : (s : State) (unmet lacking : Pairs) (fresh : List Digest) (room place : ℕ) → IsSettling s unmet lacking fresh (drop place fresh) room → len s.blocks ≤ place → IsSettled s unmet lacking fresh room
+all_due s unmet lacking fresh room place far past = none_due s unmet lacking fresh room place far (let few = fresh_fits s lacking fresh far.listed in omega (arith, few, past))
+
+-- ---- one block stands
+
+pub met_by_name : (s : State) (d : Digest) (v : Wanted) (old new : Pairs) → Some v ≡ option_map (named_as d) (get s.blocks d) → Stands s d → AreUnmetBut s d old → new ≡ without_wanted old v → AreUnmet s new
+met_by_name s d v old new name stands but is =
+    let (b, held, same) = name_is d (get s.blocks d) v name in
+    met_now s d b old new (held, stands.1.1) but (is ∙ ap (without_wanted old) same)

@@ -1,0 +1,174 @@
+//! What held blocks lack, and which became complete.
+ghost use Rattle.std.specs.Prelude.{◌≡◌, ◌↔◌, ◌<◌, ◌≤◌, ◌+◌, OnOk, IsTrue, [], ◌∷◌, ◌++◌, Contains};
+ghost use Rattle.std.specs.Option.{MatchOption};
+ghost use Rattle.std.specs.FinSet as set;
+ghost use Rattle.std.specs.FinMap as map;
+ghost use Rattle.std.specs.Vec.{vec_capacity};
+ghost use Rattle.nw_waiting.specs.Pairs.{without_holder};
+ghost use Rattle.nw_dag.specs.Lacking.{Stands, IsMet, IsReady, IsNamedBy, IsNamedAmong};
+ghost use Rattle.nw_dag.specs.Changes.{AreSameBut, Wants};
+ghost use Rattle.nw_dag.specs.Settled.{AreFresh};
+
+mod cascade;
+
+use crate::held::Held;
+use nw_codec::{Block, Ref};
+use nw_digest::{Digest, NoMemory, Round};
+use nw_waiting::{Waiting, Wanted};
+use std::alloc::Global;
+
+/// What held blocks lack, and which became complete.
+#[derive(Drop)]
+pub(crate) struct Waits {
+    /// The parents that do not stand, and the blocks that name them.
+    unmet: Waiting<Global>,
+    /// The parents that are not complete, and the blocks that name them.
+    lacking: Waiting<Global>,
+    /// The blocks that became complete, the last at the end.
+    fresh: Vec<Digest>,
+}
+
+impl Waits {
+    /// Nothing is lacked. It takes no memory.
+    pub(crate) fn new(alloc: Global) -> Waits
+        ensures unmet { result.unmet ≡ set.empty }
+        ensures lacking { result.lacking ≡ set.empty }
+        ensures fresh { result.fresh.items ≡ [] }
+    {
+        Waits {
+            unmet: Waiting::new_in(alloc),
+            lacking: Waiting::new_in(alloc),
+            fresh: Vec::new(alloc),
+        }
+    }
+
+    /// Whether the block stands and lacks nothing.
+    fn is_ready(&self, held: &Held, digest: Digest) -> bool
+        ensures { IsTrue result ↔ IsReady held.now.state self.now.lacking digest }
+    {
+        held.stands(&digest) && self.lacking.lacks(digest) == 0
+    }
+
+    /// Lets the holder lack it, where it does not stand or is not complete. Want of memory may leave that half done.
+    fn want(&mut self, held: &Held, wanted: Wanted, holder: Digest) -> Result<(), NoMemory>
+        ensures unmet { OnOk result (Wants (IsMet held.now.state) (λ w. w ≡ wanted) holder self.old.unmet self.new.unmet) }
+        ensures lacking { OnOk result (Wants (λ w. IsMet held.now.state w × IsReady held.now.state self.old.lacking w.digest) (λ w. w ≡ wanted) holder self.old.lacking self.new.lacking) }
+        ensures same_unmet { AreSameBut holder self.old.unmet self.new.unmet }
+        ensures same_lacking { AreSameBut holder self.old.lacking self.new.lacking }
+        ensures fresh { self.new.fresh ≡ self.old.fresh }
+    {
+        if !held.is_met(&wanted) {
+            self.unmet.want(wanted, holder)?;
+            self.lacking.want(wanted, holder)
+        } else if !self.is_ready(held, wanted.digest) {
+            self.lacking.want(wanted, holder)
+        } else {
+            Ok(())
+        }
+    }
+
+    /// Lets the holder lack what these references name, in this round, where it does not stand or is not complete. Want
+    /// of memory may leave that half done.
+    fn want_each(
+        &mut self,
+        held: &Held,
+        round: Round,
+        references: &[Ref],
+        holder: Digest,
+    ) -> Result<(), NoMemory>
+        requires absent { Stands held.now.state holder → ⊥ }
+        ensures unmet { OnOk result (Wants (IsMet held.now.state) (IsNamedAmong (round + 1) references.now) holder self.old.unmet self.new.unmet) }
+        ensures lacking { OnOk result (Wants (λ w. IsMet held.now.state w × IsReady held.now.state self.old.lacking w.digest) (IsNamedAmong (round + 1) references.now) holder self.old.lacking self.new.lacking) }
+        ensures same_unmet { AreSameBut holder self.old.unmet self.new.unmet }
+        ensures same_lacking { AreSameBut holder self.old.lacking self.new.lacking }
+        ensures fresh { self.new.fresh ≡ self.old.fresh }
+    {
+        for reference in references {
+            self.want(held, named_by(reference, round), holder)?;
+        }
+        Ok(())
+    }
+
+    /// Lets the holder lack the parents of this block of its that do not stand or are not complete, where the block is
+    /// above the garbage round. Want of memory may leave that half done.
+    pub(crate) fn want_parents(
+        &mut self,
+        held: &Held,
+        block: &Block,
+        holder: Digest,
+    ) -> Result<(), NoMemory>
+        requires absent { Stands held.now.state holder → ⊥ }
+        ensures unmet { OnOk result (Wants (IsMet held.now.state) (λ w. (held.now.state.floor < block.now.round) × IsNamedAmong block.now.round block.now.parents w) holder self.old.unmet self.new.unmet) }
+        ensures lacking { OnOk result (Wants (λ w. IsMet held.now.state w × IsReady held.now.state self.old.lacking w.digest) (λ w. (held.now.state.floor < block.now.round) × IsNamedAmong block.now.round block.now.parents w) holder self.old.lacking self.new.lacking) }
+        ensures same_unmet { AreSameBut holder self.old.unmet self.new.unmet }
+        ensures same_lacking { AreSameBut holder self.old.lacking self.new.lacking }
+        ensures fresh { self.new.fresh ≡ self.old.fresh }
+    {
+        if block.round <= held.floor() {
+            return Ok(());
+        }
+        match before(block.round) {
+            None => Ok(()),
+            Some(round) => self.want_each(held, round, block.parents.as_slice(), holder),
+        }
+    }
+
+    /// Lets the holder lack nothing any more.
+    pub(crate) fn forget(&mut self, holder: Digest)
+        ensures unmet { self.new.unmet ≡ without_holder self.old.unmet holder }
+        ensures lacking { self.new.lacking ≡ without_holder self.old.lacking holder }
+        ensures fresh { self.new.fresh ≡ self.old.fresh }
+    {
+        self.unmet.unwant(holder);
+        self.lacking.unwant(holder);
+    }
+
+    /// Makes room to list so many blocks.
+    pub(crate) fn reserve(&mut self, blocks: usize) -> Result<(), NoMemory>
+        ensures unmet { self.new.unmet ≡ self.old.unmet }
+        ensures lacking { self.new.lacking ≡ self.old.lacking }
+        ensures fresh { self.new.fresh.items ≡ self.old.fresh.items }
+        ensures capacity { vec_capacity self.old.fresh ≤ vec_capacity self.new.fresh }
+        ensures room { OnOk result (blocks ≤ vec_capacity self.new.fresh) }
+    {
+        let listed = self.fresh.len();
+        if listed < blocks {
+            self.fresh.reserve(blocks - listed)?;
+        }
+        Ok(())
+    }
+
+    /// Lists the digest, which is ready.
+    fn add(&mut self, held: &Held, digest: Digest)
+        requires room { map.len held.now.state.blocks ≤ vec_capacity self.old.fresh }
+        requires listed { AreFresh held.now.state self.old.lacking self.old.fresh.items }
+        requires ready { IsReady held.now.state self.old.lacking digest }
+        requires apart { Contains self.old.fresh.items digest → ⊥ }
+        ensures unmet { self.new.unmet ≡ self.old.unmet }
+        ensures lacking { self.new.lacking ≡ self.old.lacking }
+        ensures added { self.new.fresh.items ≡ self.old.fresh.items ++ digest ∷ [] }
+        ensures listed { AreFresh held.now.state self.old.lacking self.new.fresh.items }
+        ensures capacity { vec_capacity self.old.fresh ≤ vec_capacity self.new.fresh }
+    {
+        let _added = self.fresh.push(digest);
+    }
+}
+
+/// The round before this one, or `None` where this is the first.
+fn before(round: Round) -> Option<Round>
+    ensures { MatchOption result (round ≡ 0) (λ before. before + 1 ≡ round) }
+{
+    let number = round.get().checked_sub(1)?;
+    Round::new(number)
+}
+
+/// What the reference names, in this round.
+fn named_by(reference: &Ref, round: Round) -> Wanted
+    ensures { IsNamedBy (round + 1) reference.now result }
+{
+    Wanted {
+        round,
+        author: reference.author,
+        digest: reference.digest,
+    }
+}
