@@ -7,3 +7,4 @@ pub mod Puts
 pub mod Wanting
 pub mod Fresh
 pub mod Steps
+pub mod Written

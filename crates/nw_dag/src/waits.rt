@@ -123,18 +123,22 @@ impl Waits {
         self.lacking.unwant(holder);
     }
 
-    /// Makes room to list so many blocks.
+    /// Makes room to list one block more than so many.
     pub(crate) fn reserve(&mut self, blocks: usize) -> Result<(), NoMemory>
         ensures unmet { self.new.unmet ≡ self.old.unmet }
         ensures lacking { self.new.lacking ≡ self.old.lacking }
         ensures fresh { self.new.fresh.items ≡ self.old.fresh.items }
         ensures capacity { vec_capacity self.old.fresh ≤ vec_capacity self.new.fresh }
-        ensures room { OnOk result (blocks ≤ vec_capacity self.new.fresh) }
+        ensures room { OnOk result (blocks < vec_capacity self.new.fresh) }
     {
         let listed = self.fresh.len();
-        if listed < blocks {
-            self.fresh.reserve(blocks - listed)?;
+        if blocks < listed {
+            return Ok(());
         }
+        let Some(more) = (blocks - listed).checked_add(1) else {
+            return Err(NoMemory);
+        };
+        self.fresh.reserve(more)?;
         Ok(())
     }
 
