@@ -1,7 +1,8 @@
 //! The tables of a store.
-ghost use Rattle.std.specs.Prelude.{◌≡◌, ◌<◌, ◌≤◌, IfOk, OnOk, OnErr, IsNone, None, IsTrue, false};
+ghost use Rattle.std.specs.Prelude.{◌≡◌, ◌<◌, ◌≤◌, IfOk, OnOk, OnErr, IsNone, None, IsTrue, false, ◌↔◌};
 ghost use Rattle.std.specs.FinMap as map;
 ghost use Rattle.nw_model.specs.State.{opening, block_slot, certificate_slot};
+ghost use Rattle.nw_model.specs.Paths.{IsComplete};
 ghost use Rattle.nw_model.specs.Step.{after, write_reply, certify_reply, certified_digest, is_elsewhere, with_block, with_certificate};
 ghost use Rattle.nw_dag.specs.Lacking.{IsMet, IsReady, IsNamedAmong};
 ghost use Rattle.nw_dag.specs.Changes.{AreSameBut, Wants};
@@ -89,6 +90,14 @@ impl Dag {
         ensures { result ≡ certify_reply self.now.bounds self.now.state certificate.now }
     {
         self.held.certify_reply(certificate)
+    }
+
+    /// Whether the block under the digest is complete: it is held and certified, and so are its ancestors down to the
+    /// garbage round. It looks at no other block.
+    pub fn is_complete(&self, digest: &Digest) -> bool
+        ensures { IsTrue result ↔ IsComplete self.now.state digest.now }
+    {
+        self.held.stands(digest) && self.waits.lacks_nothing(*digest)
     }
 
     /// The block that is held under the digest.

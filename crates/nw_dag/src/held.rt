@@ -4,6 +4,7 @@ ghost use Rattle.std.specs.Option.{option_copied, option_map};
 ghost use Rattle.std.specs.BTreeMap.{insert_entry};
 ghost use Rattle.std.specs.FinMap as map;
 ghost use Rattle.nw_model.specs.State.{digest_cmp, opening, block_slot, certificate_slot};
+ghost use Rattle.nw_model.specs.Sound.{IsSound};
 ghost use Rattle.nw_dag.specs.Lacking.{Stands, IsMet, named_as};
 ghost use Rattle.nw_model.specs.Step.{certified_digest, is_elsewhere, with_block, with_certificate};
 
@@ -70,7 +71,8 @@ impl Held {
 
     /// The block that is held under the digest.
     pub(crate) fn block(&self, digest: &Digest) -> Option<&Shared<Block>>
-        ensures { option_copied result ≡ map.get self.now.state.blocks digest.now }
+        ensures value { option_copied result ≡ map.get self.now.state.blocks digest.now }
+        ensures sound { IsSound self.now.state }
     {
         self.blocks.get(digest)
     }
@@ -112,7 +114,8 @@ impl Held {
 
     /// Whether the block under the digest stands: it is held and certified.
     pub(crate) fn stands(&self, digest: &Digest) -> bool
-        ensures { IsTrue result ↔ Stands self.now.state digest.now }
+        ensures stands { IsTrue result ↔ Stands self.now.state digest.now }
+        ensures sound { IsSound self.now.state }
     {
         self.block(digest).is_some() && self.certificate(digest).is_some()
     }

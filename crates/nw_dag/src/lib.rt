@@ -9,3 +9,6 @@ mod held;
 mod waits;
 
 pub use dag::Dag;
+
+#[cfg(test)]
+mod tests;

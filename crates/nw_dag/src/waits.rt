@@ -4,7 +4,7 @@ ghost use Rattle.std.specs.Option.{MatchOption};
 ghost use Rattle.std.specs.FinSet as set;
 ghost use Rattle.std.specs.FinMap as map;
 ghost use Rattle.std.specs.Vec.{vec_capacity};
-ghost use Rattle.nw_waiting.specs.Pairs.{without_holder};
+ghost use Rattle.nw_waiting.specs.Pairs.{Lacks, without_holder};
 ghost use Rattle.nw_dag.specs.Lacking.{Stands, IsMet, IsReady, IsNamedBy, IsNamedAmong};
 ghost use Rattle.nw_dag.specs.Changes.{AreSameBut, Wants};
 ghost use Rattle.nw_dag.specs.Settled.{AreFresh};
@@ -46,7 +46,14 @@ impl Waits {
     fn is_ready(&self, held: &Held, digest: Digest) -> bool
         ensures { IsTrue result ↔ IsReady held.now.state self.now.lacking digest }
     {
-        held.stands(&digest) && self.lacking.lacks(digest) == 0
+        held.stands(&digest) && self.lacks_nothing(digest)
+    }
+
+    /// Whether the digest lacks no parent: each that it names is complete.
+    pub(crate) fn lacks_nothing(&self, digest: Digest) -> bool
+        ensures { IsTrue result ↔ ((w : Wanted) → Lacks self.now.lacking digest w → ⊥) }
+    {
+        self.lacking.lacks(digest) == 0
     }
 
     /// Lets the holder lack it, where it does not stand or is not complete. Want of memory may leave that half done.
