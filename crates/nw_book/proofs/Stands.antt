@@ -1,11 +1,11 @@
 -- The tables and the counts after one more event.
-use Rattle.std.proofs.Common.{◌≡◌, ◌≢◌, ℕ, ◌+◌, ◌<◌, Bool, true, false, cond, List, [], ◌∷◌, ◌++◌, length, set, get_or, refl, ap, sym, ◌∙◌, arith, length-append, length-set, get_or-set_same, get_or-set_other}
+use Rattle.std.proofs.Common.{◌≡◌, ◌≢◌, ℕ, ◌+◌, ◌<◌, Bool, true, false, cond, List, [], ◌∷◌, ◌++◌, length, set, get_or, refl, ap, sym, ◌∙◌, subst, arith, length-append, length-set, get_or-set_same, get_or-set_other}
 use Rattle.std.specs.Prelude.{◌==◌}
 use Rattle.std.proofs.lemmas.Bool.{eqb-true, eqb-false}
 use Rattle.std.proofs.lemmas.Grind.{get_or_default_zero}
 use Rattle.nw_sig.specs.Signed.{Meaning}
 use Rattle.nw_model.specs.State.{State}
-use Rattle.nw_model.specs.Step.{Bounds, Tables, after, IsReply, IsShort}
+use Rattle.nw_model.specs.Step.{Bounds, Tables, after, IsReply, IsShort, shortened}
 use Rattle.nw_model.specs.History.{IsAdmitted, events_of}
 use Rattle.nw_digest.specs.declared.digest.Digest.{Digest}
 use Rattle.nw_model.specs.declared.call.Call.{Call}
@@ -16,6 +16,8 @@ use Rattle.nw_model.specs.declared.reply.Reply.TheVariants as reply
 use Rattle.nw_book.specs.declared.command.Command.{Command}
 use Rattle.nw_book.specs.declared.command.Command.TheVariants as command
 use Rattle.nw_book.specs.Command.{call_of}
+use Rattle.nw_book.specs.Takes.{Takes}
+use Rattle.nw_model.proofs.OneReply.{one_reply}
 use Rattle.nw_history.specs.Story.{Story, IsLegalStory, terms_of, bounds_of, state_of, tables_of, with_event}
 use Rattle.nw_book.specs.Turn.{IsInTurn, HasRoom, AreCounts, StandFor}
 use Rattle.nw_book.proofs.Longer.{replay_last, events_of_last, legal_last}
@@ -26,7 +28,19 @@ short_of bounds s (command.Write b) (reply.List blocks) is = is
 short_of bounds s (command.Certify c) (reply.List blocks) is = is
 short_of bounds s (command.Certificate d) (reply.List blocks) is = is
 short_of bounds s (command.Read d) (reply.List blocks) is = is
+short_of bounds s (command.Collect round) (reply.List blocks) is = is
+short_of bounds s (command.Missing most) (reply.List blocks) is = is
+short_of bounds s command.Status (reply.List blocks) is = is
 short_of bounds s asked other is = tt
+
+shortened_short : (r : Reply) → IsShort r → shortened r ≡ r
+shortened_short (reply.List blocks) short = absurd short
+shortened_short other short = refl
+
+-- a command has one reply
+pub one_answer : {S : Type 0} (bounds : Bounds) (s : State) (asked : Command S) (one other : Reply) → IsReply bounds s (call_of asked) one → IsReply bounds s (call_of asked) other → one ≡ other
+one_answer bounds s asked one other is was =
+    sym (shortened_short one (short_of bounds s asked one is)) ∙ (one_reply bounds s (call_of asked) one other is was).short ∙ shortened_short other (short_of bounds s asked other was)
 
 -- the event of a call in its turn, with a reply that is no list, keeps the history legal
 pub legal_any : (accepts : Meaning) (t : Tables) (counts : List ℕ) (s : Story) (session number : ℕ) (called : Call) (given : Reply) (e : Event)
@@ -94,3 +108,22 @@ reply_at accepts t counts s asked given h is = rw h.state is
 -- a causal read leaves the tables as they are
 pub causal_leaves : (t : Tables) (called : Call) (d : Digest) → called ≡ calls.Causal d → t ≡ record t { state = after t.bounds t.state called }
 causal_leaves t called d e = rw e refl
+
+-- the step that was taken, with the event that was recorded and the reply that is handed out
+pub takes_next : {S : Type 0} (accepts : Meaning) (t : Tables) (counts : List ℕ) (s n : Story) (session number : ℕ) (asked : Command S) (called : Call) (given answer : Reply) (e : Event) (front : Story)
+    → StandFor accepts t counts s → called ≡ call_of asked → IsReply t.bounds t.state called given → e ≡ record { session = session; number = number; call = called; reply = given }
+    → IsReply t.bounds t.state e.call answer → n ≡ with_event s e → front ≡ with_event s e → IsLegalStory accepts (with_event s e)
+    → Takes {S = S} accepts s n session number (call_of asked) (record { reply = answer; front = front })
+takes_next accepts t counts s n session number asked called given answer e front h call_is given_is event_is answer_is story_is front_is legal =
+    let is : IsReply (bounds_of s.limits) (state_of s) called given = rw h.state at given_is in
+    let given_of : IsReply (bounds_of s.limits) (state_of s) (call_of asked) given = rw call_is at is in
+    let was : IsReply (bounds_of s.limits) (state_of s) e.call answer = rw h.state at answer_is in
+    let asked_e : e.call ≡ call_of asked = ap (λ (x : Event). x.call) event_is ∙ call_is in
+    let answer_of : IsReply (bounds_of s.limits) (state_of s) (call_of asked) answer = subst (λ c. IsReply (bounds_of s.limits) (state_of s) c answer) asked_e was in
+    let same : given ≡ answer = one_answer (bounds_of s.limits) (state_of s) asked given answer given_of answer_of in
+    record {
+      history = story_is ∙ ap (with_event s) (event_is ∙ (λ i. record { session = session; number = number; call = call_is i; reply = same i }));
+      reply = answer_of;
+      front = front_is ∙ sym story_is;
+      legal = subst (IsLegalStory accepts) (sym story_is) legal;
+    }

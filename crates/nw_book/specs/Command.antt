@@ -11,8 +11,7 @@ use Rattle.nw_book.specs.declared.command.Command.TheVariants as command
 abbrev pub IsUnder : {S : Type 0} → List Member → Command S → Type 0
 IsUnder members (command.Write b) = b.committee ≡ members
 IsUnder members (command.Certify c) = c.committee ≡ members
-IsUnder members (command.Certificate d) = Unit {0}
-IsUnder members (command.Read d) = Unit {0}
+IsUnder members other = Unit {0}
 
 -- the call that a command asks: a block is written under its digest
 abbrev pub call_of : {S : Type 0} → Command S → Call
@@ -20,3 +19,6 @@ call_of (command.Write b) = call.Write (digest_of b.block) b.block
 call_of (command.Certify c) = call.Certify c.certificate
 call_of (command.Certificate d) = call.Certificate d
 call_of (command.Read d) = call.Read d
+call_of (command.Collect round) = call.Collect round
+call_of (command.Missing most) = call.Missing most
+call_of command.Status = call.Status

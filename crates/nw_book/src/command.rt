@@ -6,7 +6,7 @@ ghost use Rattle.nw_book.specs.Command.{IsUnder, call_of};
 
 use nw_check::{CheckedBlock, CheckedCert};
 use nw_committee::Committee;
-use nw_digest::{Digest, NoMemory};
+use nw_digest::{Digest, NoMemory, Round};
 use nw_model::Call;
 use nw_sig::Scheme;
 
@@ -21,6 +21,12 @@ pub enum Command<S: Scheme> {
     Certificate(Digest),
     /// The block that is held under the digest.
     Read(Digest),
+    /// Drop what is of a round below this one, which is the garbage round from then on.
+    Collect(Round),
+    /// The first so many of the parents that are wanted.
+    Missing(u16),
+    /// How much is kept, and how much is wanted.
+    Status,
 }
 
 impl<S: Scheme> Command<S> {
@@ -36,6 +42,9 @@ impl<S: Scheme> Command<S> {
             Command::Certify(checked) => Ok(Call::Certify(checked.certificate().try_clone()?)),
             Command::Certificate(digest) => Ok(Call::Certificate(*digest)),
             Command::Read(digest) => Ok(Call::Read(*digest)),
+            Command::Collect(round) => Ok(Call::Collect(*round)),
+            Command::Missing(most) => Ok(Call::Missing(*most)),
+            Command::Status => Ok(Call::Status),
         }
     }
 
@@ -47,6 +56,7 @@ impl<S: Scheme> Command<S> {
             Command::Write(checked) => checked.committee().get().eq(committee),
             Command::Certify(checked) => checked.committee().get().eq(committee),
             Command::Certificate(_) | Command::Read(_) => true,
+            Command::Collect(_) | Command::Missing(_) | Command::Status => true,
         }
     }
 }

@@ -2,7 +2,7 @@
 
 use nw_check::{BlockFault, CertFault};
 use nw_digest::Round;
-use nw_model::CausalReply;
+use nw_model::{CausalReply, CollectReply, Counts, Wanted};
 use nw_script::Name;
 use std::fmt;
 
@@ -72,6 +72,15 @@ pub enum Answer<'a> {
         name: Name<'a>,
         blocks: Vec<Name<'a>>,
     },
+    /// The reply to a collection.
+    Collected(CollectReply),
+    /// The first of the parents that are wanted, and the first names that were bound to their blocks.
+    Missing {
+        wanted: Vec<Wanted>,
+        names: Vec<Name<'a>>,
+    },
+    /// How much is kept, and how much is wanted.
+    Status(Counts),
     /// The history has no room for the call.
     HistoryFull,
     /// A session makes the calls from here on.
@@ -127,6 +136,14 @@ impl fmt::Display for Answer<'_> {
                 }
                 Ok(())
             }
+            Answer::Collected(CollectReply::Raised { dropped }) => write!(f, "raised {dropped}"),
+            Answer::Collected(CollectReply::NotHigher(floor)) => {
+                write!(f, "not higher {}", floor.get())
+            }
+            Answer::Missing { wanted, names } => {
+                write_missing(f, wanted.as_slice(), names.as_slice())
+            }
+            Answer::Status(counts) => write_status(f, counts),
             Answer::HistoryFull => write!(f, "refused history full"),
             Answer::Session(id) => write!(f, "session {id}"),
             Answer::TooMany => write!(f, "refused too many"),
@@ -154,6 +171,38 @@ fn write_list<W: fmt::Write>(f: &mut fmt::Formatter<W>, numbers: &[u16]) -> fmt:
             Ok(())
         }
     }
+}
+
+// The parents that are wanted, or that there are none.
+fn write_missing<W: fmt::Write>(
+    f: &mut fmt::Formatter<W>,
+    wanted: &[Wanted],
+    names: &[Name<'_>],
+) -> fmt::Result {
+    write!(f, "missing")?;
+    if wanted.is_empty() {
+        return write!(f, " none");
+    }
+    for (parent, name) in wanted.iter().zip(names) {
+        write!(f, " {}.{}.{name}", parent.round.get(), parent.author)?;
+    }
+    Ok(())
+}
+
+fn write_status<W: fmt::Write>(f: &mut fmt::Formatter<W>, counts: &Counts) -> fmt::Result {
+    let Counts {
+        floor,
+        blocks,
+        certificates,
+        complete,
+        wanted,
+    } = counts;
+    write!(
+        f,
+        "status g={} blocks={blocks} certificates={certificates}",
+        floor.get()
+    )?;
+    write!(f, " complete={complete} wanted={wanted}")
 }
 
 fn word_of(reply: CausalReply) -> &'static str {

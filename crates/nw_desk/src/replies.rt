@@ -5,7 +5,7 @@ use crate::fault::LineFault;
 use crate::print::{Answer, Certified, Written};
 use nw_book::Ticket;
 use nw_codec::{Seal, block_digest, encode_body};
-use nw_model::{CertifyReply, Reply, WriteReply};
+use nw_model::{CertifyReply, Reply, Wanted, WriteReply};
 use nw_script::Name;
 use nw_sig::DemoScheme;
 use std::alloc::Global;
@@ -36,7 +36,29 @@ impl<'a> Desk<'a> {
                 reply: *reply,
             }),
             Reply::Ready | Reply::List(_) => Err(LineFault::Bad),
+            Reply::Collect(_) | Reply::Missing(_) | Reply::Status(_) => Err(LineFault::Bad),
         }
+    }
+
+    /// The answer that tells the reply to a call that names no block.
+    pub fn stated(&self, alloc: Global, reply: &Reply) -> Result<Answer<'a>, LineFault> {
+        match reply {
+            Reply::Collect(reply) => Ok(Answer::Collected(*reply)),
+            Reply::Missing(wanted) => Ok(Answer::Missing {
+                wanted: wanted.as_slice().to_vec(alloc)?,
+                names: self.first_names(alloc, wanted.as_slice())?,
+            }),
+            Reply::Status(counts) => Ok(Answer::Status(*counts)),
+            _ => Err(LineFault::Bad),
+        }
+    }
+
+    fn first_names(&self, alloc: Global, wanted: &[Wanted]) -> Result<Vec<Name<'a>>, LineFault> {
+        let mut names = Vec::with_capacity(alloc, wanted.len())?;
+        for parent in wanted {
+            names.push(self.names.first_name(&parent.digest)?)?;
+        }
+        Ok(names)
     }
 
     fn written(&self, name: Name<'a>, reply: WriteReply) -> Result<Answer<'a>, LineFault> {

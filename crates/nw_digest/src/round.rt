@@ -1,6 +1,6 @@
 //! Rounds of the DAG.
-ghost use Rattle.std.specs.Prelude.{◌≡◌, ◌<◌, ◌^◌};
-ghost use Rattle.std.specs.Option.{SomeIff};
+ghost use Rattle.std.specs.Prelude.{◌≡◌, ◌<◌, ◌+◌, ◌^◌};
+ghost use Rattle.std.specs.Option.{MatchOption, SomeIff};
 
 use std::marker::Model;
 
@@ -43,5 +43,13 @@ impl Round {
         ensures in_range { result < 2 ^ 48 }
     {
         self.number
+    }
+
+    /// The round before this one, or `None` where this is the first.
+    pub fn before(self) -> Option<Round>
+        ensures { MatchOption result (self ≡ 0) (λ before. before + 1 ≡ self) }
+    {
+        let number = self.number.checked_sub(1)?;
+        Some(Round { number })
     }
 }

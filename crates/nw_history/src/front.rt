@@ -200,15 +200,16 @@ impl<S: Scheme> Front<S> {
     }
 }
 
-/// Takes the step of the call again, whose reply is known: only what is written changes the tables.
+/// Takes the step of the call again, whose reply is known: only writes, certificates and collections change the tables.
 fn take_again(tables: &mut Plain, call: &Call) -> Result<(), NoMemory>
     ensures { OnOk result (tables.new ≡ record tables.old { state = after tables.old.bounds tables.old.state call.now }) }
 {
     match call {
-        Call::Write(_, _) | Call::Certify(_) => {
+        Call::Write(_, _) | Call::Certify(_) | Call::Collect(_) => {
             tables.call(call)?;
         }
         Call::Certificate(_) | Call::Read(_) | Call::Causal(_) => {}
+        Call::Missing(_) | Call::Status => {}
     }
     Ok(())
 }

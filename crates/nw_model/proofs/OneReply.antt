@@ -1,19 +1,27 @@
 -- One reply to each call.
-use Rattle.std.proofs.Common.{◌≡◌, ◌⊎◌, List, Option, Some, None, IsSome, refl, ap, sym, ◌∙◌, subst, inl, inr}
+use Rattle.std.proofs.Common.{◌≡◌, ◌⊎◌, ℕ, List, length, Option, Some, None, IsSome, refl, ap, sym, ◌∙◌, subst, inl, inr}
+use Rattle.std.specs.Prelude.{take}
+use Rattle.std.specs.Cmp.{IsTotalOrder}
+use Rattle.std.specs.declared.cmp.Ordering.{Ordering}
 use Rattle.std.specs.FinMap.{get}
+use Rattle.nw_waiting.specs.Pairs.{wanted_cmp}
+use Rattle.nw_waiting.proofs.Orders.{wanted_total}
+use Rattle.nw_waiting.specs.declared.wanted.Wanted.{Wanted}
+use Rattle.nw_model.specs.Missing.{IsWanted, AreExactly, HasCount, AreFirstWanted, AreCounts}
+use Rattle.nw_model.specs.declared.reply.Counts.{Counts}
 use Rattle.nw_digest.specs.declared.digest.Digest.{Digest}
 use Rattle.nw_codec.specs.declared.block.Block.{Block}
 use Rattle.nw_codec.specs.declared.certificate.Certificate.{Certificate}
 use Rattle.nw_model.specs.State.{State}
 use Rattle.nw_model.specs.Paths.{IsAncestor, IsComplete, IsCausalList}
-use Rattle.nw_model.specs.Step.{Bounds, IsReply, IsCausalReply, AreOneReply, StepIsAFunction, shortened, write_reply, certify_reply}
-use Rattle.nw_model.specs.declared.call.Call.{Call}
+use Rattle.nw_model.specs.Step.{Bounds, IsReply, IsCausalReply, AreOneReply, StepIsAFunction, shortened, write_reply, certify_reply, collect_reply}
 use Rattle.nw_model.specs.declared.call.Call.TheVariants as call
 use Rattle.nw_model.specs.declared.reply.CausalReply.{CausalReply}
 use Rattle.nw_model.specs.declared.reply.CausalReply.TheVariants as causal
 use Rattle.nw_model.specs.declared.reply.Reply.{Reply}
 use Rattle.nw_model.specs.declared.reply.Reply.TheVariants as reply
-use Rattle.nw_model.proofs.Listed.{same_lists}
+use Rattle.nw_model.proofs.Maps.{digests_total}
+use Rattle.nw_model.proofs.Listed.{same_lists, same_in_order}
 
 -- equal replies are one
 equal_replies : (one other : Reply) → one ≡ other → AreOneReply one other
@@ -32,6 +40,10 @@ to_write bounds s d b other is = absurd is
 to_certify : (bounds : Bounds) (s : State) (c : Certificate) (r : Reply) → IsReply bounds s (call.Certify c) r → r ≡ reply.Certify (certify_reply bounds s c)
 to_certify bounds s c (reply.Certify w) is = ap reply.Certify is
 to_certify bounds s c other is = absurd is
+
+to_collect : (bounds : Bounds) (s : State) (round : ℕ) (r : Reply) → IsReply bounds s (call.Collect round) r → r ≡ reply.Collect (collect_reply s round)
+to_collect bounds s round (reply.Collect w) is = ap reply.Collect is
+to_collect bounds s round other is = absurd is
 
 to_certificate : (bounds : Bounds) (s : State) (d : Digest) (r : Reply) → IsReply bounds s (call.Certificate d) r → r ≡ reply.Certificate (get s.certificates d)
 to_certificate bounds s d (reply.Certificate w) is = ap reply.Certificate is
@@ -74,10 +86,7 @@ reason_or_list : (s : State) (d : Digest) (r : Reply) → IsCausalReply s d r �
 reason_or_list s d (reply.Causal why) is = inl (why, refl)
 reason_or_list s d reply.Ready is = inr (is, refl)
 reason_or_list s d (reply.List blocks) is = inr (is.0, refl)
-reason_or_list s d (reply.Write r) is = absurd is
-reason_or_list s d (reply.Certify r) is = absurd is
-reason_or_list s d (reply.Certificate r) is = absurd is
-reason_or_list s d (reply.Read r) is = absurd is
+reason_or_list s d other is = absurd is
 
 -- two replies to a causal read are one
 to_causal : (s : State) (d : Digest) (one other : Reply) → IsCausalReply s d one → IsCausalReply s d other → AreOneReply one other
@@ -100,9 +109,55 @@ to_causal s d one other is was = record {
       same_lists s.blocks (IsAncestor s d) blocks others one_list.1 other_list.1;
 }
 
+-- ---- what is missing, and how much is kept
+
+-- there is one list of exactly those with P
+pub one_list : {A : Type 0} {cmp : A → A → Ordering} (o : IsTotalOrder cmp) (P : A → Type 0) (xs ys : List A) → AreExactly cmp P xs → AreExactly cmp P ys → xs ≡ ys
+one_list o P xs ys one other = same_in_order o xs ys one.ascending other.ascending (λ x. (λ here. (other.exactly x).1 ((one.exactly x).0 here), λ there. (one.exactly x).1 ((other.exactly x).0 there)))
+
+-- and one count
+pub one_count : {A : Type 0} {cmp : A → A → Ordering} (o : IsTotalOrder cmp) (P : A → Type 0) (n k : ℕ) → HasCount cmp P n → HasCount cmp P k → n ≡ k
+one_count o P n k (xs, exact, is) (ys, other, was) = sym is ∙ ap length (one_list o P xs ys exact other) ∙ was
+
+-- there are first wanted parents
+to_missing : (bounds : Bounds) (s : State) (most : ℕ) (r : Reply) → IsReply bounds s (call.Missing most) r → (first : List Wanted) × AreFirstWanted s most first × (r ≡ reply.Missing first)
+to_missing bounds s most (reply.Missing first) is = (first, is, refl)
+to_missing bounds s most other is = absurd is
+
+same_missing : (bounds : Bounds) (s : State) (most : ℕ) (one other : Reply) → IsReply bounds s (call.Missing most) one → IsReply bounds s (call.Missing most) other → one ≡ other
+same_missing bounds s most one other is was =
+    let here = to_missing bounds s most one is in
+    let there = to_missing bounds s most other was in
+    let all : here.1.0 ≡ there.1.0 = one_list wanted_total (IsWanted s) here.1.0 there.1.0 here.1.1 there.1.1 in
+    let first : here.0 ≡ there.0 = here.1.2 ∙ ap (take most) all ∙ sym there.1.2 in
+    here.2 ∙ ap reply.Missing first ∙ sym there.2
+
+to_status : (bounds : Bounds) (s : State) (r : Reply) → IsReply bounds s call.Status r → (counts : Counts) × AreCounts s counts × (r ≡ reply.Status counts)
+to_status bounds s (reply.Status counts) is = (counts, is, refl)
+to_status bounds s other is = absurd is
+
+-- there is one status
+one_status : (s : State) (a b : Counts) → AreCounts s a → AreCounts s b → a ≡ b
+one_status s a b one other =
+    let floor : a.floor ≡ b.floor = one.floor ∙ sym other.floor in
+    let blocks : a.blocks ≡ b.blocks = one.blocks ∙ sym other.blocks in
+    let certificates : a.certificates ≡ b.certificates = one.certificates ∙ sym other.certificates in
+    let complete : a.complete ≡ b.complete = one_count digests_total (IsComplete s) a.complete b.complete one.complete other.complete in
+    let wanted : a.wanted ≡ b.wanted = one_count wanted_total (IsWanted s) a.wanted b.wanted one.wanted other.wanted in
+    λ i. record { floor = floor i; blocks = blocks i; certificates = certificates i; complete = complete i; wanted = wanted i }
+
+same_status : (bounds : Bounds) (s : State) (one other : Reply) → IsReply bounds s call.Status one → IsReply bounds s call.Status other → one ≡ other
+same_status bounds s one other is was =
+    let here = to_status bounds s one is in
+    let there = to_status bounds s other was in
+    here.2 ∙ ap reply.Status (one_status s here.0 there.0 here.1 there.1) ∙ sym there.2
+
 pub one_reply : StepIsAFunction
 one_reply bounds s (call.Write d b) one other is was = equal_replies one other (to_write bounds s d b one is ∙ sym (to_write bounds s d b other was))
 one_reply bounds s (call.Certify c) one other is was = equal_replies one other (to_certify bounds s c one is ∙ sym (to_certify bounds s c other was))
 one_reply bounds s (call.Certificate d) one other is was = equal_replies one other (to_certificate bounds s d one is ∙ sym (to_certificate bounds s d other was))
 one_reply bounds s (call.Read d) one other is was = equal_replies one other (to_read bounds s d one is ∙ sym (to_read bounds s d other was))
 one_reply bounds s (call.Causal d) one other is was = to_causal s d one other is was
+one_reply bounds s (call.Collect round) one other is was = equal_replies one other (to_collect bounds s round one is ∙ sym (to_collect bounds s round other was))
+one_reply bounds s (call.Missing most) one other is was = equal_replies one other (same_missing bounds s most one other is was)
+one_reply bounds s call.Status one other is was = equal_replies one other (same_status bounds s one other is was)

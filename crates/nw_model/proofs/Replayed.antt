@@ -8,7 +8,7 @@ use Rattle.nw_codec.specs.declared.block.Block.{Block}
 use Rattle.nw_codec.specs.declared.certificate.Certificate.{Certificate}
 use Rattle.nw_model.specs.State.{State, block_slot, certificate_slot, opening}
 use Rattle.nw_model.specs.Sound.{IsSound}
-use Rattle.nw_model.specs.Step.{Bounds, after, after_write, after_certify, write_reply, certify_reply, is_elsewhere, certified_digest}
+use Rattle.nw_model.specs.Step.{Bounds, after, after_write, after_certify, write_reply, certify_reply, after_collect, collect_reply, is_elsewhere, certified_digest}
 use Rattle.nw_sig.specs.Signed.{Meaning}
 use Rattle.nw_model.specs.History.{Terms, IsBase, replay}
 use Rattle.nw_model.specs.Laws.{LegalHistoriesLeaveSoundStates}
@@ -19,7 +19,10 @@ use Rattle.nw_model.specs.declared.reply.WriteReply.{WriteReply}
 use Rattle.nw_model.specs.declared.reply.WriteReply.TheVariants as write
 use Rattle.nw_model.specs.declared.reply.CertifyReply.{CertifyReply}
 use Rattle.nw_model.specs.declared.reply.CertifyReply.TheVariants as certify
+use Rattle.nw_model.specs.declared.reply.CollectReply.{CollectReply}
+use Rattle.nw_model.specs.declared.reply.CollectReply.TheVariants as collect
 use Rattle.nw_model.proofs.Kept.{sound_with_block, sound_with_certificate, kept_opening}
+use Rattle.nw_model.proofs.Raised.{sound_raised}
 
 -- a value with this mark that is not the first branch's is the second's
 pub past : {X : Type 0} (mark : X → Bool) (test : Bool) (x rest r : X) → mark x ≡ false → mark r ≡ true → cond test x rest ≡ r → (test ≡ false) × (rest ≡ r)
@@ -30,7 +33,7 @@ pub past_found : {X Y : Type 0} (mark : Y → Bool) (reply : X → Y) (found : O
 past_found mark reply None rest r unmarked marked is = (refl, is)
 past_found mark reply (Some x) rest r unmarked marked is = let same = ap mark is in let not_this = unmarked x in absurd cc
 
-not_below : (a b : ℕ) → nat_lt a b ≡ false → b ≤ a
+pub not_below : (a b : ℕ) → nat_lt a b ≡ false → b ≤ a
 not_below a b e = grind arith
 
 -- ---- what is known where a block is stored, or a certificate kept
@@ -74,10 +77,15 @@ sound_after_certify : (bounds : Bounds) (s : State) (c : Certificate) (r : Certi
 sound_after_certify bounds s c certify.Certified sound is = let known = certified bounds s c is in sound_with_certificate s c sound known.2 known.1 known.0
 sound_after_certify bounds s c other sound is = sound
 
+sound_after_collect : (s : State) (round : ℕ) (r : CollectReply) → IsSound s → IsSound (after_collect s round r)
+sound_after_collect s round (collect.Raised dropped) sound = sound_raised s round sound
+sound_after_collect s round (collect.NotHigher floor) sound = sound
+
 -- each call leaves a sound state sound
 pub sound_after : (bounds : Bounds) (s : State) (asked : Call) → IsSound s → IsSound (after bounds s asked)
 sound_after bounds s (call.Write d b) sound = sound_after_write bounds s d b (write_reply bounds s d b) sound refl
 sound_after bounds s (call.Certify c) sound = sound_after_certify bounds s c (certify_reply bounds s c) sound refl
+sound_after bounds s (call.Collect round) sound = sound_after_collect s round (collect_reply s round) sound
 sound_after bounds s other sound = sound
 
 -- so do the calls of these events

@@ -1,10 +1,10 @@
 -- Laws over the definitions.
-use Rattle.std.specs.Prelude.{◌≡◌, ◌↔◌, ℕ, true, List, All, Contains, IsSome}
+use Rattle.std.specs.Prelude.{◌≡◌, ◌↔◌, ℕ, true, List, Some, All, Contains, IsSome, slice_get}
 use Rattle.nw_digest.specs.declared.digest.Digest.{Digest}
 use Rattle.nw_codec.specs.declared.block.Block.{Block}
 use Rattle.nw_sig.specs.Signed.{Meaning}
 use Rattle.std.specs.FinMap.{get}
-use Rattle.nw_model.specs.State.{State, block_slot}
+use Rattle.nw_model.specs.State.{State, Slot, block_slot}
 use Rattle.nw_model.specs.Paths.{IsAncestor, IsComplete, IsCausalList}
 use Rattle.nw_model.specs.View.{Frozen, IsAncestorIn, Shows}
 use Rattle.nw_model.specs.Sound.{IsSound}
@@ -29,8 +29,18 @@ CausalListsContainThoseOfTheirBlocks =
     (s : State) (d : Digest) (blocks : List Block) → IsComplete s d → (listed : IsCausalList s d blocks) → (e : Digest) → Contains listed.digests e
     → IsComplete s e × (few : List Block) × IsCausalList s e few × All (Contains blocks) few
 
+-- the event is a write of a block of this slot, which is answered with a vote
+abbrev pub IsVote : Slot → Event → Type 0
+IsVote slot e = (d : Digest) × (b : Block) × (e.call ≡ call.Write d b) × (e.reply ≡ reply.Write (write.Stored true)) × (block_slot b ≡ slot)
+
+-- at most one event of a legal history votes for a slot
+abbrev pub LegalHistoriesVoteOnce : Type 0
+LegalHistoriesVoteOnce =
+    (accepts : Meaning) (terms : Terms) (base : State) (es : List Event) → IsLegal accepts terms base es
+    → (slot : Slot) (i j : ℕ) (e f : Event) → slice_get es i ≡ Some e → slice_get es j ≡ Some f → IsVote slot e → IsVote slot f → i ≡ j
+
 -- a slot that has a first digest in the base of a legal history gets no vote in it
 abbrev pub FirstsOfABaseGetNoVote : Type 0
 FirstsOfABaseGetNoVote =
-    (accepts : Meaning) (terms : Terms) (base : State) (es : List Event) → IsLegal accepts terms base es → (d : Digest) (b : Block) → IsSome (get base.firsts (block_slot b))
-    → All (λ e. e.call ≡ call.Write d b → e.reply ≡ reply.Write (write.Stored true) → ⊥) es
+    (accepts : Meaning) (terms : Terms) (base : State) (es : List Event) → IsLegal accepts terms base es
+    → (slot : Slot) → IsSome (get base.firsts slot) → (i : ℕ) (e : Event) → slice_get es i ≡ Some e → IsVote slot e → ⊥

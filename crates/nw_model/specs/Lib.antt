@@ -1,5 +1,6 @@
 pub mod State
 pub mod Paths
+pub mod Missing
 pub mod View
 pub mod Search
 pub mod Sound

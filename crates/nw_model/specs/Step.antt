@@ -1,14 +1,15 @@
 -- What each call answers, and what it leaves.
-use Rattle.std.specs.Prelude.{◌≡◌, ◌==◌, ◌&&◌, ℕ, ◌+◌, Bool, false, not, nat_lt, nat_le, List, Option, Some, None, IsSome, is_some, option_and_then, find, if◌then◌else◌, refl}
+use Rattle.std.specs.Prelude.{◌≡◌, ◌==◌, ◌&&◌, ℕ, ◌+◌, ◌-◌, Bool, false, not, nat_lt, nat_le, List, Option, Some, None, IsSome, is_some, option_and_then, find, if◌then◌else◌, refl}
 use Rattle.std.specs.Coded.{Coded, code_by, coded×, coded_ℕ}
 use Rattle.std.specs.Option.{option_map_or}
-use Rattle.std.specs.FinMap.{get, insert, len, keys}
+use Rattle.std.specs.FinMap.{FinMap, get, insert, len, keys, retain_keys}
 use Rattle.nw_digest.specs.declared.digest.Digest.{Digest}
 use Rattle.nw_codec.specs.Same.{same_block, same_bytes}
 use Rattle.nw_codec.specs.declared.block.Block.{Block}
 use Rattle.nw_codec.specs.declared.certificate.Certificate.{Certificate}
-use Rattle.nw_model.specs.State.{State, Slot, block_slot, certificate_slot, coded_state}
+use Rattle.nw_model.specs.State.{State, Slot, block_slot, certificate_slot, digest_cmp, coded_state}
 use Rattle.nw_model.specs.Paths.{IsComplete, IsCausalList}
+use Rattle.nw_model.specs.Missing.{AreFirstWanted, AreCounts}
 use Rattle.nw_model.specs.declared.call.Call.{Call}
 use Rattle.nw_model.specs.declared.call.Call.TheVariants as call
 use Rattle.nw_model.specs.declared.reply.WriteReply.{WriteReply}
@@ -16,6 +17,8 @@ use Rattle.nw_model.specs.declared.reply.WriteReply.TheVariants as write
 use Rattle.nw_model.specs.declared.reply.CertifyReply.{CertifyReply}
 use Rattle.nw_model.specs.declared.reply.CertifyReply.TheVariants as certify
 use Rattle.nw_model.specs.declared.reply.CausalReply.TheVariants as causal
+use Rattle.nw_model.specs.declared.reply.CollectReply.{CollectReply}
+use Rattle.nw_model.specs.declared.reply.CollectReply.TheVariants as collect
 use Rattle.nw_model.specs.declared.reply.Reply.{Reply}
 use Rattle.nw_model.specs.declared.reply.Reply.TheVariants as reply
 
@@ -103,10 +106,33 @@ abbrev pub after_certify : State → Certificate → CertifyReply → State
 after_certify s c certify.Certified = with_certificate s c
 after_certify s c other = s
 
+-- a map without the values of rounds below this one
+abbrev pub from_round : {X : Type 0} → (X → ℕ) → ℕ → FinMap digest_cmp X → FinMap digest_cmp X
+from_round round_of round m = retain_keys m (λ d. option_map_or (λ x. nat_le round (round_of x)) (get m d) false)
+
+-- the round is the garbage round, and nothing of a round below it is kept
+abbrev pub raised : State → ℕ → State
+raised s round = record {
+  blocks = from_round (λ b. b.round) round s.blocks;
+  certificates = from_round (λ c. c.round) round s.certificates;
+  firsts = retain_keys s.firsts (λ slot. nat_le round slot.0);
+  floor = round;
+}
+
+-- the replies to a collection; what is dropped are blocks
+abbrev pub collect_reply : State → ℕ → CollectReply
+collect_reply s round = if nat_le round s.floor then collect.NotHigher s.floor else collect.Raised (len s.blocks - len (raised s round).blocks)
+
+-- a collection changes the state where its reply is Raised
+abbrev pub after_collect : State → ℕ → CollectReply → State
+after_collect s round (collect.Raised dropped) = raised s round
+after_collect s round other = s
+
 -- what a call leaves
 abbrev pub after : Bounds → State → Call → State
 after bounds s (call.Write d b) = after_write s d b (write_reply bounds s d b)
 after bounds s (call.Certify c) = after_certify s c (certify_reply bounds s c)
+after bounds s (call.Collect round) = after_collect s round (collect_reply s round)
 after bounds s other = s
 
 -- the replies to a causal read; Ready stands for the list
@@ -116,10 +142,7 @@ IsCausalReply s d (reply.Causal causal.Uncertified) = IsSome (get s.blocks d) ×
 IsCausalReply s d (reply.Causal causal.Incomplete) = IsSome (get s.blocks d) × IsSome (get s.certificates d) × (IsComplete s d → ⊥)
 IsCausalReply s d reply.Ready = IsComplete s d
 IsCausalReply s d (reply.List blocks) = IsComplete s d × IsCausalList s d blocks
-IsCausalReply s d (reply.Write r) = ⊥
-IsCausalReply s d (reply.Certify r) = ⊥
-IsCausalReply s d (reply.Certificate r) = ⊥
-IsCausalReply s d (reply.Read r) = ⊥
+IsCausalReply s d other = ⊥
 
 -- the reply to each call
 abbrev pub IsReply : Bounds → State → Call → Reply → Type 0
@@ -128,6 +151,9 @@ IsReply bounds s (call.Certify c) (reply.Certify r) = r ≡ certify_reply bounds
 IsReply bounds s (call.Certificate d) (reply.Certificate r) = r ≡ get s.certificates d
 IsReply bounds s (call.Read d) (reply.Read r) = r ≡ get s.blocks d
 IsReply bounds s (call.Causal d) r = IsCausalReply s d r
+IsReply bounds s (call.Collect round) (reply.Collect r) = r ≡ collect_reply s round
+IsReply bounds s (call.Missing most) (reply.Missing first) = AreFirstWanted s most first
+IsReply bounds s call.Status (reply.Status counts) = AreCounts s counts
 IsReply bounds s asked other = ⊥
 
 -- a reply that a history may record: no list

@@ -2,7 +2,7 @@
 ghost use Rattle.std.specs.Prelude.{◌≡◌, ◌↔◌, IfOk, IsTrue};
 
 use nw_codec::{Block, Certificate};
-use nw_digest::{Digest, NoMemory, Shared};
+use nw_digest::{Digest, NoMemory, Round, Shared};
 
 /// One call of a store.
 #[derive(Debug, Drop)]
@@ -17,6 +17,12 @@ pub enum Call {
     Read(Digest),
     /// The block that is held under the digest, with all its certified ancestors.
     Causal(Digest),
+    /// Drop what is of a round below this one, which is the garbage round from then on.
+    Collect(Round),
+    /// The first so many of the parents that are wanted.
+    Missing(u16),
+    /// How much is kept, and how much is wanted.
+    Status,
 }
 
 impl Call {
@@ -30,6 +36,9 @@ impl Call {
             Call::Certificate(digest) => Call::Certificate(*digest),
             Call::Read(digest) => Call::Read(*digest),
             Call::Causal(digest) => Call::Causal(*digest),
+            Call::Collect(round) => Call::Collect(*round),
+            Call::Missing(most) => Call::Missing(*most),
+            Call::Status => Call::Status,
         })
     }
 
@@ -45,6 +54,9 @@ impl Call {
             (Call::Certificate(digest), Call::Certificate(of)) => is_same_digest(digest, of),
             (Call::Read(digest), Call::Read(of)) => is_same_digest(digest, of),
             (Call::Causal(digest), Call::Causal(of)) => is_same_digest(digest, of),
+            (Call::Collect(round), Call::Collect(of)) => round == of,
+            (Call::Missing(most), Call::Missing(of)) => most == of,
+            (Call::Status, Call::Status) => true,
             _ => false,
         }
     }

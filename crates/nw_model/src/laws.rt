@@ -2,6 +2,7 @@
 ghost use Rattle.nw_model.specs.Laws.{
   CausalListsContainThoseOfTheirBlocks,
   LegalHistoriesLeaveSoundStates,
+  LegalHistoriesVoteOnce,
   ViewsShowTheAncestors,
   FirstsOfABaseGetNoVote,
 };
@@ -25,6 +26,11 @@ pub fn ancestors_in_a_view_are_the_states()
 /// The causal list of a block contains the causal list of each block in it.
 pub fn a_causal_list_contains_those_of_its_blocks()
     ensures { CausalListsContainThoseOfTheirBlocks }
+{}
+
+/// At most one event of a legal history votes for a round and author.
+pub fn a_legal_history_votes_once_for_a_slot()
+    ensures { LegalHistoriesVoteOnce }
 {}
 
 /// A slot that has a first digest in the base of a legal history gets no vote in that history.

@@ -1,7 +1,8 @@
 //! What the store means: its state, its calls, the reply to each, and which histories are legal.
 //!
 //! Its contract: the step table in `specs/Step.antt` gives each call one reply at a state, and what the calls of a legal
-//! history leave is sound. It stands on `nw_codec` for blocks and certificates, and on `nw_digest`.
+//! history leave is sound. It stands on `nw_codec` for blocks and certificates, on `nw_waiting` for the name of a wanted parent, and on
+//! `nw_digest`.
 #![tactic(auto)]
 
 mod call;
@@ -13,6 +14,8 @@ pub use call::Call;
 pub use event::Event;
 pub use laws::{
     a_causal_list_contains_those_of_its_blocks, a_first_of_the_base_gets_no_vote,
-    a_legal_history_leaves_a_sound_state, ancestors_in_a_view_are_the_states, step_is_a_function,
+    a_legal_history_leaves_a_sound_state, a_legal_history_votes_once_for_a_slot,
+    ancestors_in_a_view_are_the_states, step_is_a_function,
 };
-pub use reply::{CausalReply, CertifyReply, Reply, WriteReply};
+pub use nw_waiting::Wanted;
+pub use reply::{CausalReply, CertifyReply, CollectReply, Counts, Reply, WriteReply};

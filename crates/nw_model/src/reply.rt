@@ -3,6 +3,7 @@ ghost use Rattle.std.specs.Prelude.{◌≡◌, IfOk};
 
 use nw_codec::{Block, Certificate};
 use nw_digest::{Digest, NoMemory, Round, Sequence, Shared};
+use nw_waiting::Wanted;
 use std::alloc::Global;
 
 /// The reply to a write. Only `Stored` changes the store.
@@ -59,6 +60,33 @@ pub enum CausalReply {
     Incomplete,
 }
 
+/// The reply to a collection. Only `Raised` changes the store.
+#[derive(Clone, Copy, Debug, PartialEq, Eq)]
+pub enum CollectReply {
+    /// The round is not higher than the garbage round, which is given.
+    NotHigher(Round),
+    /// The round is the garbage round from now on, and nothing of a round below it is kept.
+    Raised {
+        /// How many blocks were dropped.
+        dropped: u64,
+    },
+}
+
+/// How much is kept, and how much is wanted.
+#[derive(Clone, Copy, Debug, PartialEq, Eq)]
+pub struct Counts {
+    /// The garbage round.
+    pub floor: Round,
+    /// How many blocks are held.
+    pub blocks: u64,
+    /// How many certificates are kept.
+    pub certificates: u64,
+    /// How many blocks are complete.
+    pub complete: u64,
+    /// How many parents are wanted.
+    pub wanted: u64,
+}
+
 /// The reply to a call.
 #[derive(Debug, Drop)]
 pub enum Reply {
@@ -76,6 +104,12 @@ pub enum Reply {
     Ready,
     /// To a causal read: the block and its certified ancestors, strictly ascending by round and author.
     List(Sequence<Shared<Block>>),
+    /// To a collection.
+    Collect(CollectReply),
+    /// To the call for what is missing: the first of the parents that are wanted, strictly ascending by round, author and digest.
+    Missing(Sequence<Wanted>),
+    /// To the call for the status.
+    Status(Counts),
 }
 
 impl Reply {
@@ -95,6 +129,9 @@ impl Reply {
             Reply::Causal(reply) => Reply::Causal(*reply),
             Reply::Ready => Reply::Ready,
             Reply::List(blocks) => Reply::List(clone_all(alloc, blocks)?),
+            Reply::Collect(reply) => Reply::Collect(*reply),
+            Reply::Missing(wanted) => Reply::Missing(copy_all(alloc, wanted)?),
+            Reply::Status(counts) => Reply::Status(*counts),
         })
     }
 }
@@ -111,4 +148,11 @@ fn clone_all(
         copy.push(block.try_clone()?)?;
     }
     Ok(Sequence::new(copy))
+}
+
+/// The same list.
+fn copy_all(alloc: Global, wanted: &Sequence<Wanted>) -> Result<Sequence<Wanted>, NoMemory>
+    ensures { IfOk result (λ copy. copy ≡ wanted.now) }
+{
+    Ok(Sequence::new(wanted.as_slice().to_vec(alloc)?))
 }

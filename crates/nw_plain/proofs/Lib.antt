@@ -1,2 +1,6 @@
 pub mod Held
 pub mod Freezing
+pub mod Dropped
+pub mod Collected
+pub mod Wanting
+pub mod Counting

@@ -11,12 +11,14 @@ ghost use Rattle.nw_model.specs.Step.{IsReply, IsCausalReply, after, write_reply
 
 mod causal;
 mod certificates;
+mod collection;
 mod copies;
+mod missing;
 mod sameness;
 
 use nw_codec::{Block, Certificate};
 use nw_digest::{Digest, NoMemory, Round, Shared};
-use nw_model::{Call, CertifyReply, Reply, WriteReply};
+use nw_model::{Call, CertifyReply, CollectReply, Reply, WriteReply};
 use std::alloc::Global;
 use std::collections::BTreeMap;
 use std::collections::btree_map::Entry;
@@ -93,6 +95,9 @@ impl Plain {
             (Call::Certify(certificate), Reply::Certify(CertifyReply::Certified)) => {
                 self.certify(certificate.try_clone()?)?;
             }
+            (Call::Collect(round), Reply::Collect(CollectReply::Raised { .. })) => {
+                self.raise(*round);
+            }
             _ => {}
         }
         Ok(reply)
@@ -113,6 +118,9 @@ impl Plain {
             Call::Certificate(digest) => Ok(Reply::Certificate(self.read_certificate(digest)?)),
             Call::Read(digest) => Ok(Reply::Read(self.read(digest)?)),
             Call::Causal(digest) => self.causal_reply(*digest),
+            Call::Collect(round) => Ok(Reply::Collect(self.collect_reply(*round))),
+            Call::Missing(most) => Ok(Reply::Missing(self.first_wanted(*most)?)),
+            Call::Status => Ok(Reply::Status(self.counts()?)),
         }
     }
 

@@ -1,7 +1,7 @@
 use super::*;
 use nw_codec::{Block, Certificate, Ref};
 use nw_digest::{Digest, Round, Sequence, Shared};
-use nw_model::{Call, CausalReply, CertifyReply, Reply, WriteReply};
+use nw_model::{Call, CausalReply, CertifyReply, CollectReply, Reply, WriteReply};
 use std::alloc::Global;
 use std::test::Fail;
 
@@ -12,6 +12,7 @@ const B: Digest = Digest([2; 32]);
 mod bases;
 mod causal_reads;
 mod copies;
+mod missing_parents;
 mod replies;
 
 /// A round and an author.
@@ -78,6 +79,42 @@ fn certify(
     }
 }
 
+/// The digest that stands for the block of a slot.
+fn digest_at(slot: Slot) -> Digest {
+    let mut bytes = [0; 32];
+    bytes[..8].copy_from_slice(&slot.0.to_be_bytes());
+    bytes[30..].copy_from_slice(&slot.1.to_be_bytes());
+    Digest(bytes)
+}
+
+/// References to the blocks of so many authors in the round before.
+fn references(alloc: Global, round: u64, authors: u16) -> Result<Vec<Ref>, Fail> {
+    let mut references = Vec::new(alloc);
+    for author in 0..authors {
+        references.push(Ref {
+            author,
+            digest: digest_at((round.saturating_sub(1), author)),
+        })?;
+    }
+    Ok(references)
+}
+
+/// Writes the block of a slot, whose parents are so many authors' of the round before.
+fn write_at(plain: &mut Plain, alloc: Global, slot: Slot, parents: u16) -> Result<(), Fail> {
+    let block = block_of(alloc, slot, references(alloc, slot.0, parents)?, b"")?;
+    match write(plain, digest_at(slot), block)? {
+        WriteReply::Stored { vote: true } => Ok(()),
+        _ => Err(Fail::from("the block is the first of its slot")),
+    }
+}
+
+fn certify_at(plain: &mut Plain, alloc: Global, slot: Slot) -> Result<(), Fail> {
+    match certify(plain, alloc, digest_at(slot), slot)? {
+        CertifyReply::Certified => Ok(()),
+        _ => Err(Fail::from("the certificate is the first of its slot")),
+    }
+}
+
 /// The reply in words, where it is one of those that the tests wait for.
 fn words(reply: &Reply) -> &'static str {
     match reply {
@@ -91,6 +128,8 @@ fn words(reply: &Reply) -> &'static str {
         Reply::Causal(CausalReply::Incomplete) => "incomplete",
         Reply::List(_) => "listed",
         Reply::Ready => "ready",
+        Reply::Collect(reply) => words_of_collect(*reply),
+        Reply::Missing(_) | Reply::Status(_) => "other",
     }
 }
 
@@ -104,6 +143,7 @@ fn words_of_write(reply: WriteReply) -> &'static str {
         WriteReply::Equivocates(first) if first == A => "equivocates a",
         WriteReply::Full => "full",
         WriteReply::TooFar => "too far",
+        WriteReply::Collected(floor) if floor.get() == 1 => "collected 1",
         _ => "other",
     }
 }
@@ -116,7 +156,18 @@ fn words_of_certify(reply: CertifyReply) -> &'static str {
         CertifyReply::Conflict(other) if other == B => "conflict b",
         CertifyReply::Full => "full",
         CertifyReply::TooFar => "too far",
+        CertifyReply::Collected(floor) if floor.get() == 1 => "collected 1",
         _ => "other",
+    }
+}
+
+fn words_of_collect(reply: CollectReply) -> &'static str {
+    match reply {
+        CollectReply::NotHigher(floor) if floor == Round::ZERO => "not higher 0",
+        CollectReply::NotHigher(_) => "not higher 1",
+        CollectReply::Raised { dropped: 0 } => "raised 0",
+        CollectReply::Raised { dropped: 1 } => "raised 1",
+        CollectReply::Raised { .. } => "raised more",
     }
 }
 

@@ -81,7 +81,23 @@ impl<'a, L: Home> Player<'a, L> {
             }
             Request::Causal(name) => self.causal(rt, alloc, name),
             Request::Open { ticket, name } => self.open(rt, alloc, ticket, name),
+            Request::Collect(round) => self.ask(rt, alloc, &Command::Collect(round)),
+            Request::Missing(most) => self.ask(rt, alloc, &Command::Missing(most)),
+            Request::Status => self.ask(rt, alloc, &Command::Status),
             Request::Session(id) => self.select(rt, alloc, id),
+        }
+    }
+
+    // Makes the call, which names no block.
+    fn ask<R: Wait>(
+        &mut self,
+        rt: &R,
+        alloc: Global,
+        command: &Command<DemoScheme>,
+    ) -> Result<Answer<'a>, LineFault> {
+        match self.calls.step(rt, alloc, command)? {
+            Some(reply) => self.desk.stated(alloc, &reply),
+            None => Ok(Answer::HistoryFull),
         }
     }
 

@@ -1,5 +1,6 @@
 use super::*;
 use bad_lines::{BAD, NEVER_BEGUN};
+use collections::COLLECTED;
 use one_member::PLAYED;
 use sessions::SETTLED;
 use std::alloc::Global;
@@ -7,6 +8,7 @@ use std::sync::Wait;
 use std::test::Fail;
 
 mod bad_lines;
+mod collections;
 mod committees;
 mod one_member;
 mod readers;
@@ -32,7 +34,7 @@ fn played(
 
 #[test]
 fn scripts_print_their_answers(rt: HostRuntime) -> Result<(), Fail> {
-    for case in PLAYED.iter().chain(&SETTLED) {
+    for case in PLAYED.iter().chain(&SETTLED).chain(&COLLECTED) {
         let (outcome, printed) = played(&rt, rt.alloc(), case.script.as_bytes())?;
         let shows = case.shows;
         assert_eq!(rt; outcome, Ok(()), "{shows}");

@@ -1,8 +1,8 @@
 use super::*;
 use nw_book::{Book, Command, NoStep};
-use nw_digest::Digest;
+use nw_digest::{Digest, Round};
 use nw_history::Limits;
-use nw_model::{CertifyReply, Reply, WriteReply};
+use nw_model::{CertifyReply, CollectReply, Reply, WriteReply};
 use nw_sample_checked::{block, certificate, committee};
 use nw_sig::DemoScheme;
 use std::alloc::Global;
@@ -64,6 +64,7 @@ fn word(answer: &Answer<DemoScheme>) -> (&'static str, usize) {
         Answer::Done(done) => match &done.reply {
             Reply::Write(WriteReply::Stored { vote: true }) => ("stored", 0),
             Reply::Certify(CertifyReply::Certified) => ("certified", 0),
+            Reply::Collect(CollectReply::Raised { dropped: 1 }) => ("raised", 1),
             _ => ("done", 0),
         },
     }
@@ -86,11 +87,48 @@ const WORDS: [(&str, usize); 9] = [
 fn a_run_of_ten_moves_stops_at_the_ticket_that_it_lacks(rt: HostRuntime) -> Result<(), Fail> {
     let run = played(rt.alloc(), 16, &ten_moves(rt.alloc())?)?;
     let cause = Cause::NoTicket;
-    assert!(rt; run.stop == Some(Stop { at: 9, cause }));
-    assert_eq!(rt; run.answers.as_slice().len(), WORDS.len());
-    for (answer, want) in run.answers.as_slice().iter().zip(&WORDS) {
-        assert!(rt; word(answer) == *want, "{want:?}");
+    assert!(rt; run.stop == Some(Stop { at: 9, cause }) && are_told(&run, &WORDS));
+    Ok(())
+}
+
+/// Six moves over a block that is collected before it is walked. The last walks a ticket that the run has not.
+fn late_moves(alloc: Global) -> Result<Vec<Step>, Fail> {
+    let mut moves = Vec::new(alloc);
+    add_block(&mut moves, alloc, 0, &[])?;
+    moves.push(Move::Call {
+        session: 0,
+        command: Command::Collect(Round::new(1).ok_or("a round has 48 bits")?),
+    })?;
+    for ticket in [0, 5] {
+        moves.push(Move::Walk { ticket })?;
     }
+    Ok(moves)
+}
+
+/// What those moves are answered, before the stop.
+const LATE: [(&str, usize); 5] = [
+    ("stored", 0),
+    ("certified", 0),
+    ("opened", 0),
+    ("raised", 1),
+    ("walked", 1),
+];
+
+/// Whether the run gives these answers in turn.
+fn are_told(run: &Run<DemoScheme>, words: &[(&str, usize)]) -> bool {
+    let answers = run.answers.as_slice();
+    answers.len() == words.len()
+        && answers
+            .iter()
+            .zip(words)
+            .all(|(answer, want)| word(answer) == *want)
+}
+
+#[test]
+fn a_ticket_is_walked_after_its_block_was_collected(rt: HostRuntime) -> Result<(), Fail> {
+    let run = played(rt.alloc(), 16, &late_moves(rt.alloc())?)?;
+    let cause = Cause::NoTicket;
+    assert!(rt; run.stop == Some(Stop { at: 5, cause }) && are_told(&run, &LATE));
     Ok(())
 }
 

@@ -84,6 +84,12 @@ pub enum Request<'a> {
     Open { ticket: Name<'a>, name: Name<'a> },
     /// `walk <ticket>`
     Walk(Name<'a>),
+    /// `collect <round>`
+    Collect(Round),
+    /// `missing <most>`
+    Missing(u16),
+    /// `status`
+    Status,
     /// `session <id>`
     Session(u16),
 }
@@ -153,6 +159,9 @@ fn read_request<'a>(
             name: words.name()?,
         },
         "walk" => Request::Walk(words.name()?),
+        "collect" => Request::Collect(words.round()?),
+        "missing" => Request::Missing(words.member()?),
+        "status" => Request::Status,
         "session" => Request::Session(words.member()?),
         _ => return Err(LineFault::Bad),
     })

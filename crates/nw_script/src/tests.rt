@@ -3,7 +3,7 @@ use std::alloc::Global;
 use std::test::Fail;
 
 // Lines, and what they say as `{:?}` prints it.
-const LINES: [(&str, &str); 27] = [
+const LINES: [(&str, &str); 30] = [
     ("", "Skipped"),
     ("# a comment", "Skipped"),
     ("committee v1 4", "Committee(Equal { members: 4 })"),
@@ -59,6 +59,12 @@ const LINES: [(&str, &str); 27] = [
         "Request(Open { ticket: Name { text: \"t\" }, name: Name { text: \"a\" } })",
     ),
     ("walk t", "Request(Walk(Name { text: \"t\" }))"),
+    (
+        "collect 281474976710655",
+        "Request(Collect(Round { number: 281474976710655 }))",
+    ),
+    ("missing 65535", "Request(Missing(65535))"),
+    ("status", "Request(Status)"),
     ("session 65535", "Request(Session(65535))"),
     ("settle", "Settle"),
     ("reopen", "Reopen"),
@@ -73,7 +79,7 @@ const LINES: [(&str, &str); 27] = [
 ];
 
 // Lines that are none of a script.
-const BAD: [(&str, &str); 26] = [
+const BAD: [(&str, &str); 29] = [
     ("a request with a word too few", "read"),
     ("a request with a word too many", "read a a"),
     ("two spaces", "read  a"),
@@ -95,6 +101,9 @@ const BAD: [(&str, &str); 26] = [
     ("valid with an empty word among its signers", "valid a 0,,1"),
     ("gather without signers", "gather a"),
     ("gather of a name that is none", "gather 1 0"),
+    ("a collection of no round", "collect 281474976710656"),
+    ("more missing than 65535", "missing 65536"),
+    ("a word behind status", "status 0"),
     ("a session over 65535", "session 65536"),
     ("a session that is a name", "session a"),
     ("a word behind settle", "settle 0"),

@@ -14,7 +14,7 @@ use crate::{Home, Locked, Session, TooMany};
 use nw_book::{Book, BookError, Command, Done, NoStep, Ticket};
 use nw_check::{CheckedBlock, CheckedCert};
 use nw_committee::Committee;
-use nw_digest::{Digest, Shared};
+use nw_digest::{Digest, Round, Shared};
 use nw_history::{Front, Limits};
 use nw_log::Opened;
 use nw_sig::Scheme;
@@ -184,6 +184,51 @@ impl<S: Scheme, L: Home> Store<S, L> {
         ensures unchanged { OnErr result (session.new ≡ session.old) }
     {
         self.call(rt, alloc, session, &Command::Read(digest))
+    }
+
+    /// Drops what is of a round below this one, which is the garbage round from then on: a call of the session. Tickets that
+    /// were opened before are walked as before.
+    pub fn collect<R: Wait>(
+        &self,
+        rt: &R,
+        alloc: Global,
+        session: &mut Session<S, L>,
+        round: Round,
+    ) -> Result<Done<S>, NoStep>
+        ensures answered { IfOk result (IsExplained S.accepts L.origin session.old session.new (Call.Collect round)) }
+        ensures no_step { IfErr result (TakesNoStep S.accepts L.origin session.old (Unit {0})) }
+        ensures unchanged { OnErr result (session.new ≡ session.old) }
+    {
+        self.call(rt, alloc, session, &Command::Collect(round))
+    }
+
+    /// Reads the first so many of the parents that are wanted: a call of the session.
+    pub fn missing<R: Wait>(
+        &self,
+        rt: &R,
+        alloc: Global,
+        session: &mut Session<S, L>,
+        most: u16,
+    ) -> Result<Done<S>, NoStep>
+        ensures answered { IfOk result (IsExplained S.accepts L.origin session.old session.new (Call.Missing most)) }
+        ensures no_step { IfErr result (TakesNoStep S.accepts L.origin session.old (Unit {0})) }
+        ensures unchanged { OnErr result (session.new ≡ session.old) }
+    {
+        self.call(rt, alloc, session, &Command::Missing(most))
+    }
+
+    /// Reads how much is kept and how much is wanted: a call of the session.
+    pub fn status<R: Wait>(
+        &self,
+        rt: &R,
+        alloc: Global,
+        session: &mut Session<S, L>,
+    ) -> Result<Done<S>, NoStep>
+        ensures answered { IfOk result (IsExplained S.accepts L.origin session.old session.new Call.Status) }
+        ensures no_step { IfErr result (TakesNoStep S.accepts L.origin session.old (Unit {0})) }
+        ensures unchanged { OnErr result (session.new ≡ session.old) }
+    {
+        self.call(rt, alloc, session, &Command::Status)
     }
 
     /// Opens a causal read of the digest: a call of the session. The ticket is walked later, without the lock.

@@ -18,6 +18,7 @@ use std::test::Fail;
 
 mod answers;
 mod chains;
+mod collecting;
 mod settling;
 mod threads;
 

@@ -1,4 +1,4 @@
 mod Changes
 mod Members
-mod Orders
-mod Relation
+pub mod Orders
+pub mod Relation

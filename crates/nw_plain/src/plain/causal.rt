@@ -34,7 +34,7 @@ impl Plain {
     }
 
     /// The complete blocks. Certified digests are taken by round, so that a block's parents come before it.
-    fn complete_blocks(&self) -> Result<BTreeMap<Digest, Shared<Block>>, NoMemory>
+    pub(super) fn complete_blocks(&self) -> Result<BTreeMap<Digest, Shared<Block>>, NoMemory>
         ensures { IfOk result (λ complete. AreComplete self.now.state (map.from_entries complete.entries)) }
     {
         let mut complete = BTreeMap::new(self.alloc);

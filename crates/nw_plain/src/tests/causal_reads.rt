@@ -2,42 +2,6 @@
 use super::*;
 use nw_views::{View, walk};
 
-/// The digest that stands for the block of a slot.
-fn digest_at(slot: Slot) -> Digest {
-    let mut bytes = [0; 32];
-    bytes[..8].copy_from_slice(&slot.0.to_be_bytes());
-    bytes[30..].copy_from_slice(&slot.1.to_be_bytes());
-    Digest(bytes)
-}
-
-/// References to the blocks of so many authors in the round before.
-fn references(alloc: Global, round: u64, authors: u16) -> Result<Vec<Ref>, Fail> {
-    let mut references = Vec::new(alloc);
-    for author in 0..authors {
-        references.push(Ref {
-            author,
-            digest: digest_at((round.saturating_sub(1), author)),
-        })?;
-    }
-    Ok(references)
-}
-
-/// Writes the block of a slot, whose parents are so many authors' of the round before.
-fn write_at(plain: &mut Plain, alloc: Global, slot: Slot, parents: u16) -> Result<(), Fail> {
-    let block = block_of(alloc, slot, references(alloc, slot.0, parents)?, b"")?;
-    match write(plain, digest_at(slot), block)? {
-        WriteReply::Stored { vote: true } => Ok(()),
-        _ => Err(Fail::from("the block is the first of its slot")),
-    }
-}
-
-fn certify_at(plain: &mut Plain, alloc: Global, slot: Slot) -> Result<(), Fail> {
-    match certify(plain, alloc, digest_at(slot), slot)? {
-        CertifyReply::Certified => Ok(()),
-        _ => Err(Fail::from("the certificate is the first of its slot")),
-    }
-}
-
 /// The rounds and authors of these blocks.
 fn slots(alloc: Global, blocks: &[Shared<Block>]) -> Result<Vec<Slot>, Fail> {
     let mut slots = Vec::new(alloc);

@@ -12,6 +12,8 @@ enum Asked {
     Read(Digest),
     /// The certificate that is kept.
     Certificate(Digest),
+    /// The collection of rounds below this one.
+    Collect(u64),
 }
 
 /// A store with room for so many blocks in four rounds, what it is asked in turn, and what it answers.
@@ -21,7 +23,7 @@ struct Case {
     asked: &'static [(Asked, &'static str)],
 }
 
-const CASES: [Case; 9] = [
+const CASES: [Case; 11] = [
     Case {
         shows: "a block is unknown until it is written, and held when it is written again",
         room: 16,
@@ -108,6 +110,36 @@ const CASES: [Case; 9] = [
             (Asked::Certify(B, (3, 1)), "full"),
         ],
     },
+    Case {
+        shows: "a collection is for a higher round, drops what is below it, and moves the window",
+        room: 16,
+        asked: &[
+            (Asked::Write(A, (0, 0), b"x"), "stored vote"),
+            (Asked::Certify(A, (0, 0)), "certified"),
+            (Asked::Collect(0), "not higher 0"),
+            (Asked::Write(B, (4, 0), b""), "too far"),
+            (Asked::Collect(1), "raised 1"),
+            (Asked::Collect(1), "not higher 1"),
+            (Asked::Read(A), "unknown"),
+            (Asked::Certificate(A), "none"),
+            (Asked::Write(A, (0, 0), b"x"), "collected 1"),
+            (Asked::Certify(A, (0, 0)), "collected 1"),
+            (Asked::Write(B, (4, 0), b""), "stored vote"),
+        ],
+    },
+    Case {
+        shows: "a slot that is not below the garbage round keeps its first digest, and a full store has room again",
+        room: 1,
+        asked: &[
+            (Asked::Write(A, (1, 0), b"x"), "stored vote"),
+            (Asked::Collect(1), "raised 0"),
+            (Asked::Write(A, (1, 0), b"x"), "held"),
+            (Asked::Write(B, (1, 0), b"y"), "equivocates a"),
+            (Asked::Write(B, (1, 1), b"y"), "full"),
+            (Asked::Collect(2), "raised 1"),
+            (Asked::Write(B, (2, 1), b"y"), "stored vote"),
+        ],
+    },
 ];
 
 /// What the store answers, in words.
@@ -119,6 +151,7 @@ fn answer(plain: &mut Plain, alloc: Global, asked: Asked) -> Result<&'static str
         Asked::Certify(digest, slot) => Call::Certify(certificate(alloc, digest, slot)?),
         Asked::Read(digest) => Call::Read(digest),
         Asked::Certificate(digest) => Call::Certificate(digest),
+        Asked::Collect(number) => Call::Collect(round(number)?),
     };
     Ok(words(&call(plain, &asked)?))
 }

@@ -61,7 +61,7 @@ pub const BAD: [(&str, &str); 60] = [
     ("open without a ticket", "open a"),
     ("a ticket that is not bound", "walk t"),
     ("a block in place of a ticket", "walk a"),
-    ("a later request: status", "status"),
+    ("a word behind status", "status a"),
     ("a signer of a write that is no number", "write a b"),
     ("a signer of a write over 65535", "write a 65536"),
     ("a word behind the signer of a write", "write a 0 0"),

@@ -25,9 +25,9 @@ pub const SETTLED: [Case; 7] = [
         prints: "block a 13\na stored vote\na found 13\na found 13\nrefused history full\nsettled 3 3\n",
     },
     Case {
-        shows: "a store that goes on knows what it knew, without the history, and old tickets are walked",
-        script: "committee v1 1\nblock a 0 0 - -\nblock e 0 0 - x\nwrite a\ncertify a 0\nopen t a\nsettle\nreopen\nwrite e\nwrite a\ncausal a\nwalk t\nsettle\nreopen\nwrite e\n",
-        prints: "block a 13\nblock e 18\na stored vote\na certified\nt ready\nsettled 3 3\nreopened\ne equivocates a\na held\na causal a\nt causal a\nsettled 3 3\nreopened\ne equivocates a\n",
+        shows: "a store that goes on knows what it knew, without the history, old tickets are walked, and a collection ends what was known",
+        script: "committee v1 1\nblock a 0 0 - -\nblock e 0 0 - x\nwrite a\ncertify a 0\nopen t a\nsettle\nreopen\nwrite e\nwrite a\ncausal a\ncollect 1\nwalk t\nsettle\nreopen\nwrite e\n",
+        prints: "block a 13\nblock e 18\na stored vote\na certified\nt ready\nsettled 3 3\nreopened\ne equivocates a\na held\na causal a\nraised 1\nt causal a\nsettled 4 4\nreopened\ne collected 1\n",
     },
     Case {
         shows: "a store that goes on makes its sessions anew, under the same limits",

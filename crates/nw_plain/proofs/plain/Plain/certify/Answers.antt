@@ -1,5 +1,5 @@
 use Rattle.std.proofs.Common.{◌≡◌, List, None, Result, Ok, Err, sym, ◌∙◌, ap, refl}
-use Rattle.std.specs.FinMap.{FinMap, get, insert, from_entries}
+use Rattle.std.specs.FinMap.{FinMap, from_entries}
 use Rattle.std.specs.Map.{lookup}
 use Rattle.std.specs.BTreeMap.{is_at, insert_entry}
 use Rattle.std.proofs.lemmas.Result.{on_ok_weaker}
