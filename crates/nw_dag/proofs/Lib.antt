@@ -6,5 +6,6 @@ pub mod Arrival
 pub mod Puts
 pub mod Wanting
 pub mod Fresh
+pub mod Missing
 pub mod Steps
 pub mod Written

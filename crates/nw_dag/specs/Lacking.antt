@@ -1,5 +1,5 @@
 -- What held blocks lack.
-use Rattle.std.specs.Prelude.{◌≡◌, ◌↔◌, ℕ, ◌+◌, ◌<◌, ◌⊎◌, List, Some, Contains}
+use Rattle.std.specs.Prelude.{◌≡◌, ◌↔◌, ℕ, ◌<◌, ◌⊎◌, List, Some, Contains}
 use Rattle.std.specs.FinMap.{get}
 use Rattle.nw_digest.specs.declared.digest.Digest.{Digest}
 use Rattle.nw_codec.specs.declared.block.Ref.{Ref}
@@ -8,10 +8,7 @@ use Rattle.nw_waiting.specs.Pairs.{Pairs, Lacks}
 use Rattle.nw_waiting.specs.declared.wanted.Wanted.{Wanted}
 use Rattle.nw_model.specs.State.{State}
 use Rattle.nw_model.specs.Paths.{IsStanding}
-
--- what a reference of a block of this round names: its author and digest, in the round before
-abbrev pub IsNamedBy : ℕ → Ref → Wanted → Type 0
-IsNamedBy round r w = (w.round + 1 ≡ round) × (w.author ≡ r.author) × (w.digest ≡ r.digest)
+use Rattle.nw_model.specs.Missing.{IsNamedBy}
 
 -- one of these references of a block of this round names it
 abbrev pub IsNamedAmong : ℕ → List Ref → Wanted → Type 0

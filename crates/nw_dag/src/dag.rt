@@ -3,6 +3,7 @@ ghost use Rattle.std.specs.Prelude.{◌≡◌, ◌<◌, ◌≤◌, IfOk, OnOk, O
 ghost use Rattle.std.specs.FinMap as map;
 ghost use Rattle.nw_model.specs.State.{opening, block_slot, certificate_slot};
 ghost use Rattle.nw_model.specs.Paths.{IsComplete};
+ghost use Rattle.nw_model.specs.Missing.{AreFirstWanted};
 ghost use Rattle.nw_model.specs.Step.{after, write_reply, certify_reply, certified_digest, is_elsewhere, with_block, with_certificate};
 ghost use Rattle.nw_dag.specs.Lacking.{IsMet, IsReady, IsNamedAmong};
 ghost use Rattle.nw_dag.specs.Changes.{AreSameBut, Wants};
@@ -10,8 +11,9 @@ ghost use Rattle.nw_dag.specs.Changes.{AreSameBut, Wants};
 use crate::held::Held;
 use crate::waits::Waits;
 use nw_codec::{Block, Certificate};
-use nw_digest::{Digest, NoMemory, Shared};
+use nw_digest::{Digest, NoMemory, Sequence, Shared};
 use nw_model::{Call, CertifyReply, WriteReply};
+use nw_waiting::Wanted;
 use std::alloc::Global;
 use std::marker::Model;
 
@@ -118,6 +120,14 @@ impl Dag {
             None => Ok(None),
             Some(certificate) => Ok(Some(certificate.try_clone()?)),
         }
+    }
+
+    /// The first `most` of the parents that are wanted, strictly ascending by round, author and digest. Want of memory
+    /// changes nothing.
+    pub fn missing(&self, alloc: Global, most: u16) -> Result<Sequence<Wanted>, NoMemory>
+        ensures { IfOk result (AreFirstWanted self.now.state most) }
+    {
+        Ok(Sequence::new(self.waits.first_unmet(alloc, most)?))
     }
 
     /// Puts the block under the digest, which is the first of the block's slot where there is a vote.

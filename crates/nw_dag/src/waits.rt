@@ -1,11 +1,11 @@
 //! What held blocks lack, and which became complete.
-ghost use Rattle.std.specs.Prelude.{◌≡◌, ◌↔◌, ◌<◌, ◌≤◌, ◌+◌, OnOk, IsTrue, [], ◌∷◌, ◌++◌, Contains};
-ghost use Rattle.std.specs.Option.{MatchOption};
+ghost use Rattle.std.specs.Prelude.{◌≡◌, ◌↔◌, ◌<◌, ◌≤◌, ◌+◌, IfOk, OnOk, IsTrue, [], ◌∷◌, ◌++◌, Contains};
 ghost use Rattle.std.specs.FinSet as set;
 ghost use Rattle.std.specs.FinMap as map;
 ghost use Rattle.std.specs.Vec.{vec_capacity};
-ghost use Rattle.nw_waiting.specs.Pairs.{Lacks, without_holder};
-ghost use Rattle.nw_dag.specs.Lacking.{Stands, IsMet, IsReady, IsNamedBy, IsNamedAmong};
+ghost use Rattle.nw_waiting.specs.Pairs.{AreFirst, Lacks, without_holder};
+ghost use Rattle.nw_dag.specs.Lacking.{Stands, IsMet, IsReady, IsNamedAmong};
+ghost use Rattle.nw_model.specs.Missing.{IsNamedBy};
 ghost use Rattle.nw_dag.specs.Changes.{AreSameBut, Wants};
 ghost use Rattle.nw_dag.specs.Settled.{AreFresh};
 
@@ -114,7 +114,7 @@ impl Waits {
         if block.round <= held.floor() {
             return Ok(());
         }
-        match before(block.round) {
+        match block.round.before() {
             None => Ok(()),
             Some(round) => self.want_each(held, round, block.parents.as_slice(), holder),
         }
@@ -128,6 +128,13 @@ impl Waits {
     {
         self.unmet.unwant(holder);
         self.lacking.unwant(holder);
+    }
+
+    /// The first `most` of the parents that do not stand.
+    pub(crate) fn first_unmet(&self, alloc: Global, most: u16) -> Result<Vec<Wanted>, NoMemory>
+        ensures { IfOk result (λ list. AreFirst self.now.unmet most list.items) }
+    {
+        self.unmet.first_wanted(alloc, most)
     }
 
     /// Makes room to list one block more than so many.
@@ -163,14 +170,6 @@ impl Waits {
     {
         let _added = self.fresh.push(digest);
     }
-}
-
-/// The round before this one, or `None` where this is the first.
-fn before(round: Round) -> Option<Round>
-    ensures { MatchOption result (round ≡ 0) (λ before. before + 1 ≡ round) }
-{
-    let number = round.get().checked_sub(1)?;
-    Round::new(number)
 }
 
 /// What the reference names, in this round.
