@@ -55,6 +55,10 @@ module _ (s t : State) (d : Digest) (arrives : Arrives s t d) where
         let other = not_d x promoted in
         ((promoted.0.0.0, (arrives.others x promoted.0.0.0 other).0 promoted.0.0.1), λ w lacks. promoted.0.1 w ((since.same x w other).1 lacks))
 
+    -- what is ready and is not d was ready
+    pub ready_was : (x : Digest) → (x ≡ d → ⊥) → IsReady t new x → IsReady s old x
+    ready_was x other ready = ((ready.0.0, (arrives.others x ready.0.0 other).0 ready.0.1), λ w lacks. ready.1 w ((since.same x w other).1 lacks))
+
     pub arrived : AreLacking t new (d ∷ [])
     arrived = record {
       each = λ h w names. elim (since.each h w names) [

@@ -9,3 +9,4 @@ pub mod Fresh
 pub mod Missing
 pub mod Steps
 pub mod Written
+pub mod Sorted

@@ -42,5 +42,6 @@ settled_opening capacity = record {
     only = λ d w lacks. absurd (lacks_nothing d w lacks);
   };
   listed = record { ready = All-nil _; once = once_none };
+  all = λ d ready. absurd (none_some ready.0.0 (sym (get-empty digest_cmp d) ∙ ready.0.1.0));
   room = omega (arith, len-empty digest_cmp Block);
 }

@@ -7,7 +7,7 @@ use Rattle.std.specs.Ordering.{eq_by_cmp}
 use Rattle.std.specs.Cmp.{eq_by_cmp_equiv}
 use Rattle.std.specs.FinMap.{get, len}
 use Rattle.std.proofs.lemmas.List.{drop_more, drop_all, drop-append-le, drop_at, get_or-drop, get_or_default, length-drop}
-use Rattle.std.proofs.lemmas.List.Elements.{All-weaker, All-contains}
+use Rattle.std.proofs.lemmas.List.Elements.{All-weaker, All-contains, Contains-append_left, Contains-append_right, Contains-push}
 use Rattle.std.proofs.lemmas.Map.Keys.{apart_from_distinct}
 use Rattle.nw_digest.specs.declared.digest.Digest.{Digest}
 use Rattle.nw_codec.specs.declared.block.Block.{Block}
@@ -20,9 +20,9 @@ use Rattle.nw_model.proofs.Maps.{digests_total}
 use Rattle.nw_dag.specs.Lacking.{Stands, IsReady, AreUnmet, AreUnmetBut, AreLacking, named_as}
 use Rattle.nw_dag.specs.Changes.{Adds, Promotes}
 use Rattle.nw_dag.specs.Settled.{AreFresh, IsSettling, IsSettled, IsSettledBut}
-use Rattle.nw_dag.proofs.Pairs.{without_wanted_lacks}
+use Rattle.nw_dag.proofs.Pairs.{without_wanted_lacks, lacks_or_not, same_or_not}
 use Rattle.nw_dag.proofs.Cascade.{promoted}
-use Rattle.nw_dag.proofs.Arrival.{met_now}
+use Rattle.nw_dag.proofs.Arrival.{met_now, met_not_yet, not_ready_yet}
 use Rattle.nw_dag.proofs.Fresh.{fresh_fits}
 
 -- ---- one block is promoted
@@ -42,6 +42,11 @@ fresh_fewer s old new v fresh is listed = record { ready = All-weaker (IsReady s
 -- what lacks something is not listed
 pub holders_apart : (s : State) (old : Pairs) (v : Wanted) (fresh holders : List Digest) → AreFresh s old fresh → AreHolders old v holders → (x : Digest) → Contains holders x → Contains fresh x → ⊥
 holders_apart s old v fresh holders listed are x among before = (All-contains (IsReady s old) fresh x listed.ready before).1 v ((are.exactly x).0 among)
+
+-- what is ready was ready, or lacked it
+ready_before : (s : State) (old new : Pairs) (v : Wanted) → new ≡ without_wanted old v → (x : Digest) → IsReady s new x → (Lacks old x v → ⊥) → IsReady s old x
+ready_before s old new v is x ready never =
+    (ready.0, λ w lacks. ready.1 w (subst (λ (m : Pairs). Lacks m x w) (sym is) ((without_wanted_lacks old v w x).1 (lacks, λ same. never (subst (λ (y : Wanted). Lacks old x y) (sym same) lacks)))))
 
 -- nobody lacks it any more, and those of its holders that are ready now are added
 pub promotes : (s : State) (e : Digest) (old new : Pairs) (v : Wanted) (fresh more holders : List Digest) → Some v ≡ option_map (named_as e) (get s.blocks e) → AreHolders old v holders
@@ -89,6 +94,10 @@ cascaded s unmet met old new fresh more room wider place d far lt same step list
       standing = subst (AreUnmet s) (sym same) far.standing;
       promoted = subst (AreLacking s new) (sym left) (promoted s e old new fresh more rest due (far.listed.ready place d lt) (once_only fresh place d far.listed.once lt) step);
       listed = listed;
+      all = λ x ready. subst (λ ys. Contains ys x) (sym step.are) (elim (lacks_or_not old x (named_as e step.block)) [
+        | inl lacked ↦ Contains-append_right fresh step.added x ((step.exactly x).1 (lacked, ready))
+        | inr never ↦ Contains-append_left fresh step.added x (far.all x (ready_before s old new (named_as e step.block) step.lost x ready never))
+      ]);
       room = omega (arith, far.room, wide);
     }
 
@@ -98,6 +107,7 @@ none_due s unmet lacking fresh room place far past = record {
   standing = far.standing;
   promoted = subst (AreLacking s lacking) (drop_all place fresh past) far.promoted;
   listed = far.listed;
+  all = far.all;
   room = far.room;
 }
 
@@ -111,3 +121,36 @@ pub met_by_name : (s : State) (d : Digest) (v : Wanted) (old new : Pairs) → So
 met_by_name s d v old new name stands but is =
     let (b, held, same) = name_is d (get s.blocks d) v name in
     met_now s d b old new (held, stands.1.1) but (is ∙ ap (without_wanted old) same)
+
+-- it does not stand, or lacks something
+pub not_standing : (s : State) (d : Digest) (unmet lacking : Pairs) (fresh : List Digest) (room : ℕ) → (Stands s d → ⊥) → IsSettledBut s d unmet lacking fresh room → IsSettled s unmet lacking fresh room
+not_standing s d unmet lacking fresh room never far = record {
+  standing = met_not_yet s d unmet never far.standing;
+  promoted = not_ready_yet s d lacking (λ ready. never ready.0) far.promoted;
+  listed = far.listed;
+  all = λ x ready. far.all x (λ same. never (subst (λ q. Stands s q) same ready.0)) ready;
+  room = far.room;
+}
+
+pub not_ready : (s : State) (d : Digest) (unmet met lacking : Pairs) (fresh : List Digest) (room : ℕ) → (IsReady s lacking d → ⊥) → AreUnmet s met → IsSettledBut s d unmet lacking fresh room → IsSettled s met lacking fresh room
+not_ready s d unmet met lacking fresh room never standing far = record {
+  standing = standing;
+  promoted = not_ready_yet s d lacking never far.promoted;
+  listed = far.listed;
+  all = λ x ready. far.all x (λ same. never (subst (λ q. IsReady s lacking q) same ready)) ready;
+  room = far.room;
+}
+
+-- it is ready, and due
+pub now_ready : (s : State) (d : Digest) (unmet met lacking : Pairs) (fresh more : List Digest) (room wider place : ℕ) → AreUnmet s met → AreFresh s lacking more → more ≡ fresh ++ d ∷ [] → room ≤ wider → place ≡ length fresh
+    → IsSettledBut s d unmet lacking fresh room → IsSettling s met lacking more (drop place more) wider
+now_ready s d unmet met lacking fresh more room wider place standing listed is wide at far = record {
+  standing = standing;
+  promoted = subst (AreLacking s lacking) (sym (ap (drop place) is ∙ drop_at fresh (d ∷ []) place (sym at))) far.promoted;
+  listed = listed;
+  all = λ x ready. subst (λ ys. Contains ys x) (sym is) (elim (same_or_not x d) [
+    | inl same ↦ subst (Contains (fresh ++ d ∷ [])) (sym same) (Contains-push fresh d)
+    | inr other ↦ Contains-append_left fresh (d ∷ []) x (far.all x other ready)
+  ]);
+  room = omega (arith, far.room, wide);
+}

@@ -19,7 +19,7 @@ use Rattle.nw_dag.specs.Lacking.{Names, IsNamedAmong, Stands, IsMet, IsReady, Ar
 use Rattle.nw_dag.specs.Changes.{AreSameBut, Wants}
 use Rattle.nw_dag.specs.Settled.{IsSettled, IsSettledBut}
 use Rattle.nw_dag.proofs.Pairs.{pairs_apart, pairs_total, without_holder_lacks}
-use Rattle.nw_dag.proofs.Arrival.{Arrives, AreLackingSince, arrived, fresh_arrived, fresh_apart, unmet_arrived}
+use Rattle.nw_dag.proofs.Arrival.{Arrives, AreLackingSince, arrived, fresh_arrived, fresh_apart, ready_was, unmet_arrived}
 
 some_none : {X : Type 0} (x : X) → Some x ≡ None → ⊥
 some_none x e = cc
@@ -83,6 +83,7 @@ module _ (s : State) (d : Digest) (b : Block) (vote : Bool) (absent : get s.bloc
     promoted = arrived s t d block_arrives lacking after since;
     listed = fresh_arrived s t d block_arrives lacking after since fresh settled.listed;
     apart = fresh_apart s t d block_arrives lacking after since fresh settled.listed;
+    all = λ x other ready. settled.all x (ready_was s t d block_arrives lacking after since x other ready);
     room = let more = len-insert digests_total s.blocks d b ∙ ap (λ found. cond (is_some found) (len s.blocks) (len s.blocks + 1)) absent in omega (arith, more, space);
   }
     where
@@ -111,6 +112,7 @@ certified s c unmet lacking fresh room absent settled = record {
   promoted = arrived s (with_certificate s c) c.digest arrives lacking lacking since;
   listed = fresh_arrived s (with_certificate s c) c.digest arrives lacking lacking since fresh settled.listed;
   apart = fresh_apart s (with_certificate s c) c.digest arrives lacking lacking since fresh settled.listed;
+  all = λ x other ready. settled.all x (ready_was s (with_certificate s c) c.digest arrives lacking lacking since x other ready);
   room = settled.room;
 }
   where
@@ -157,4 +159,4 @@ pub nothing_lacking : (s : State) (d : Digest) (lacking : Pairs) → get s.block
 nothing_lacking s d lacking absent are w lacks = let names = (are.only d w lacks).0 in some_none names.0 (sym names.1 ∙ absent)
 
 pub settled_wider : (s : State) (unmet lacking : Pairs) (fresh : List Digest) (room wider : ℕ) → IsSettled s unmet lacking fresh room → room ≤ wider → IsSettled s unmet lacking fresh wider
-settled_wider s unmet lacking fresh room wider settled wide = record { standing = settled.standing; promoted = settled.promoted; listed = settled.listed; room = omega (arith, settled.room, wide) }
+settled_wider s unmet lacking fresh room wider settled wide = record { standing = settled.standing; promoted = settled.promoted; listed = settled.listed; all = settled.all; room = omega (arith, settled.room, wide) }

@@ -1,5 +1,5 @@
 -- What the tables of a store have between two calls, and within one.
-use Rattle.std.specs.Prelude.{ℕ, ◌≤◌, List, [], ◌∷◌, All, Contains}
+use Rattle.std.specs.Prelude.{◌≡◌, ℕ, ◌≤◌, List, [], ◌∷◌, All, Contains}
 use Rattle.std.specs.List.{IsDistinct}
 use Rattle.std.specs.Ordering.{eq_by_cmp}
 use Rattle.std.specs.FinMap.{len}
@@ -13,11 +13,12 @@ pub record AreFresh (s : State) (lacking : Pairs) (fresh : List Digest) : Type 0
   pub ready : All (IsReady s lacking) fresh
   pub once : IsDistinct (eq_by_cmp digest_cmp) fresh
 
--- what is lacked is known, these are due, what became complete is listed once, and there is room to list each block
+-- what is lacked is known, these are due, each that is ready is listed once, and there is room to list each block
 pub record IsSettling (s : State) (unmet lacking : Pairs) (fresh due : List Digest) (capacity : ℕ) : Type 0 where
   pub standing : AreUnmet s unmet
   pub promoted : AreLacking s lacking due
   pub listed : AreFresh s lacking fresh
+  pub all : (d : Digest) → IsReady s lacking d → Contains fresh d
   pub room : len s.blocks ≤ capacity
 
 -- the same, where nothing is due
@@ -30,4 +31,5 @@ pub record IsSettledBut (s : State) (d : Digest) (unmet lacking : Pairs) (fresh 
   pub promoted : AreLacking s lacking (d ∷ [])
   pub listed : AreFresh s lacking fresh
   pub apart : Contains fresh d → ⊥
+  pub all : (x : Digest) → (x ≡ d → ⊥) → IsReady s lacking x → Contains fresh x
   pub room : len s.blocks ≤ capacity

@@ -3,7 +3,7 @@ ghost use Rattle.std.specs.Prelude.{◌≡◌, ◌<◌, ◌≤◌, IfOk, OnOk, O
 ghost use Rattle.std.specs.FinMap as map;
 ghost use Rattle.nw_model.specs.State.{opening, block_slot, certificate_slot};
 ghost use Rattle.nw_model.specs.Paths.{IsComplete};
-ghost use Rattle.nw_model.specs.Missing.{AreFirstWanted};
+ghost use Rattle.nw_model.specs.Missing.{AreFirstWanted, AreCounts};
 ghost use Rattle.nw_model.specs.Step.{after, write_reply, certify_reply, certified_digest, is_elsewhere, with_block, with_certificate};
 ghost use Rattle.nw_dag.specs.Lacking.{IsMet, IsReady, IsNamedAmong};
 ghost use Rattle.nw_dag.specs.Changes.{AreSameBut, Wants};
@@ -12,7 +12,7 @@ use crate::held::Held;
 use crate::waits::Waits;
 use nw_codec::{Block, Certificate};
 use nw_digest::{Digest, NoMemory, Sequence, Shared};
-use nw_model::{Call, CertifyReply, WriteReply};
+use nw_model::{Call, CertifyReply, Counts, WriteReply};
 use nw_waiting::Wanted;
 use std::alloc::Global;
 use std::marker::Model;
@@ -128,6 +128,20 @@ impl Dag {
         ensures { IfOk result (AreFirstWanted self.now.state most) }
     {
         Ok(Sequence::new(self.waits.first_unmet(alloc, most)?))
+    }
+
+    /// How much is kept, how many blocks are complete and how many parents are wanted. It takes no memory, and looks at no
+    /// block.
+    pub fn status(&self) -> Counts
+        ensures { AreCounts self.now.state result }
+    {
+        Counts {
+            floor: self.held.floor(),
+            blocks: self.held.blocks() as u64,
+            certificates: self.held.certificates() as u64,
+            complete: self.waits.complete() as u64,
+            wanted: self.waits.unmet() as u64,
+        }
     }
 
     /// Puts the block under the digest, which is the first of the block's slot where there is a vote.

@@ -107,7 +107,8 @@ impl Held {
 
     /// How many certificates are kept.
     pub(crate) fn certificates(&self) -> usize
-        ensures { result ≡ map.len self.now.state.certificates }
+        ensures count { result ≡ map.len self.now.state.certificates }
+        ensures sound { IsSound self.now.state }
     {
         self.certificates.len()
     }

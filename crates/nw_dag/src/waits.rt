@@ -1,9 +1,9 @@
 //! What held blocks lack, and which became complete.
-ghost use Rattle.std.specs.Prelude.{◌≡◌, ◌↔◌, ◌<◌, ◌≤◌, ◌+◌, IfOk, OnOk, IsTrue, [], ◌∷◌, ◌++◌, Contains};
+ghost use Rattle.std.specs.Prelude.{◌≡◌, ◌↔◌, ◌<◌, ◌≤◌, ◌+◌, IfOk, OnOk, IsTrue, [], ◌∷◌, ◌++◌, length, Contains};
 ghost use Rattle.std.specs.FinSet as set;
 ghost use Rattle.std.specs.FinMap as map;
 ghost use Rattle.std.specs.Vec.{vec_capacity};
-ghost use Rattle.nw_waiting.specs.Pairs.{AreFirst, Lacks, without_holder};
+ghost use Rattle.nw_waiting.specs.Pairs.{AreFirst, Lacks, WantedCount, without_holder};
 ghost use Rattle.nw_dag.specs.Lacking.{Stands, IsMet, IsReady, IsNamedAmong};
 ghost use Rattle.nw_model.specs.Missing.{IsNamedBy};
 ghost use Rattle.nw_dag.specs.Changes.{AreSameBut, Wants};
@@ -24,7 +24,7 @@ pub(crate) struct Waits {
     unmet: Waiting<Global>,
     /// The parents that are not complete, and the blocks that name them.
     lacking: Waiting<Global>,
-    /// The blocks that became complete, the last at the end.
+    /// The blocks that are complete, the last that became so at the end.
     fresh: Vec<Digest>,
 }
 
@@ -128,6 +128,20 @@ impl Waits {
     {
         self.unmet.unwant(holder);
         self.lacking.unwant(holder);
+    }
+
+    /// How many blocks are complete. It takes no memory.
+    pub(crate) fn complete(&self) -> usize
+        ensures { result ≡ length self.now.fresh.items }
+    {
+        self.fresh.len()
+    }
+
+    /// How many different parents do not stand. It takes no memory.
+    pub(crate) fn unmet(&self) -> usize
+        ensures { WantedCount self.now.unmet result }
+    {
+        self.unmet.count()
     }
 
     /// The first `most` of the parents that do not stand.

@@ -32,3 +32,9 @@ arrive-requires c =
     rw (c.in_default.ensures.state, c.hold.ensures.fresh, c.reserve.ensures.fresh)
     (written s c.args.digest c.args.block c.args.vote none waits.unmet waits.lacking c.hold.new.waits.unmet c.hold.new.waits.lacking waits.fresh.items _ _ c.self.invariant
     (rw c.reserve.ensures.unmet at c.in_default.ensures.unmet) (rw c.reserve.ensures.lacking at c.in_default.ensures.lacking) space)
+
+pub invariant_of-self : goal.invariant_of-self
+invariant_of-self c =
+    let waits = c.self.inside.waits in
+    rw (c.reserve.ensures.unmet, c.reserve.ensures.lacking, c.reserve.ensures.fresh)
+    (settled_wider c.self.inside.held.state waits.unmet waits.lacking waits.fresh.items _ _ c.self.invariant c.reserve.ensures.capacity)
