@@ -11,7 +11,7 @@ use Rattle.nw_model.specs.State.{State}
 use Rattle.nw_model.specs.Paths.{IsStanding}
 use Rattle.nw_model.proofs.Listed.{contains_cases, contains_first, contains_none}
 use Rattle.nw_dag.specs.Lacking.{Names, Stands, IsMet, IsReady, IsPromoted, AreLacking, AreUnmet, AreUnmetBut, named_as}
-use Rattle.nw_dag.specs.Settled.{AreFresh}
+use Rattle.nw_dag.specs.Settled.{AreListed}
 use Rattle.nw_dag.proofs.Pairs.{without_wanted_lacks}
 use Rattle.nw_dag.proofs.Cascade.{met_under}
 
@@ -69,11 +69,11 @@ module _ (s t : State) (d : Digest) (arrives : Arrives s t d) where
           (both.0, λ met promoted. both.1 (met_before w met (not_d w.digest promoted)) (ready_before w.digest promoted));
     }
 
-    pub fresh_arrived : (fresh : List Digest) → AreFresh s old fresh → AreFresh t new fresh
-    fresh_arrived fresh listed = record { ready = All-weaker (IsReady s old) (IsReady t new) ready_still fresh listed.ready; once = listed.once }
+    pub listed_arrived : (complete : List Digest) → AreListed s old complete → AreListed t new complete
+    listed_arrived complete listed = record { ready = All-weaker (IsReady s old) (IsReady t new) ready_still complete listed.ready; once = listed.once }
 
-    pub fresh_apart : (fresh : List Digest) → AreFresh s old fresh → Contains fresh d → ⊥
-    fresh_apart fresh listed among = arrives.absent (All-contains (IsReady s old) fresh d listed.ready among).0
+    pub listed_apart : (complete : List Digest) → AreListed s old complete → Contains complete d → ⊥
+    listed_apart complete listed among = arrives.absent (All-contains (IsReady s old) complete d listed.ready among).0
 
   -- what was not met in s is what is not met in t but for d
   pub unmet_arrived : (new : Pairs) → ((h : Digest) (w : Wanted) → Lacks new h w ↔ (Names t h w × (IsMet s w → ⊥))) → AreUnmetBut t d new

@@ -24,8 +24,8 @@ met_under s e b w held (p, stands, author, round) same =
     let here : p ≡ b = one_block p b (ap (get s.blocks) (sym same) ∙ stands.0) held in
     same_wanted w e b same (sym author ∙ ap (λ (x : Block). x.author) here) (sym round ∙ ap (λ (x : Block). x.round) here)
 
-module _ (s : State) (e : Digest) (old new : Pairs) (fresh more rest : List Digest) (far : AreLacking s old (e ∷ rest)) (ready_e : IsReady s old e) (once : Contains rest e → ⊥)
-    (step : Promotes s e old new fresh more) where
+module _ (s : State) (e : Digest) (old new : Pairs) (complete more rest : List Digest) (far : AreLacking s old (e ∷ rest)) (ready_e : IsReady s old e) (once : Contains rest e → ⊥)
+    (step : Promotes s e old new complete more) where
   abbrev v : Wanted
   v = named_as e step.block
 

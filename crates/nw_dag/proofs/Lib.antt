@@ -5,7 +5,7 @@ pub mod Complete
 pub mod Arrival
 pub mod Puts
 pub mod Wanting
-pub mod Fresh
+pub mod Listed
 pub mod Missing
 pub mod Steps
 pub mod Written

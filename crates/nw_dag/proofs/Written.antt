@@ -19,7 +19,7 @@ use Rattle.nw_dag.specs.Lacking.{Names, IsNamedAmong, Stands, IsMet, IsReady, Ar
 use Rattle.nw_dag.specs.Changes.{AreSameBut, Wants}
 use Rattle.nw_dag.specs.Settled.{IsSettled, IsSettledBut}
 use Rattle.nw_dag.proofs.Pairs.{pairs_apart, pairs_total, without_holder_lacks}
-use Rattle.nw_dag.proofs.Arrival.{Arrives, AreLackingSince, arrived, fresh_arrived, fresh_apart, ready_was, unmet_arrived}
+use Rattle.nw_dag.proofs.Arrival.{Arrives, AreLackingSince, arrived, listed_arrived, listed_apart, ready_was, unmet_arrived}
 
 some_none : {X : Type 0} (x : X) → Some x ≡ None → ⊥
 some_none x e = cc
@@ -67,9 +67,9 @@ module _ (s : State) (d : Digest) (b : Block) (vote : Bool) (absent : get s.bloc
   names_new h w same (above, among) = (b, ap (get (insert s.blocks d b)) same ∙ at_insert s.blocks d b, above, among)
 
   -- what it lacks is known
-  pub written : (unmet lacking met after : Pairs) (fresh : List Digest) (room wider : ℕ) → IsSettled s unmet lacking fresh room → Wants (IsMet s) named d unmet met
-      → Wants (λ w. IsMet s w × IsReady s lacking w.digest) named d lacking after → len s.blocks < wider → IsSettledBut t d met after fresh wider
-  written unmet lacking met after fresh room wider settled wants_met wants space = record {
+  pub written : (unmet lacking met after : Pairs) (complete : List Digest) (room wider : ℕ) → IsSettled s unmet lacking complete room → Wants (IsMet s) named d unmet met
+      → Wants (λ w. IsMet s w × IsReady s lacking w.digest) named d lacking after → len s.blocks < wider → IsSettledBut t d met after complete wider
+  written unmet lacking met after complete room wider settled wants_met wants space = record {
     standing = unmet_arrived s t d block_arrives met (λ h w. (
       λ lacks. elim (wants_met.only h w lacks) [
         | inl was ↦ let both = (settled.standing h w).0 was in (names_still h w both.0, both.1)
@@ -81,8 +81,8 @@ module _ (s : State) (d : Digest) (b : Block) (vote : Bool) (absent : get s.bloc
       ],
     ));
     promoted = arrived s t d block_arrives lacking after since;
-    listed = fresh_arrived s t d block_arrives lacking after since fresh settled.listed;
-    apart = fresh_apart s t d block_arrives lacking after since fresh settled.listed;
+    listed = listed_arrived s t d block_arrives lacking after since complete settled.listed;
+    apart = listed_apart s t d block_arrives lacking after since complete settled.listed;
     all = λ x other ready. settled.all x (ready_was s t d block_arrives lacking after since x other ready);
     room = let more = len-insert digests_total s.blocks d b ∙ ap (λ found. cond (is_some found) (len s.blocks) (len s.blocks + 1)) absent in omega (arith, more, space);
   }
@@ -105,13 +105,13 @@ module _ (s : State) (d : Digest) (b : Block) (vote : Bool) (absent : get s.bloc
 
 -- ---- a certificate more
 
-pub certified : (s : State) (c : Certificate) (unmet lacking : Pairs) (fresh : List Digest) (room : ℕ) → get s.certificates c.digest ≡ None → IsSettled s unmet lacking fresh room
-    → IsSettledBut (with_certificate s c) c.digest unmet lacking fresh room
-certified s c unmet lacking fresh room absent settled = record {
+pub certified : (s : State) (c : Certificate) (unmet lacking : Pairs) (complete : List Digest) (room : ℕ) → get s.certificates c.digest ≡ None → IsSettled s unmet lacking complete room
+    → IsSettledBut (with_certificate s c) c.digest unmet lacking complete room
+certified s c unmet lacking complete room absent settled = record {
   standing = unmet_arrived s (with_certificate s c) c.digest arrives unmet (λ h w. settled.standing h w);
   promoted = arrived s (with_certificate s c) c.digest arrives lacking lacking since;
-  listed = fresh_arrived s (with_certificate s c) c.digest arrives lacking lacking since fresh settled.listed;
-  apart = fresh_apart s (with_certificate s c) c.digest arrives lacking lacking since fresh settled.listed;
+  listed = listed_arrived s (with_certificate s c) c.digest arrives lacking lacking since complete settled.listed;
+  apart = listed_apart s (with_certificate s c) c.digest arrives lacking lacking since complete settled.listed;
   all = λ x other ready. settled.all x (ready_was s (with_certificate s c) c.digest arrives lacking lacking since x other ready);
   room = settled.room;
 }
@@ -158,5 +158,5 @@ nothing_unmet s d unmet absent are w lacks = let names = ((are d w).0 lacks).0 i
 pub nothing_lacking : (s : State) (d : Digest) (lacking : Pairs) → get s.blocks d ≡ None → AreLacking s lacking [] → (w : Wanted) → Lacks lacking d w → ⊥
 nothing_lacking s d lacking absent are w lacks = let names = (are.only d w lacks).0 in some_none names.0 (sym names.1 ∙ absent)
 
-pub settled_wider : (s : State) (unmet lacking : Pairs) (fresh : List Digest) (room wider : ℕ) → IsSettled s unmet lacking fresh room → room ≤ wider → IsSettled s unmet lacking fresh wider
-settled_wider s unmet lacking fresh room wider settled wide = record { standing = settled.standing; promoted = settled.promoted; listed = settled.listed; all = settled.all; room = omega (arith, settled.room, wide) }
+pub settled_wider : (s : State) (unmet lacking : Pairs) (complete : List Digest) (room wider : ℕ) → IsSettled s unmet lacking complete room → room ≤ wider → IsSettled s unmet lacking complete wider
+settled_wider s unmet lacking complete room wider settled wide = record { standing = settled.standing; promoted = settled.promoted; listed = settled.listed; all = settled.all; room = omega (arith, settled.room, wide) }

@@ -25,10 +25,10 @@ pub record Adds (P : Digest → Type 0) (digests old new : List Digest) : Type 0
   pub exactly : (x : Digest) → Contains added x ↔ (Contains digests x × P x)
 
 -- nobody lacks the block under e any more, and what lacked it and is ready now is added at the end
-pub record Promotes (s : State) (e : Digest) (old new : Pairs) (fresh more : List Digest) : Type 0 where
+pub record Promotes (s : State) (e : Digest) (old new : Pairs) (complete more : List Digest) : Type 0 where
   pub block : Block
   pub held : get s.blocks e ≡ Some block
   pub lost : new ≡ without_wanted old (named_as e block)
   pub added : List Digest
-  pub are : more ≡ fresh ++ added
+  pub are : more ≡ complete ++ added
   pub exactly : (x : Digest) → Contains added x ↔ (Lacks old x (named_as e block) × IsReady s new x)

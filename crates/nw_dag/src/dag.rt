@@ -35,7 +35,7 @@ impl Model for Dag {
 
     ghost view = { λ d. d.held };
 
-    ghost invariant = { λ d. IsSettled d.held.state d.waits.unmet d.waits.lacking d.waits.fresh.items (vec_capacity d.waits.fresh) };
+    ghost invariant = { λ d. IsSettled d.held.state d.waits.unmet d.waits.lacking d.waits.complete.items (vec_capacity d.waits.complete) };
 }
 
 impl Dag {
@@ -200,7 +200,7 @@ fn hold(
     ensures lacking { OnOk result (Wants (λ w. IsMet held.old.state w × IsReady held.old.state waits.old.lacking w.digest) (λ w. (held.old.state.floor < block.round) × IsNamedAmong block.round block.parents w) digest waits.old.lacking waits.new.lacking) }
     ensures same_unmet { AreSameBut digest waits.old.unmet waits.new.unmet }
     ensures same_lacking { AreSameBut digest waits.old.lacking waits.new.lacking }
-    ensures fresh { waits.new.fresh ≡ waits.old.fresh }
+    ensures complete { waits.new.complete ≡ waits.old.complete }
 {
     waits.want_parents(held, block.get(), digest)?;
     held.put_block(digest, block, vote)

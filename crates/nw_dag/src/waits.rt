@@ -1,4 +1,4 @@
-//! What held blocks lack, and which became complete.
+//! What held blocks lack, and which are complete.
 ghost use Rattle.std.specs.Prelude.{◌≡◌, ◌↔◌, ◌<◌, ◌≤◌, ◌+◌, IfOk, OnOk, IsTrue, [], ◌∷◌, ◌++◌, length, Contains};
 ghost use Rattle.std.specs.FinSet as set;
 ghost use Rattle.std.specs.FinMap as map;
@@ -7,7 +7,7 @@ ghost use Rattle.nw_waiting.specs.Pairs.{AreFirst, Lacks, WantedCount, without_h
 ghost use Rattle.nw_dag.specs.Lacking.{Stands, IsMet, IsReady, IsNamedAmong};
 ghost use Rattle.nw_model.specs.Missing.{IsNamedBy};
 ghost use Rattle.nw_dag.specs.Changes.{AreSameBut, Wants};
-ghost use Rattle.nw_dag.specs.Settled.{AreFresh};
+ghost use Rattle.nw_dag.specs.Settled.{AreListed};
 
 mod cascade;
 
@@ -17,7 +17,7 @@ use nw_digest::{Digest, NoMemory, Round};
 use nw_waiting::{Waiting, Wanted};
 use std::alloc::Global;
 
-/// What held blocks lack, and which became complete.
+/// What held blocks lack, and which are complete.
 #[derive(Drop)]
 pub(crate) struct Waits {
     /// The parents that do not stand, and the blocks that name them.
@@ -25,7 +25,7 @@ pub(crate) struct Waits {
     /// The parents that are not complete, and the blocks that name them.
     lacking: Waiting<Global>,
     /// The blocks that are complete, the last that became so at the end.
-    fresh: Vec<Digest>,
+    complete: Vec<Digest>,
 }
 
 impl Waits {
@@ -33,12 +33,12 @@ impl Waits {
     pub(crate) fn new(alloc: Global) -> Waits
         ensures unmet { result.unmet ≡ set.empty }
         ensures lacking { result.lacking ≡ set.empty }
-        ensures fresh { result.fresh.items ≡ [] }
+        ensures complete { result.complete.items ≡ [] }
     {
         Waits {
             unmet: Waiting::new_in(alloc),
             lacking: Waiting::new_in(alloc),
-            fresh: Vec::new(alloc),
+            complete: Vec::new(alloc),
         }
     }
 
@@ -62,7 +62,7 @@ impl Waits {
         ensures lacking { OnOk result (Wants (λ w. IsMet held.now.state w × IsReady held.now.state self.old.lacking w.digest) (λ w. w ≡ wanted) holder self.old.lacking self.new.lacking) }
         ensures same_unmet { AreSameBut holder self.old.unmet self.new.unmet }
         ensures same_lacking { AreSameBut holder self.old.lacking self.new.lacking }
-        ensures fresh { self.new.fresh ≡ self.old.fresh }
+        ensures complete { self.new.complete ≡ self.old.complete }
     {
         if !held.is_met(&wanted) {
             self.unmet.want(wanted, holder)?;
@@ -88,7 +88,7 @@ impl Waits {
         ensures lacking { OnOk result (Wants (λ w. IsMet held.now.state w × IsReady held.now.state self.old.lacking w.digest) (IsNamedAmong (round + 1) references.now) holder self.old.lacking self.new.lacking) }
         ensures same_unmet { AreSameBut holder self.old.unmet self.new.unmet }
         ensures same_lacking { AreSameBut holder self.old.lacking self.new.lacking }
-        ensures fresh { self.new.fresh ≡ self.old.fresh }
+        ensures complete { self.new.complete ≡ self.old.complete }
     {
         for reference in references {
             self.want(held, named_by(reference, round), holder)?;
@@ -109,7 +109,7 @@ impl Waits {
         ensures lacking { OnOk result (Wants (λ w. IsMet held.now.state w × IsReady held.now.state self.old.lacking w.digest) (λ w. (held.now.state.floor < block.now.round) × IsNamedAmong block.now.round block.now.parents w) holder self.old.lacking self.new.lacking) }
         ensures same_unmet { AreSameBut holder self.old.unmet self.new.unmet }
         ensures same_lacking { AreSameBut holder self.old.lacking self.new.lacking }
-        ensures fresh { self.new.fresh ≡ self.old.fresh }
+        ensures complete { self.new.complete ≡ self.old.complete }
     {
         if block.round <= held.floor() {
             return Ok(());
@@ -124,7 +124,7 @@ impl Waits {
     pub(crate) fn forget(&mut self, holder: Digest)
         ensures unmet { self.new.unmet ≡ without_holder self.old.unmet holder }
         ensures lacking { self.new.lacking ≡ without_holder self.old.lacking holder }
-        ensures fresh { self.new.fresh ≡ self.old.fresh }
+        ensures complete { self.new.complete ≡ self.old.complete }
     {
         self.unmet.unwant(holder);
         self.lacking.unwant(holder);
@@ -132,9 +132,9 @@ impl Waits {
 
     /// How many blocks are complete. It takes no memory.
     pub(crate) fn complete(&self) -> usize
-        ensures { result ≡ length self.now.fresh.items }
+        ensures { result ≡ length self.now.complete.items }
     {
-        self.fresh.len()
+        self.complete.len()
     }
 
     /// How many different parents do not stand. It takes no memory.
@@ -155,34 +155,34 @@ impl Waits {
     pub(crate) fn reserve(&mut self, blocks: usize) -> Result<(), NoMemory>
         ensures unmet { self.new.unmet ≡ self.old.unmet }
         ensures lacking { self.new.lacking ≡ self.old.lacking }
-        ensures fresh { self.new.fresh.items ≡ self.old.fresh.items }
-        ensures capacity { vec_capacity self.old.fresh ≤ vec_capacity self.new.fresh }
-        ensures room { OnOk result (blocks < vec_capacity self.new.fresh) }
+        ensures complete { self.new.complete.items ≡ self.old.complete.items }
+        ensures capacity { vec_capacity self.old.complete ≤ vec_capacity self.new.complete }
+        ensures room { OnOk result (blocks < vec_capacity self.new.complete) }
     {
-        let listed = self.fresh.len();
+        let listed = self.complete.len();
         if blocks < listed {
             return Ok(());
         }
         let Some(more) = (blocks - listed).checked_add(1) else {
             return Err(NoMemory);
         };
-        self.fresh.reserve(more)?;
+        self.complete.reserve(more)?;
         Ok(())
     }
 
     /// Lists the digest, which is ready.
     fn add(&mut self, held: &Held, digest: Digest)
-        requires room { map.len held.now.state.blocks ≤ vec_capacity self.old.fresh }
-        requires listed { AreFresh held.now.state self.old.lacking self.old.fresh.items }
+        requires room { map.len held.now.state.blocks ≤ vec_capacity self.old.complete }
+        requires listed { AreListed held.now.state self.old.lacking self.old.complete.items }
         requires ready { IsReady held.now.state self.old.lacking digest }
-        requires apart { Contains self.old.fresh.items digest → ⊥ }
+        requires apart { Contains self.old.complete.items digest → ⊥ }
         ensures unmet { self.new.unmet ≡ self.old.unmet }
         ensures lacking { self.new.lacking ≡ self.old.lacking }
-        ensures added { self.new.fresh.items ≡ self.old.fresh.items ++ digest ∷ [] }
-        ensures listed { AreFresh held.now.state self.old.lacking self.new.fresh.items }
-        ensures capacity { vec_capacity self.old.fresh ≤ vec_capacity self.new.fresh }
+        ensures added { self.new.complete.items ≡ self.old.complete.items ++ digest ∷ [] }
+        ensures listed { AreListed held.now.state self.old.lacking self.new.complete.items }
+        ensures capacity { vec_capacity self.old.complete ≤ vec_capacity self.new.complete }
     {
-        let _added = self.fresh.push(digest);
+        let _added = self.complete.push(digest);
     }
 }
 

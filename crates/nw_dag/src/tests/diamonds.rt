@@ -113,6 +113,33 @@ fn completes_late(alloc: Global, order: &[u16; 4]) -> Result<bool, Fail> {
     Ok(dag.is_complete(&digest_of(3)))
 }
 
+/// The child is written, then its parents are, and then all are certified: what is wanted after each.
+fn wanted_counts(alloc: Global) -> Result<Vec<u64>, Fail> {
+    let mut dag = Dag::new(alloc, 4, 2);
+    let mut counts = Vec::new(alloc);
+    for author in [3, 0, 1, 2] {
+        write(&mut dag, alloc, author)?;
+        counts.push(dag.status().wanted)?;
+    }
+    for author in [3, 0, 1, 2] {
+        certify(&mut dag, alloc, author)?;
+        counts.push(dag.status().wanted)?;
+    }
+    counts.push(dag.status().complete)?;
+    Ok(counts)
+}
+
+/// The authors of the first two parents that are wanted once the child is written.
+fn first_authors(alloc: Global) -> Result<Vec<u16>, Fail> {
+    let mut dag = Dag::new(alloc, 4, 2);
+    write(&mut dag, alloc, 3)?;
+    let mut authors = Vec::new(alloc);
+    for wanted in dag.missing(alloc, 2)?.as_slice() {
+        authors.push(wanted.author)?;
+    }
+    Ok(authors)
+}
+
 /// Whether it does so in every order.
 fn all_complete(alloc: Global) -> Result<bool, Fail> {
     for order in &ORDERS {
@@ -132,5 +159,17 @@ fn all_complete(alloc: Global) -> Result<bool, Fail> {
 #[test]
 fn a_child_is_complete_once_its_parents_are_in_every_order(rt: HostRuntime) -> Result<(), Fail> {
     assert!(rt; all_complete(rt.alloc())?);
+    Ok(())
+}
+
+#[test]
+fn a_parent_is_wanted_until_it_stands(rt: HostRuntime) -> Result<(), Fail> {
+    assert!(rt; wanted_counts(rt.alloc())?.as_slice() == [3, 3, 3, 3, 3, 2, 1, 0, 4].as_slice());
+    Ok(())
+}
+
+#[test]
+fn what_is_missing_comes_by_author(rt: HostRuntime) -> Result<(), Fail> {
+    assert!(rt; first_authors(rt.alloc())?.as_slice() == [0, 1].as_slice());
     Ok(())
 }

@@ -17,8 +17,8 @@ returns c =
     let inv = c.self.invariant in
     let same = ready_complete s waits.lacking c.certificates.ensures.sound inv.promoted in
     let complete : HasCount digest_cmp (IsComplete s) c.complete.result =
-    subst (HasCount digest_cmp (IsComplete s)) (sym c.complete.ensures) (count_of (IsComplete s) waits.fresh.items inv.listed.once (λ x. (
-      λ among. (same x).0 (All-contains (IsReady s waits.lacking) waits.fresh.items x inv.listed.ready among),
+    subst (HasCount digest_cmp (IsComplete s)) (sym c.complete.ensures) (count_of (IsComplete s) waits.complete.items inv.listed.once (λ x. (
+      λ among. (same x).0 (All-contains (IsReady s waits.lacking) waits.complete.items x inv.listed.ready among),
       λ whole. inv.all x ((same x).1 whole),
     ))) in
     let wanted : HasCount wanted_cmp (IsWanted s) c.unmet.result = wanted_count s waits.unmet c.unmet.result inv.standing c.unmet.ensures in

@@ -4,4 +4,4 @@ use Rattle.nw_dag.specs.Settled.{IsSettling}
 use Rattle.nw_dag.proofs.waits.Waits.cascade.Given as goal
 
 abbrev pub invariant-loop-place : goal.invariant-loop-place
-invariant-loop-place l = IsSettling l.held.state l.self.unmet l.self.lacking l.self.fresh.items (drop l.place l.self.fresh.items) (vec_capacity l.self.fresh)
+invariant-loop-place l = IsSettling l.held.state l.self.unmet l.self.lacking l.self.complete.items (drop l.place l.self.complete.items) (vec_capacity l.self.complete)

@@ -1,4 +1,4 @@
--- What became complete, listed once.
+-- What is complete, listed once.
 use Rattle.std.proofs.Common.{◌≡◌, ℕ, ◌+◌, ◌<◌, ◌≤◌, Bool, true, false, List, [], ◌∷◌, ◌++◌, length, get_or, take, Result, Ok, Err, is_ok, cond, is_some, refl, ap, sym, ◌∙◌, subst, arith, inl, inr, append_assoc, append-nil, length-take}
 use Rattle.std.specs.Prelude.{Contains, IsOk}
 use Rattle.std.specs.List.{IsDistinct, list_any}
@@ -19,7 +19,7 @@ use Rattle.nw_model.proofs.Maps.{digests_total}
 use Rattle.nw_model.proofs.Listed.{contains_cases, contains_none}
 use Rattle.nw_dag.specs.Lacking.{IsReady}
 use Rattle.nw_dag.specs.Changes.{Adds}
-use Rattle.nw_dag.specs.Settled.{AreFresh}
+use Rattle.nw_dag.specs.Settled.{AreListed}
 
 true_false : true ≡ false → ⊥
 true_false e = cc
@@ -29,25 +29,25 @@ is_false true never = absurd (never refl)
 is_false false never = refl
 
 -- one more is listed
-pub fresh_more : (s : State) (lacking : Pairs) (fresh : List Digest) (d : Digest) → AreFresh s lacking fresh → IsReady s lacking d → (Contains fresh d → ⊥) → AreFresh s lacking (fresh ++ d ∷ [])
-fresh_more s lacking fresh d listed ready apart = record {
-  ready = All-push (IsReady s lacking) fresh d listed.ready ready;
-  once = IsDistinct-push (eq_by_cmp_equiv digests_total) fresh d listed.once (is_false (list_any (eq_by_cmp digest_cmp d) fresh) (λ any. apart (Contains-from_any same_digest d fresh any)));
+pub listed_more : (s : State) (lacking : Pairs) (complete : List Digest) (d : Digest) → AreListed s lacking complete → IsReady s lacking d → (Contains complete d → ⊥) → AreListed s lacking (complete ++ d ∷ [])
+listed_more s lacking complete d listed ready apart = record {
+  ready = All-push (IsReady s lacking) complete d listed.ready ready;
+  once = IsDistinct-push (eq_by_cmp_equiv digests_total) complete d listed.once (is_false (list_any (eq_by_cmp digest_cmp d) complete) (λ any. apart (Contains-from_any same_digest d complete any)));
 }
 
 -- no more are listed than are held
-pub fresh_fits : (s : State) (lacking : Pairs) (fresh : List Digest) → AreFresh s lacking fresh → length fresh ≤ len s.blocks
-fresh_fits s lacking fresh listed =
-    let few = length-le_from_is_member (eq_by_cmp_equiv digests_total) fresh (keys s.blocks) listed.once (λ q any.
-    let ready = All-contains (IsReady s lacking) fresh q listed.ready (Contains-from_any same_digest q fresh any) in
+pub listed_fits : (s : State) (lacking : Pairs) (complete : List Digest) → AreListed s lacking complete → length complete ≤ len s.blocks
+listed_fits s lacking complete listed =
+    let few = length-le_from_is_member (eq_by_cmp_equiv digests_total) complete (keys s.blocks) listed.once (λ q any.
+    let ready = All-contains (IsReady s lacking) complete q listed.ready (Contains-from_any same_digest q complete any) in
     sym (contains_key-keys s.blocks q) ∙ ap is_some ready.0.1.0) in
     omega (arith, few, length-map (entries s.blocks) (λ (e : Digest × Block). e.0), len-entries s.blocks)
 
 -- so there is room for one more
-pub fits_push : (s : State) (lacking : Pairs) (fresh : List Digest) (d : Digest) (size room : ℕ) → AreFresh s lacking fresh → IsReady s lacking d → (Contains fresh d → ⊥) → size ≡ length fresh → len s.blocks ≤ room → size < room
-fits_push s lacking fresh d size room listed ready apart is fits =
-    let few = fresh_fits s lacking (fresh ++ d ∷ []) (fresh_more s lacking fresh d listed ready apart) in
-    omega (arith, few, length_push fresh d, is, fits)
+pub fits_push : (s : State) (lacking : Pairs) (complete : List Digest) (d : Digest) (size room : ℕ) → AreListed s lacking complete → IsReady s lacking d → (Contains complete d → ⊥) → size ≡ length complete → len s.blocks ≤ room → size < room
+fits_push s lacking complete d size room listed ready apart is fits =
+    let few = listed_fits s lacking (complete ++ d ∷ []) (listed_more s lacking complete d listed ready apart) in
+    omega (arith, few, length_push complete d, is, fits)
 
 pub pushed : {T E : Type 0} (r : Result T E) (items more same : List Digest) → IsOk r → items ≡ cond (is_ok r) more same → items ≡ more
 pushed (Ok x) items more same ok is = is
