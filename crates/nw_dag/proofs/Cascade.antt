@@ -1,5 +1,5 @@
 -- What is lacked after one more block was promoted.
-use Rattle.std.proofs.Common.{◌≡◌, ◌↔◌, ◌⊎◌, ℕ, ◌<◌, List, [], ◌∷◌, ◌++◌, Option, Some, All, refl, ap, sym, ◌∙◌, subst, arith, inl, inr}
+use Rattle.std.proofs.Common.{◌≡◌, ◌⊎◌, List, ◌∷◌, ◌++◌, Some, refl, ap, sym, ◌∙◌, subst, inl, inr}
 use Rattle.std.specs.Prelude.{Contains}
 use Rattle.std.specs.FinMap.{get}
 use Rattle.std.proofs.lemmas.List.Elements.{Contains-append_cases, Contains-append_left, Contains-append_right}
@@ -10,10 +10,10 @@ use Rattle.nw_waiting.specs.Pairs.{Pairs, Lacks}
 use Rattle.nw_model.specs.State.{State}
 use Rattle.nw_model.specs.Paths.{IsStanding}
 use Rattle.nw_model.proofs.Complete.{one_block}
-use Rattle.nw_model.proofs.Listed.{contains_cases, contains_later, contains_first}
+use Rattle.nw_model.proofs.Listed.{contains_cases, contains_later}
 use Rattle.nw_dag.specs.Lacking.{Names, IsMet, IsReady, IsPromoted, AreLacking, named_as}
 use Rattle.nw_dag.specs.Changes.{Promotes}
-use Rattle.nw_dag.proofs.Pairs.{without_wanted_lacks, lacks_or_not, same_or_not, wanted_or_not}
+use Rattle.nw_dag.proofs.Pairs.{without_wanted_lacks, lacks_or_not, wanted_or_not}
 
 same_wanted : (w : Wanted) (e : Digest) (b : Block) → w.digest ≡ e → w.author ≡ b.author → w.round ≡ b.round → w ≡ named_as e b
 same_wanted w e b digest author round = λ i. record { round = round i; author = author i; digest = digest i }

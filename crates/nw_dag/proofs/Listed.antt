@@ -1,5 +1,5 @@
 -- What is complete, listed once.
-use Rattle.std.proofs.Common.{◌≡◌, ℕ, ◌+◌, ◌<◌, ◌≤◌, Bool, true, false, List, [], ◌∷◌, ◌++◌, length, get_or, take, Result, Ok, Err, is_ok, cond, is_some, refl, ap, sym, ◌∙◌, subst, arith, inl, inr, append_assoc, append-nil, length-take}
+use Rattle.std.proofs.Common.{◌≡◌, ℕ, ◌<◌, ◌≤◌, Bool, true, false, List, [], ◌∷◌, ◌++◌, length, get_or, take, Result, Ok, Err, is_ok, cond, is_some, refl, ap, sym, ◌∙◌, subst, arith, inl, inr, append_assoc, append-nil, length-take}
 use Rattle.std.specs.Prelude.{Contains, IsOk}
 use Rattle.std.specs.List.{IsDistinct, list_any}
 use Rattle.std.specs.Ordering.{eq_by_cmp}

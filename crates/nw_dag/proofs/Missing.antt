@@ -1,6 +1,5 @@
 -- What is wanted is what is not met.
-use Rattle.std.proofs.Common.{◌≡◌, ◌↔◌, ℕ, List, take}
-use Rattle.std.specs.Prelude.{Contains}
+use Rattle.std.proofs.Common.{ℕ, List}
 use Rattle.nw_waiting.specs.Pairs.{Pairs, AreFirst, AreWanted, WantedCount, wanted_cmp}
 use Rattle.nw_waiting.specs.declared.wanted.Wanted.{Wanted}
 use Rattle.nw_model.specs.State.{State}

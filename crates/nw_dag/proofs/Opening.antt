@@ -1,9 +1,9 @@
 -- A store in which nothing is.
-use Rattle.std.proofs.Common.{◌≡◌, ℕ, true, false, List, [], ◌∷◌, Option, Some, None, sym, ◌∙◌, arith}
+use Rattle.std.proofs.Common.{◌≡◌, ℕ, true, false, [], Some, None, sym, ◌∙◌, arith}
 use Rattle.std.specs.List.{IsDistinct}
 use Rattle.std.specs.List.Sorted.{IsStrictlySortedBy}
 use Rattle.std.specs.Ordering.{eq_by_cmp}
-use Rattle.std.specs.FinMap.{get, get-empty, len-empty}
+use Rattle.std.specs.FinMap.{get-empty, len-empty}
 use Rattle.std.specs.FinSet.{empty, contains-empty}
 use Rattle.std.proofs.lemmas.List.Elements.{All-nil}
 use Rattle.nw_digest.specs.declared.digest.Digest.{Digest}

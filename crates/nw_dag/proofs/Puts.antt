@@ -1,5 +1,5 @@
 -- What is held with one more block or certificate.
-use Rattle.std.proofs.Common.{◌≡◌, ℕ, ◌≤◌, true, false, Bool, List, [], ◌∷◌, Option, Some, None, IsNone, cond, refl, ap, sym, ◌∙◌, subst}
+use Rattle.std.proofs.Common.{◌≡◌, ℕ, ◌≤◌, false, Bool, List, [], ◌∷◌, Option, Some, None, IsNone, cond, refl, ap, sym, ◌∙◌}
 use Rattle.std.specs.declared.cmp.Ordering.{Ordering}
 use Rattle.std.specs.declared.cmp.Ordering.TheVariants.{Less, Equal, Greater}
 use Rattle.std.specs.Ordering.{is_eq, match_ordering}
@@ -14,8 +14,8 @@ use Rattle.nw_rounds.specs.Slots.{Tables}
 use Rattle.nw_trie.proofs.Inserts.{sorted_insert}
 use Rattle.nw_model.specs.State.{State, block_slot, certificate_slot, digest_cmp}
 use Rattle.nw_model.specs.Step.{is_elsewhere, with_block, with_certificate, certified_digest}
-use Rattle.nw_model.proofs.Kept.{kept_written, index_with_certificate, sound_with_certificate, index_answers, tie}
-use Rattle.nw_model.proofs.Maps.{put_entries, get_lookup, digests_total, digests_apart}
+use Rattle.nw_model.proofs.Kept.{kept_written, index_with_certificate, sound_with_certificate, index_answers}
+use Rattle.nw_model.proofs.Maps.{put_entries, digests_total, digests_apart}
 use Rattle.nw_dag.specs.Held.{IsHeld, state_of}
 
 pub absent : {A : Type 0} (found : Option A) → IsNone found → found ≡ None

@@ -1,23 +1,23 @@
 -- Distinct digests, put in order.
-use Rattle.std.proofs.Common.{◌≡◌, ◌↔◌, ◌⊎◌, ℕ, ◌+◌, Bool, true, false, List, [], ◌∷◌, length, map, Option, Some, None, IsSome, is_some, cond, refl, ap, sym, ◌∙◌, subst, arith, inl, inr, add-one}
+use Rattle.std.proofs.Common.{◌≡◌, ◌↔◌, ◌+◌, Bool, true, false, List, [], ◌∷◌, length, Option, Some, None, is_some, cond, refl, ap, sym, ◌∙◌, subst, inl, inr, add-one}
 use Rattle.std.specs.Prelude.{Contains}
-use Rattle.std.specs.List.{IsDistinct, AllByRecursion, list_any}
+use Rattle.std.specs.List.{IsDistinct}
 use Rattle.std.specs.List.Sorted.{IsStrictlySortedBy}
 use Rattle.std.specs.Ordering.{eq_by_cmp}
 use Rattle.std.specs.Cmp.{eq_by_cmp_equiv}
 use Rattle.std.specs.Map.{lookup, keys_of}
 use Rattle.std.specs.BTreeMap.{is_at, insert_entry}
-use Rattle.std.specs.FinMap.{get, insert, len, from_entries, len-insert}
+use Rattle.std.specs.FinMap.{len, from_entries, len-insert}
 use Rattle.std.proofs.lemmas.List.{length-map}
-use Rattle.std.proofs.lemmas.List.Elements.{recursion_from_All, All-from_recursion, All-contains}
+use Rattle.std.proofs.lemmas.List.Elements.{All-from_recursion, All-contains}
 use Rattle.std.proofs.lemmas.Map.Keys.{IsDistinct-head, IsDistinct-tail}
 use Rattle.std.proofs.lemmas.Map.Views.{Contains-keys_from_lookup, IsSome-lookup_from_Contains}
 use Rattle.nw_digest.specs.declared.digest.Digest.{Digest}
 use Rattle.nw_trie.proofs.Inserts.{sorted_insert}
 use Rattle.nw_model.specs.State.{digest_cmp}
-use Rattle.nw_model.specs.Missing.{AreExactly, HasCount}
+use Rattle.nw_model.specs.Missing.{HasCount}
 use Rattle.nw_model.proofs.Kept.{same_digest}
-use Rattle.nw_model.proofs.Listed.{contains_cases, contains_first, contains_later, contains_none}
+use Rattle.nw_model.proofs.Listed.{contains_cases, contains_first, contains_later}
 use Rattle.nw_model.proofs.Maps.{digests_total, digests_apart, lookup_put, put_entries, get_lookup, len_sorted}
 use Rattle.nw_dag.proofs.Opening.{ordered_none}
 

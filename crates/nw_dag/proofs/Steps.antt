@@ -1,5 +1,5 @@
 -- The tables, from one step of the cascade to the next.
-use Rattle.std.proofs.Common.{◌≡◌, ◌↔◌, ◌⊎◌, ℕ, ◌+◌, ◌<◌, ◌≤◌, true, false, List, [], ◌∷◌, ◌++◌, length, get_or, drop, Option, Some, None, All, refl, ap, sym, ◌∙◌, subst, arith, inl, inr}
+use Rattle.std.proofs.Common.{◌≡◌, ℕ, ◌+◌, ◌<◌, ◌≤◌, true, false, List, [], ◌∷◌, ◌++◌, length, get_or, drop, Option, Some, None, refl, ap, sym, ◌∙◌, subst, arith, inl, inr}
 use Rattle.std.specs.Prelude.{Contains}
 use Rattle.std.specs.List.{IsDistinct}
 use Rattle.std.specs.Option.{option_map}
@@ -14,8 +14,6 @@ use Rattle.nw_codec.specs.declared.block.Block.{Block}
 use Rattle.nw_waiting.specs.declared.wanted.Wanted.{Wanted}
 use Rattle.nw_waiting.specs.Pairs.{Pairs, Lacks, AreHolders, without_wanted}
 use Rattle.nw_model.specs.State.{State, digest_cmp}
-use Rattle.nw_model.specs.Paths.{IsStanding}
-use Rattle.nw_model.proofs.Complete.{one_block}
 use Rattle.nw_model.proofs.Maps.{digests_total}
 use Rattle.nw_dag.specs.Lacking.{Stands, IsReady, AreUnmet, AreUnmetBut, AreLacking, named_as}
 use Rattle.nw_dag.specs.Changes.{Adds, Promotes}

@@ -1,18 +1,18 @@
 -- What a holder lacks after one more reference was looked at.
-use Rattle.std.proofs.Common.{◌≡◌, ◌↔◌, ◌⊎◌, ℕ, ◌+◌, ◌<◌, List, [], ◌∷◌, ◌++◌, length, get_or, take, Bool, true, false, Result, Ok, Err, refl, ap, sym, ◌∙◌, subst, arith, inl, inr}
+use Rattle.std.proofs.Common.{◌≡◌, ◌↔◌, ℕ, List, [], ◌∷◌, ◌++◌, length, Bool, true, false, Result, Ok, Err, sym, ◌∙◌, subst, arith, inl, inr}
 use Rattle.std.specs.Prelude.{Contains, OnOk, OnErr, IsTrue, nat_eq}
 use Rattle.std.specs.FinSet.{insert}
-use Rattle.std.proofs.lemmas.List.Elements.{Contains-get_or, Contains-push_cases, Contains-append_left, Contains-push}
+use Rattle.std.proofs.lemmas.List.Elements.{Contains-push_cases, Contains-append_left, Contains-push}
 use Rattle.nw_digest.specs.declared.digest.Digest.{Digest}
 use Rattle.nw_codec.specs.declared.block.Ref.{Ref}
 use Rattle.nw_waiting.specs.declared.wanted.Wanted.{Wanted}
-use Rattle.nw_waiting.specs.Pairs.{Pairs, Lacks, LacksCount, without_holder}
+use Rattle.nw_waiting.specs.Pairs.{Pairs, Lacks, LacksCount}
 use Rattle.nw_model.specs.State.{State}
 use Rattle.nw_model.proofs.Listed.{contains_first, contains_none}
 use Rattle.nw_dag.specs.Lacking.{IsNamedAmong, IsReady, Stands}
 use Rattle.nw_model.specs.Missing.{IsNamedBy}
 use Rattle.nw_dag.specs.Changes.{AreSameBut, Wants}
-use Rattle.nw_dag.proofs.Pairs.{lacks_more, lacks_new, lacks_still, without_holder_lacks}
+use Rattle.nw_dag.proofs.Pairs.{lacks_more, lacks_new, lacks_still}
 
 -- ---- how much is lacked
 

@@ -1,6 +1,5 @@
 -- The tables after a block was written, or a certificate kept.
-use Rattle.std.proofs.Common.{◌≡◌, ◌↔◌, ◌⊎◌, ℕ, ◌+◌, ◌<◌, ◌≤◌, Bool, true, false, List, [], ◌∷◌, Option, Some, None, IsSome, is_some, cond, refl, ap, sym, ◌∙◌, subst, arith, inl, inr}
-use Rattle.std.specs.Prelude.{Contains}
+use Rattle.std.proofs.Common.{◌≡◌, ◌⊎◌, ℕ, ◌+◌, ◌<◌, ◌≤◌, Bool, true, false, List, [], Option, Some, None, IsSome, is_some, cond, refl, ap, sym, ◌∙◌, subst, arith, inl, inr}
 use Rattle.std.specs.Ordering.{eq_by_cmp}
 use Rattle.std.specs.FinMap.{FinMap, get, insert, len, get-insert, len-insert}
 use Rattle.std.specs.FinSet.{contains, same_set}
@@ -10,12 +9,11 @@ use Rattle.nw_codec.specs.declared.certificate.Certificate.{Certificate}
 use Rattle.nw_waiting.specs.declared.wanted.Wanted.{Wanted}
 use Rattle.nw_waiting.specs.Pairs.{Pairs, Lacks, without_holder}
 use Rattle.nw_model.specs.State.{State, digest_cmp}
-use Rattle.nw_model.specs.Paths.{IsStanding}
 use Rattle.nw_model.specs.Step.{with_block, with_certificate}
 use Rattle.nw_model.proofs.Kept.{after_insert, at_insert, same_digest}
 use Rattle.nw_model.proofs.Listed.{contains_none}
 use Rattle.nw_model.proofs.Maps.{digests_total}
-use Rattle.nw_dag.specs.Lacking.{Names, IsNamedAmong, Stands, IsMet, IsReady, AreUnmet, AreLacking}
+use Rattle.nw_dag.specs.Lacking.{Names, IsNamedAmong, IsMet, IsReady, AreUnmet, AreLacking}
 use Rattle.nw_dag.specs.Changes.{AreSameBut, Wants}
 use Rattle.nw_dag.specs.Settled.{IsSettled, IsSettledBut}
 use Rattle.nw_dag.proofs.Pairs.{pairs_apart, pairs_total, without_holder_lacks}

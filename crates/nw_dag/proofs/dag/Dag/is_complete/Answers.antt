@@ -1,4 +1,3 @@
-use Rattle.std.proofs.Common.{ap}
 use Rattle.nw_dag.proofs.Complete.{ready_complete}
 use Rattle.nw_dag.proofs.dag.Dag.is_complete.Goals as goal
 

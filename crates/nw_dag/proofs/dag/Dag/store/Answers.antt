@@ -1,10 +1,9 @@
-use Rattle.std.proofs.Common.{◌≡◌, ◌<◌, None, ◌∙◌, ap, sym, subst, arith}
+use Rattle.std.proofs.Common.{◌≡◌, ◌<◌, None, ◌∙◌, subst}
 use Rattle.std.specs.FinMap.{get, len}
 use Rattle.std.specs.Vec.{vec_capacity}
 use Rattle.nw_waiting.specs.Pairs.{Pairs}
 use Rattle.nw_model.specs.State.{State}
-use Rattle.nw_dag.specs.Lacking.{IsMet, IsReady, IsNamedAmong}
-use Rattle.nw_dag.specs.Changes.{AreSameBut, Wants}
+use Rattle.nw_dag.specs.Changes.{AreSameBut}
 use Rattle.nw_dag.proofs.Puts.{absent}
 use Rattle.nw_dag.proofs.Written.{written, forgotten, nothing_unmet, nothing_lacking, settled_wider}
 use Rattle.nw_dag.proofs.dag.Dag.store.Goals as goal

@@ -1,4 +1,4 @@
-use Rattle.std.proofs.Common.{◌≡◌, ◌∙◌}
+use Rattle.std.proofs.Common.{◌∙◌}
 use Rattle.nw_model.specs.State.{State}
 use Rattle.nw_dag.specs.Lacking.{Stands, IsReady}
 use Rattle.nw_dag.proofs.Steps.{not_standing, not_ready, now_ready}

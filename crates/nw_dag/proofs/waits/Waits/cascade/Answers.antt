@@ -1,5 +1,4 @@
-use Rattle.std.proofs.Common.{◌≡◌, ◌<◌, ◌≤◌, length, get_or, sym, ◌∙◌, subst, arith}
-use Rattle.nw_digest.specs.declared.digest.Digest.{Digest}
+use Rattle.std.proofs.Common.{◌<◌, length, sym, subst, arith}
 use Rattle.nw_dag.specs.Lacking.{Stands}
 use Rattle.nw_dag.specs.Changes.{Promotes}
 use Rattle.nw_dag.proofs.Steps.{stands_at, cascaded, all_due}

@@ -1,10 +1,8 @@
-use Rattle.std.proofs.Common.{◌≡◌, Some, List, sym, ◌∙◌, subst}
+use Rattle.std.proofs.Common.{List, sym, subst}
 use Rattle.std.specs.Prelude.{Contains}
-use Rattle.std.specs.Option.{option_map}
-use Rattle.std.specs.FinMap.{get}
 use Rattle.nw_digest.specs.declared.digest.Digest.{Digest}
 use Rattle.nw_waiting.specs.Pairs.{Pairs}
-use Rattle.nw_dag.specs.Lacking.{IsReady, named_as}
+use Rattle.nw_dag.specs.Lacking.{IsReady}
 use Rattle.nw_dag.specs.Changes.{Adds, Promotes}
 use Rattle.nw_dag.proofs.Steps.{listed_fewer, holders_apart, promotes}
 use Rattle.nw_dag.proofs.waits.Waits.promote.Goals as goal
