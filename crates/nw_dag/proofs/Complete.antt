@@ -1,0 +1,68 @@
+-- Where nothing is due, the blocks that are ready are the complete ones.
+use Rattle.std.proofs.Common.{◌≡◌, ◌↔◌, ℕ, ◌+◌, ◌-◌, ◌<◌, zero, suc, [], get_or, refl, sym, ◌∙◌, subst, arith, inl, inr}
+use Rattle.std.specs.Prelude.{Contains}
+use Rattle.std.proofs.lemmas.Bool.{cases_lt}
+use Rattle.std.proofs.lemmas.List.Elements.{All-contains, Contains-get_or}
+use Rattle.nw_digest.specs.declared.digest.Digest.{Digest}
+use Rattle.nw_codec.specs.declared.block.Ref.{Ref}
+use Rattle.nw_codec.specs.declared.block.Block.{Block}
+use Rattle.nw_waiting.specs.declared.wanted.Wanted.{Wanted}
+use Rattle.nw_waiting.specs.Pairs.{Pairs}
+use Rattle.nw_model.specs.State.{State}
+use Rattle.nw_model.specs.Paths.{IsStanding, IsSatisfied, IsComplete}
+use Rattle.nw_model.specs.Sound.{IsSound}
+use Rattle.nw_model.proofs.Complete.{one_block, complete_from_parents, parents_complete}
+use Rattle.nw_model.proofs.Listed.{contains_none}
+use Rattle.nw_dag.specs.Lacking.{IsMet, IsReady, AreLacking}
+use Rattle.nw_model.specs.Missing.{IsNamedBy}
+
+-- what a reference names
+abbrev pub named_by : ℕ → Ref → Wanted
+named_by round r = record { round = round - 1; author = r.author; digest = r.digest }
+
+-- what is named is met where the reference is satisfied
+pub met_from_satisfied : (s : State) (round : ℕ) (r : Ref) (w : Wanted) → IsNamedBy round r w → IsSatisfied s round r → IsMet s w
+met_from_satisfied s round r w (before, author, digest) (p, stands, same, next) =
+    (p, subst (λ q. IsStanding s q p) (sym digest) stands, same ∙ sym author, omega (arith, before, next))
+
+pub satisfied_from_met : (s : State) (round : ℕ) (r : Ref) (w : Wanted) → IsNamedBy round r w → IsMet s w → IsSatisfied s round r
+satisfied_from_met s round r w (before, author, digest) (p, stands, same, here) =
+    (p, subst (λ q. IsStanding s q p) digest stands, same ∙ author, omega (arith, before, here))
+
+module _ (s : State) (lacking : Pairs) (sound : IsSound s) (far : AreLacking s lacking []) where
+  complete_below : (n : ℕ) (d : Digest) (b : Block) → b.round < n → IsStanding s d b → IsReady s lacking d → IsComplete s d
+  complete_below zero d b below stands ready = absurd (omega (arith, below))
+  complete_below (suc n) d b below stands ready = elim (cases_lt s.floor b.round) [
+    | inl above ↦ complete_from_parents s d b sound stands (inr (λ k r lt.
+        let reference = get_or b.parents k r in
+        let w = named_by b.round reference in
+        let named : IsNamedBy b.round reference w = (omega (arith, above), refl, refl) in
+        elim (far.each d w (b, stands.0, above, (reference, Contains-get_or b.parents k r lt, named))) [
+          | inl lacks ↦ absurd (ready.1 w lacks)
+          | inr (met, promoted) ↦ (satisfied_from_met s b.round reference w named met, complete_below n reference.digest met.0 (omega (arith, met.3, below, above)) met.1 promoted.0)
+        ]))
+    | inr low ↦ complete_from_parents s d b sound stands (inl low)
+  ]
+
+  ready_below : (n : ℕ) (d : Digest) (b : Block) → b.round < n → IsStanding s d b → IsComplete s d → IsReady s lacking d
+  ready_below zero d b below stands whole = absurd (omega (arith, below))
+  ready_below (suc n) d b below stands whole = (
+    (b, stands),
+    λ w lacks.
+        let both = far.only d w lacks in
+        let names = both.0 in
+        let here : names.0 ≡ b = one_block names.0 b names.1 stands.0 in
+        let above : s.floor < b.round = subst (λ (x : Block). s.floor < x.round) here names.2 in
+        let r = names.3.0 in
+        let named : IsNamedBy b.round r w = subst (λ (x : Block). IsNamedBy x.round r w) here names.3.2 in
+        let among : Contains b.parents r = subst (λ (x : Block). Contains x.parents r) here names.3.1 in
+        let parent = All-contains (λ q. IsSatisfied s b.round q × IsComplete s q.digest) b.parents r (parents_complete s d b whole stands above) among in
+        let met = met_from_satisfied s b.round r w named parent.0 in
+        both.1 met (ready_below n w.digest met.0 (omega (arith, met.3, named.0, below)) met.1 (subst (λ q. IsComplete s q) (sym named.2) parent.1), contains_none w.digest),
+  )
+
+  pub ready_complete : (d : Digest) → IsReady s lacking d ↔ IsComplete s d
+  ready_complete d = (
+    λ ready. complete_below (ready.0.0.round + 1) d ready.0.0 (omega arith) ready.0.1 ready,
+    λ whole. ready_below (whole.stands.0.round + 1) d whole.stands.0 (omega arith) whole.stands.1 whole,
+  )

@@ -1,0 +1,12 @@
+pub mod Opening
+pub mod Pairs
+pub mod Cascade
+pub mod Complete
+pub mod Arrival
+pub mod Puts
+pub mod Wanting
+pub mod Listed
+pub mod Missing
+pub mod Steps
+pub mod Written
+pub mod Sorted

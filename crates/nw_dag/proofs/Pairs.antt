@@ -1,0 +1,132 @@
+-- Which pairs a set has after a change.
+use Rattle.std.proofs.Common.{◌≡◌, ◌↔◌, ◌⊎◌, ℕ, Bool, true, false, not, ◌&&◌, ◌||◌, refl, ap, sym, ◌∙◌, subst, inl, inr}
+use Rattle.std.specs.Ordering.{nat_cmp, eq_by_cmp, ordering_then}
+use Rattle.std.specs.Cmp.{IsTotalOrder, eq_by_cmp_equiv}
+use Rattle.std.specs.FinMap.{IsAntisymmetric}
+use Rattle.std.specs.FinSet.{contains, contains-insert, contains-retain, insert}
+use Rattle.std.proofs.lemmas.Cmp.{on_total, then_total, nat_cmp_total}
+use Rattle.std.proofs.lemmas.Map.Lookups.{exact_unsigned, exact_pairs}
+use Rattle.nw_digest.specs.declared.digest.Digest.{Digest}
+use Rattle.nw_waiting.specs.declared.wanted.Wanted.{Wanted}
+use Rattle.nw_waiting.specs.Pairs.{Pair, Pairs, Lacks, digest_cmp, pair_cmp, wanted_cmp, without_holder, without_wanted}
+use Rattle.nw_model.proofs.Kept.{tie}
+use Rattle.nw_model.proofs.Maps.{digests_total, digests_apart}
+
+-- ---- the orders
+
+pub wanted_total : IsTotalOrder wanted_cmp
+wanted_total = then_total (on_total (λ (w : Wanted). w.round) nat_cmp_total) (then_total (on_total (λ (w : Wanted). w.author) nat_cmp_total) (on_total (λ (w : Wanted). w.digest) digests_total))
+
+pub pairs_total : IsTotalOrder pair_cmp
+pairs_total = then_total (on_total (λ (p : Pair). p.0) wanted_total) (on_total (λ (p : Pair). p.1) digests_total)
+
+pub wanted_apart : IsAntisymmetric wanted_cmp
+wanted_apart a b e =
+    ap (λ (f : ℕ × (ℕ × Digest)). let w : Wanted = record { round = f.0; author = f.1.0; digest = f.1.1 } in w)
+    (exact_pairs nat_cmp (λ (x y : ℕ × Digest). ordering_then (nat_cmp x.0 y.0) (digest_cmp x.1 y.1)) exact_unsigned (exact_pairs nat_cmp digest_cmp exact_unsigned digests_apart)
+    (a.round, (a.author, a.digest)) (b.round, (b.author, b.digest)) e)
+
+pub pairs_apart : IsAntisymmetric pair_cmp
+pairs_apart = exact_pairs wanted_cmp digest_cmp wanted_apart digests_apart
+
+one_wanted : (v w : Wanted) → eq_by_cmp wanted_cmp v w ≡ true → v ≡ w
+one_wanted v w e = wanted_apart v w (tie (wanted_cmp v w) e)
+
+one_digest : (c d : Digest) → eq_by_cmp digest_cmp c d ≡ true → c ≡ d
+one_digest c d e = digests_apart c d (tie (digest_cmp c d) e)
+
+one_pair : (p q : Pair) → eq_by_cmp pair_cmp p q ≡ true → p ≡ q
+one_pair p q e = pairs_apart p q (tie (pair_cmp p q) e)
+
+true_false : true ≡ false → ⊥
+true_false e = cc
+
+and_left : (a b : Bool) → (a && b) ≡ true → a ≡ true
+and_left true b e = refl
+and_left false b e = cc
+
+and_right : (a b : Bool) → (a && b) ≡ true → b ≡ true
+and_right true b e = e
+and_right false b e = cc
+
+and_both : (a b : Bool) → a ≡ true → b ≡ true → (a && b) ≡ true
+and_both true b one other = other
+and_both false b one other = cc
+
+or_cases : (a b : Bool) → (a || b) ≡ true → (a ≡ true) ⊎ (b ≡ true)
+or_cases true b e = inl refl
+or_cases false b e = inr e
+
+or_right : (a b : Bool) → b ≡ true → (a || b) ≡ true
+or_right true b e = refl
+or_right false b e = e
+
+not_true : (a : Bool) → (a ≡ true → ⊥) → not a ≡ true
+not_true true never = absurd (never refl)
+not_true false never = refl
+
+true_not : (a : Bool) → not a ≡ true → a ≡ true → ⊥
+true_not true n is = cc
+true_not false n is = cc
+
+-- ---- one pair more
+
+pub lacks_more : (s : Pairs) (v w : Wanted) (h d : Digest) → Lacks (insert s (v, h)) d w → ((w ≡ v) × (d ≡ h)) ⊎ Lacks s d w
+lacks_more s v w h d lacks =
+    elim (or_cases (eq_by_cmp pair_cmp (w, d) (v, h)) (contains s (w, d)) (sym (contains-insert pairs_total s (v, h) (w, d)) ∙ lacks)) [
+      | inl new ↦ let same : ◌≡◌ {A = Pair} (w, d) (v, h) = one_pair (w, d) (v, h) new in inl (ap (λ (p : Pair). p.0) same, ap (λ (p : Pair). p.1) same)
+      | inr old ↦ inr old
+    ]
+
+pub lacks_new : (s : Pairs) (v : Wanted) (h : Digest) → Lacks (insert s (v, h)) h v
+lacks_new s v h = contains-insert pairs_total s (v, h) (v, h) ∙ ap (λ b. b || contains s (v, h)) ((eq_by_cmp_equiv pairs_total).refl (v, h))
+
+pub lacks_still : (s : Pairs) (v w : Wanted) (h d : Digest) → Lacks s d w → Lacks (insert s (v, h)) d w
+lacks_still s v w h d lacks = contains-insert pairs_total s (v, h) (w, d) ∙ or_right (eq_by_cmp pair_cmp (w, d) (v, h)) (contains s (w, d)) lacks
+
+-- ---- what is no longer wanted, and who no longer wants
+
+at_wanted : (s : Pairs) (v w : Wanted) (d : Digest) → contains (without_wanted s v) (w, d) ≡ (contains s (w, d) && not (eq_by_cmp wanted_cmp v w))
+at_wanted s v w d = contains-retain s (λ p. not (eq_by_cmp wanted_cmp v p.0)) (w, d) (λ x e. ap (λ (p : Pair). not (eq_by_cmp wanted_cmp v p.0)) (sym (pairs_apart (w, d) x e)))
+
+at_holder : (s : Pairs) (w : Wanted) (h d : Digest) → contains (without_holder s h) (w, d) ≡ (contains s (w, d) && not (eq_by_cmp digest_cmp h d))
+at_holder s w h d = contains-retain s (λ p. not (eq_by_cmp digest_cmp h p.1)) (w, d) (λ x e. ap (λ (p : Pair). not (eq_by_cmp digest_cmp h p.1)) (sym (pairs_apart (w, d) x e)))
+
+pub without_wanted_lacks : (s : Pairs) (v w : Wanted) (d : Digest) → Lacks (without_wanted s v) d w ↔ (Lacks s d w × (v ≡ w → ⊥))
+without_wanted_lacks s v w d = (
+  λ lacks.
+      let both = sym (at_wanted s v w d) ∙ lacks in
+      (and_left (contains s (w, d)) _ both, λ same. true_not (eq_by_cmp wanted_cmp v w) (and_right (contains s (w, d)) _ both) (subst (λ x. eq_by_cmp wanted_cmp v x ≡ true) same ((eq_by_cmp_equiv wanted_total).refl v))),
+  λ (lacks, other). at_wanted s v w d ∙ and_both (contains s (w, d)) (not (eq_by_cmp wanted_cmp v w)) lacks (not_true (eq_by_cmp wanted_cmp v w) (λ e. other (one_wanted v w e))),
+)
+
+pub without_holder_lacks : (s : Pairs) (h d : Digest) (w : Wanted) → Lacks (without_holder s h) d w ↔ (Lacks s d w × (h ≡ d → ⊥))
+without_holder_lacks s h d w = (
+  λ lacks.
+      let both = sym (at_holder s w h d) ∙ lacks in
+      (and_left (contains s (w, d)) _ both, λ same. true_not (eq_by_cmp digest_cmp h d) (and_right (contains s (w, d)) _ both) (subst (λ x. eq_by_cmp digest_cmp h x ≡ true) same ((eq_by_cmp_equiv digests_total).refl h))),
+  λ (lacks, other). at_holder s w h d ∙ and_both (contains s (w, d)) (not (eq_by_cmp digest_cmp h d)) lacks (not_true (eq_by_cmp digest_cmp h d) (λ e. other (one_digest h d e))),
+)
+
+-- ---- tests that decide
+
+pub lacks_or_not : (s : Pairs) (d : Digest) (w : Wanted) → Lacks s d w ⊎ (Lacks s d w → ⊥)
+lacks_or_not s d w = by (contains s (w, d)) refl
+  where
+    by : (b : Bool) → contains s (w, d) ≡ b → Lacks s d w ⊎ (Lacks s d w → ⊥)
+    by true e = inl e
+    by false e = inr (λ is. true_false (sym is ∙ e))
+
+pub same_or_not : (c d : Digest) → (c ≡ d) ⊎ (c ≡ d → ⊥)
+same_or_not c d = by (eq_by_cmp digest_cmp c d) refl
+  where
+    by : (b : Bool) → eq_by_cmp digest_cmp c d ≡ b → (c ≡ d) ⊎ (c ≡ d → ⊥)
+    by true e = inl (one_digest c d e)
+    by false e = inr (λ same. true_false (sym (subst (λ x. eq_by_cmp digest_cmp c x ≡ true) same ((eq_by_cmp_equiv digests_total).refl c)) ∙ e))
+
+pub wanted_or_not : (v w : Wanted) → (v ≡ w) ⊎ (v ≡ w → ⊥)
+wanted_or_not v w = by (eq_by_cmp wanted_cmp v w) refl
+  where
+    by : (b : Bool) → eq_by_cmp wanted_cmp v w ≡ b → (v ≡ w) ⊎ (v ≡ w → ⊥)
+    by true e = inl (one_wanted v w e)
+    by false e = inr (λ same. true_false (sym (subst (λ x. eq_by_cmp wanted_cmp v x ≡ true) same ((eq_by_cmp_equiv wanted_total).refl v)) ∙ e))

@@ -1,0 +1,129 @@
+-- What a holder lacks after one more reference was looked at.
+use Rattle.std.proofs.Common.{◌≡◌, ◌↔◌, ℕ, List, [], ◌∷◌, ◌++◌, length, Bool, true, false, Result, Ok, Err, sym, ◌∙◌, subst, arith, inl, inr}
+use Rattle.std.specs.Prelude.{Contains, OnOk, OnErr, IsTrue, nat_eq}
+use Rattle.std.specs.FinSet.{insert}
+use Rattle.std.proofs.lemmas.List.Elements.{Contains-push_cases, Contains-append_left, Contains-push}
+use Rattle.nw_digest.specs.declared.digest.Digest.{Digest}
+use Rattle.nw_codec.specs.declared.block.Ref.{Ref}
+use Rattle.nw_waiting.specs.declared.wanted.Wanted.{Wanted}
+use Rattle.nw_waiting.specs.Pairs.{Pairs, Lacks, LacksCount}
+use Rattle.nw_model.specs.State.{State}
+use Rattle.nw_model.proofs.Listed.{contains_first, contains_none}
+use Rattle.nw_dag.specs.Lacking.{IsNamedAmong, IsReady, Stands}
+use Rattle.nw_model.specs.Missing.{IsNamedBy}
+use Rattle.nw_dag.specs.Changes.{AreSameBut, Wants}
+use Rattle.nw_dag.proofs.Pairs.{lacks_more, lacks_new, lacks_still}
+
+-- ---- how much is lacked
+
+-- none is lacked where the count is 0
+pub lacks_zero : (pairs : Pairs) (d : Digest) (n : ℕ) → LacksCount pairs d n → IsTrue (nat_eq n 0) ↔ ((w : Wanted) → Lacks pairs d w → ⊥)
+lacks_zero pairs d n (all, are, counts) = (
+  λ zero w lacks. none all (counts ∙ nothing n zero) w ((are.exactly w).1 lacks),
+  λ never. empty all n counts (λ w among. never w ((are.exactly w).0 among)),
+)
+  where
+    nothing : (n : ℕ) → IsTrue (nat_eq n 0) → n ≡ 0
+    nothing n e = grind arith
+
+    none : (xs : List Wanted) → length xs ≡ 0 → (w : Wanted) → Contains xs w → ⊥
+    none [] e w among = contains_none w among
+    none (x ∷ xs) e w among = omega (arith, e)
+
+    empty : (xs : List Wanted) (n : ℕ) → length xs ≡ n → ((w : Wanted) → Contains xs w → ⊥) → IsTrue (nat_eq n 0)
+    empty [] n e never = grind (arith, e)
+    empty (x ∷ xs) n e never = absurd (never x (contains_first x xs))
+
+-- a test that fails refutes what it decides
+pub refuted : (b : Bool) (P : Type 0) → IsTrue b ↔ P → b ≡ false → P → ⊥
+refuted b P decides fails p = let yes : b ≡ true = decides.1 p in cc
+
+pub on_ok : {T E : Type 0} (r : Result T E) {P : Type 0} → P → OnOk r P
+on_ok (Ok x) p = p
+on_ok (Err e) p = tt
+
+-- ---- one pair
+
+-- nothing changed
+pub same_itself : (holder : Digest) (pairs : Pairs) → AreSameBut holder pairs pairs
+same_itself holder pairs h w other = (λ lacks. lacks, λ lacks. lacks)
+
+pub same_through : (holder : Digest) (a b c : Pairs) → AreSameBut holder a b → AreSameBut holder b c → AreSameBut holder a c
+same_through holder a b c one two h w other = (λ lacks. (one h w other).0 ((two h w other).0 lacks), λ lacks. (two h w other).1 ((one h w other).1 lacks))
+
+pub same_inserted : (holder : Digest) (v : Wanted) (old new : Pairs) → new ≡ insert old (v, holder) → AreSameBut holder old new
+same_inserted holder v old new is h w other = (
+  λ lacks. elim (lacks_more old v w holder h (subst (λ (m : Pairs). Lacks m h w) is lacks)) [ inl more ↦ absurd (other more.1) | inr was ↦ was ],
+  λ lacks. subst (λ (m : Pairs). Lacks m h w) (sym is) (lacks_still old v w holder h lacks),
+)
+
+-- either way
+pub same_either : {E : Type 0} (r : Result (Unit {0}) E) (holder : Digest) (v : Wanted) (old new : Pairs) → OnOk r (new ≡ insert old (v, holder)) → OnErr r (new ≡ old) → AreSameBut holder old new
+same_either (Ok x) holder v old new ok err = same_inserted holder v old new ok
+same_either (Err e) holder v old new ok err = subst (λ (m : Pairs). AreSameBut holder old m) (sym err) (same_itself holder old)
+
+-- what has no Q is lacked
+pub wants_inserted : (Q : Wanted → Type 0) (v : Wanted) (holder : Digest) (old new : Pairs) → (Q v → ⊥) → new ≡ insert old (v, holder) → Wants Q (λ w. w ≡ v) holder old new
+wants_inserted Q v holder old new lacks_it is = record {
+  each = λ w named. inl (subst (λ (m : Pairs). Lacks m holder w) (sym is) (subst (λ (x : Wanted). Lacks (insert old (v, holder)) holder x) (sym named) (lacks_new old v holder)));
+  only = λ h w lacks. elim (lacks_more old v w holder h (subst (λ (m : Pairs). Lacks m h w) is lacks)) [
+    | inl more ↦ inr (more.1, more.0, λ q. lacks_it (subst Q more.0 q))
+    | inr was ↦ inl was
+  ];
+  still = λ h w lacks. subst (λ (m : Pairs). Lacks m h w) (sym is) (lacks_still old v w holder h lacks);
+}
+
+pub wants_on_ok : {E : Type 0} (r : Result (Unit {0}) E) (Q : Wanted → Type 0) (v : Wanted) (holder : Digest) (old new : Pairs) → (Q v → ⊥) → OnOk r (new ≡ insert old (v, holder)) → OnOk r (Wants Q (λ w. w ≡ v) holder old new)
+wants_on_ok (Ok x) Q v holder old new lacks_it is = wants_inserted Q v holder old new lacks_it is
+wants_on_ok (Err e) Q v holder old new lacks_it is = tt
+
+-- what has Q is not
+pub wants_nothing : (Q : Wanted → Type 0) (v : Wanted) (holder : Digest) (old : Pairs) → Q v → Wants Q (λ w. w ≡ v) holder old old
+wants_nothing Q v holder old has = record {
+  each = λ w named. inr (subst Q (sym named) has);
+  only = λ h w lacks. inl lacks;
+  still = λ h w lacks. lacks;
+}
+
+-- ---- one reference more
+
+named_once : (round : ℕ) (r : Ref) (v w : Wanted) → IsNamedBy round r v → IsNamedBy round r w → w ≡ v
+named_once round r v w one other =
+    let before : w.round ≡ v.round = omega (arith, one.0, other.0) in
+    let author : w.author ≡ v.author = other.1 ∙ sym one.1 in
+    let digest : w.digest ≡ v.digest = other.2 ∙ sym one.2 in
+    λ i. record { round = before i; author = author i; digest = digest i }
+
+pub wants_more : (Q R : Wanted → Type 0) (round : ℕ) (xs : List Ref) (r : Ref) (v : Wanted) (holder : Digest) (a b c : Pairs) → IsNamedBy round r v → (R v → Q v) → (Q v → R v)
+    → Wants Q (IsNamedAmong round xs) holder a b → Wants R (λ w. w ≡ v) holder b c → Wants Q (IsNamedAmong round (xs ++ r ∷ [])) holder a c
+wants_more Q R round xs r v holder a b c by_r down up one two = record {
+  each = λ w (x, among, named). elim (Contains-push_cases xs r x among) [
+    | inl before ↦ elim (one.each w (x, before, named)) [ inl lacks ↦ inl (two.still holder w lacks) | inr q ↦ inr q ]
+    | inr last ↦
+        let same : w ≡ v = named_once round r v w by_r (subst (λ (y : Ref). IsNamedBy round y w) (sym last) named) in
+        elim (two.each w same) [ inl lacks ↦ inl lacks | inr has ↦ inr (subst Q (sym same) (down (subst R same has))) ]
+  ];
+  only = λ h w lacks. elim (two.only h w lacks) [
+    | inl before ↦ elim (one.only h w before) [
+      | inl was ↦ inl was
+      | inr (here, named, fails) ↦ inr (here, (named.0, Contains-append_left xs (r ∷ []) named.0 named.1, named.2), fails)
+    ]
+    | inr (here, same, fails) ↦ inr (here, (r, Contains-push xs r, subst (λ (y : Wanted). IsNamedBy round r y) (sym same) by_r), λ q. fails (subst R (sym same) (up (subst Q same q))))
+  ];
+  still = λ h w lacks. two.still h w (one.still h w lacks);
+}
+
+-- no reference was looked at
+pub wants_none : (Q : Wanted → Type 0) (round : ℕ) (holder : Digest) (a : Pairs) → Wants Q (IsNamedAmong round []) holder a a
+wants_none Q round holder a = record {
+  each = λ w (x, among, named). absurd (contains_none x among);
+  only = λ h w lacks. inl lacks;
+  still = λ h w lacks. lacks;
+}
+
+-- what is ready stays so, where only one that does not stand lacks more
+pub ready_same : (s : State) (holder x : Digest) (a b : Pairs) → AreSameBut holder a b → (Stands s holder → ⊥) → IsReady s a x → IsReady s b x
+ready_same s holder x a b same absent ready = (ready.0, λ w lacks. ready.1 w ((same x w (λ here. absent (subst (λ q. Stands s q) here ready.0))).0 lacks))
+
+pub ready_back : (s : State) (holder x : Digest) (a b : Pairs) → AreSameBut holder a b → (Stands s holder → ⊥) → IsReady s b x → IsReady s a x
+ready_back s holder x a b same absent ready = (ready.0, λ w lacks. ready.1 w ((same x w (λ here. absent (subst (λ q. Stands s q) here ready.0))).1 lacks))

@@ -1,0 +1,160 @@
+-- The tables after a block was written, or a certificate kept.
+use Rattle.std.proofs.Common.{◌≡◌, ◌⊎◌, ℕ, ◌+◌, ◌<◌, ◌≤◌, Bool, true, false, List, [], Option, Some, None, IsSome, is_some, cond, refl, ap, sym, ◌∙◌, subst, arith, inl, inr}
+use Rattle.std.specs.Ordering.{eq_by_cmp}
+use Rattle.std.specs.FinMap.{FinMap, get, insert, len, get-insert, len-insert}
+use Rattle.std.specs.FinSet.{contains, same_set}
+use Rattle.nw_digest.specs.declared.digest.Digest.{Digest}
+use Rattle.nw_codec.specs.declared.block.Block.{Block}
+use Rattle.nw_codec.specs.declared.certificate.Certificate.{Certificate}
+use Rattle.nw_waiting.specs.declared.wanted.Wanted.{Wanted}
+use Rattle.nw_waiting.specs.Pairs.{Pairs, Lacks, without_holder}
+use Rattle.nw_model.specs.State.{State, digest_cmp}
+use Rattle.nw_model.specs.Step.{with_block, with_certificate}
+use Rattle.nw_model.proofs.Kept.{after_insert, at_insert, same_digest}
+use Rattle.nw_model.proofs.Listed.{contains_none}
+use Rattle.nw_model.proofs.Maps.{digests_total}
+use Rattle.nw_dag.specs.Lacking.{Names, IsNamedAmong, IsMet, IsReady, AreUnmet, AreLacking}
+use Rattle.nw_dag.specs.Changes.{AreSameBut, Wants}
+use Rattle.nw_dag.specs.Settled.{IsSettled, IsSettledBut}
+use Rattle.nw_dag.proofs.Pairs.{pairs_apart, pairs_total, without_holder_lacks}
+use Rattle.nw_dag.proofs.Arrival.{Arrives, AreLackingSince, arrived, listed_arrived, listed_apart, ready_was, unmet_arrived}
+
+some_none : {X : Type 0} (x : X) → Some x ≡ None → ⊥
+some_none x e = cc
+
+-- another digest has what it had
+get_other : {X : Type 0} (m : FinMap digest_cmp X) (k : Digest) (v : X) (q : Digest) → (q ≡ k → ⊥) → get (insert m k v) q ≡ get m q
+get_other m k v q other = get-insert digests_total m k v q ∙ by (eq_by_cmp digest_cmp q k) refl
+  where
+    by : (b : Bool) → eq_by_cmp digest_cmp q k ≡ b → cond b (Some v) (get m q) ≡ get m q
+    by true e = absurd (other (same_digest q k e))
+    by false e = refl
+
+-- ---- a block more
+
+module _ (s : State) (d : Digest) (b : Block) (vote : Bool) (absent : get s.blocks d ≡ None) where
+  abbrev t : State
+  t = with_block s d b vote
+
+  abbrev named : Wanted → Type 0
+  named w = (s.floor < b.round) × IsNamedAmong b.round b.parents w
+
+  nobody : (w : Wanted) → Names s d w → ⊥
+  nobody w (x, at, above, among) = some_none x (sym at ∙ absent)
+
+  block_arrives : Arrives s t d
+  block_arrives = record {
+    absent = λ (x, stands). some_none x (sym stands.0 ∙ absent);
+    others = λ x y other. (
+      λ stands. (sym (get_other s.blocks d b x other) ∙ stands.0, stands.1),
+      λ stands. (get_other s.blocks d b x other ∙ stands.0, stands.1),
+    );
+  }
+
+  -- what names it now named it, or is the new block
+  names_cases : (h : Digest) (w : Wanted) → Names t h w → ((h ≡ d) × named w) ⊎ Names s h w
+  names_cases h w (x, at, above, among) = elim (after_insert s.blocks d b h x at) [
+    | inl new ↦ inl (new.0, subst (λ (y : Block). (s.floor < y.round) × IsNamedAmong y.round y.parents w) (sym new.1) (above, among))
+    | inr old ↦ inr (x, old, above, among)
+  ]
+
+  names_still : (h : Digest) (w : Wanted) → Names s h w → Names t h w
+  names_still h w (x, at, above, among) = (x, get_other s.blocks d b h (λ same. some_none x (sym at ∙ ap (get s.blocks) same ∙ absent)) ∙ at, above, among)
+
+  names_new : (h : Digest) (w : Wanted) → h ≡ d → named w → Names t h w
+  names_new h w same (above, among) = (b, ap (get (insert s.blocks d b)) same ∙ at_insert s.blocks d b, above, among)
+
+  -- what it lacks is known
+  pub written : (unmet lacking met after : Pairs) (complete : List Digest) (room wider : ℕ) → IsSettled s unmet lacking complete room → Wants (IsMet s) named d unmet met
+      → Wants (λ w. IsMet s w × IsReady s lacking w.digest) named d lacking after → len s.blocks < wider → IsSettledBut t d met after complete wider
+  written unmet lacking met after complete room wider settled wants_met wants space = record {
+    standing = unmet_arrived s t d block_arrives met (λ h w. (
+      λ lacks. elim (wants_met.only h w lacks) [
+        | inl was ↦ let both = (settled.standing h w).0 was in (names_still h w both.0, both.1)
+        | inr new ↦ (names_new h w new.0 new.1, new.2)
+      ],
+      λ (names, fails). elim (names_cases h w names) [
+        | inl (same, is) ↦ elim (wants_met.each w is) [ inl lacks ↦ subst (λ q. Lacks met q w) (sym same) lacks | inr has ↦ absurd (fails has) ]
+        | inr old ↦ wants_met.still h w ((settled.standing h w).1 (old, fails))
+      ],
+    ));
+    promoted = arrived s t d block_arrives lacking after since;
+    listed = listed_arrived s t d block_arrives lacking after since complete settled.listed;
+    apart = listed_apart s t d block_arrives lacking after since complete settled.listed;
+    all = λ x other ready. settled.all x (ready_was s t d block_arrives lacking after since x other ready);
+    room = let more = len-insert digests_total s.blocks d b ∙ ap (λ found. cond (is_some found) (len s.blocks) (len s.blocks + 1)) absent in omega (arith, more, space);
+  }
+    where
+      since : AreLackingSince s t d lacking after
+      since = record {
+        each = λ h w names. elim (names_cases h w names) [
+          | inl (same, is) ↦ elim (wants.each w is) [ inl lacks ↦ inl (subst (λ q. Lacks after q w) (sym same) lacks) | inr has ↦ inr has ]
+          | inr old ↦ elim (settled.promoted.each h w old) [ inl lacks ↦ inl (wants.still h w lacks) | inr (is, ready) ↦ inr (is, ready.0) ]
+        ];
+        only = λ h w lacks. elim (wants.only h w lacks) [
+          | inl was ↦ let both = settled.promoted.only h w was in (names_still h w both.0, λ is ready. both.1 is (ready, contains_none w.digest))
+          | inr new ↦ (names_new h w new.0 new.1, λ is ready. new.2 (is, ready))
+        ];
+        same = λ h w other. (
+          λ lacks. elim (wants.only h w lacks) [ inl was ↦ was | inr new ↦ absurd (other new.0) ],
+          λ lacks. wants.still h w lacks,
+        );
+      }
+
+-- ---- a certificate more
+
+pub certified : (s : State) (c : Certificate) (unmet lacking : Pairs) (complete : List Digest) (room : ℕ) → get s.certificates c.digest ≡ None → IsSettled s unmet lacking complete room
+    → IsSettledBut (with_certificate s c) c.digest unmet lacking complete room
+certified s c unmet lacking complete room absent settled = record {
+  standing = unmet_arrived s (with_certificate s c) c.digest arrives unmet (λ h w. settled.standing h w);
+  promoted = arrived s (with_certificate s c) c.digest arrives lacking lacking since;
+  listed = listed_arrived s (with_certificate s c) c.digest arrives lacking lacking since complete settled.listed;
+  apart = listed_apart s (with_certificate s c) c.digest arrives lacking lacking since complete settled.listed;
+  all = λ x other ready. settled.all x (ready_was s (with_certificate s c) c.digest arrives lacking lacking since x other ready);
+  room = settled.room;
+}
+  where
+    none_is : (found : Option Certificate) → found ≡ None → IsSome found → ⊥
+    none_is (Some x) e some = some_none x e
+    none_is None e some = cc
+
+    arrives : Arrives s (with_certificate s c) c.digest
+    arrives = record {
+      absent = λ (x, stands). none_is (get s.certificates c.digest) absent stands.1;
+      others = λ x y other. (
+        λ stands. (stands.0, subst IsSome (get_other s.certificates c.digest c x other) stands.1),
+        λ stands. (stands.0, subst IsSome (sym (get_other s.certificates c.digest c x other)) stands.1),
+      );
+    }
+
+    since : AreLackingSince s (with_certificate s c) c.digest lacking lacking
+    since = record {
+      each = λ h w names. elim (settled.promoted.each h w names) [ inl lacks ↦ inl lacks | inr (is, ready) ↦ inr (is, ready.0) ];
+      only = λ h w lacks. let both = settled.promoted.only h w lacks in (both.0, λ is ready. both.1 is (ready, contains_none w.digest));
+      same = λ h w other. (λ lacks. lacks, λ lacks. lacks);
+    }
+
+-- ---- a write that was refused memory
+
+same_truth : (a b : Bool) → (a ≡ true → b ≡ true) → (b ≡ true → a ≡ true) → a ≡ b
+same_truth true true f g = refl
+same_truth true false f g = sym (f refl)
+same_truth false true f g = g refl
+same_truth false false f g = refl
+
+-- what is lacked is as it was, once the holder lacks nothing
+pub forgotten : (holder : Digest) (old new : Pairs) → AreSameBut holder old new → ((w : Wanted) → Lacks old holder w → ⊥) → without_holder new holder ≡ old
+forgotten holder old new same nothing = same_set pairs_total pairs_apart (without_holder new holder) old (λ q.
+    same_truth (contains (without_holder new holder) q) (contains old q)
+    (λ lacks. let both = (without_holder_lacks new holder q.1 q.0).0 lacks in (same q.1 q.0 (λ here. both.1 (sym here))).0 both.0)
+    (λ lacks. let other : holder ≡ q.1 → ⊥ = λ here. nothing q.0 (subst (λ h. Lacks old h q.0) (sym here) lacks) in
+    (without_holder_lacks new holder q.1 q.0).1 ((same q.1 q.0 (λ here. other (sym here))).1 lacks, other)))
+
+pub nothing_unmet : (s : State) (d : Digest) (unmet : Pairs) → get s.blocks d ≡ None → AreUnmet s unmet → (w : Wanted) → Lacks unmet d w → ⊥
+nothing_unmet s d unmet absent are w lacks = let names = ((are d w).0 lacks).0 in some_none names.0 (sym names.1 ∙ absent)
+
+pub nothing_lacking : (s : State) (d : Digest) (lacking : Pairs) → get s.blocks d ≡ None → AreLacking s lacking [] → (w : Wanted) → Lacks lacking d w → ⊥
+nothing_lacking s d lacking absent are w lacks = let names = (are.only d w lacks).0 in some_none names.0 (sym names.1 ∙ absent)
+
+pub settled_wider : (s : State) (unmet lacking : Pairs) (complete : List Digest) (room wider : ℕ) → IsSettled s unmet lacking complete room → room ≤ wider → IsSettled s unmet lacking complete wider
+settled_wider s unmet lacking complete room wider settled wide = record { standing = settled.standing; promoted = settled.promoted; listed = settled.listed; all = settled.all; room = omega (arith, settled.room, wide) }

@@ -1,0 +1,25 @@
+use Rattle.std.proofs.Common.{sym, subst}
+use Rattle.std.proofs.lemmas.List.Elements.{All-contains}
+use Rattle.nw_model.specs.State.{State, digest_cmp}
+use Rattle.nw_model.specs.Paths.{IsComplete}
+use Rattle.nw_model.specs.Missing.{IsWanted, HasCount}
+use Rattle.nw_waiting.specs.Pairs.{wanted_cmp}
+use Rattle.nw_dag.specs.Lacking.{IsReady}
+use Rattle.nw_dag.proofs.Complete.{ready_complete}
+use Rattle.nw_dag.proofs.Missing.{wanted_count}
+use Rattle.nw_dag.proofs.Sorted.{count_of}
+use Rattle.nw_dag.proofs.dag.Dag.status.Goals as goal
+
+pub returns : goal.returns
+returns c =
+    let s : State = c.self.inside.held.state in
+    let waits = c.self.inside.waits in
+    let inv = c.self.invariant in
+    let same = ready_complete s waits.lacking c.certificates.ensures.sound inv.promoted in
+    let complete : HasCount digest_cmp (IsComplete s) c.complete.result =
+    subst (HasCount digest_cmp (IsComplete s)) (sym c.complete.ensures) (count_of (IsComplete s) waits.complete.items inv.listed.once (λ x. (
+      λ among. (same x).0 (All-contains (IsReady s waits.lacking) waits.complete.items x inv.listed.ready among),
+      λ whole. inv.all x ((same x).1 whole),
+    ))) in
+    let wanted : HasCount wanted_cmp (IsWanted s) c.unmet.result = wanted_count s waits.unmet c.unmet.result inv.standing c.unmet.ensures in
+    rw (← c.self.view_is) (record { floor = c.floor.ensures; blocks = c.blocks-2.ensures; certificates = c.certificates.ensures.count; complete = complete; wanted = wanted })

@@ -1,0 +1,31 @@
+use Rattle.nw_waiting.specs.declared.wanted.Wanted.{Wanted}
+use Rattle.nw_dag.specs.Lacking.{IsMet, IsReady}
+use Rattle.nw_dag.proofs.Wanting.{refuted, on_ok, same_either, same_inserted, wants_inserted, wants_on_ok}
+use Rattle.nw_dag.proofs.waits.Waits.want.Goals as goal
+
+pub returns-in_ok-want-clause-unmet : goal.returns-in_ok-want-clause-unmet
+returns-in_ok-want-clause-unmet c =
+    let lacks_it = refuted c.is_met.result (IsMet c.args.held.now.state c.args.wanted) c.is_met.ensures c.if-not-is_met.true in
+    on_ok c.want-then-not-is_met.result (wants_inserted (IsMet c.args.held.now.state) c.args.wanted c.args.holder c.args.self.now.unmet c.want.new.self lacks_it c.in_ok-want.ensures.added)
+
+pub returns-in_ok-want-clause-lacking : goal.returns-in_ok-want-clause-lacking
+returns-in_ok-want-clause-lacking c =
+    let lacks_it = refuted c.is_met.result (IsMet c.args.held.now.state c.args.wanted) c.is_met.ensures c.if-not-is_met.true in
+    wants_on_ok c.want-then-not-is_met.result (λ (w : Wanted). IsMet c.args.held.now.state w × IsReady c.args.held.now.state c.args.self.now.lacking w.digest) c.args.wanted c.args.holder c.args.self.now.lacking
+    c.want-then-not-is_met.new.self (λ both. lacks_it both.0) c.want-then-not-is_met.ensures.added
+
+pub returns-in_ok-want-clause-same_unmet : goal.returns-in_ok-want-clause-same_unmet
+returns-in_ok-want-clause-same_unmet c = same_inserted c.args.holder c.args.wanted c.args.self.now.unmet c.want.new.self c.in_ok-want.ensures.added
+
+pub returns-in_ok-want-clause-same_lacking : goal.returns-in_ok-want-clause-same_lacking
+returns-in_ok-want-clause-same_lacking c = same_either c.want-then-not-is_met.result c.args.holder c.args.wanted c.args.self.now.lacking c.want-then-not-is_met.new.self c.want-then-not-is_met.ensures.added c.want-then-not-is_met.ensures.unchanged
+
+pub returns-then-not-is_ready-clause-lacking : goal.returns-then-not-is_ready-clause-lacking
+returns-then-not-is_ready-clause-lacking c =
+    let lacks_it = refuted c.is_ready.result (IsReady c.args.held.now.state c.args.self.now.lacking c.args.wanted.digest) c.is_ready.ensures c.if-not-is_ready.true in
+    wants_on_ok c.want-then-not-is_ready.result (λ (w : Wanted). IsMet c.args.held.now.state w × IsReady c.args.held.now.state c.args.self.now.lacking w.digest) c.args.wanted c.args.holder c.args.self.now.lacking
+    c.want-then-not-is_ready.new.self (λ both. lacks_it both.1) c.want-then-not-is_ready.ensures.added
+
+pub returns-then-not-is_ready-clause-same_lacking : goal.returns-then-not-is_ready-clause-same_lacking
+returns-then-not-is_ready-clause-same_lacking c =
+    same_either c.want-then-not-is_ready.result c.args.holder c.args.wanted c.args.self.now.lacking c.want-then-not-is_ready.new.self c.want-then-not-is_ready.ensures.added c.want-then-not-is_ready.ensures.unchanged

@@ -1,0 +1,4 @@
+pub mod Held
+pub mod Lacking
+pub mod Changes
+pub mod Settled

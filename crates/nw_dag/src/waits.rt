@@ -1,0 +1,198 @@
+//! What held blocks lack, and which are complete.
+ghost use Rattle.std.specs.Prelude.{◌≡◌, ◌↔◌, ◌<◌, ◌≤◌, ◌+◌, IfOk, OnOk, IsTrue, [], ◌∷◌, ◌++◌, length, Contains};
+ghost use Rattle.std.specs.FinSet as set;
+ghost use Rattle.std.specs.FinMap as map;
+ghost use Rattle.std.specs.Vec.{vec_capacity};
+ghost use Rattle.nw_waiting.specs.Pairs.{AreFirst, Lacks, WantedCount, without_holder};
+ghost use Rattle.nw_dag.specs.Lacking.{Stands, IsMet, IsReady, IsNamedAmong};
+ghost use Rattle.nw_model.specs.Missing.{IsNamedBy};
+ghost use Rattle.nw_dag.specs.Changes.{AreSameBut, Wants};
+ghost use Rattle.nw_dag.specs.Settled.{AreListed};
+
+mod cascade;
+
+use crate::held::Held;
+use nw_codec::{Block, Ref};
+use nw_digest::{Digest, NoMemory, Round};
+use nw_waiting::{Waiting, Wanted};
+use std::alloc::Global;
+
+/// What held blocks lack, and which are complete.
+#[derive(Drop)]
+pub(crate) struct Waits {
+    /// The parents that do not stand, and the blocks that name them.
+    unmet: Waiting<Global>,
+    /// The parents that are not complete, and the blocks that name them.
+    lacking: Waiting<Global>,
+    /// The blocks that are complete, the last that became so at the end.
+    complete: Vec<Digest>,
+}
+
+impl Waits {
+    /// Nothing is lacked. It takes no memory.
+    pub(crate) fn new(alloc: Global) -> Waits
+        ensures unmet { result.unmet ≡ set.empty }
+        ensures lacking { result.lacking ≡ set.empty }
+        ensures complete { result.complete.items ≡ [] }
+    {
+        Waits {
+            unmet: Waiting::new_in(alloc),
+            lacking: Waiting::new_in(alloc),
+            complete: Vec::new(alloc),
+        }
+    }
+
+    /// Whether the block stands and lacks nothing.
+    fn is_ready(&self, held: &Held, digest: Digest) -> bool
+        ensures { IsTrue result ↔ IsReady held.now.state self.now.lacking digest }
+    {
+        held.stands(&digest) && self.lacks_nothing(digest)
+    }
+
+    /// Whether the digest lacks no parent: each that it names is complete.
+    pub(crate) fn lacks_nothing(&self, digest: Digest) -> bool
+        ensures { IsTrue result ↔ ((w : Wanted) → Lacks self.now.lacking digest w → ⊥) }
+    {
+        self.lacking.lacks(digest) == 0
+    }
+
+    /// Lets the holder lack it, where it does not stand or is not complete. Want of memory may leave that half done.
+    fn want(&mut self, held: &Held, wanted: Wanted, holder: Digest) -> Result<(), NoMemory>
+        ensures unmet { OnOk result (Wants (IsMet held.now.state) (λ w. w ≡ wanted) holder self.old.unmet self.new.unmet) }
+        ensures lacking { OnOk result (Wants (λ w. IsMet held.now.state w × IsReady held.now.state self.old.lacking w.digest) (λ w. w ≡ wanted) holder self.old.lacking self.new.lacking) }
+        ensures same_unmet { AreSameBut holder self.old.unmet self.new.unmet }
+        ensures same_lacking { AreSameBut holder self.old.lacking self.new.lacking }
+        ensures complete { self.new.complete ≡ self.old.complete }
+    {
+        if !held.is_met(&wanted) {
+            self.unmet.want(wanted, holder)?;
+            self.lacking.want(wanted, holder)
+        } else if !self.is_ready(held, wanted.digest) {
+            self.lacking.want(wanted, holder)
+        } else {
+            Ok(())
+        }
+    }
+
+    /// Lets the holder lack what these references name, in this round, where it does not stand or is not complete. Want
+    /// of memory may leave that half done.
+    fn want_each(
+        &mut self,
+        held: &Held,
+        round: Round,
+        references: &[Ref],
+        holder: Digest,
+    ) -> Result<(), NoMemory>
+        requires absent { Stands held.now.state holder → ⊥ }
+        ensures unmet { OnOk result (Wants (IsMet held.now.state) (IsNamedAmong (round + 1) references.now) holder self.old.unmet self.new.unmet) }
+        ensures lacking { OnOk result (Wants (λ w. IsMet held.now.state w × IsReady held.now.state self.old.lacking w.digest) (IsNamedAmong (round + 1) references.now) holder self.old.lacking self.new.lacking) }
+        ensures same_unmet { AreSameBut holder self.old.unmet self.new.unmet }
+        ensures same_lacking { AreSameBut holder self.old.lacking self.new.lacking }
+        ensures complete { self.new.complete ≡ self.old.complete }
+    {
+        for reference in references {
+            self.want(held, named_by(reference, round), holder)?;
+        }
+        Ok(())
+    }
+
+    /// Lets the holder lack the parents of this block of its that do not stand or are not complete, where the block is
+    /// above the garbage round. Want of memory may leave that half done.
+    pub(crate) fn want_parents(
+        &mut self,
+        held: &Held,
+        block: &Block,
+        holder: Digest,
+    ) -> Result<(), NoMemory>
+        requires absent { Stands held.now.state holder → ⊥ }
+        ensures unmet { OnOk result (Wants (IsMet held.now.state) (λ w. (held.now.state.floor < block.now.round) × IsNamedAmong block.now.round block.now.parents w) holder self.old.unmet self.new.unmet) }
+        ensures lacking { OnOk result (Wants (λ w. IsMet held.now.state w × IsReady held.now.state self.old.lacking w.digest) (λ w. (held.now.state.floor < block.now.round) × IsNamedAmong block.now.round block.now.parents w) holder self.old.lacking self.new.lacking) }
+        ensures same_unmet { AreSameBut holder self.old.unmet self.new.unmet }
+        ensures same_lacking { AreSameBut holder self.old.lacking self.new.lacking }
+        ensures complete { self.new.complete ≡ self.old.complete }
+    {
+        if block.round <= held.floor() {
+            return Ok(());
+        }
+        match block.round.before() {
+            None => Ok(()),
+            Some(round) => self.want_each(held, round, block.parents.as_slice(), holder),
+        }
+    }
+
+    /// Lets the holder lack nothing any more.
+    pub(crate) fn forget(&mut self, holder: Digest)
+        ensures unmet { self.new.unmet ≡ without_holder self.old.unmet holder }
+        ensures lacking { self.new.lacking ≡ without_holder self.old.lacking holder }
+        ensures complete { self.new.complete ≡ self.old.complete }
+    {
+        self.unmet.unwant(holder);
+        self.lacking.unwant(holder);
+    }
+
+    /// How many blocks are complete. It takes no memory.
+    pub(crate) fn complete(&self) -> usize
+        ensures { result ≡ length self.now.complete.items }
+    {
+        self.complete.len()
+    }
+
+    /// How many different parents do not stand. It takes no memory.
+    pub(crate) fn unmet(&self) -> usize
+        ensures { WantedCount self.now.unmet result }
+    {
+        self.unmet.count()
+    }
+
+    /// The first `most` of the parents that do not stand.
+    pub(crate) fn first_unmet(&self, alloc: Global, most: u16) -> Result<Vec<Wanted>, NoMemory>
+        ensures { IfOk result (λ list. AreFirst self.now.unmet most list.items) }
+    {
+        self.unmet.first_wanted(alloc, most)
+    }
+
+    /// Makes room to list one block more than so many.
+    pub(crate) fn reserve(&mut self, blocks: usize) -> Result<(), NoMemory>
+        ensures unmet { self.new.unmet ≡ self.old.unmet }
+        ensures lacking { self.new.lacking ≡ self.old.lacking }
+        ensures complete { self.new.complete.items ≡ self.old.complete.items }
+        ensures capacity { vec_capacity self.old.complete ≤ vec_capacity self.new.complete }
+        ensures room { OnOk result (blocks < vec_capacity self.new.complete) }
+    {
+        let listed = self.complete.len();
+        if blocks < listed {
+            return Ok(());
+        }
+        let Some(more) = (blocks - listed).checked_add(1) else {
+            return Err(NoMemory);
+        };
+        self.complete.reserve(more)?;
+        Ok(())
+    }
+
+    /// Lists the digest, which is ready.
+    fn add(&mut self, held: &Held, digest: Digest)
+        requires room { map.len held.now.state.blocks ≤ vec_capacity self.old.complete }
+        requires listed { AreListed held.now.state self.old.lacking self.old.complete.items }
+        requires ready { IsReady held.now.state self.old.lacking digest }
+        requires apart { Contains self.old.complete.items digest → ⊥ }
+        ensures unmet { self.new.unmet ≡ self.old.unmet }
+        ensures lacking { self.new.lacking ≡ self.old.lacking }
+        ensures added { self.new.complete.items ≡ self.old.complete.items ++ digest ∷ [] }
+        ensures listed { AreListed held.now.state self.old.lacking self.new.complete.items }
+        ensures capacity { vec_capacity self.old.complete ≤ vec_capacity self.new.complete }
+    {
+        let _added = self.complete.push(digest);
+    }
+}
+
+/// What the reference names, in this round.
+fn named_by(reference: &Ref, round: Round) -> Wanted
+    ensures { IsNamedBy (round + 1) reference.now result }
+{
+    Wanted {
+        round,
+        author: reference.author,
+        digest: reference.digest,
+    }
+}
