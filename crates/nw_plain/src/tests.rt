@@ -118,8 +118,8 @@ fn certify_at(plain: &mut Plain, alloc: Global, slot: Slot) -> Result<(), Fail> 
 /// The reply in words, where it is one of those that the tests wait for.
 fn words(reply: &Reply) -> &'static str {
     match reply {
-        Reply::Write(reply) => words_of_write(*reply),
-        Reply::Certify(reply) => words_of_certify(*reply),
+        Reply::Write(reply) => words_of_write(reply),
+        Reply::Certify(reply) => words_of_certify(reply),
         Reply::Certificate(None) => "none",
         Reply::Certificate(Some(kept)) => words_of_kept(kept.get()),
         Reply::Read(None) | Reply::Causal(CausalReply::Unknown) => "unknown",
@@ -133,41 +133,61 @@ fn words(reply: &Reply) -> &'static str {
     }
 }
 
-fn words_of_write(reply: WriteReply) -> &'static str {
+fn words_of_write(reply: &WriteReply) -> &'static str {
     match reply {
         WriteReply::Stored { vote: true } => "stored vote",
         WriteReply::Stored { vote: false } => "stored",
         WriteReply::Held => "held",
         WriteReply::Clash => "clash",
         WriteReply::Misfit => "misfit",
-        WriteReply::Equivocates(first) if first == A => "equivocates a",
+        WriteReply::Equivocates(first) if *first == A => "equivocates a",
         WriteReply::Full => "full",
         WriteReply::TooFar => "too far",
-        WriteReply::Collected(floor) if floor.get() == 1 => "collected 1",
+        WriteReply::Collected(floor) => collected(*floor),
         _ => "other",
     }
 }
 
-fn words_of_certify(reply: CertifyReply) -> &'static str {
+fn words_of_certify(reply: &CertifyReply) -> &'static str {
     match reply {
         CertifyReply::Certified => "certified",
         CertifyReply::Already => "already",
         CertifyReply::Misfit => "misfit",
-        CertifyReply::Conflict(other) if other == B => "conflict b",
+        CertifyReply::Conflict(other) if *other == B => "conflict b",
         CertifyReply::Full => "full",
         CertifyReply::TooFar => "too far",
-        CertifyReply::Collected(floor) if floor.get() == 1 => "collected 1",
+        CertifyReply::Collected(floor) => collected(*floor),
         _ => "other",
     }
 }
 
 fn words_of_collect(reply: CollectReply) -> &'static str {
     match reply {
-        CollectReply::NotHigher(floor) if floor == Round::ZERO => "not higher 0",
-        CollectReply::NotHigher(_) => "not higher 1",
-        CollectReply::Raised { dropped: 0 } => "raised 0",
-        CollectReply::Raised { dropped: 1 } => "raised 1",
-        CollectReply::Raised { .. } => "raised more",
+        CollectReply::NotHigher(floor) => not_higher(floor),
+        CollectReply::Raised { dropped } => raised(dropped),
+    }
+}
+
+fn not_higher(floor: Round) -> &'static str {
+    match floor.get() {
+        0 => "not higher 0",
+        1 => "not higher 1",
+        _ => "not higher",
+    }
+}
+
+fn raised(dropped: u64) -> &'static str {
+    match dropped {
+        0 => "raised 0",
+        1 => "raised 1",
+        _ => "raised",
+    }
+}
+
+fn collected(floor: Round) -> &'static str {
+    match floor.get() {
+        1 => "collected 1",
+        _ => "collected",
     }
 }
 

@@ -4,7 +4,7 @@ use nw_model::{Counts, Wanted};
 
 /// The parents that are wanted first, by round and author.
 fn missing(plain: &mut Plain, alloc: Global, most: u16) -> Result<Vec<Slot>, Fail> {
-    match call(plain, &Call::Missing(most))? {
+    match &call(plain, &Call::Missing(most))? {
         Reply::Missing(wanted) => slots_of(alloc, wanted.as_slice()),
         _ => Err(Fail::from("the call for what is missing got another reply")),
     }
@@ -25,13 +25,13 @@ fn slots_of(alloc: Global, wanted: &[Wanted]) -> Result<Vec<Slot>, Fail> {
 
 /// The garbage round, and how many blocks, certificates, complete blocks and wanted parents there are.
 fn status(plain: &mut Plain) -> Result<[u64; 5], Fail> {
-    match call(plain, &Call::Status)? {
+    match &call(plain, &Call::Status)? {
         Reply::Status(counts) => Ok(numbers(counts)),
         _ => Err(Fail::from("the call for the status got another reply")),
     }
 }
 
-fn numbers(counts: Counts) -> [u64; 5] {
+fn numbers(counts: &Counts) -> [u64; 5] {
     let Counts {
         floor,
         blocks,
@@ -39,7 +39,7 @@ fn numbers(counts: Counts) -> [u64; 5] {
         complete,
         wanted,
     } = counts;
-    [floor.get(), blocks, certificates, complete, wanted]
+    [floor.get(), *blocks, *certificates, *complete, *wanted]
 }
 
 /// A block of round 1 over three parents, of which the last is not held, and one of round 2 over it; all are certified.
