@@ -1,0 +1,5 @@
+pub mod Each
+pub mod Turns
+pub mod Dealt
+pub mod Joint
+pub mod Whole

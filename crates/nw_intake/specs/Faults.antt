@@ -1,0 +1,33 @@
+-- Why messages are not checked.
+use Rattle.std.specs.Prelude.{ℕ, ◌<◌, ◌≤◌, Bool, false}
+use Rattle.nw_intake.specs.declared.point.Point.{Point}
+use Rattle.nw_intake.specs.declared.point.Point.TheVariants as point
+use Rattle.nw_intake.specs.declared.fault.ShareFault.{ShareFault}
+use Rattle.nw_intake.specs.declared.fault.ShareFault.TheVariants as share
+use Rattle.nw_intake.specs.declared.fault.IntakeFault.{IntakeFault}
+use Rattle.nw_intake.specs.declared.fault.IntakeFault.TheVariants as fault
+
+-- 1 to 16 workers
+abbrev pub IsCrew : ℕ → Type 0
+IsCrew workers = (1 ≤ workers) × (workers ≤ 16)
+
+-- the gate may say no to the start of one of so many checks
+abbrev pub HoldsBack : (Point → Bool → Type 0) → ℕ → Type 0
+HoldsBack says count = (place : ℕ) × (place < count) × says (point.CheckStart place) false
+
+-- the fault of one check: the gate is blamed only where it may say no to its start
+abbrev pub IsOneFault : (Point → Bool → Type 0) → ℕ → ShareFault → Type 0
+IsOneFault says place share.NoMemory = Unit {0}
+IsOneFault says place share.GateShut = says (point.CheckStart place) false
+
+-- the fault of one worker, among so many checks
+abbrev pub IsShareFault : (Point → Bool → Type 0) → ℕ → ShareFault → Type 0
+IsShareFault says count share.NoMemory = Unit {0}
+IsShareFault says count share.GateShut = HoldsBack says count
+
+-- the fault of all checks: other numbers of workers are refused before anything else, and the gate is blamed only where it may say no
+abbrev pub IsIntakeFault : (Point → Bool → Type 0) → ℕ → ℕ → IntakeFault → Type 0
+IsIntakeFault says count workers fault.BadWorkers = IsCrew workers → ⊥
+IsIntakeFault says count workers fault.NoMemory = IsCrew workers
+IsIntakeFault says count workers fault.Spawn = IsCrew workers
+IsIntakeFault says count workers fault.GateShut = IsCrew workers × HoldsBack says count
