@@ -67,26 +67,32 @@ fn missing<L: Home, R: Wait>(
     }
 }
 
-/// How many blocks are complete before and after a collection, how many it drops, how many parents are missing then, and
-/// how many blocks are walked of a ticket that was opened before it.
+/// How many blocks a collection drops, and how many are walked of a ticket that was opened before it.
+fn walked_late<L: Home, R: Wait>(
+    rt: &R,
+    alloc: Global,
+    store: &Store<DemoScheme, L>,
+    session: &mut Session<DemoScheme, L>,
+) -> Result<(u64, usize), Fail> {
+    let ticket = opened(rt, alloc, store, session)?;
+    let dropped = dropped(rt, alloc, store, session)?;
+    Ok((dropped, ticket.walk(alloc)?.len()))
+}
+
+/// What a session of a store over the book collects, and walks after that.
 fn collected<L: Home, R: Wait>(
     rt: &R,
     alloc: Global,
     opening: Opening<DemoScheme>,
     book: Book<DemoScheme>,
-) -> Result<(u64, u64, u64, usize, usize), Fail>
+) -> Result<(u64, usize), Fail>
     requires log { opening.log ≡ L.log }
     requires ledger { (opening.ledger ≡ L.name) × (L.parts ≡ parts_of_a_ledger) }
     requires origin { origin_of book ≡ L.origin }
 {
     let store = store_over::<L>(opening, book)?;
     let mut session = store.session(rt, alloc)?;
-    let ticket = opened(rt, alloc, &store, &mut session)?;
-    let before = complete(rt, alloc, &store, &mut session)?;
-    let dropped = dropped(rt, alloc, &store, &mut session)?;
-    let after = complete(rt, alloc, &store, &mut session)?;
-    let missing = missing(rt, alloc, &store, &mut session)?;
-    Ok((before, dropped, after, missing, ticket.walk(alloc)?.len()))
+    walked_late(rt, alloc, &store, &mut session)
 }
 
 #[test]
@@ -94,6 +100,34 @@ fn a_ticket_is_walked_after_its_block_was_collected(rt: HostRuntime) -> Result<(
     let opening = Opening::new(rt.alloc())?;
     let book = book(rt.alloc(), 16, 1)?;
     let found = collected::<Brand, _>(&rt, rt.alloc(), opening, book)?;
-    assert_eq!(rt; found, (1, 1, 0, 0, 1));
+    assert_eq!(rt; found, (1, 1));
+    Ok(())
+}
+
+/// How many blocks are complete, and how many parents are missing, where a block over another that is not held was written.
+fn learned<L: Home, R: Wait>(
+    rt: &R,
+    alloc: Global,
+    opening: Opening<DemoScheme>,
+    book: Book<DemoScheme>,
+) -> Result<(u64, usize), Fail>
+    requires log { opening.log ≡ L.log }
+    requires ledger { (opening.ledger ≡ L.name) × (L.parts ≡ parts_of_a_ledger) }
+    requires origin { origin_of book ≡ L.origin }
+{
+    let block = block(alloc, &committee(alloc, 1)?, 0, 1, &[Digest([7; 32])])?;
+    let store = store_over::<L>(opening, book)?;
+    let mut session = store.session(rt, alloc)?;
+    store.write(rt, alloc, &mut session, block)?;
+    let complete = complete(rt, alloc, &store, &mut session)?;
+    Ok((complete, missing(rt, alloc, &store, &mut session)?))
+}
+
+#[test]
+fn a_session_learns_what_is_missing(rt: HostRuntime) -> Result<(), Fail> {
+    let opening = Opening::new(rt.alloc())?;
+    let book = book(rt.alloc(), 16, 1)?;
+    let found = learned::<Brand, _>(&rt, rt.alloc(), opening, book)?;
+    assert_eq!(rt; found, (0, 1));
     Ok(())
 }
