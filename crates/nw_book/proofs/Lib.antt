@@ -1,4 +1,5 @@
 pub mod Longer
 pub mod Stands
 pub mod Opened
+pub mod Agreed
 pub mod Sent

@@ -13,12 +13,12 @@ mod reopen;
 
 use crate::{BookError, Command, NoStep, Ticket};
 use nw_committee::Committee;
+use nw_dag::Dag;
 use nw_digest::{Digest, NoMemory, Shared};
+use nw_generation::View;
 use nw_history::{Front, History, Limits};
 use nw_model::{Call, CausalReply, Event, Reply};
-use nw_plain::Plain;
 use nw_sig::Scheme;
-use nw_views::View;
 use std::alloc::Global;
 use std::marker::Model;
 
@@ -36,7 +36,7 @@ pub struct Done<S: Scheme> {
 #[derive(Drop)]
 pub struct Book<S: Scheme> {
     history: History<S>,
-    tables: Plain,
+    tables: Dag,
     calls: Vec<u32>,
 }
 
@@ -77,7 +77,7 @@ impl<S: Scheme> Book<S> {
         }
         Ok(Book {
             history: History::new(alloc, committee, limits)?,
-            tables: Plain::new(alloc, limits.blocks, limits.window),
+            tables: Dag::new(alloc, limits.blocks, limits.window),
             calls: vec![in alloc; 0u32; limits.sessions as usize]?,
         })
     }
@@ -113,7 +113,7 @@ impl<S: Scheme> Book<S> {
     {
         self.may_step(session, number, command)?;
         let call = command.call()?;
-        let reply = self.tables.reply(&call)?;
+        let reply = self.tables.reply(alloc, &call)?;
         let event = Event {
             session,
             number,
@@ -122,7 +122,9 @@ impl<S: Scheme> Book<S> {
         };
         let event = Shared::new(alloc, event)?;
         let front = self.history.front_with(alloc, &event)?;
-        let reply = self.history.record(&mut self.tables, event.get(), &front)?;
+        let reply = self
+            .history
+            .record(alloc, &mut self.tables, event.get(), &front)?;
         self.calls[usize::from(session)] += 1;
         Ok(Done { reply, front })
     }
@@ -151,7 +153,7 @@ impl<S: Scheme> Book<S> {
         ensures unchanged { OnErr result (self.new ≡ self.old) }
     {
         self.may_open(session, number)?;
-        match self.freeze_for(digest)? {
+        match self.freeze_for(alloc, digest)? {
             Ok(view) => {
                 let front = self.record_causal(alloc, session, number, digest, Reply::Ready)?;
                 Ok(Ok(Ticket::new(digest, front, view)))
@@ -166,12 +168,26 @@ impl<S: Scheme> Book<S> {
     }
 
     /// A view of what is complete after the history, where the block under the digest is; else why it is not given.
-    fn freeze_for(&self, digest: Digest) -> Result<Result<View, CausalReply>, NoMemory>
-        ensures { IfOk result (λ frozen. MatchResult frozen
-            (λ view. IsReply (bounds_of self.now.limits) (state_of self.now) (Call.Causal digest) Reply.Ready × Shows view (state_of self.now))
-            (λ refusal. IsReply (bounds_of self.now.limits) (state_of self.now) (Call.Causal digest) (Reply.Causal refusal))) }
+    fn freeze_for(
+        &mut self,
+        alloc: Global,
+        digest: Digest,
+    ) -> Result<Result<View<Global>, CausalReply>, NoMemory>
+        ensures answer { IfOk result (λ frozen. MatchResult frozen
+            (λ view. IsReply (bounds_of self.old.limits) (state_of self.old) (Call.Causal digest) Reply.Ready × Shows view.frozen (state_of self.old))
+            (λ refusal. IsReply (bounds_of self.old.limits) (state_of self.old) (Call.Causal digest) (Reply.Causal refusal))) }
+        ensures same { self.new ≡ self.old }
     {
-        self.tables.freeze_for(digest)
+        self.tables.freeze_for(alloc, digest)
+    }
+
+    /// Lets later tickets share one copy of what is complete, without what was collected. Nothing else changes: not the
+    /// history, no reply, and no ticket of before. It costs what is held; want of memory changes nothing, and may be asked
+    /// again.
+    pub fn compact(&mut self, alloc: Global) -> Result<(), NoMemory>
+        ensures { self.new ≡ self.old }
+    {
+        self.tables.compact(alloc)
     }
 
     /// Records a causal read in its turn, which leaves the tables as they are. The front is the history with it.

@@ -8,10 +8,12 @@ use nw_sig::DemoScheme;
 use std::alloc::Global;
 use std::test::Fail;
 
+mod agreements;
 mod answers;
 mod causal;
 mod chunks;
 mod committees;
+mod compacted;
 mod reopened;
 mod turns;
 
@@ -95,4 +97,16 @@ fn open(
         Ok(ticket) => Ok(ticket),
         Err(_) => Err(Fail::from("the read was not opened")),
     }
+}
+
+/// Writes, certifies and opens a child of a block of round 0, as these calls of session 0.
+fn open_child(
+    book: &mut Book<DemoScheme>,
+    alloc: Global,
+    calls: [u32; 3],
+    parent: Digest,
+) -> Result<Ticket<DemoScheme>, Fail> {
+    let child = write(book, alloc, calls[0], 1, &[parent])?;
+    certify(book, alloc, calls[1], 1, child)?;
+    open(book, alloc, calls[2], child)
 }

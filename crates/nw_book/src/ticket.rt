@@ -5,13 +5,14 @@ ghost use Rattle.nw_model.specs.View.{Shows};
 ghost use Rattle.nw_model.specs.declared.call.Call.TheVariants as Call;
 ghost use Rattle.nw_model.specs.declared.reply.Reply.TheVariants as Reply;
 ghost use Rattle.nw_history.specs.Story.{bounds_of, state_of};
-ghost use Rattle.nw_book.specs.Ticket.{IsTicket, IsTicketWith};
+ghost use Rattle.nw_book.specs.Ticket.{IsAgreed, IsTicket, IsTicketWith};
 
+use nw_causal::{Agreement, agree, walk};
 use nw_codec::Block;
 use nw_digest::{Digest, NoMemory, Shared};
+use nw_generation::View;
 use nw_history::Front;
 use nw_sig::Scheme;
-use nw_views::{View, walk};
 use std::alloc::Global;
 use std::marker::Model;
 
@@ -21,7 +22,7 @@ use std::marker::Model;
 pub struct Ticket<S: Scheme> {
     digest: Digest,
     front: Front<S>,
-    view: View,
+    view: View<Global>,
 }
 
 impl<S: Scheme> Model for Ticket<S> {
@@ -36,13 +37,13 @@ impl<S: Scheme> Model for Ticket<S> {
 
     ghost view = { λ t. record { digest = t.digest; front = t.front } };
 
-    ghost invariant = { λ t. IsTicketWith S.accepts (record { digest = t.digest; front = t.front }) t.view };
+    ghost invariant = { λ t. IsTicketWith S.accepts (record { digest = t.digest; front = t.front }) t.view.frozen };
 }
 
 impl<S: Scheme> Ticket<S> {
     /// The ticket for the digest at the front, over a view of what is complete there.
-    pub(crate) fn new(digest: Digest, front: Front<S>, view: View) -> Ticket<S>
-        requires { IsTicketWith S.accepts (record { digest = digest; front = front }) view }
+    pub(crate) fn new(digest: Digest, front: Front<S>, view: View<Global>) -> Ticket<S>
+        requires { IsTicketWith S.accepts (record { digest = digest; front = front }) view.frozen }
         ensures { result ≡ record { digest = digest; front = front } }
     {
         Ticket {
@@ -69,8 +70,9 @@ impl<S: Scheme> Ticket<S> {
     }
 
     /// The blocks that are complete after the front, as they were then.
-    pub fn view(&self) -> &View
-        ensures shows { Shows result.now (state_of self.now.front) }
+    pub fn view(&self) -> &View<Global>
+        ensures shows { Shows result.now.frozen (state_of self.now.front) }
+        ensures floor { result.now.frozen.floor ≡ (state_of self.now.front).floor }
         ensures ticket { IsTicket S.accepts self.now }
     {
         &self.view
@@ -83,5 +85,16 @@ impl<S: Scheme> Ticket<S> {
         ensures ticket { IsTicket S.accepts self.now }
     {
         walk(alloc, &self.view, self.digest)
+    }
+
+    /// Whether the lists of two tickets for one digest are equal, where their fronts leave one garbage round: `Same` exactly
+    /// where they are, else two different blocks of one digest, which the fronts hold under it. The tickets may be of two
+    /// books. `NoMemory` where memory is refused; it may then be asked again.
+    pub fn agree(&self, alloc: Global, other: &Ticket<S>) -> Result<Agreement, NoMemory>
+        requires digests { self.now.digest ≡ other.now.digest }
+        requires floors { (state_of self.now.front).floor ≡ (state_of other.now.front).floor }
+        ensures agreed { IfOk result (λ agreement. IsAgreed self.now other.now agreement) }
+    {
+        agree(alloc, &self.view, &other.view, self.digest)
     }
 }

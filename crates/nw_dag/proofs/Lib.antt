@@ -10,3 +10,12 @@ pub mod Missing
 pub mod Steps
 pub mod Written
 pub mod Sorted
+pub mod Freezing
+pub mod Shelves
+pub mod HeldRaised
+pub mod Raising
+pub mod Filtered
+pub mod Releasing
+pub mod Collecting
+pub mod Refrozen
+pub mod Sent

@@ -3,14 +3,16 @@ use Rattle.std.proofs.Common.{◌≡◌, ℕ, true, false, [], Some, None, sym, 
 use Rattle.std.specs.List.{IsDistinct}
 use Rattle.std.specs.List.Sorted.{IsStrictlySortedBy}
 use Rattle.std.specs.Ordering.{eq_by_cmp}
-use Rattle.std.specs.FinMap.{get-empty, len-empty}
+use Rattle.std.specs.FinMap.{get, from_entries, get-empty, len-empty}
 use Rattle.std.specs.FinSet.{empty, contains-empty}
 use Rattle.std.proofs.lemmas.List.Elements.{All-nil}
 use Rattle.nw_digest.specs.declared.digest.Digest.{Digest}
 use Rattle.nw_codec.specs.declared.block.Block.{Block}
+use Rattle.nw_rounds.specs.Slots.{no_digests}
 use Rattle.nw_waiting.specs.Pairs.{Lacks, pair_cmp}
 use Rattle.nw_waiting.specs.declared.wanted.Wanted.{Wanted}
 use Rattle.nw_model.specs.State.{opening, digest_cmp}
+use Rattle.nw_dag.specs.Held.{IsNamed}
 use Rattle.nw_dag.specs.Lacking.{Names}
 use Rattle.nw_dag.specs.Settled.{IsSettled}
 
@@ -45,3 +47,6 @@ settled_opening capacity = record {
   all = λ d ready. absurd (none_some ready.0.0 (sym (get-empty digest_cmp d) ∙ ready.0.1.0));
   room = omega (arith, len-empty digest_cmp Block);
 }
+
+pub nothing_named : (d : Digest) (b : Block) → get (from_entries {R = digest_cmp} []) d ≡ Some b → IsNamed no_digests d b
+nothing_named d b at = absurd (none_some b (sym (get-empty digest_cmp d) ∙ at))

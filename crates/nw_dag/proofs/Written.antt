@@ -23,7 +23,7 @@ some_none : {X : Type 0} (x : X) → Some x ≡ None → ⊥
 some_none x e = cc
 
 -- another digest has what it had
-get_other : {X : Type 0} (m : FinMap digest_cmp X) (k : Digest) (v : X) (q : Digest) → (q ≡ k → ⊥) → get (insert m k v) q ≡ get m q
+pub get_other : {X : Type 0} (m : FinMap digest_cmp X) (k : Digest) (v : X) (q : Digest) → (q ≡ k → ⊥) → get (insert m k v) q ≡ get m q
 get_other m k v q other = get-insert digests_total m k v q ∙ by (eq_by_cmp digest_cmp q k) refl
   where
     by : (b : Bool) → eq_by_cmp digest_cmp q k ≡ b → cond b (Some v) (get m q) ≡ get m q

@@ -1,18 +1,22 @@
 //! The tables of a store.
-ghost use Rattle.std.specs.Prelude.{◌≡◌, ◌<◌, ◌≤◌, IfOk, OnOk, OnErr, IsNone, None, IsTrue, false, ◌↔◌};
+ghost use Rattle.std.specs.Prelude.{◌≡◌, ◌<◌, ◌≤◌, IfOk, OnOk, OnErr, IsNone, None, IsTrue, false, not, is_some, ◌↔◌};
 ghost use Rattle.std.specs.FinMap as map;
 ghost use Rattle.nw_model.specs.State.{opening, block_slot, certificate_slot};
 ghost use Rattle.nw_model.specs.Paths.{IsComplete};
 ghost use Rattle.nw_model.specs.Missing.{AreFirstWanted, AreCounts};
-ghost use Rattle.nw_model.specs.Step.{after, write_reply, certify_reply, certified_digest, is_elsewhere, with_block, with_certificate};
+ghost use Rattle.nw_model.specs.Step.{after, write_reply, certify_reply, collect_reply, certified_digest, is_elsewhere, raised, rival, with_block, with_certificate};
 ghost use Rattle.nw_dag.specs.Lacking.{IsMet, IsReady, IsNamedAmong};
 ghost use Rattle.nw_dag.specs.Changes.{AreSameBut, Wants};
 
+mod calls;
+mod causal;
+
+use crate::frozen::Frozen;
 use crate::held::Held;
 use crate::waits::Waits;
 use nw_codec::{Block, Certificate};
-use nw_digest::{Digest, NoMemory, Sequence, Shared};
-use nw_model::{Call, CertifyReply, Counts, WriteReply};
+use nw_digest::{Digest, NoMemory, Round, Sequence, Shared};
+use nw_model::{Call, CertifyReply, CollectReply, Counts, WriteReply};
 use nw_waiting::Wanted;
 use std::alloc::Global;
 use std::marker::Model;
@@ -22,11 +26,12 @@ use std::marker::Model;
 pub struct Dag {
     held: Held,
     waits: Waits,
+    frozen: Frozen,
 }
 
 impl Model for Dag {
     ghost use Rattle.nw_model.specs.Step.{Tables, coded_tables};
-    ghost use Rattle.nw_dag.specs.Settled.{IsSettled};
+    ghost use Rattle.nw_dag.specs.Frozen.{AreTables};
     ghost use Rattle.std.specs.Vec.{vec_capacity};
 
     ghost Value = { Tables };
@@ -35,7 +40,7 @@ impl Model for Dag {
 
     ghost view = { λ d. d.held };
 
-    ghost invariant = { λ d. IsSettled d.held.state d.waits.unmet d.waits.lacking d.waits.complete.items (vec_capacity d.waits.complete) };
+    ghost invariant = { λ d. AreTables d.held.state d.waits.unmet d.waits.lacking d.waits.complete.items (vec_capacity d.waits.complete) d.frozen.generations.blocks d.frozen.count };
 }
 
 impl Dag {
@@ -48,6 +53,7 @@ impl Dag {
         Dag {
             held: Held::new(alloc, blocks, window),
             waits: Waits::new(alloc),
+            frozen: Frozen::new(alloc),
         }
     }
 
@@ -92,6 +98,32 @@ impl Dag {
         ensures { result ≡ certify_reply self.now.bounds self.now.state certificate.now }
     {
         self.held.certify_reply(certificate)
+    }
+
+    /// Takes the step of a collection, and answers its reply: where the round is higher than the garbage round, it is the
+    /// garbage round from now on, and what is of a round below it is dropped. Want of memory leaves the store as it was.
+    pub fn collect(&mut self, round: Round) -> Result<CollectReply, NoMemory>
+        ensures reply { IfOk result (λ r. r ≡ collect_reply self.old.state round) }
+        ensures state { OnOk result (self.new.state ≡ after self.old.bounds self.old.state (Call.Collect round)) }
+        ensures bounds { self.new.bounds ≡ self.old.bounds }
+        ensures unchanged { OnErr result (self.new ≡ self.old) }
+    {
+        let floor = self.held.floor();
+        if round <= floor {
+            return Ok(CollectReply::NotHigher(floor));
+        }
+        let before = self.held.blocks();
+        self.raise(round)?;
+        Ok(CollectReply::Raised {
+            dropped: (before - self.held.blocks()) as u64,
+        })
+    }
+
+    /// The reply that a collection would get now. It takes no memory.
+    pub fn collect_reply(&self, round: Round) -> CollectReply
+        ensures { result ≡ collect_reply self.now.state round }
+    {
+        self.held.collect_reply(round)
     }
 
     /// Whether the block under the digest is complete: it is held and certified, and so are its ancestors down to the
@@ -147,7 +179,8 @@ impl Dag {
     /// Puts the block under the digest, which is the first of the block's slot where there is a vote.
     fn store(&mut self, digest: Digest, block: Shared<Block>, vote: bool) -> Result<(), NoMemory>
         requires absent { IsNone (map.get self.old.state.blocks digest) }
-        requires open { IsTrue vote → IsNone (map.get self.old.state.firsts (block_slot block)) }
+        requires first { vote ≡ not (is_some (map.get self.old.state.firsts (block_slot block))) }
+        requires alone { rival self.old.state digest (block_slot block) ≡ None }
         requires misfit { is_elsewhere certificate_slot (map.get self.old.state.certificates digest) (block_slot block) ≡ false }
         requires kept { self.old.state.floor ≤ block.round }
         ensures state { OnOk result (self.new.state ≡ with_block self.old.state digest block vote) }
@@ -160,6 +193,23 @@ impl Dag {
             return Err(refused);
         }
         self.waits.arrive(&self.held, digest);
+        Ok(())
+    }
+
+    /// Makes the round the garbage round, and drops what is of a round below it. The memory is taken first.
+    fn raise(&mut self, round: Round) -> Result<(), NoMemory>
+        requires higher { self.old.state.floor < round }
+        ensures state { OnOk result (self.new.state ≡ raised self.old.state round) }
+        ensures fewer { map.len self.new.state.blocks ≤ map.len self.old.state.blocks }
+        ensures bounds { self.new.bounds ≡ self.old.bounds }
+        ensures unchanged { OnErr result (self.new ≡ self.old) }
+    {
+        let holders = self.held.up_to(round)?;
+        let certified = self.held.certified_up_to(round)?;
+        self.held.raise(round, &holders, &certified);
+        self.frozen
+            .recount(&self.held, self.waits.complete_digests());
+        self.waits.collect(&self.held, &holders);
         Ok(())
     }
 
@@ -190,7 +240,8 @@ fn hold(
     vote: bool,
 ) -> Result<(), NoMemory>
     requires absent { IsNone (map.get held.old.state.blocks digest) }
-    requires open { IsTrue vote → IsNone (map.get held.old.state.firsts (block_slot block)) }
+    requires first { vote ≡ not (is_some (map.get held.old.state.firsts (block_slot block))) }
+    requires alone { rival held.old.state digest (block_slot block) ≡ None }
     requires misfit { is_elsewhere certificate_slot (map.get held.old.state.certificates digest) (block_slot block) ≡ false }
     requires kept { held.old.state.floor ≤ block.round }
     ensures state { OnOk result (held.new.state ≡ with_block held.old.state digest block vote) }

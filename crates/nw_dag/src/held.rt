@@ -1,14 +1,16 @@
 //! What a store holds.
-ghost use Rattle.std.specs.Prelude.{◌≡◌, ◌↔◌, ◌≤◌, OnOk, OnErr, IsNone, None, IsTrue, false};
+ghost use Rattle.std.specs.Prelude.{◌≡◌, ◌↔◌, ◌≤◌, OnOk, OnErr, IsNone, None, IsTrue, false, not, is_some};
 ghost use Rattle.std.specs.Option.{option_copied, option_map};
 ghost use Rattle.std.specs.BTreeMap.{insert_entry};
 ghost use Rattle.std.specs.FinMap as map;
 ghost use Rattle.nw_model.specs.State.{digest_cmp, opening, block_slot, certificate_slot};
 ghost use Rattle.nw_model.specs.Sound.{IsSound};
 ghost use Rattle.nw_dag.specs.Lacking.{Stands, IsMet, named_as};
-ghost use Rattle.nw_model.specs.Step.{certified_digest, is_elsewhere, with_block, with_certificate};
+ghost use Rattle.nw_model.specs.Step.{certified_digest, is_elsewhere, rival, with_block, with_certificate};
 
+mod collection;
 mod replies;
+mod shelf;
 
 use nw_codec::{Block, Certificate};
 use nw_digest::{Digest, NoMemory, Round, Shared};
@@ -29,6 +31,7 @@ pub(crate) struct Held {
     floor: Round,
     most: u32,
     window: u32,
+    alloc: Global,
 }
 
 impl Model for Held {
@@ -59,6 +62,7 @@ impl Held {
             floor: Round::ZERO,
             most: blocks,
             window,
+            alloc,
         }
     }
 
@@ -75,6 +79,13 @@ impl Held {
         ensures sound { IsSound self.now.state }
     {
         self.blocks.get(digest)
+    }
+
+    /// Whether a block is held under the digest.
+    pub(crate) fn holds(&self, digest: &Digest) -> bool
+        ensures { result ≡ is_some (map.get self.now.state.blocks digest.now) }
+    {
+        self.block(digest).is_some()
     }
 
     /// The certificate that is kept for the digest.
@@ -157,7 +168,8 @@ impl Held {
         vote: bool,
     ) -> Result<(), NoMemory>
         requires absent { IsNone (map.get self.old.state.blocks digest) }
-        requires open { IsTrue vote → IsNone (map.get self.old.state.firsts (block_slot block)) }
+        requires first { vote ≡ not (is_some (map.get self.old.state.firsts (block_slot block))) }
+        requires alone { rival self.old.state digest (block_slot block) ≡ None }
         requires misfit { is_elsewhere certificate_slot (map.get self.old.state.certificates digest) (block_slot block) ≡ false }
         requires kept { self.old.state.floor ≤ block.round }
         ensures state { OnOk result (self.new.state ≡ with_block self.old.state digest block vote) }

@@ -1,7 +1,7 @@
 use super::*;
 use nw_codec::{Block, Certificate, Ref};
 use nw_digest::{Digest, Round, Sequence, Shared};
-use nw_model::{CertifyReply, WriteReply};
+use nw_model::{CertifyReply, CollectReply, WriteReply};
 use std::alloc::Global;
 use std::test::Fail;
 
@@ -9,6 +9,9 @@ const A: Digest = Digest([1; 32]);
 
 const B: Digest = Digest([2; 32]);
 
+const C: Digest = Digest([3; 32]);
+
+mod collections;
 mod diamonds;
 mod replies;
 

@@ -10,6 +10,7 @@ ghost use Rattle.nw_dag.specs.Changes.{AreSameBut, Wants};
 ghost use Rattle.nw_dag.specs.Settled.{AreListed};
 
 mod cascade;
+mod collection;
 
 use crate::held::Held;
 use nw_codec::{Block, Ref};
@@ -135,6 +136,13 @@ impl Waits {
         ensures { result ≡ length self.now.complete.items }
     {
         self.complete.len()
+    }
+
+    /// The blocks that are complete, in the order in which they became so.
+    pub(crate) fn complete_digests(&self) -> &[Digest]
+        ensures { result.now ≡ self.now.complete.items }
+    {
+        self.complete.as_slice()
     }
 
     /// How many different parents do not stand. It takes no memory.

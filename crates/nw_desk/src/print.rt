@@ -94,6 +94,8 @@ pub enum Answer<'a> {
     },
     /// A store goes on without its history.
     Reopened,
+    /// What is complete was frozen anew.
+    Compacted,
 }
 
 impl<'a> Answer<'a> {
@@ -155,6 +157,7 @@ impl fmt::Display for Answer<'_> {
                 Ok(())
             }
             Answer::Reopened => write!(f, "reopened"),
+            Answer::Compacted => write!(f, "compacted"),
         }
     }
 }

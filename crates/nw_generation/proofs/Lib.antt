@@ -1,2 +1,3 @@
 pub mod Unions
 pub mod Samples
+pub mod Sent

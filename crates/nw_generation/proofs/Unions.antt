@@ -3,12 +3,12 @@ use Rattle.std.proofs.Common.{◌≡◌, Bool, true, false, List, [], ◌∷◌,
 use Rattle.std.specs.Option.{option_or}
 use Rattle.std.specs.declared.cmp.Ordering.{Ordering}
 use Rattle.std.specs.BTreeMap.{is_at}
-use Rattle.std.specs.FinMap.{FinMap, entries, get, get-empty, get-entries, get-from_entries}
+use Rattle.std.specs.FinMap.{FinMap, entries, get, get-empty, get-entries, get-from_entries, same_map}
 use Rattle.std.specs.FinMap.Entries.{find}
 use Rattle.nw_digest.specs.declared.digest.Digest.{Digest}
 use Rattle.nw_codec.specs.declared.block.Block.{Block}
 use Rattle.nw_model.specs.State.{digest_cmp}
-use Rattle.nw_model.proofs.Maps.{digests_total}
+use Rattle.nw_model.proofs.Maps.{digests_total, digests_apart}
 use Rattle.nw_generation.specs.Seen.{latest_first, union}
 
 or_later : {X : Type 0} (b : Bool) (v : X) (first later : Option X) → cond b (Some v) (option_or first later) ≡ option_or (cond b (Some v) first) later
@@ -47,3 +47,15 @@ get_older left older latest d is lacks = ap (λ found. option_or found (get (uni
 pub get_nowhere : (left : List (FinMap digest_cmp Block)) (d : Digest) → length left ≡ 0 → get (union left) d ≡ None
 get_nowhere [] d none = get-empty digest_cmp d
 get_nowhere (g ∷ left) d none = absurd (omega arith)
+
+-- what one generation answers
+pub alone : (blocks : FinMap digest_cmp Block) (d : Digest) → get (union (blocks ∷ [])) d ≡ get blocks d
+alone blocks d = get_latest [] blocks d ∙ whole (get blocks d)
+  where
+    whole : (found : Option Block) → option_or found (get (union []) d) ≡ found
+    whole None = get_nowhere [] d refl
+    whole (Some b) = refl
+
+-- one generation is what it holds
+pub union_one : (blocks : FinMap digest_cmp Block) → union (blocks ∷ []) ≡ blocks
+union_one blocks = same_map digests_total digests_apart (union (blocks ∷ [])) blocks (alone blocks)

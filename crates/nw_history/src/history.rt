@@ -10,6 +10,7 @@ use crate::start::Start;
 use crate::{Front, Limits};
 use nw_chunks::Chunks;
 use nw_committee::Committee;
+use nw_dag::Dag;
 use nw_digest::{NoMemory, Shared};
 use nw_model::{Event, Reply};
 use nw_plain::{Base, Plain};
@@ -124,7 +125,8 @@ impl<S: Scheme> History<S> {
     /// the front is taken first: where memory is refused, history and tables stay as they were.
     pub fn record(
         &mut self,
-        tables: &mut Plain,
+        alloc: Global,
+        tables: &mut Dag,
         event: &Event,
         front: &Front<S>,
     ) -> Result<Reply, NoMemory>
@@ -136,7 +138,7 @@ impl<S: Scheme> History<S> {
         ensures tables_unchanged { OnErr result (tables.new ≡ tables.old) }
     {
         let front = front.try_clone()?;
-        let reply = tables.call(&event.call)?;
+        let reply = tables.call(alloc, &event.call)?;
         self.front = front;
         Ok(reply)
     }

@@ -113,6 +113,11 @@ impl<L: Home> Calls<L> {
         }
     }
 
+    /// Lets later tickets share one copy of what is complete.
+    pub fn compact<R: Wait>(&self, rt: &R, alloc: Global) -> Result<(), LineFault> {
+        Ok(self.store.compact(rt, alloc)?)
+    }
+
     /// Settles the store with all its sessions.
     pub fn settle(self) -> Result<Settled<DemoScheme, L>, SettleFault> {
         settle(self.store, self.sessions).map_err(|refused| refused.fault)

@@ -85,6 +85,10 @@ impl<'a, L: Home> Player<'a, L> {
             Request::Missing(most) => self.ask(rt, alloc, &Command::Missing(most)),
             Request::Status => self.ask(rt, alloc, &Command::Status),
             Request::Session(id) => self.select(rt, alloc, id),
+            Request::Compact => {
+                self.calls.compact(rt, alloc)?;
+                Ok(Answer::Compacted)
+            }
         }
     }
 

@@ -1,6 +1,6 @@
 -- The digests at a round, by the entries of its places.
-use Rattle.std.proofs.Common.{◌≡◌, ◌∙◌, ◌⊎◌, inl, inr, ℕ, ◌+◌, ◌<◌, ◌≤◌, Bool, true, false, cond, not, ◌&&◌, ◌||◌, ◌++◌, List, [], ◌∷◌, map, Bor, Option, Some, None, zero, suc, refl, sym, ap, subst, arith}
-use Rattle.std.specs.Prelude.{All, filter, Contains, nat_le, slice_get}
+use Rattle.std.proofs.Common.{◌≡◌, ◌∙◌, ◌⊎◌, inl, inr, ℕ, ◌+◌, ◌<◌, ◌≤◌, Bool, true, false, cond, not, ◌&&◌, ◌||◌, ◌++◌, List, [], ◌∷◌, map, Bor, Option, Some, None, Result, Ok, Err, zero, suc, refl, sym, ap, subst, arith}
+use Rattle.std.specs.Prelude.{All, filter, Contains, IfOk, nat_le, slice_get}
 use Rattle.std.specs.Bool.{MatchBool}
 use Rattle.std.specs.declared.cmp.Ordering.TheVariants.{Less, Equal, Greater}
 use Rattle.std.specs.declared.ops.Bound.TheVariants.{Included, Excluded}
@@ -12,8 +12,7 @@ use Rattle.std.specs.Map.{lookup, keys_of, values_of}
 use Rattle.std.specs.BTreeMap.{is_at}
 use Rattle.std.specs.BTreeMap.Range.{IsLeBy, range_contains}
 use Rattle.std.specs.Map.Iter.{deref_pair}
-use Rattle.std.specs.FinMap.{get}
-use Rattle.std.proofs.lemmas.Bool.{eq-eqb, eqb-true, le-leb, lt-leb, ltb-true, ltb-false}
+use Rattle.std.proofs.lemmas.Bool.{le-leb, lt-leb, ltb-true, ltb-false}
 use Rattle.std.proofs.lemmas.List.Elements.{All-head, All-tail, All-weaker}
 use Rattle.std.proofs.lemmas.List.Folds.{list_any-append}
 use Rattle.std.proofs.lemmas.Map.Entries.{lookup-filter-keys}
@@ -21,11 +20,11 @@ use Rattle.std.proofs.lemmas.Map.Keys.{IsDistinct-from_sorted}
 use Rattle.std.proofs.lemmas.Map.Made.{Contains-from_values_of, Contains-values_of, IsDistinct-keys_filter}
 use Rattle.std.proofs.lemmas.Map.Views.{Contains-from_any, Contains-from_lookup, list_any-from_Contains, lookup-from_Contains}
 use Rattle.std.proofs.lemmas.Bool.Decides.{nat_tests}
-use lib.Dec.{eqb, leb, ltb}
+use lib.Dec.{leb, ltb}
 use Rattle.nw_digest.specs.declared.digest.Digest.{Digest}
 use Rattle.nw_rounds.specs.declared.table.Table.{Table}
 use Rattle.nw_rounds.specs.declared.table.Table.TheVariants.{First, Certified}
-use Rattle.nw_rounds.specs.Slots.{AreDigestsAt, StandsAt, digest_cmp}
+use Rattle.nw_rounds.specs.Slots.{AreDigestsAt, AreDigestsBetween, StandsAt, Tables, digest_cmp}
 use Rattle.nw_rounds.specs.Places.{BeginsBelow, Place, place_cmp, table_cmp, tables_of}
 use Rattle.nw_rounds.proofs.SlotLemmas.{digests_apart, digests_total, places_apart, places_total}
 use Rattle.nw_rounds.proofs.TwoTables.{get_in, tie}
@@ -53,15 +52,25 @@ from_start n p = by (sides n p.0.0)
         ap (λ r. is_le (ordering_then (ordering_then r (nat_cmp 0 p.0.1)) (table_cmp First p.1))) (sym (nat_cmp_is n p.0.0 Greater behind))
         ∙ sym (lt-leb n p.0.0 (omega arith))
 
-between : (n m : ℕ) → (leb n m && not (leb (n + 1) m)) ≡ eqb m n
-between n m = grind (arith, nat_tests)
+-- the first place of a lower round is before that of a higher one
+pub begins_before : (a b : ℕ) → a < b → is_gt (place_cmp ((a, 0), First) ((b, 0), First)) ≡ false
+begins_before a b lt = ap (λ r. is_gt (ordering_then (ordering_then r (nat_cmp 0 0)) (table_cmp First First))) (sym (nat_cmp_is a b Less lt))
 
--- the places from the first of a round to the first of the next are those of the round
-pub in_round : (round : ℕ) (p : Place) → range_contains place_cmp (Included ((round, 0), First)) (Excluded ((round + 1, 0), First)) p ≡ eqb p.0.0 round
-in_round round p =
-    ap (λ b. b && not (is_le (place_cmp ((round + 1, 0), First) p))) (from_start round p)
-    ∙ ap (λ b. leb round p.0.0 && not b) (from_start (round + 1) p)
-    ∙ between round p.0.0
+-- a round from the first of these up to the second, without it
+abbrev pub is_between : ℕ → ℕ → ℕ → Bool
+is_between from to round = leb from round && not (leb to round)
+
+-- the places from the first of a round to the first of another are those of the rounds between
+pub in_rounds : (from to : ℕ) (p : Place) → range_contains place_cmp (Included ((from, 0), First)) (Excluded ((to, 0), First)) p ≡ is_between from to p.0.0
+in_rounds from to p =
+    ap (λ b. b && not (is_le (place_cmp ((to, 0), First) p))) (from_start from p)
+    ∙ ap (λ b. leb from p.0.0 && not b) (from_start to p)
+
+is_in : (from to round : ℕ) → is_between from to round ≡ true → (from ≤ round) × (round < to)
+is_in from to round e = grind (arith, nat_tests)
+
+in_is : (from to round : ℕ) → from ≤ round → round < to → is_between from to round ≡ true
+in_is from to round low high = grind (arith, nat_tests)
 
 filter_same : {X : Type 0} (p q : X → Bool) (xs : List X) → ((x : X) → p x ≡ q x) → filter p xs ≡ filter q xs
 filter_same p q [] same = refl
@@ -71,46 +80,49 @@ kept_only : (b : Bool) (found : Option Digest) (d : Digest) → cond b found Non
 kept_only true found d e = (refl, e)
 kept_only false found d e = cc
 
-module _ (es rs : List (Place × Digest)) (round : ℕ) (sorted : IsStrictlySortedBy place_cmp (keys_of es))
-    (part : rs ≡ filter (λ e. range_contains place_cmp (Included ((round, 0), First)) (Excluded ((round + 1, 0), First)) e.0) es) where
-  there : rs ≡ filter (λ e. eqb e.0.0.0 round) es
-  there = part ∙ filter_same _ _ es (λ e. in_round round e.0)
+module _ (es rs : List (Place × Digest)) (from to : ℕ) (sorted : IsStrictlySortedBy place_cmp (keys_of es))
+    (part : rs ≡ filter (λ e. range_contains place_cmp (Included ((from, 0), First)) (Excluded ((to, 0), First)) e.0) es) where
+  abbrev Stands : Digest → Type 0
+  Stands d = (round : ℕ) × (from ≤ round) × (round < to) × StandsAt (tables_of es) round d
+
+  there : rs ≡ filter (λ e. is_between from to e.0.0.0) es
+  there = part ∙ filter_same _ _ es (λ e. in_rounds from to e.0)
 
   distinct : IsDistinct (eq_by_cmp place_cmp) (keys_of es)
   distinct = IsDistinct-from_sorted place_cmp (keys_of es) sorted
 
-  look : (p : Place) → lookup (is_at (place_cmp p)) rs ≡ cond (eqb p.0.0 round) (lookup (is_at (place_cmp p)) es) None
+  look : (p : Place) → lookup (is_at (place_cmp p)) rs ≡ cond (is_between from to p.0.0) (lookup (is_at (place_cmp p)) es) None
   look p = ap (lookup (is_at (place_cmp p))) there
-      ∙ lookup-filter-keys (is_at (place_cmp p)) (λ (q : Place). eqb q.0.0 round) (eqb p.0.0 round) (λ q at. ap (λ (q : Place). eqb q.0.0 round) (sym (places_apart p q (tie (place_cmp p q) at)))) es
+      ∙ lookup-filter-keys (is_at (place_cmp p)) (λ (q : Place). is_between from to q.0.0) (is_between from to p.0.0) (λ q at. ap (λ (q : Place). is_between from to q.0.0) (sym (places_apart p q (tie (place_cmp p q) at)))) es
 
-  -- a digest among those of the part stands at the round
-  pub stands : (d : Digest) → Contains (values_of rs) d → StandsAt (tables_of es) round d
+  -- a digest among those of the part stands at a round between
+  pub stands : (d : Digest) → Contains (values_of rs) d → Stands d
   stands d has =
       let entry : (p : Place) × Contains rs (p, d) = Contains-from_values_of rs d has in
       let apart : IsDistinct (eq_by_cmp place_cmp) (keys_of rs) = rw there (IsDistinct-keys_filter (eq_by_cmp place_cmp) _ es distinct) in
       let found : lookup (is_at (place_cmp entry.0)) rs ≡ Some d = lookup-from_Contains (eq_by_cmp_equiv places_total) entry.0 d rs apart entry.1 in
-      let both = kept_only (eqb entry.0.0.0 round) _ d (sym (look entry.0) ∙ found) in
-      let here : entry.0.0.0 ≡ round = eqb-true entry.0.0.0 round both.0 in
-      by entry.0.0.0 entry.0.0.1 entry.0.1 here both.1
+      let both = kept_only (is_between from to entry.0.0.0) _ d (sym (look entry.0) ∙ found) in
+      let here = is_in from to entry.0.0.0 both.0 in
+      (entry.0.0.0, here.0, here.1, by entry.0.0.0 entry.0.0.1 entry.0.1 both.1)
     where
-      by : (r author : ℕ) (t : Table) → r ≡ round → lookup (is_at (place_cmp ((r, author), t))) es ≡ Some d → StandsAt (tables_of es) round d
-      by r author First is found = (author, inl (ap (λ (n : ℕ). get (tables_of es).firsts (n, author)) (sym is) ∙ get_in First (r, author) es ∙ found))
-      by r author Certified is found = (author, inr (ap (λ (n : ℕ). get (tables_of es).certified (n, author)) (sym is) ∙ get_in Certified (r, author) es ∙ found))
+      by : (r author : ℕ) (t : Table) → lookup (is_at (place_cmp ((r, author), t))) es ≡ Some d → StandsAt (tables_of es) r d
+      by r author First found = (author, inl (get_in First (r, author) es ∙ found))
+      by r author Certified found = (author, inr (get_in Certified (r, author) es ∙ found))
 
-  at : (d : Digest) (author : ℕ) (t : Table) → lookup (is_at (place_cmp ((round, author), t))) es ≡ Some d → Contains (values_of rs) d
-  at d author t found =
+  at : (d : Digest) (round author : ℕ) (t : Table) → is_between from to round ≡ true → lookup (is_at (place_cmp ((round, author), t))) es ≡ Some d → Contains (values_of rs) d
+  at d round author t here found =
       let seen : lookup (is_at (place_cmp ((round, author), t))) rs ≡ Some d =
-      look ((round, author), t) ∙ ap (λ b. cond b (lookup (is_at (place_cmp ((round, author), t))) es) None) (eq-eqb round round refl) ∙ found in
+      look ((round, author), t) ∙ ap (λ b. cond b (lookup (is_at (place_cmp ((round, author), t))) es) None) here ∙ found in
       Contains-values_of rs ((round, author), t) d (Contains-from_lookup (λ p q e. places_apart p q (tie (place_cmp p q) e)) ((round, author), t) d rs seen)
 
   -- and the other way round
-  pub among : (d : Digest) → StandsAt (tables_of es) round d → Contains (values_of rs) d
-  among d (author, inl is) = at d author First (sym (get_in First (round, author) es) ∙ is)
-  among d (author, inr is) = at d author Certified (sym (get_in Certified (round, author) es) ∙ is)
+  pub among : (d : Digest) → Stands d → Contains (values_of rs) d
+  among d (round, low, high, (author, inl is)) = at d round author First (in_is from to round low high) (sym (get_in First (round, author) es) ∙ is)
+  among d (round, low, high, (author, inr is)) = at d round author Certified (in_is from to round low high) (sym (get_in Certified (round, author) es) ∙ is)
 
   -- a set with the digests of the part
-  pub are_digests_at : (ks : List Digest) → ((d : Digest) → list_any (eq_by_cmp digest_cmp d) ks ≡ list_any (eq_by_cmp digest_cmp d) (values_of rs)) → IsStrictlySortedBy digest_cmp ks → AreDigestsAt (tables_of es) round ks
-  are_digests_at ks same ascending = record {
+  pub are_digests : (ks : List Digest) → ((d : Digest) → list_any (eq_by_cmp digest_cmp d) ks ≡ list_any (eq_by_cmp digest_cmp d) (values_of rs)) → IsStrictlySortedBy digest_cmp ks → AreDigestsBetween (tables_of es) from to ks
+  are_digests ks same ascending = record {
     exactly = λ d. (
       (λ has. stands d (Contains-from_any one d (values_of rs) (sym (same d) ∙ list_any-from_Contains (eq_by_cmp_equiv digests_total) d ks has))),
       (λ is. Contains-from_any one d ks (same d ∙ list_any-from_Contains (eq_by_cmp_equiv digests_total) d (values_of rs) (among d is))),
@@ -120,6 +132,20 @@ module _ (es rs : List (Place × Digest)) (round : ℕ) (sorted : IsStrictlySort
     where
       one : (a b : Digest) → eq_by_cmp digest_cmp a b ≡ true → a ≡ b
       one a b e = digests_apart a b (tie (digest_cmp a b) e)
+
+-- those of one round
+pub at_one : (t : Tables) (round : ℕ) (ks : List Digest) → AreDigestsBetween t round (round + 1) ks → AreDigestsAt t round ks
+at_one t round ks are = record {
+  exactly = λ d. (
+    (λ has. let (r, low, high, stands) = (are.exactly d).0 has in let same : r ≡ round = omega (arith, low, high) in subst (λ n. StandsAt t n d) same stands),
+    (λ stands. (are.exactly d).1 (round, omega arith, omega arith, stands)),
+  );
+  ascending = are.ascending;
+}
+
+pub if_ok : {T E : Type 0} (r : Result T E) {P Q : T → Type 0} → ((x : T) → P x → Q x) → IfOk r P → IfOk r Q
+if_ok (Ok x) f p = f x p
+if_ok (Err e) f p = p
 
 -- one more digest in a set, and in a list
 pub one_more : (ks ns ys : List Digest) (y : Digest) → ((q : Digest) → list_any (is_at (digest_cmp q)) ns ≡ cond (is_at (digest_cmp y) q) true (list_any (is_at (digest_cmp q)) ks))

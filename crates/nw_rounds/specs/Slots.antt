@@ -1,5 +1,5 @@
 -- Two maps from slots to digests.
-use Rattle.std.specs.Prelude.{◌≡◌, ◌↔◌, ◌⊎◌, ℕ, List, Some, Contains, refl}
+use Rattle.std.specs.Prelude.{◌≡◌, ◌↔◌, ◌⊎◌, ℕ, ◌<◌, ◌≤◌, List, Some, Contains, refl}
 use Rattle.std.specs.Coded.{Coded, code_by, coded×, coded_ℕ, coded_list}
 use Rattle.std.specs.declared.cmp.Ordering.{Ordering}
 use Rattle.std.specs.Ordering.{nat_cmp, ordering_then}
@@ -37,6 +37,11 @@ StandsAt t round d = (author : ℕ) × ((get t.firsts (round, author) ≡ Some d
 -- exactly the digests that stand in either table at this round, ascending and each once
 pub record AreDigestsAt (t : Tables) (round : ℕ) (digests : List Digest) : Type 0 where
   pub exactly : (d : Digest) → Contains digests d ↔ StandsAt t round d
+  pub ascending : IsStrictlySortedBy digest_cmp digests
+
+-- exactly the digests that stand in either table at a round from the first of these up to the second, without it, ascending and each once
+pub record AreDigestsBetween (t : Tables) (from to : ℕ) (digests : List Digest) : Type 0 where
+  pub exactly : (d : Digest) → Contains digests d ↔ ((round : ℕ) × (from ≤ round) × (round < to) × StandsAt t round d)
   pub ascending : IsStrictlySortedBy digest_cmp digests
 
 -- how a digest is told apart from another

@@ -1,9 +1,9 @@
 //! The digests of each slot.
-ghost use Rattle.std.specs.Prelude.{◌≡◌, ◌<◌, ◌≤◌, ◌^◌, All, IfOk, OnOk, OnErr, IsNone, nat_le};
+ghost use Rattle.std.specs.Prelude.{◌≡◌, ◌+◌, ◌<◌, ◌≤◌, ◌^◌, All, IfOk, OnOk, OnErr, IsNone, nat_le};
 ghost use Rattle.std.specs.Bool.{MatchBool};
 ghost use Rattle.std.specs.BTreeMap.{keys};
 ghost use Rattle.std.specs.FinMap as map;
-ghost use Rattle.nw_rounds.specs.Slots.{AreDigestsAt, no_digests};
+ghost use Rattle.nw_rounds.specs.Slots.{AreDigestsAt, AreDigestsBetween, no_digests};
 ghost use Rattle.nw_rounds.specs.Places.{BeginsBelow, tables_of};
 
 use crate::table::Table;
@@ -105,6 +105,14 @@ impl<A: Allocator> Rounds<A> {
         Ok(found.into_iter().collect(alloc)?)
     }
 
+    /// The digests that stand in either table at this round or a lower one, ascending and each once. It costs what it gives.
+    pub fn digests_up_to(&self, alloc: Global, round: Round) -> Result<Vec<Digest>, NoMemory>
+        ensures { IfOk result (λ list. AreDigestsBetween self.now 0 (round + 1) list.items) }
+    {
+        let found = digests_between(alloc, &self.digests, 0, round.get() + 1)?;
+        Ok(found.into_iter().collect(alloc)?)
+    }
+
     /// Drops the digests of all rounds below this one. It takes no memory, and costs what it drops.
     pub fn drop_below(&mut self, round: Round)
         ensures firsts { self.new.firsts ≡ map.retain_keys self.old.firsts (λ slot. nat_le round slot.0) }
@@ -126,8 +134,21 @@ fn digests_at<A: Allocator>(
     requires { round < 2 ^ 48 }
     ensures { IfOk result (λ found. AreDigestsAt (tables_of digests.now.entries) round found.keys) }
 {
+    digests_between(alloc, digests, round, round + 1)
+}
+
+/// The digests of the places of the rounds from the first of these up to the second, without it.
+fn digests_between<A: Allocator>(
+    alloc: Global,
+    digests: &BTreeMap<(Slot, Table), Digest, A>,
+    from: u64,
+    to: u64,
+) -> Result<BTreeSet<Digest>, NoMemory>
+    requires { from < to }
+    ensures { IfOk result (λ found. AreDigestsBetween (tables_of digests.now.entries) from to found.keys) }
+{
     let mut found = BTreeSet::new(alloc);
-    let places = ((round, 0), Table::First)..((round + 1, 0), Table::First);
+    let places = ((from, 0), Table::First)..((to, 0), Table::First);
     for (_place, digest) in digests.range(places) {
         found.insert(*digest)?;
     }

@@ -95,3 +95,22 @@ fn the_digests_of_other_rounds_stay(rt: HostRuntime) -> Result<(), Fail> {
     assert_eq!(rt; rounds.first(Round::ZERO, 0), None);
     Ok(())
 }
+
+// The digests of rounds up to this one, where rounds 0, 3 and 4 have some.
+fn up_to(rt: &impl Abort, alloc: Global, number: u64) -> Result<Vec<Digest>, NoMemory> {
+    let mut rounds = Rounds::new_in(alloc);
+    put_first(rt, &mut rounds, (round(3)?, 1), digest(2))?;
+    put_certified(rt, &mut rounds, (round(3)?, 1), digest(2))?;
+    put_first(rt, &mut rounds, (Round::ZERO, 7), digest(3))?;
+    put_first(rt, &mut rounds, (round(4)?, 0), digest(1))?;
+    rounds.digests_up_to(alloc, round(number)?)
+}
+
+#[test]
+fn a_round_and_those_below_list_their_digests(rt: HostRuntime) -> Result<(), Fail> {
+    assert_eq!(rt;
+        up_to(&rt, rt.alloc(), 3)?.as_slice(),
+        [digest(2), digest(3)].as_slice()
+    );
+    Ok(())
+}

@@ -90,6 +90,8 @@ pub enum Request<'a> {
     Missing(u16),
     /// `status`
     Status,
+    /// `compact`
+    Compact,
     /// `session <id>`
     Session(u16),
 }
@@ -162,6 +164,7 @@ fn read_request<'a>(
         "collect" => Request::Collect(words.round()?),
         "missing" => Request::Missing(words.member()?),
         "status" => Request::Status,
+        "compact" => Request::Compact,
         "session" => Request::Session(words.member()?),
         _ => return Err(LineFault::Bad),
     })

@@ -3,7 +3,7 @@ use std::alloc::Global;
 use std::test::Fail;
 
 // Lines, and what they say as `{:?}` prints it.
-const LINES: [(&str, &str); 30] = [
+const LINES: [(&str, &str); 31] = [
     ("", "Skipped"),
     ("# a comment", "Skipped"),
     ("committee v1 4", "Committee(Equal { members: 4 })"),
@@ -65,6 +65,7 @@ const LINES: [(&str, &str); 30] = [
     ),
     ("missing 65535", "Request(Missing(65535))"),
     ("status", "Request(Status)"),
+    ("compact", "Request(Compact)"),
     ("session 65535", "Request(Session(65535))"),
     ("settle", "Settle"),
     ("reopen", "Reopen"),
@@ -79,7 +80,7 @@ const LINES: [(&str, &str); 30] = [
 ];
 
 // Lines that are none of a script.
-const BAD: [(&str, &str); 29] = [
+const BAD: [(&str, &str); 30] = [
     ("a request with a word too few", "read"),
     ("a request with a word too many", "read a a"),
     ("two spaces", "read  a"),
@@ -104,6 +105,7 @@ const BAD: [(&str, &str); 29] = [
     ("a collection of no round", "collect 281474976710656"),
     ("more missing than 65535", "missing 65536"),
     ("a word behind status", "status 0"),
+    ("a word behind compact", "compact t"),
     ("a session over 65535", "session 65536"),
     ("a session that is a name", "session a"),
     ("a word behind settle", "settle 0"),

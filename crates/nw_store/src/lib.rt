@@ -16,7 +16,9 @@ mod store;
 
 pub use error::{SettleFault, TooMany};
 pub use home::Home;
-pub use locked::{Locked, call_locked, compare_locked, open_locked, renew_locked, session_locked};
+pub use locked::{
+    Locked, call_locked, compact_locked, compare_locked, open_locked, renew_locked, session_locked,
+};
 pub use session::{Entry, Session};
 pub use settlement::{Settled, Unsettled, settle, settle_locked};
 pub use store::{Opening, Store};

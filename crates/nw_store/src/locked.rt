@@ -243,6 +243,17 @@ pub fn open_locked<S: Scheme, L: Home>(
     Ok(answer)
 }
 
+/// Lets later tickets share one copy of what is complete, without what was collected, while the guard is lent. No history, no
+/// reply and no ticket of before changes. Want of memory changes nothing.
+pub fn compact_locked<S: Scheme, L: Home>(
+    locked: &mut Locked<S, L>,
+    alloc: Global,
+) -> Result<(), NoMemory>
+    ensures same { locked.new ≡ locked.old }
+{
+    locked.book.compact(alloc)
+}
+
 /// The front of an answer to a causal read.
 fn front_of<S: Scheme>(answer: &Result<Ticket<S>, Done<S>>) -> &Front<S>
     ensures { result.now ≡ front_of answer.now }

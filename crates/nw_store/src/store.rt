@@ -9,12 +9,12 @@ ghost use Rattle.nw_store.specs.Held.{first_origin, origin_of};
 ghost use Rattle.nw_store.specs.Kept.{parts_of_a_ledger};
 ghost use Rattle.nw_store.specs.Answered.{IsExplained, IsOpenedOnce, IsRefusedOnce, TakesNoStep};
 
-use crate::locked::{call_locked, open_locked, session_locked};
+use crate::locked::{call_locked, compact_locked, open_locked, session_locked};
 use crate::{Home, Locked, Session, TooMany};
 use nw_book::{Book, BookError, Command, Done, NoStep, Ticket};
 use nw_check::{CheckedBlock, CheckedCert};
 use nw_committee::Committee;
-use nw_digest::{Digest, Round, Shared};
+use nw_digest::{Digest, NoMemory, Round, Shared};
 use nw_history::{Front, Limits};
 use nw_log::Opened;
 use nw_sig::Scheme;
@@ -229,6 +229,12 @@ impl<S: Scheme, L: Home> Store<S, L> {
         ensures unchanged { OnErr result (session.new ≡ session.old) }
     {
         self.call(rt, alloc, session, &Command::Status)
+    }
+
+    /// Lets later tickets share one copy of what is complete, without what was collected. It is no call of a session: no history,
+    /// no reply and no ticket of before changes. It costs what is held; want of memory changes nothing.
+    pub fn compact<R: Wait>(&self, rt: &R, alloc: Global) -> Result<(), NoMemory> {
+        compact_locked(&mut *self.locked.lock(rt), alloc)
     }
 
     /// Opens a causal read of the digest: a call of the session. The ticket is walked later, without the lock.

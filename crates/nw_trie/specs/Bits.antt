@@ -1,5 +1,5 @@
 -- The bits of a digest, the highest bit of the first byte first.
-use Rattle.std.specs.Prelude.{◌≡◌, ℕ, ◌-◌, ◌/◌, ◌%◌, ◌^◌, ◌<◌, Bool, ◌==◌, List}
+use Rattle.std.specs.Prelude.{◌≡◌, ℕ, ◌+◌, ◌-◌, ◌/◌, ◌%◌, ◌^◌, ◌<◌, Bool, ◌==◌, List}
 use Rattle.std.proofs.Common.{get_or}
 use Rattle.std.specs.List.{AllByRecursion}
 use Rattle.std.specs.declared.cmp.Ordering.{Ordering}
@@ -35,3 +35,7 @@ AgreeBelow i a b = (j : ℕ) → j < i → bit_of a j ≡ bit_of b j
 pub record DifferFirst (i : ℕ) (a b : Digest) : Type 0 where
   pub same : AgreeBelow i a b
   pub differ : bit_of a i ≡ bit_of b i → ⊥
+
+-- both have the same bits, but for the last n at most
+abbrev pub AgreeButLast : ℕ → Digest → Digest → Type 0
+AgreeButLast n a b = (j : ℕ) → j + n < 256 → bit_of a j ≡ bit_of b j

@@ -37,3 +37,11 @@ pub record IsFork {V : Type 0} (bit : ℕ) (left right : List (Digest × V)) : T
 pub record BranchesAt {V : Type 0} (d : Digest) (bit : ℕ) (es : List (Digest × V)) : Type 0 where
   pub near : SomeKey (AgreeBelow bit d) es
   pub apart : EachKey (λ k. AgreeBelow (bit + 1) d k → ⊥) es
+
+-- the bit parts the digests
+pub record Parts {V : Type 0} (bit : ℕ) (es : List (Digest × V)) : Type 0 where
+  pub low : bit < 256
+  pub left : List (Digest × V)
+  pub right : List (Digest × V)
+  pub is : es ≡ left ++ right
+  pub fork : IsFork bit left right

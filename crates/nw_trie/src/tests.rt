@@ -148,3 +148,47 @@ fn values_of_lower_rounds_are_dropped(rt: HostRuntime) -> Result<(), Fail> {
     assert_eq!(rt; trie.retain_rounds(floor), 0);
     Ok(())
 }
+
+#[test]
+fn a_value_is_changed_where_it_lies(rt: HostRuntime) -> Result<(), Fail> {
+    let (k1, k2, k3) = (digest(0, 0), digest(0, 1), digest(128, 0));
+    let mut trie = Trie::new_in(rt.alloc());
+    for (key, value) in [(k1, 1), (k2, 2), (k3, 3)] {
+        assert!(rt; matches!(trie.insert(key, value), Ok(None)));
+    }
+    if let Some(value) = trie.get_mut(&k2) {
+        assert_eq!(rt; *value, 2);
+        *value = 42;
+    }
+    assert!(rt; trie.get_mut(&digest(1, 0)).is_none());
+    assert_eq!(rt;
+        entries(rt.alloc(), &trie)?.as_slice(),
+        [(k1, 1), (k2, 42), (k3, 3)].as_slice()
+    );
+    Ok(())
+}
+
+// The digest with this bit alone.
+fn one_bit(bit: u8) -> Digest {
+    let mut bytes = [0; 32];
+    bytes[(bit / 8) as usize] = 128 >> (bit % 8);
+    Digest(bytes)
+}
+
+#[test]
+fn a_value_behind_256_forks_is_changed(rt: HostRuntime) -> Result<(), Fail> {
+    let mut trie = Trie::new_in(rt.alloc());
+    assert!(rt; matches!(trie.insert(digest(0, 0), 1), Ok(None)));
+    for bit in 0..=255u8 {
+        assert!(rt; matches!(trie.insert(one_bit(bit), 2), Ok(None)));
+    }
+    for key in [digest(0, 0), one_bit(0), one_bit(255)] {
+        if let Some(value) = trie.get_mut(&key) {
+            *value = 3;
+        }
+        assert_eq!(rt; trie.get(&key).copied(), Some(3));
+    }
+    assert_eq!(rt; trie.get(&one_bit(254)).copied(), Some(2));
+    assert!(rt; trie.get_mut(&digest(0, 3)).is_none());
+    Ok(())
+}

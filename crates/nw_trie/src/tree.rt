@@ -13,6 +13,7 @@ ghost use Rattle.nw_trie.specs.contracts.tree.Tree as tree;
 ghost use Rattle.nw_trie.specs.contracts.tree.Sides as sides;
 ghost use Rattle.nw_trie.specs.Tree.{side_of, with_side};
 
+mod descent;
 mod removal;
 
 use crate::bits::{first_difference, is_set, note_bytes};

@@ -1,10 +1,12 @@
 //! Maps from digests to values.
 ghost use Rattle.std.specs.Prelude.{◌≡◌, ◌+◌, [], length, is_some, IsTrue, ◌↔◌, IfOk, IfErr, OnOk, OnErr, if◌then◌else◌, filter, nat_le};
-ghost use Rattle.std.specs.Option.{option_copied};
+ghost use Rattle.std.specs.Option.{option_copied, option_copied_mut, ghost_name_of};
 ghost use Rattle.std.specs.Map.{keys_of, lookup, remove_entry};
 ghost use Rattle.std.specs.BTreeMap.{insert_entry, is_at};
 ghost use Rattle.std.specs.List.Sorted.{IsStrictlySortedBy};
+ghost use Rattle.std.specs.Borrow.{sem, follows_if};
 ghost use Rattle.nw_trie.specs.Bits.{digest_cmp};
+ghost use Rattle.nw_trie.specs.contracts.trie.Trie.{the_row};
 
 use crate::iter::Iter;
 use crate::tree::Tree;
@@ -62,6 +64,17 @@ impl<V: Drop, A: Allocator> Trie<V, A> {
         ensures value { option_copied result ≡ lookup (is_at (digest_cmp digest.now)) self.now }
     {
         self.tree.get(digest)
+    }
+
+    /// The value of the digest, to be changed where it lies. What is written there is then the digest's value.
+    pub fn get_mut(&mut self, digest: &Digest) -> Option<&mut V>
+        ensures* writes_back { sem 𝓛 (follows_if (the_row V.row A.row A.Allocator) V.row self.entry.ghost_name (ghost_name_of result) (insert_entry digest_cmp self.old digest.now) self.old) }
+        ensures value { option_copied_mut result ≡ lookup (is_at (digest_cmp digest.now)) self.old }
+    {
+        if self.get(digest).is_none() {
+            return None;
+        }
+        Some(self.tree.value_mut(digest))
     }
 
     /// The entries, ascending by digest.

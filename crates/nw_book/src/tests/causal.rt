@@ -14,9 +14,7 @@ fn listed_of_a_child(
     alloc: Global,
     parent: Digest,
 ) -> Result<(usize, Option<u64>), Fail> {
-    let child = write(book, alloc, 4, 1, &[parent])?;
-    certify(book, alloc, 5, 1, child)?;
-    listed(alloc, &open(book, alloc, 6, child)?)
+    listed(alloc, &open_child(book, alloc, [4, 5, 6], parent)?)
 }
 
 /// What a ticket lists after a child of its block was stored, and what one for the child does.

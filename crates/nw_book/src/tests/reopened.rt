@@ -11,7 +11,7 @@ fn reopen(book: Book<DemoScheme>, alloc: Global) -> Result<Book<DemoScheme>, Fai
 }
 
 /// A book that was reopened with a certified block of round 0, and the block's digest.
-fn reopened(alloc: Global) -> Result<(Book<DemoScheme>, Digest), Fail> {
+pub(super) fn reopened(alloc: Global) -> Result<(Book<DemoScheme>, Digest), Fail> {
     let (book, digest) = book_with_a_block(alloc)?;
     Ok((reopen(book, alloc)?, digest))
 }

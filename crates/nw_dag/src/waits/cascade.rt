@@ -7,6 +7,7 @@ ghost use Rattle.std.specs.Vec.{vec_capacity};
 ghost use Rattle.nw_model.specs.State.{digest_cmp};
 ghost use Rattle.nw_dag.specs.Lacking.{Stands, IsReady, AreUnmet, AreUnmetBut};
 ghost use Rattle.nw_dag.specs.Changes.{Adds, Promotes};
+ghost use Rattle.nw_dag.specs.Frozen.{Begins};
 ghost use Rattle.nw_dag.specs.Settled.{AreListed, IsSettling, IsSettled, IsSettledBut};
 
 use super::Waits;
@@ -15,7 +16,7 @@ use nw_digest::Digest;
 
 impl Waits {
     /// Lists the digest where it is ready.
-    fn add_if_ready(&mut self, held: &Held, digest: Digest)
+    pub(super) fn add_if_ready(&mut self, held: &Held, digest: Digest)
         requires room { map.len held.now.state.blocks ≤ vec_capacity self.old.complete }
         requires listed { AreListed held.now.state self.old.lacking self.old.complete.items }
         requires apart { Contains self.old.complete.items digest → ⊥ }
@@ -64,10 +65,11 @@ impl Waits {
     }
 
     /// Promotes what is listed from this place on, and what becomes ready by it. It takes no memory.
-    fn cascade(&mut self, held: &Held, first: usize)
+    pub(super) fn cascade(&mut self, held: &Held, first: usize)
         requires due { IsSettling held.now.state self.old.unmet self.old.lacking self.old.complete.items (drop first self.old.complete.items) (vec_capacity self.old.complete) }
         requires within { first ≤ length self.old.complete.items }
-        ensures { IsSettled held.now.state self.new.unmet self.new.lacking self.new.complete.items (vec_capacity self.new.complete) }
+        ensures settled { IsSettled held.now.state self.new.unmet self.new.lacking self.new.complete.items (vec_capacity self.new.complete) }
+        ensures grown { Begins self.old.complete.items self.new.complete.items }
     {
         for place in first..held.blocks() {
             if place >= self.complete.len() {
@@ -95,7 +97,8 @@ impl Waits {
     /// takes no memory.
     pub(crate) fn arrive(&mut self, held: &Held, digest: Digest)
         requires { IsSettledBut held.now.state digest self.old.unmet self.old.lacking self.old.complete.items (vec_capacity self.old.complete) }
-        ensures { IsSettled held.now.state self.new.unmet self.new.lacking self.new.complete.items (vec_capacity self.new.complete) }
+        ensures settled { IsSettled held.now.state self.new.unmet self.new.lacking self.new.complete.items (vec_capacity self.new.complete) }
+        ensures grown { Begins self.old.complete.items self.new.complete.items }
     {
         if !held.stands(&digest) {
             return;

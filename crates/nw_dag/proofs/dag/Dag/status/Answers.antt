@@ -14,7 +14,7 @@ pub returns : goal.returns
 returns c =
     let s : State = c.self.inside.held.state in
     let waits = c.self.inside.waits in
-    let inv = c.self.invariant in
+    let inv = c.self.invariant.settled in
     let same = ready_complete s waits.lacking c.certificates.ensures.sound inv.promoted in
     let complete : HasCount digest_cmp (IsComplete s) c.complete.result =
     subst (HasCount digest_cmp (IsComplete s)) (sym c.complete.ensures) (count_of (IsComplete s) waits.complete.items inv.listed.once (λ x. (

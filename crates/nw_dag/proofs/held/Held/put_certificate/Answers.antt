@@ -42,7 +42,7 @@ invariant_of-self-in_default c =
     certificate_held c.self.inside.blocks c.self.inside.certificates c.insert.new.entries c.self.inside.slots c.put_certified.new.self c.self.inside.floor c.args.certificate c.self.invariant
     (absent _ (rw (← c.self.view_is) at c.requires.absent)) (rw (← c.self.view_is) at c.requires.open) (rw (← c.self.view_is) at c.requires.misfit) (rw (← c.self.view_is) at c.requires.kept)
     (c.in_ok-insert.ensures.put ∙ ap (λ (x : Certificate). insert_entry digest_cmp c.self.inside.certificates x.digest c.args.certificate) c.get-kept.ensures)
-    (c.in_default.ensures.certified ∙ ap (λ (x : Certificate). insert c.self.inside.slots.certified (certificate_slot x) x.digest) c.get-kept.ensures)
+    (c.in_default.ensures.certified ∙ ap (λ (x : Certificate). insert c.self.inside.slots.certified (certificate_slot x) x.digest) c.get-kept.ensures) c.put_certified.ensures.firsts
 
 pub returns-clause-state : goal.returns-clause-state
 returns-clause-state c =

@@ -1,0 +1,11 @@
+-- Answers that are checked blocks.
+use Rattle.nw_check.specs.declared.message.Checked.{Checked}
+use Rattle.nw_check.specs.declared.message.Checked.TheVariants as checked
+
+abbrev pub IsBlock : {S : Type 0} → Checked S → Type 0
+IsBlock (checked.Block block) = Unit {0}
+IsBlock (checked.Cert certificate) = ⊥
+IsBlock (checked.Vote vote) = ⊥
+IsBlock (checked.BadText error) = ⊥
+IsBlock (checked.BadBlock fault) = ⊥
+IsBlock (checked.BadCert fault) = ⊥

@@ -1,0 +1,60 @@
+//! The messages that are checked, and who signs them.
+ghost use Rattle.std.specs.Prelude.{◌≡◌, IfOk, vec_len, length};
+
+use anyhow::Error;
+use nw_codec::{Block, block_digest, encode_block};
+use nw_committee::{Committee, Key};
+use nw_digest::{NoMemory, Round, Sequence, Shared};
+use nw_sig::{DemoSigner, Signer, block_text};
+use std::alloc::Global;
+
+// The key of the one member.
+const KEY: Key = Key([0; 32]);
+
+/// The committee of one.
+pub fn committee(alloc: Global) -> Result<Shared<Committee>, Error>
+    ensures { IfOk result (λ committee. length committee ≡ 1) }
+{
+    let mut keys = Vec::new(alloc);
+    keys.push(KEY)?;
+    Ok(Shared::new(alloc, Committee::new(alloc, keys)?)?)
+}
+
+/// So many messages, of blocks whose transactions have so many bytes.
+pub fn messages(alloc: Global, count: u32, bytes: usize) -> Result<Vec<Vec<u8>>, Error>
+    ensures { IfOk result (λ texts. vec_len texts ≡ count) }
+{
+    let mut texts = Vec::new(alloc);
+    for number in 0..count {
+        texts.push(message(alloc, number, bytes)?)?;
+    }
+    Ok(texts)
+}
+
+/// The message of a block of round 0 with one transaction, signed by its author.
+fn message(alloc: Global, number: u32, bytes: usize) -> Result<Vec<u8>, Error> {
+    let mut transactions = Vec::new(alloc);
+    transactions.push(Sequence::new(transaction(alloc, number, bytes)?))?;
+    let block = Block {
+        author: 0,
+        round: Round::ZERO,
+        parents: Sequence::new(Vec::new(alloc)),
+        transactions: Sequence::new(transactions),
+    };
+    if !block.fits() {
+        return Err(Error::msg("the block breaks a limit"));
+    }
+    let signature = DemoSigner::new(KEY).sign(&block_text(&block_digest(&block)));
+    Ok(encode_block(alloc, &block, &signature)?)
+}
+
+/// The bytes of the number, as far as there is room, and zeros.
+fn transaction(alloc: Global, number: u32, bytes: usize) -> Result<Vec<u8>, NoMemory>
+    ensures { IfOk result (λ transaction. vec_len transaction ≡ bytes) }
+{
+    let mut transaction = vec![in alloc; 0; bytes]?;
+    for (byte, digit) in transaction.iter_mut().zip(number.to_le_bytes()) {
+        *byte = digit;
+    }
+    Ok(transaction)
+}

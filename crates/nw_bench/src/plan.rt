@@ -1,0 +1,35 @@
+//! What the arguments ask for.
+ghost use Rattle.std.specs.Prelude.{◌≤◌, IfSome};
+
+// The most workers that a check takes.
+const MOST_WORKERS: usize = 16;
+
+// The most bytes that a transaction has.
+const MOST_BYTES: usize = 65_536;
+
+/// How many messages are checked, how many bytes the transaction of each has, and by how many workers.
+#[derive(Clone, Copy, Debug, PartialEq, Eq)]
+pub struct Plan {
+    pub messages: u32,
+    pub bytes: usize,
+    pub workers: usize,
+}
+
+impl Plan {
+    /// The plan of the program's name and three numbers: at most 65,536 bytes and 1 to 16 workers.
+    pub fn read(words: &[String]) -> Option<Plan>
+        ensures bytes { IfSome result (λ plan. plan.bytes ≤ 65536) }
+        ensures workers { IfSome result (λ plan. (1 ≤ plan.workers) × (plan.workers ≤ 16)) }
+    {
+        let [_, messages, bytes, workers] = words else {
+            return None;
+        };
+        let plan = Plan {
+            messages: messages.parse().ok()?,
+            bytes: bytes.parse().ok()?,
+            workers: workers.parse().ok()?,
+        };
+        let is_good = plan.bytes <= MOST_BYTES && plan.workers >= 1 && plan.workers <= MOST_WORKERS;
+        is_good.then_some(plan)
+    }
+}

@@ -1,0 +1,89 @@
+-- What the views of two tickets show of their reads.
+use Rattle.std.proofs.Common.{◌≡◌, List, [], ◌∷◌, Result, Ok, Err, map, refl, sym, subst, ◌∙◌}
+use Rattle.std.specs.Prelude.{Contains, IfOk}
+use Rattle.std.specs.FinMap.{get}
+use Rattle.nw_digest.specs.declared.digest.Digest.{Digest}
+use Rattle.nw_codec.specs.declared.block.Block.{Block}
+use Rattle.nw_sig.specs.Signed.{Meaning}
+use Rattle.nw_model.specs.State.{State}
+use Rattle.nw_model.specs.Checks.{digest_of}
+use Rattle.nw_model.specs.Sound.{IsSound}
+use Rattle.nw_model.specs.Paths.{IsComplete, IsCausalList}
+use Rattle.nw_model.specs.View.{Frozen, Shows, IsThere, IsPathIn, IsAncestorIn, IsWalk}
+use Rattle.nw_model.proofs.Admitted.{admitted_left}
+use Rattle.nw_model.proofs.Listed.{contains_first, contains_later}
+use Rattle.nw_model.proofs.Views.{there_held, ancestors_shown}
+use Rattle.nw_causal.specs.Agreement.{IsAgreement}
+use Rattle.nw_causal.specs.declared.agreement.Agreement.{Agreement}
+use Rattle.nw_causal.specs.declared.agreement.Agreement.TheVariants as agreements
+use Rattle.nw_history.specs.Story.{terms_of, state_of}
+use Rattle.nw_book.specs.Ticket.{Given, IsTicketWith, IsListOf, IsHeldAfter, IsAgreed}
+use Rattle.nw_book.proofs.Opened.{story_sound, ticket_there, ticket_walk}
+
+-- ---- a causal list is a walk
+
+-- the last of a path is in the view
+last_there : (v : Frozen) (d : Digest) (path : List Digest) (a : Digest) → IsPathIn v d path a → (b : Block) × IsThere v a b
+last_there v d [] a on = (on.0.0, subst (λ q. IsThere v q on.0.0) on.1 on.0.1)
+last_there v d (e ∷ path) a on = last_there v e path a on.1
+
+-- two functions that agree at the elements of a list make one list of it
+same_map : {X Y : Type 0} (f g : X → Y) (xs : List X) → ((x : X) → Contains xs x → f x ≡ g x) → map f xs ≡ map g xs
+same_map f g [] agree = refl
+same_map f g (x ∷ xs) agree =
+    let first : f x ≡ g x = agree x (contains_first x xs) in
+    let rest : map f xs ≡ map g xs = same_map f g xs (λ z among. agree z (contains_later x xs z among)) in
+    cc
+
+-- the causal list of a complete block is its walk in a view that shows the state
+causal_is_walk : (v : Frozen) (s : State) (d : Digest) (blocks : List Block) → IsSound s → Shows v s → IsComplete s d → IsCausalList s d blocks → IsWalk v d blocks
+causal_is_walk v s d blocks sound shows whole causal = record {
+  digests = causal.digests;
+  found = same_map (get v.blocks) (get s.blocks) causal.digests (λ a among.
+      let ancestor : IsAncestorIn v d a = (ancestors_shown v s d sound shows whole a).1 ((causal.exactly a).0 among) in
+      let last = last_there v d ancestor.0 a ancestor.1 in
+      last.1.0 ∙ sym (there_held v s a last.0 shows last.1)) ∙ causal.found;
+  exactly = λ a. (
+    λ among. (ancestors_shown v s d sound shows whole a).1 ((causal.exactly a).0 among),
+    λ ancestor. (causal.exactly a).1 ((ancestors_shown v s d sound shows whole a).0 ancestor),
+  );
+  ascending = causal.ascending;
+}
+
+-- the list of the read that was opened is the walk in the ticket's view
+list_is_walk : (accepts : Meaning) (t : Given) (v : Frozen) (blocks : List Block) → IsTicketWith accepts t v → IsListOf t blocks → IsWalk v t.digest blocks
+list_is_walk accepts t v blocks h is = causal_is_walk v (state_of t.front) t.digest blocks (story_sound accepts t.front h.ticket.legal) h.shows is.0 is.1
+
+-- ---- what is in a view
+
+-- what a ticket's view has under a digest is held after its front, and has that digest
+held_after : (accepts : Meaning) (t : Given) (v : Frozen) (d : Digest) (b : Block) → IsTicketWith accepts t v → IsThere v d b → IsHeldAfter t.front d b × (digest_of b ≡ d)
+held_after accepts t v d b h there =
+    let held = (h.shows.complete d b).0 there in
+    let own = admitted_left accepts (terms_of t.front) t.front.base t.front.events h.ticket.legal d b held.0 in
+    ((held.0, held.1), sym own.0)
+
+-- ---- two tickets for one digest
+
+-- the digest of the one is in the view of the other too
+pub other_there : (accepts : Meaning) (d : Digest) (u : Given) (w : Frozen) → IsTicketWith accepts u w → d ≡ u.digest → (b : Block) × IsThere w d b
+other_there accepts d u w k same =
+    let there = ticket_there accepts u w k in
+    (there.0, subst (λ q. IsThere w q there.0) (sym same) there.1)
+
+-- what the walks of their views show, the lists of their reads show
+agreed : (accepts : Meaning) (t u : Given) (v w : Frozen) → IsTicketWith accepts t v → IsTicketWith accepts u w → t.digest ≡ u.digest → (a : Agreement) → IsAgreement v w t.digest a → IsAgreed t u a
+agreed accepts t u v w h k same agreements.Same walks =
+    (walks.0, ticket_walk accepts t v walks.0 h walks.1, ticket_walk accepts u w walks.0 k (subst (λ d. IsWalk w d walks.0) same walks.2))
+agreed accepts t u v w h k same (agreements.Collision b c) (apart, (d, (in_one, in_other, differ))) =
+    let first = held_after accepts t v d b h in_one in
+    let second = held_after accepts u w d c k in_other in (
+      λ lists. apart (lists.0, list_is_walk accepts t v lists.0 h lists.1, subst (λ q. IsWalk w q lists.0) (sym same) (list_is_walk accepts u w lists.0 k lists.2)),
+      (d, first.0, second.0, record { differ = differ; first = first.1; second = second.1 }),
+    )
+
+-- the same, of a comparison that may be refused
+pub tickets_agree : {E : Type 0} (accepts : Meaning) (t u : Given) (v w : Frozen) (r : Result Agreement E) → IsTicketWith accepts t v → IsTicketWith accepts u w → t.digest ≡ u.digest
+    → IfOk r (λ a. IsAgreement v w t.digest a) → IfOk r (λ a. IsAgreed t u a)
+tickets_agree accepts t u v w (Ok a) h k same is = agreed accepts t u v w h k same a is
+tickets_agree accepts t u v w (Err e) h k same is = tt

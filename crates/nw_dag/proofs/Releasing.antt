@@ -1,0 +1,100 @@
+-- Holders that lack nothing any more.
+use Rattle.std.proofs.Common.{◌≡◌, ℕ, ◌+◌, ◌<◌, List, [], ◌∷◌, ◌++◌, length, get_or, take, true, false, ap, sym, ◌∙◌, subst, arith, inl, inr, length-take}
+use Rattle.std.specs.Prelude.{Contains}
+use Rattle.std.specs.List.{IsDistinct}
+use Rattle.std.specs.Ordering.{eq_by_cmp}
+use Rattle.std.specs.Cmp.{eq_by_cmp_equiv}
+use Rattle.std.proofs.lemmas.List.{get_or-take, get_or_default}
+use Rattle.std.proofs.lemmas.List.Elements.{All-weaker, All-contains, Contains-push_cases, Contains-append_left, Contains-push}
+use Rattle.std.proofs.lemmas.Map.Keys.{apart_from_distinct}
+use Rattle.nw_digest.specs.declared.digest.Digest.{Digest}
+use Rattle.nw_waiting.specs.declared.wanted.Wanted.{Wanted}
+use Rattle.nw_waiting.specs.Pairs.{Pairs, Lacks, without_holder}
+use Rattle.nw_model.specs.State.{State, digest_cmp}
+use Rattle.nw_model.proofs.Listed.{contains_cases, contains_none}
+use Rattle.nw_model.proofs.Maps.{digests_total}
+use Rattle.nw_dag.specs.Lacking.{IsReady}
+use Rattle.nw_dag.specs.Changes.{Adds}
+use Rattle.nw_dag.specs.Settled.{AreListed}
+use Rattle.nw_dag.specs.Collection.{AreWithout, IsStuck}
+use Rattle.nw_dag.proofs.Pairs.{without_holder_lacks}
+use Rattle.nw_dag.proofs.Listed.{adds_more, one_left}
+
+-- ---- one holder
+
+-- what is listed stays ready
+pub listed_without : (s : State) (old new : Pairs) (holder : Digest) (complete : List Digest) → new ≡ without_holder old holder → AreListed s old complete → AreListed s new complete
+listed_without s old new holder complete is listed = record {
+  ready = All-weaker (IsReady s old) (IsReady s new) (λ x ready. (ready.0, λ w lacks. ready.1 w ((without_holder_lacks old holder x w).0 (subst (λ (m : Pairs). Lacks m x w) is lacks)).0)) complete listed.ready;
+  once = listed.once;
+}
+
+-- what lacks something is not listed
+pub lacking_apart : (s : State) (lacking : Pairs) (complete : List Digest) (holder : Digest) → AreListed s lacking complete → (((w : Wanted) → Lacks lacking holder w → ⊥) → ⊥) → Contains complete holder → ⊥
+lacking_apart s lacking complete holder listed lacks among = lacks (All-contains (IsReady s lacking) complete holder listed.ready among).1
+
+-- it lacked something, and is listed where it stands
+pub stuck_added : (s : State) (old new : Pairs) (holder : Digest) (complete more : List Digest) → new ≡ without_holder old holder → (((w : Wanted) → Lacks old holder w → ⊥) → ⊥)
+    → Adds (IsReady s new) (holder ∷ []) complete more → Adds (IsStuck s old) (holder ∷ []) complete more
+stuck_added s old new holder complete more is lacks adds = record {
+  added = adds.added;
+  are = adds.are;
+  exactly = λ x. (
+    λ among. let both = (adds.exactly x).0 among in (both.0, (both.1.0, subst (λ d. ((w : Wanted) → Lacks old d w → ⊥) → ⊥) (itself x both.0) lacks)),
+    λ both. (adds.exactly x).1 (both.0, (both.1.0, λ w still. ((without_holder_lacks old holder x w).0 (subst (λ (m : Pairs). Lacks m x w) is still)).1 (itself x both.0))),
+  );
+}
+  where
+    itself : (x : Digest) → Contains (holder ∷ []) x → holder ≡ x
+    itself x among = elim (contains_cases holder [] x among) [ inl same ↦ same | inr none ↦ absurd (contains_none x none) ]
+
+-- it lacked nothing
+pub none_stuck : (s : State) (lacking : Pairs) (holder : Digest) (complete : List Digest) → ((w : Wanted) → Lacks lacking holder w → ⊥) → Adds (IsStuck s lacking) (holder ∷ []) complete complete
+none_stuck s lacking holder complete nothing = one_left (IsStuck s lacking) holder complete (λ stuck. stuck.1 nothing)
+
+-- ---- one holder after another
+
+pub without_none : (old : Pairs) → AreWithout [] old old
+without_none old h w = (λ lacks. (lacks, contains_none h), λ both. both.0)
+
+pub without_more : (holders : List Digest) (d : Digest) (a b c : Pairs) → AreWithout holders a b → c ≡ without_holder b d → AreWithout (holders ++ d ∷ []) a c
+without_more holders d a b c first is h w = (
+  λ lacks.
+      let last = (without_holder_lacks b d h w).0 (subst (λ (m : Pairs). Lacks m h w) is lacks) in
+      let early = (first h w).0 last.0 in
+      (early.0, λ among. elim (Contains-push_cases holders d h among) [ inl before ↦ early.1 before | inr here ↦ last.1 here ]),
+  λ both. subst (λ (m : Pairs). Lacks m h w) (sym is) ((without_holder_lacks b d h w).1 (
+    (first h w).1 (both.0, λ among. both.1 (Contains-append_left holders (d ∷ []) h among)),
+    λ same. both.1 (subst (Contains (holders ++ d ∷ [])) same (Contains-push holders d)),
+  )),
+)
+
+-- the next is another than those before
+pub not_before : (xs : List Digest) (i : ℕ) (d : Digest) → i < length xs → IsDistinct (eq_by_cmp digest_cmp) xs → Contains (take i xs) (get_or xs i d) → ⊥
+not_before xs i d lt once (k, below, at) =
+    let x = get_or xs i d in
+    let short : k < i = omega (arith, below, length-take i xs) in
+    let differ = apart_from_distinct (eq_by_cmp digest_cmp) xs k i x once short lt in
+    let at_k : get_or xs k x ≡ x = sym (get_or-take i xs k x short) ∙ at in
+    let at_i : get_or xs i x ≡ x = get_or_default xs i x d lt in
+    wrong (sym ((eq_by_cmp_equiv digests_total).refl x) ∙ ap (λ y. eq_by_cmp digest_cmp y x) (sym at_k) ∙ ap (eq_by_cmp digest_cmp (get_or xs k x)) (sym at_i) ∙ differ)
+  where
+    wrong : true ≡ false → ⊥
+    wrong e = cc
+
+-- what another lacked is what it lacked before
+pub stuck_more : (s : State) (holders : List Digest) (d : Digest) (old mid : Pairs) (a b c : List Digest) → AreWithout holders old mid → (Contains holders d → ⊥) → Adds (IsStuck s old) holders a b
+    → Adds (IsStuck s mid) (d ∷ []) b c → Adds (IsStuck s old) (holders ++ d ∷ []) a c
+stuck_more s holders d old mid a b c without apart adds last = adds_more (IsStuck s old) holders d a b c adds (record {
+  added = last.added;
+  are = last.are;
+  exactly = λ x. (
+    λ among.
+        let both = (last.exactly x).0 among in
+        (both.0, (both.1.0, λ nothing. both.1.1 (λ w lacks. nothing w ((without x w).0 lacks).0))),
+    λ both. (last.exactly x).1 (both.0, (both.1.0, λ nothing. both.1.1 (λ w lacks. nothing w ((without x w).1 (lacks, λ among. apart (subst (Contains holders) (sym (itself x both.0)) among)))))),
+  );
+})
+  where
+    itself : (x : Digest) → Contains (d ∷ []) x → d ≡ x
+    itself x among = elim (contains_cases d [] x among) [ inl same ↦ same | inr none ↦ absurd (contains_none x none) ]

@@ -1,0 +1,74 @@
+//! Causal reads of the tables.
+ghost use Rattle.std.specs.Prelude.{◌≡◌, IfOk};
+ghost use Rattle.std.specs.Option.{MatchOption};
+ghost use Rattle.std.specs.Result.{MatchResult};
+ghost use Rattle.nw_model.specs.Paths.{IsComplete};
+ghost use Rattle.nw_model.specs.Sound.{IsSound};
+ghost use Rattle.nw_model.specs.Step.{IsCausalReply, IsShort};
+ghost use Rattle.nw_model.specs.View.{Shows};
+
+use super::Dag;
+use nw_digest::{Digest, NoMemory};
+use nw_generation::View;
+use nw_model::{CausalReply, Reply};
+use std::alloc::Global;
+
+impl Dag {
+    /// A view of the complete blocks, where the block under the digest is complete; else why it is not given. What became
+    /// complete since the last view is frozen once more, and all views share it. Want of memory changes no answer.
+    pub fn freeze_for(
+        &mut self,
+        alloc: Global,
+        digest: Digest,
+    ) -> Result<Result<View<Global>, CausalReply>, NoMemory>
+        ensures answer { IfOk result (λ answer. MatchResult answer
+            (λ view. IsComplete self.old.state digest × Shows view.frozen self.old.state)
+            (λ refusal. IsCausalReply self.old.state digest (Reply.Causal refusal))) }
+        ensures same { self.new ≡ self.old }
+    {
+        if let Some(refusal) = self.refusal(&digest) {
+            return Ok(Err(refusal));
+        }
+        let complete = self.waits.complete_digests();
+        self.frozen.add(alloc, &self.held, complete)?;
+        Ok(Ok(self.frozen.view(alloc, self.held.floor())?))
+    }
+
+    /// Freezes the complete blocks anew, as one generation that has no collected block. Views that were given stay as they
+    /// are. Want of memory changes nothing.
+    pub fn compact(&mut self, alloc: Global) -> Result<(), NoMemory>
+        ensures { self.new ≡ self.old }
+    {
+        let complete = self.waits.complete_digests();
+        self.frozen.join(alloc, &self.held, complete)?;
+        Ok(())
+    }
+
+    /// Why a causal read of the digest gets no list, or `None` where the block under it is complete.
+    fn refusal(&self, digest: &Digest) -> Option<CausalReply>
+        ensures why { MatchOption result (IsComplete self.now.state digest.now) (λ refusal. IsCausalReply self.now.state digest.now (Reply.Causal refusal)) }
+        ensures sound { IsSound self.now.state }
+    {
+        if self.held.block(digest).is_none() {
+            return Some(CausalReply::Unknown);
+        }
+        if self.held.certificate(digest).is_none() {
+            return Some(CausalReply::Uncertified);
+        }
+        if !self.is_complete(digest) {
+            return Some(CausalReply::Incomplete);
+        }
+        None
+    }
+
+    /// The reply that a causal read would get now, where no list is asked for.
+    pub(super) fn causal_reply(&self, digest: &Digest) -> Reply
+        ensures reply { IsCausalReply self.now.state digest.now result }
+        ensures short { IsShort result }
+    {
+        match self.refusal(digest) {
+            Some(refusal) => Reply::Causal(refusal),
+            None => Reply::Ready,
+        }
+    }
+}

@@ -1,0 +1,52 @@
+//! The client thread of a node: it opens the node's own blocks, and walks them.
+use crate::fault::End;
+use crate::post::News;
+use crate::store::ClientCalls;
+use nw_book::Ticket;
+use nw_digest::Digest;
+use nw_intake::{Gate, Point, pass_start};
+use nw_sig::DemoScheme;
+use nw_store::Home;
+use std::alloc::Global;
+use std::sync::Wait;
+
+/// What a client works with.
+#[derive(Drop)]
+pub(crate) struct Client<'a, L: Home, N: News + Drop, G: Gate> {
+    pub(crate) alloc: Global,
+    pub(crate) node: u32,
+    pub(crate) rounds: u32,
+    pub(crate) store: ClientCalls<'a, L>,
+    pub(crate) news: N,
+    pub(crate) gate: &'a G,
+}
+
+impl<'a, L: Home, N: News + Drop, G: Gate> Client<'a, L, N, G> {
+    /// Opens and walks the node's block of each round, once told of it. Answers how many blocks the last walk listed.
+    pub(crate) fn run<R: Wait>(&mut self, rt: &R) -> Result<usize, End> {
+        let mut last = 0;
+        for round in 0..self.rounds {
+            let digest = self.news.hear(rt)?;
+            last = self.read(rt, round, digest)?;
+        }
+        Ok(last)
+    }
+
+    /// Opens the block of the round, and walks the ticket. Answers how many blocks the walk listed.
+    fn read<R: Wait>(&mut self, rt: &R, round: u32, digest: Digest) -> Result<usize, End> {
+        let node = self.node;
+        match self.store.open(rt, self.alloc, digest)? {
+            Some(ticket) => self.walk(round.saturating_add(1), &ticket),
+            None => Err(End::Causal { node, round }),
+        }
+    }
+
+    /// Walks the ticket between two points. It has no leave to wait, and so takes no lock.
+    fn walk(&self, number: u32, ticket: &Ticket<DemoScheme>) -> Result<usize, End> {
+        let node = self.node;
+        pass_start(self.gate, Point::WalkStart { node, number })?;
+        let blocks = ticket.walk(self.alloc)?;
+        self.gate.reach(Point::WalkDone { node, number });
+        Ok(blocks.len())
+    }
+}

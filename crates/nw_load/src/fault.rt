@@ -1,0 +1,73 @@
+//! Why a load gives no report, and why a thread of it ends early.
+use nw_digest::NoMemory;
+use nw_intake::GateShut;
+use std::alloc::{AllocError, AllocFailed};
+use thiserror::Error;
+
+/// Why a load gives no report. The first two are tested before anything else and take no memory; of the others the first that
+/// happened is answered.
+#[derive(Clone, Copy, Debug, PartialEq, Eq, Error)]
+pub enum LoadFault {
+    /// The nodes are not 1, 4, 7, 10, 13 or 16.
+    #[error("nodes")]
+    BadNodes,
+    /// The rounds are not 1 to 32.
+    #[error("rounds")]
+    BadRounds,
+    /// Memory was refused.
+    #[error("memory")]
+    NoMemory,
+    /// A thread was not started.
+    #[error("spawn")]
+    Spawn,
+    /// The gate did not let a write or a walk start.
+    #[error("gate")]
+    GateShut,
+    /// A node's causal read of its own block of the round was not ready.
+    #[error("causal")]
+    Causal { node: u32, round: u32 },
+    /// The sessions of the node's store do not settle, or a call of it was refused that no load asks for.
+    #[error("unsettled")]
+    Unsettled { node: u32 },
+}
+
+/// Why a thread ends early. Where several do, the least in this order counts.
+#[derive(Clone, Copy, Debug, PartialEq, Eq, PartialOrd, Ord)]
+pub(crate) enum End {
+    NoMemory,
+    Spawn,
+    GateShut,
+    Causal { node: u32, round: u32 },
+    Unsettled { node: u32 },
+    /// Another thread ended early, and what this one waits for will not come.
+    CutOff,
+}
+
+impl From<NoMemory> for End {
+    fn from(_error: NoMemory) -> End {
+        End::NoMemory
+    }
+}
+
+impl From<AllocError> for End {
+    ghost use Rattle.std.specs.Prelude.{◌≡◌};
+    ghost use Rattle.nw_load.specs.declared.fault.End.TheVariants.{NoMemory};
+
+    ghost from_gives = { λ _ end. end ≡ NoMemory };
+
+    fn from(_error: AllocError) -> End {
+        End::NoMemory
+    }
+}
+
+impl<T: Drop> From<AllocFailed<T>> for End {
+    fn from(_error: AllocFailed<T>) -> End {
+        End::NoMemory
+    }
+}
+
+impl From<GateShut> for End {
+    fn from(_error: GateShut) -> End {
+        End::GateShut
+    }
+}

@@ -1,0 +1,251 @@
+//! One node: its store, its two threads, and what it reports.
+ghost use Rattle.std.specs.Prelude.{◌≡◌};
+ghost use Rattle.nw_store.specs.Held.{first_origin};
+ghost use Rattle.nw_store.specs.Kept.{parts_of_a_ledger};
+
+use crate::client::Client;
+use crate::fault::End;
+use crate::link::Link;
+use crate::post::{ClientNews, LinkPost, Mailbox, Office};
+use crate::report::NodeReport;
+use crate::store::{ClientCalls, LinkCalls};
+use crate::table::Table;
+use crossbeam_channel::{Receiver, Sender, unbounded};
+use nw_book::BookError;
+use nw_committee::Committee;
+use nw_digest::{Digest, Shared};
+use nw_history::Limits;
+use nw_intake::Gate;
+use nw_sig::DemoScheme;
+use nw_store::{Home, Opening, Session, Store, settle};
+use std::alloc::Global;
+use std::marker::Brand;
+use std::sync::Wait;
+use std::thread;
+use std::thread::{JoinHandle, Scope, Threads};
+
+/// The limits of a node's store.
+const LIMITS: Limits = Limits {
+    blocks: 65_536,
+    events: 65_536,
+    window: 4096,
+    sessions: 2,
+};
+
+/// What all nodes of a load share.
+#[derive(Drop)]
+pub(crate) struct Shop<'a, R, G> {
+    pub(crate) rt: &'a R,
+    pub(crate) alloc: Global,
+    pub(crate) committee: &'a Shared<Committee>,
+    pub(crate) office: &'a Office,
+    pub(crate) nodes: u16,
+    pub(crate) rounds: u32,
+    pub(crate) gate: &'a G,
+}
+
+/// Runs the node's two threads, of which this is the link's, on a store of its own, and settles it. Where one of them ends early
+/// the office is closed, so that no other thread waits for ever.
+pub(crate) fn run_node<R: Threads + Wait + Sync, G: Gate + Sync>(
+    shop: &Shop<'_, R, G>,
+    node: u16,
+    mailbox: Mailbox,
+) -> Result<NodeReport, End> {
+    let outcome = open_store(shop, node, mailbox);
+    if outcome.is_err() {
+        shop.office.close(shop.rt);
+    }
+    outcome
+}
+
+/// Runs the node on a new store.
+fn open_store<R: Threads + Wait + Sync, G: Gate + Sync>(
+    shop: &Shop<'_, R, G>,
+    node: u16,
+    mailbox: Mailbox,
+) -> Result<NodeReport, End> {
+    let opening = Opening::new(shop.alloc)?;
+    let committee = shop.committee.try_clone()?;
+    run_store::<Brand, R, G>(shop, node, mailbox, opening, committee, LIMITS)
+}
+
+/// Runs the node on the store that `L` names.
+fn run_store<L: Home, R: Threads + Wait + Sync, G: Gate + Sync>(
+    shop: &Shop<'_, R, G>,
+    node: u16,
+    mailbox: Mailbox,
+    opening: Opening<DemoScheme>,
+    committee: Shared<Committee>,
+    limits: Limits,
+) -> Result<NodeReport, End>
+    requires log { opening.log ≡ L.log }
+    requires ledger { (opening.ledger ≡ L.name) × (L.parts ≡ parts_of_a_ledger) }
+    requires origin { first_origin committee limits ≡ L.origin }
+{
+    let store = new_store::<L>(shop.alloc, opening, committee, limits)?;
+    let first = new_session(shop, node, &store)?;
+    let second = new_session(shop, node, &store)?;
+    let (last, sessions) = run_both(shop, node, mailbox, &store, first, second)?;
+    let events = settled(node, store, sessions)?;
+    Ok(NodeReport { events, last })
+}
+
+/// The store. Its limits are in their ranges.
+fn new_store<L: Home>(
+    alloc: Global,
+    opening: Opening<DemoScheme>,
+    committee: Shared<Committee>,
+    limits: Limits,
+) -> Result<Store<DemoScheme, L>, End>
+    requires log { opening.log ≡ L.log }
+    requires ledger { (opening.ledger ≡ L.name) × (L.parts ≡ parts_of_a_ledger) }
+    requires origin { first_origin committee limits ≡ L.origin }
+{
+    match Store::new(alloc, opening, committee, limits) {
+        Ok(store) => Ok(store),
+        Err(BookError::NoMemory) => Err(End::NoMemory),
+        Err(BookError::BadLimits) => Err(End::CutOff),
+    }
+}
+
+/// One more session of the store, which makes two.
+fn new_session<L: Home, R: Wait, G>(
+    shop: &Shop<'_, R, G>,
+    node: u16,
+    store: &Store<DemoScheme, L>,
+) -> Result<Session<DemoScheme, L>, End> {
+    let node = u32::from(node);
+    store
+        .session(shop.rt, shop.alloc)
+        .map_err(|_| End::Unsettled { node })
+}
+
+/// Runs the client in a thread of its own, and the link in this one. Answers how many blocks the last walk listed, and hands the
+/// sessions back.
+fn run_both<L: Home, R: Threads + Wait + Sync, G: Gate + Sync>(
+    shop: &Shop<'_, R, G>,
+    node: u16,
+    mailbox: Mailbox,
+    store: &Store<DemoScheme, L>,
+    first: Session<DemoScheme, L>,
+    second: Session<DemoScheme, L>,
+) -> Result<(usize, Vec<Session<DemoScheme, L>>), End> {
+    let (client, news) = unbounded(shop.alloc)?;
+    thread::scope(thread::scope_env(), shop.rt, move |scope| {
+        let started = start_client(scope, shop, node, store, second, news)?;
+        let (first, linked) = run_link(shop, node, store, first, mailbox, client);
+        let (second, walked) = started.join(shop.rt);
+        let last = both(linked, walked)?;
+        let mut sessions = Vec::with_capacity(shop.alloc, 2)?;
+        sessions.push(first)?;
+        sessions.push(second)?;
+        Ok((last, sessions))
+    })
+}
+
+/// A session that is handed back, and how many blocks its last walk listed.
+type Walked<L> = (Session<DemoScheme, L>, Result<usize, End>);
+
+/// Starts the client.
+fn start_client<'s, 'e, L: Home, R: Threads + Wait + Sync, G: Gate + Sync>(
+    scope: &Scope<'s, &'e ()>,
+    shop: &'e Shop<'e, R, G>,
+    node: u16,
+    store: &'e Store<DemoScheme, L>,
+    session: Session<DemoScheme, L>,
+    news: Receiver<Digest>,
+) -> Result<JoinHandle<Walked<L>>, End> {
+    match scope.spawn(move || run_client(shop, node, store, session, news)) {
+        Ok(started) => Ok(started),
+        Err(_) => Err(End::Spawn),
+    }
+}
+
+/// What both threads give, or the first in order of why they ended early.
+fn both(linked: Result<(), End>, walked: Result<usize, End>) -> Result<usize, End> {
+    match (linked, walked) {
+        (Ok(()), walked) => walked,
+        (Err(end), Ok(_)) => Err(end),
+        (Err(one), Err(other)) => Err(one.min(other)),
+    }
+}
+
+/// Runs the link, and hands its session back. Where it ends early the office is closed, so that no other thread waits for ever.
+fn run_link<L: Home, R: Wait, G: Gate>(
+    shop: &Shop<'_, R, G>,
+    node: u16,
+    store: &Store<DemoScheme, L>,
+    session: Session<DemoScheme, L>,
+    mailbox: Mailbox,
+    client: Sender<Digest>,
+) -> (Session<DemoScheme, L>, Result<(), End>) {
+    let mut link = Link {
+        alloc: shop.alloc,
+        committee: shop.committee,
+        node,
+        nodes: shop.nodes,
+        rounds: shop.rounds,
+        store: LinkCalls {
+            node: u32::from(node),
+            store,
+            session,
+        },
+        post: LinkPost {
+            office: shop.office,
+            mailbox,
+            client,
+        },
+        gate: shop.gate,
+        table: Table::new(shop.alloc),
+        gather: None,
+        made: 0,
+        written: 0,
+        certified: 0,
+    };
+    let linked = link.run(shop.rt);
+    if linked.is_err() {
+        shop.office.close(shop.rt);
+    }
+    (link.store.session, linked)
+}
+
+/// Runs the client, and hands its session back. Where it ends early the office is closed, so that its link ends too.
+fn run_client<L: Home, R: Wait, G: Gate>(
+    shop: &Shop<'_, R, G>,
+    node: u16,
+    store: &Store<DemoScheme, L>,
+    session: Session<DemoScheme, L>,
+    link: Receiver<Digest>,
+) -> Walked<L> {
+    let mut client = Client {
+        alloc: shop.alloc,
+        node: u32::from(node),
+        rounds: shop.rounds,
+        store: ClientCalls {
+            node: u32::from(node),
+            store,
+            session,
+        },
+        news: ClientNews { link },
+        gate: shop.gate,
+    };
+    let walked = client.run(shop.rt);
+    if walked.is_err() {
+        shop.office.close(shop.rt);
+    }
+    (client.store.session, walked)
+}
+
+/// How many events the history has, once both sessions settle.
+fn settled<L: Home>(
+    node: u16,
+    store: Store<DemoScheme, L>,
+    sessions: Vec<Session<DemoScheme, L>>,
+) -> Result<usize, End> {
+    match settle(store, sessions) {
+        Ok(settled) => Ok(settled.history().len()),
+        Err(_refused) => Err(End::Unsettled {
+            node: u32::from(node),
+        }),
+    }
+}

@@ -1,0 +1,80 @@
+//! What the threads of a node may ask of its store: each has a type of its own, with the calls that it makes.
+use crate::fault::End;
+use nw_book::{NoStep, Ticket};
+use nw_check::{CheckedBlock, CheckedCert};
+use nw_digest::Digest;
+use nw_model::{Reply, WriteReply};
+use nw_sig::DemoScheme;
+use nw_store::{Home, Session, Store};
+use std::alloc::Global;
+use std::sync::Wait;
+
+/// What a link may ask.
+#[derive(Drop)]
+pub(crate) struct LinkCalls<'a, L: Home> {
+    pub(crate) node: u32,
+    pub(crate) store: &'a Store<DemoScheme, L>,
+    pub(crate) session: Session<DemoScheme, L>,
+}
+
+impl<'a, L: Home> LinkCalls<'a, L> {
+    /// Writes the block: whether the store votes for it.
+    pub(crate) fn write<R: Wait>(
+        &mut self,
+        rt: &R,
+        alloc: Global,
+        block: CheckedBlock<DemoScheme>,
+    ) -> Result<bool, End> {
+        match self.store.write(rt, alloc, &mut self.session, block) {
+            Ok(done) => Ok(matches!(&done.reply, Reply::Write(WriteReply::Stored { vote: true }))),
+            Err(refusal) => Err(not_taken(self.node, refusal)),
+        }
+    }
+
+    /// Certifies what the certificate is for.
+    pub(crate) fn certify<R: Wait>(
+        &mut self,
+        rt: &R,
+        alloc: Global,
+        certificate: CheckedCert<DemoScheme>,
+    ) -> Result<(), End> {
+        match self
+            .store
+            .certify(rt, alloc, &mut self.session, certificate)
+        {
+            Ok(_done) => Ok(()),
+            Err(refusal) => Err(not_taken(self.node, refusal)),
+        }
+    }
+}
+
+/// What a client may ask.
+#[derive(Drop)]
+pub(crate) struct ClientCalls<'a, L: Home> {
+    pub(crate) node: u32,
+    pub(crate) store: &'a Store<DemoScheme, L>,
+    pub(crate) session: Session<DemoScheme, L>,
+}
+
+impl<'a, L: Home> ClientCalls<'a, L> {
+    /// Opens a causal read, or answers `None` where it is not ready.
+    pub(crate) fn open<R: Wait>(
+        &mut self,
+        rt: &R,
+        alloc: Global,
+        digest: Digest,
+    ) -> Result<Option<Ticket<DemoScheme>>, End> {
+        match self.store.open_causal(rt, alloc, &mut self.session, digest) {
+            Ok(answer) => Ok(answer.ok()),
+            Err(refusal) => Err(not_taken(self.node, refusal)),
+        }
+    }
+}
+
+// A load asks for no call that is refused, but where memory is.
+fn not_taken(node: u32, refusal: NoStep) -> End {
+    match refusal {
+        NoStep::NoMemory => End::NoMemory,
+        NoStep::OutOfTurn | NoStep::OtherCommittee | NoStep::HistoryFull => End::Unsettled { node },
+    }
+}

@@ -1,0 +1,11 @@
+//! What loads report.
+use super::*;
+use std::alloc::Global;
+use std::sync::Wait;
+use std::test::Fail;
+use std::thread::Threads;
+
+mod gates;
+mod loads;
+mod programs;
+mod refusals;

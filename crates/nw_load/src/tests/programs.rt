@@ -1,0 +1,131 @@
+//! What the words of a program are answered.
+use super::*;
+use std::io::{self, Write};
+
+/// A program's words, what it prints, and its status.
+struct Row {
+    words: &'static str,
+    prints: &'static str,
+    status: u8,
+}
+
+const ROWS: [Row; 12] = [
+    Row {
+        words: "load 1 1",
+        prints: "node 0 events 3 last 1\n",
+        status: 0,
+    },
+    Row {
+        words: "load 4 3",
+        prints: "node 0 events 27 last 9\nnode 1 events 27 last 9\nnode 2 events 27 last 9\nnode 3 events 27 last 9\n",
+        status: 0,
+    },
+    Row {
+        words: "load 2 1",
+        prints: "load refused nodes\n",
+        status: 3,
+    },
+    Row {
+        words: "load 1 33",
+        prints: "load refused rounds\n",
+        status: 3,
+    },
+    Row {
+        words: "load 4294967295 1",
+        prints: "load refused nodes\n",
+        status: 3,
+    },
+    Row {
+        words: "load x 1",
+        prints: "",
+        status: 2,
+    },
+    Row {
+        words: "load 1",
+        prints: "",
+        status: 2,
+    },
+    Row {
+        words: "load 1 1 1",
+        prints: "",
+        status: 2,
+    },
+    Row {
+        words: "load 01 1",
+        prints: "",
+        status: 2,
+    },
+    Row {
+        words: "load 1 4294967296",
+        prints: "",
+        status: 2,
+    },
+    Row {
+        words: "load +1 1",
+        prints: "",
+        status: 2,
+    },
+    Row {
+        words: "play 1 1",
+        prints: "",
+        status: 2,
+    },
+];
+
+/// The words of the line.
+fn words_of(alloc: Global, line: &str) -> Result<Vec<String>, Fail> {
+    let mut words = Vec::new(alloc);
+    for word in line.split(' ') {
+        words.push(String::from_str(alloc, word)?)?;
+    }
+    Ok(words)
+}
+
+/// What the program prints, and its status.
+fn printed<R: Threads + Wait + Sync>(
+    rt: &R,
+    alloc: Global,
+    line: &str,
+) -> Result<(Vec<u8>, u8), Fail> {
+    let words = words_of(alloc, line)?;
+    let mut out = Vec::new(alloc);
+    let status = run(rt, alloc, &words, &mut out);
+    Ok((out, status))
+}
+
+/// A writer that takes nothing.
+#[derive(Drop)]
+struct Shut;
+
+impl Write for Shut {
+    fn write(&mut self, _buf: &[u8]) -> io::Result<usize> {
+        Err(io::Error::other("shut"))
+    }
+
+    fn flush(&mut self) -> io::Result<()> {
+        Err(io::Error::other("shut"))
+    }
+}
+
+#[test]
+fn words_are_answered_by_a_report_a_refusal_or_nothing(rt: HostRuntime) -> Result<(), Fail> {
+    for row in &ROWS {
+        let (out, status) = printed(&rt, rt.alloc(), row.words)?;
+        assert_eq!(rt;
+            (out.as_slice(), status),
+            (row.prints.as_bytes(), row.status),
+            "{}",
+            row.words
+        );
+    }
+    Ok(())
+}
+
+#[test]
+fn a_report_that_cannot_be_written_has_status_1(rt: HostRuntime) -> Result<(), Fail> {
+    for line in ["load 1 1", "load 2 1"] {
+        let words = words_of(rt.alloc(), line)?;
+        assert_eq!(rt; run(&rt, rt.alloc(), &words, &mut Shut), 1, "{line}");
+    }
+    Ok(())
+}

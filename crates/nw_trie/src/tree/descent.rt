@@ -1,0 +1,178 @@
+//! The way down to a value that is to be changed.
+//!
+//! No function here calls itself, since no proof is generated for a `&mut` that a recursion hands out. How many steps are
+//! left is part of a type.
+ghost use Rattle.std.specs.Prelude.{◌≡◌, ◌+◌, ◌<◌, ℕ, Some, length};
+ghost use Rattle.std.specs.Option.{MatchOption};
+ghost use Rattle.std.specs.Borrow.{sem, follows};
+ghost use Rattle.std.specs.Map.{lookup};
+ghost use Rattle.std.specs.BTreeMap.{insert_entry, is_at};
+ghost use Rattle.nw_trie.specs.Bits.{AgreeButLast, digest_cmp};
+ghost use Rattle.nw_trie.specs.Entries.{EachKey, HasKey, Parts};
+ghost use Rattle.nw_trie.specs.Tree.{side_of, with_side};
+ghost use Rattle.nw_trie.specs.contracts.tree.Tree.{the_row as tree_row};
+ghost use Rattle.nw_trie.specs.contracts.tree.Sides.{the_row as sides_row};
+
+use super::{Link, Sides, Tree};
+use crate::bits::is_set;
+use nw_digest::Digest;
+use std::alloc::Allocator;
+use std::marker::PhantomData;
+
+/// The rest of the way to a value, in a tree whose digests differ in their last `bits` bits alone.
+pub(crate) trait Way {
+    ghost bits: { ℕ };
+
+    fn value_mut<'a, V: Drop, A: Allocator>(tree: &'a mut Tree<V, A>, digest: &Digest) -> &'a mut V
+        requires key { HasKey digest.now tree.old }
+        requires alike { EachKey (AgreeButLast bits digest.now) tree.old }
+        ensures* writes_back { sem 𝓛 (follows (tree_row V.row A.row A.Allocator) V.row tree.entry.ghost_name result.ghost_name (insert_entry digest_cmp tree.old digest.now)) }
+        ensures value { lookup (is_at (digest_cmp digest.now)) tree.old ≡ Some result.now };
+}
+
+/// Steps from fork to fork, before the rest of a way.
+pub(crate) trait Steps {
+    ghost bits: { ℕ };
+
+    fn value_mut<'a, V: Drop, A: Allocator, W: Way>(
+        tree: &'a mut Tree<V, A>,
+        digest: &Digest,
+    ) -> &'a mut V
+        requires key { HasKey digest.now tree.old }
+        requires alike { EachKey (AgreeButLast (bits + W.bits) digest.now) tree.old }
+        ensures* writes_back { sem 𝓛 (follows (tree_row V.row A.row A.Allocator) V.row tree.entry.ghost_name result.ghost_name (insert_entry digest_cmp tree.old digest.now)) }
+        ensures value { lookup (is_at (digest_cmp digest.now)) tree.old ≡ Some result.now };
+}
+
+/// No fork is left.
+pub(crate) struct End;
+
+/// Steps, and the rest of the way.
+pub(crate) struct Then<S: Steps, W: Way>(PhantomData<(S, W)>);
+
+/// One step.
+pub(crate) struct Step;
+
+/// Twice as many steps.
+pub(crate) struct Twice<S: Steps>(PhantomData<S>);
+
+type Four<S> = Twice<Twice<S>>;
+
+/// As many steps as a digest has bits.
+type Whole = Four<Four<Four<Four<Step>>>>;
+
+impl Way for End {
+    ghost bits = { 0 };
+
+    fn value_mut<'a, V: Drop, A: Allocator>(
+        tree: &'a mut Tree<V, A>,
+        digest: &Digest,
+    ) -> &'a mut V {
+        match tree.first_bit() {
+            Some(_) => unreachable!(),
+            None => tree.only_value_mut(digest),
+        }
+    }
+}
+
+impl<S: Steps, W: Way> Way for Then<S, W> {
+    ghost bits = { S.bits + W.bits };
+
+    fn value_mut<'a, V: Drop, A: Allocator>(
+        tree: &'a mut Tree<V, A>,
+        digest: &Digest,
+    ) -> &'a mut V {
+        S::value_mut::<V, A, W>(tree, digest)
+    }
+}
+
+impl Steps for Step {
+    ghost bits = { 1 };
+
+    fn value_mut<'a, V: Drop, A: Allocator, W: Way>(
+        tree: &'a mut Tree<V, A>,
+        digest: &Digest,
+    ) -> &'a mut V {
+        match tree.first_bit() {
+            Some(_) => tree.side_value_mut::<W>(digest),
+            None => tree.only_value_mut(digest),
+        }
+    }
+}
+
+impl<S: Steps> Steps for Twice<S> {
+    ghost bits = { S.bits + S.bits };
+
+    fn value_mut<'a, V: Drop, A: Allocator, W: Way>(
+        tree: &'a mut Tree<V, A>,
+        digest: &Digest,
+    ) -> &'a mut V {
+        S::value_mut::<V, A, Then<S, W>>(tree, digest)
+    }
+}
+
+impl<V: Drop, A: Allocator> Tree<V, A> {
+    /// The value of the digest.
+    pub(crate) fn value_mut(&mut self, digest: &Digest) -> &mut V
+        requires { HasKey digest.now self.old }
+        ensures* writes_back { sem 𝓛 (follows (tree_row V.row A.row A.Allocator) V.row self.entry.ghost_name result.ghost_name (insert_entry digest_cmp self.old digest.now)) }
+        ensures value { lookup (is_at (digest_cmp digest.now)) self.old ≡ Some result.now }
+        ensures len { (v : V) → length (insert_entry digest_cmp self.old digest.now v) ≡ length self.old }
+    {
+        let _ = &self.link;
+        Whole::value_mut::<V, A, End>(self, digest)
+    }
+
+    /// The bit of its first fork.
+    fn first_bit(&self) -> Option<u8>
+        ensures { MatchOption result (length self.now < 2) (λ bit. Parts bit self.now) }
+    {
+        match &self.link {
+            Link::Fork(bit, _) => Some(*bit),
+            Link::Empty | Link::Leaf(_) => None,
+        }
+    }
+
+    /// The value of the only digest.
+    fn only_value_mut(&mut self, digest: &Digest) -> &mut V
+        requires key { HasKey digest.now self.old }
+        requires alone { length self.old < 2 }
+        ensures* writes_back { sem 𝓛 (follows (tree_row V.row A.row A.Allocator) V.row self.entry.ghost_name result.ghost_name (insert_entry digest_cmp self.old digest.now)) }
+        ensures value { lookup (is_at (digest_cmp digest.now)) self.old ≡ Some result.now }
+    {
+        match &mut self.link {
+            Link::Leaf(leaf) => &mut leaf.value,
+            Link::Empty | Link::Fork(..) => unreachable!(),
+        }
+    }
+
+    /// The value of the digest, on its side of the fork.
+    fn side_value_mut<W: Way>(&mut self, digest: &Digest) -> &mut V
+        requires key { HasKey digest.now self.old }
+        requires fork { 1 < length self.old }
+        requires alike { EachKey (AgreeButLast (1 + W.bits) digest.now) self.old }
+        ensures* writes_back { sem 𝓛 (follows (tree_row V.row A.row A.Allocator) V.row self.entry.ghost_name result.ghost_name (insert_entry digest_cmp self.old digest.now)) }
+        ensures value { lookup (is_at (digest_cmp digest.now)) self.old ≡ Some result.now }
+    {
+        let set = match &self.link {
+            Link::Fork(bit, _) => is_set(digest, *bit),
+            Link::Empty | Link::Leaf(_) => unreachable!(),
+        };
+        match &mut self.link {
+            Link::Fork(_, sides) => sides.value_mut::<W>(set, digest),
+            Link::Empty | Link::Leaf(_) => unreachable!(),
+        }
+    }
+}
+
+impl<V: Drop, A: Allocator> Sides<V, A> {
+    /// The value of the digest, on that side.
+    fn value_mut<W: Way>(&mut self, set: bool, digest: &Digest) -> &mut V
+        requires key { HasKey digest.now (side_of self.old set) }
+        requires alike { EachKey (AgreeButLast W.bits digest.now) (side_of self.old set) }
+        ensures* writes_back { sem 𝓛 (follows (sides_row V.row A.row A.Allocator) V.row self.entry.ghost_name result.ghost_name (λ w. with_side self.old set (insert_entry digest_cmp (side_of self.old set) digest.now w))) }
+        ensures value { lookup (is_at (digest_cmp digest.now)) (side_of self.old set) ≡ Some result.now }
+    {
+        W::value_mut(self.side_mut(set), digest)
+    }
+}
