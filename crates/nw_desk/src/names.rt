@@ -2,24 +2,27 @@
 
 use crate::fault::LineFault;
 use nw_codec::{Block, EncodeError, Ref, block_digest, encode_body};
-use nw_digest::{Digest, Sequence};
+use nw_digest::{Digest, Round, Sequence, Shared};
 use nw_script::Name;
 use std::alloc::Global;
 use std::collections::BTreeMap;
 use std::collections::btree_map::Entry;
 
-/// What a name stands for: a block that fits, and its digest.
+/// What a name stands for: a block that fits, its digest, and the first name that was bound to a block of this digest.
 #[derive(Drop)]
-pub struct Bound {
+pub struct Bound<'a> {
     pub block: Block,
     pub digest: Digest,
+    first_name: Name<'a>,
 }
 
 /// The names of a script's blocks, and the first name of each digest.
 #[derive(Drop)]
 pub struct Names<'a> {
-    bound: BTreeMap<Name<'a>, Bound>,
+    bound: BTreeMap<Name<'a>, Shared<Bound<'a>>>,
     first_names: BTreeMap<Digest, Name<'a>>,
+    /// Of each round and author what was bound first, so that a block of a long list is not hashed to find its name.
+    slots: BTreeMap<(Round, u16), Shared<Bound<'a>>>,
 }
 
 impl<'a> Names<'a> {
@@ -27,12 +30,13 @@ impl<'a> Names<'a> {
         Names {
             bound: BTreeMap::new(alloc),
             first_names: BTreeMap::new(alloc),
+            slots: BTreeMap::new(alloc),
         }
     }
 
     /// What the name stands for. The line is bad where it is not bound.
-    pub fn bound(&self, name: Name<'a>) -> Result<&Bound, LineFault> {
-        self.bound.get(&name).ok_or(LineFault::Bad)
+    pub fn bound(&self, name: Name<'a>) -> Result<&Bound<'a>, LineFault> {
+        Ok(self.bound.get(&name).ok_or(LineFault::Bad)?.get())
     }
 
     /// Whether the name stands for a block.
@@ -69,18 +73,42 @@ impl<'a> Names<'a> {
             Err(EncodeError::OverLimit) => return Ok(None),
             Err(EncodeError::NoMemory) => return Err(LineFault::NoMemory),
         };
-        let digest = block_digest(&block);
-        let first = self.first_names.entry(digest)?;
-        match self.bound.entry(name)? {
-            Entry::Occupied(_) => return Err(LineFault::Bad),
-            Entry::Vacant(free) => free.insert(Bound { block, digest }),
-        };
-        first.or_insert(name);
+        self.keep(alloc, name, block)?;
         Ok(Some(body))
+    }
+
+    /// Binds the name to the block, which fits. The line is bad where the name is bound.
+    fn keep(&mut self, alloc: Global, name: Name<'a>, block: Block) -> Result<(), LineFault> {
+        let slot = (block.round, block.author);
+        let digest = block_digest(&block);
+        let first_name = *self.first_names.entry(digest)?.or_insert(name);
+        let bound = Bound {
+            block,
+            digest,
+            first_name,
+        };
+        let bound = Shared::new(alloc, bound)?;
+        self.slots.entry(slot)?.or_insert(bound.try_clone()?);
+        match self.bound.entry(name)? {
+            Entry::Occupied(_) => Err(LineFault::Bad),
+            Entry::Vacant(free) => {
+                free.insert(bound);
+                Ok(())
+            }
+        }
     }
 
     /// The first name that was bound to a block of the digest. Each digest that a book answers has one.
     pub fn first_name(&self, digest: &Digest) -> Result<Name<'a>, LineFault> {
         self.first_names.get(digest).copied().ok_or(LineFault::Bad)
+    }
+
+    /// The first name that was bound to a block of this block's digest.
+    pub fn name_of(&self, block: &Block) -> Result<Name<'a>, LineFault> {
+        match self.slots.get(&(block.round, block.author)) {
+            Some(bound) if bound.get().block == *block => Ok(bound.get().first_name),
+            _ if block.fits() => self.first_name(&block_digest(block)),
+            _ => Err(LineFault::Bad),
+        }
     }
 }

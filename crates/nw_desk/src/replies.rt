@@ -4,7 +4,7 @@ use crate::desk::Desk;
 use crate::fault::LineFault;
 use crate::print::{Answer, Certified, Written};
 use nw_book::Ticket;
-use nw_codec::{Seal, block_digest, encode_body};
+use nw_codec::{Seal, encode_body};
 use nw_model::{CertifyReply, Reply, Wanted, WriteReply};
 use nw_script::Name;
 use nw_sig::DemoScheme;
@@ -90,19 +90,17 @@ impl<'a> Desk<'a> {
         Ok(Answer::Certified { name, reply })
     }
 
-    /// The names of the ticket's list. Its blocks fit, since only such blocks are written.
+    /// The names of the ticket's list.
     pub fn listed(
         &self,
         alloc: Global,
         name: Name<'a>,
         ticket: &Ticket<DemoScheme>,
     ) -> Result<Answer<'a>, LineFault> {
-        let mut blocks = Vec::new(alloc);
-        for block in &ticket.walk(alloc)? {
-            if !block.get().fits() {
-                return Err(LineFault::Bad);
-            }
-            blocks.push(self.names.first_name(&block_digest(block.get()))?)?;
+        let walked = ticket.walk(alloc)?;
+        let mut blocks = Vec::with_capacity(alloc, walked.len())?;
+        for block in &walked {
+            blocks.push(self.names.name_of(block.get())?)?;
         }
         Ok(Answer::Listed { name, blocks })
     }

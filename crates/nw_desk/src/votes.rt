@@ -88,7 +88,7 @@ impl<'a> Desk<'a> {
 fn gathered(
     gather: &mut Gather<DemoScheme>,
     signer: u16,
-    bound: &Bound,
+    bound: &Bound<'_>,
 ) -> Result<Gathered, LineFault> {
     match gather.add(&members::vote(signer, bound.digest, &bound.block)) {
         Ok(Counted::Counted) => Ok(Gathered::Counted),

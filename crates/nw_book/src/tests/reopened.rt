@@ -60,8 +60,10 @@ fn a_reopened_book_votes_for_no_second_block_of_a_slot(rt: HostRuntime) -> Resul
 fn ticket_of_before(alloc: Global) -> Result<Ticket<DemoScheme>, Fail> {
     let (mut book, digest) = book_with_a_block(alloc)?;
     let ticket = open(&mut book, alloc, 3, digest)?;
-    reopen(book, alloc)?;
-    Ok(ticket)
+    match reopen(book, alloc) {
+        Ok(_) => Ok(ticket),
+        Err(refused) => Err(refused),
+    }
 }
 
 /// A ticket of a book that was reopened.
