@@ -1,2 +1,3 @@
 pub mod Looked
 pub mod Agreeing
+pub mod Claiming

@@ -1,10 +1,11 @@
 //! Walks: the blocks that happened before a block, in a view.
-ghost use Rattle.std.specs.Prelude.{IfOk, OnOk, All, []};
+ghost use Rattle.std.specs.Prelude.{IfOk, OnOk, []};
 ghost use Rattle.std.specs.FinMap as map;
 ghost use Rattle.nw_model.specs.View.{IsClosed, IsThere, IsWalk};
-ghost use Rattle.nw_model.specs.Search.{AreUnder, AreAbove, IsNamed, IsParentOfAny, Finds, Reaches};
+ghost use Rattle.nw_model.specs.Search.{AreUnder, AreAbove, IsParentOfAny, Finds, Reaches};
+ghost use Rattle.nw_causal.specs.Claims.{Claims};
 
-use nw_codec::Block;
+use nw_codec::{Block, Ref};
 use nw_digest::{Digest, NoMemory, Round, Shared};
 use nw_generation::View;
 use std::alloc::{Allocator, Global};
@@ -12,7 +13,7 @@ use std::collections::BTreeMap;
 
 /// The block under the digest and all its ancestors in the view, strictly ascending by round and author.
 ///
-/// It goes round by round, from the block's own down to the floor; each block is looked up once for each reference to it.
+/// It goes round by round, from the block's own down to the floor; each block is looked up twice, however many refer to it.
 pub fn walk<A: Allocator>(
     alloc: Global,
     view: &View<A>,
@@ -72,32 +73,31 @@ fn parents_of_all<A: Allocator>(
     let mut parents = Vec::new(alloc);
     for digest in frontier {
         if let Some(block) = view.get(digest) {
-            find_parents(view, block.get(), found, &mut parents)?;
+            let block = block.get();
+            if let Some(round) = block.round.before() {
+                find_parents(round, block.parents.as_slice(), found, &mut parents)?;
+            }
         }
     }
     Ok(parents)
 }
 
-/// Adds the parents of the block that were not found before.
-fn find_parents<A: Allocator>(
-    view: &View<A>,
-    block: &Block,
+/// Adds the blocks of the round that are referred to and were not found before. No block is looked up: a reference tells the
+/// author.
+fn find_parents(
+    round: Round,
+    references: &[Ref],
     found: &mut BTreeMap<(Round, u16), Digest>,
     parents: &mut Vec<Digest>,
 ) -> Result<(), NoMemory>
-    requires there { All (λ r. (b : Block) × IsThere view.now.frozen r.digest b) block.now.parents }
-    requires under { AreUnder view.now.frozen (map.from_entries found.old.entries) }
-    ensures { IfOk result (λ _. Finds view.now.frozen (IsNamed block.now.parents)
+    ensures { IfOk result (λ _. Claims round references.now
         (map.from_entries found.old.entries) (map.from_entries found.new.entries) parents.old.items parents.new.items) }
 {
-    for reference in block.parents.as_slice() {
-        if let Some(parent) = view.get(&reference.digest) {
-            let parent = parent.get();
-            let slot = (parent.round, parent.author);
-            if !found.contains_key(&slot) {
-                found.insert(slot, reference.digest)?;
-                parents.push(reference.digest)?;
-            }
+    for reference in references {
+        let slot = (round, reference.author);
+        if !found.contains_key(&slot) {
+            found.insert(slot, reference.digest)?;
+            parents.push(reference.digest)?;
         }
     }
     Ok(())

@@ -73,14 +73,20 @@ impl<'a> Names<'a> {
             Err(EncodeError::OverLimit) => return Ok(None),
             Err(EncodeError::NoMemory) => return Err(LineFault::NoMemory),
         };
-        self.keep(alloc, name, block)?;
+        let digest = block_digest(&block);
+        self.keep(alloc, name, block, digest)?;
         Ok(Some(body))
     }
 
-    /// Binds the name to the block, which fits. The line is bad where the name is bound.
-    fn keep(&mut self, alloc: Global, name: Name<'a>, block: Block) -> Result<(), LineFault> {
+    /// Binds the name to the block of the digest. The line is bad where the name is bound.
+    fn keep(
+        &mut self,
+        alloc: Global,
+        name: Name<'a>,
+        block: Block,
+        digest: Digest,
+    ) -> Result<(), LineFault> {
         let slot = (block.round, block.author);
-        let digest = block_digest(&block);
         let first_name = *self.first_names.entry(digest)?.or_insert(name);
         let bound = Bound {
             block,

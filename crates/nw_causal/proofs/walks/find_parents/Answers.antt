@@ -1,49 +1,35 @@
-use Rattle.std.proofs.Common.{◌≡◌, true, false, Some, List, [], get_or, ap, sym, ◌∙◌}
+use Rattle.std.proofs.Common.{◌≡◌, true, false, List, [], get_or, ap, sym, ◌∙◌}
 use Rattle.std.specs.Option.{is_some}
 use Rattle.std.specs.FinMap.{FinMap, get, from_entries}
 use Rattle.std.proofs.lemmas.List.{take_all}
-use Rattle.std.proofs.lemmas.List.Elements.{All-get_or, All-same}
 use Rattle.nw_digest.specs.declared.digest.Digest.{Digest}
 use Rattle.nw_codec.specs.declared.block.Ref.{Ref}
-use Rattle.nw_codec.specs.declared.block.Block.{Block}
-use Rattle.nw_model.specs.State.{block_slot, slot_cmp}
-use Rattle.nw_model.specs.View.{IsThere}
+use Rattle.nw_model.specs.State.{Slot, slot_cmp}
 use Rattle.nw_model.proofs.Maps.{get_lookup, slots_total, slots_apart, put_entries}
-use Rattle.nw_model.proofs.Finding.{finds_nothing, finds_again, finds_one, under_more, names_nothing, names_on, none_some, there_is}
-use Rattle.nw_causal.proofs.Looked.{IsAt}
+use Rattle.nw_causal.proofs.Claiming.{claims_nothing, again_on, one_on}
 use Rattle.nw_causal.proofs.walks.find_parents.Goals as goal
-use Rattle.nw_causal.proofs.walks.find_parents.Goals.{in-Some+then-not-contains_key+in_ok-insert+in_ok-push, in-Some+else-not-contains_key, in_default}
+use Rattle.nw_causal.proofs.walks.find_parents.Goals.{then-not-contains_key+in_ok-insert+in_ok-push, else-not-contains_key}
 
 pub loop-reference-init : goal.loop-reference-init
-loop-reference-init g c = finds_nothing _ _ _ _ names_nothing
+loop-reference-init c = claims_nothing _ _ _
 
 pub loop-reference-preserved : goal.loop-reference-preserved
-loop-reference-preserved g c =
-    let refs : List Ref = c.as_slice-reference-items.result.now in
+loop-reference-preserved c =
+    let refs : List Ref = c.args.references.now in
     let none : Ref = record { author = 0; digest = record { 0 = [] } } in
     let r : Ref = get_or refs c.loop-reference.reference-index none in
+    let slot : Slot = (c.args.round, r.author) in
     let found : FinMap slot_cmp Digest = from_entries c.loop-reference.found.entries in
-    let under = under_more _ _ _ _ _ _ c.loop-reference.invariant c.requires.under in
-    let there : (b : Block) × IsThere c.args.view.now.frozen r.digest b =
-    All-get_or (λ (x : Ref). (b : Block) × IsThere c.args.view.now.frozen x.digest b) refs c.loop-reference.reference-index none c.loop-reference-test.true
-    (All-same (λ (x : Ref). (b : Block) × IsThere c.args.view.now.frozen x.digest b) refs c.args.block.now.parents c.as_slice-reference-items.ensures c.requires.there) in
-    elim c.match-get.branch [
-      | in-Some+then-not-contains_key+in_ok-insert+in_ok-push w ↦
-          let parent : Block = w.get-parent.result.now in
-          let at : IsAt c.args.view.now.frozen r.digest parent = sym w.in-Some.ensures.block ∙ ap Some (sym w.get-parent.ensures) in
-          let free : is_some (get found (block_slot parent)) ≡ false = ap is_some (get_lookup slots_total c.loop-reference.found.entries (block_slot parent)) ∙ sym w.contains_key.ensures ∙ w.if-not-contains_key.true in
-          rw (w.found-is, w.parents-is, w.in_ok-push.ensures.items, put_entries slots_total slots_apart c.loop-reference.found.entries w.insert.new.self.entries (block_slot parent) r.digest w.in_ok-insert.ensures.entries)
-          (names_on _ refs c.loop-reference.reference-index none _ _ _ _ _ _ c.loop-reference-test.true c.loop-reference.invariant
-          (finds_one _ _ _ r.digest parent (there_is _ _ parent there at) free))
-      | in-Some+else-not-contains_key w ↦
-          let parent : Block = w.get-parent.result.now in
-          let at : IsAt c.args.view.now.frozen r.digest parent = sym w.in-Some.ensures.block ∙ ap Some (sym w.get-parent.ensures) in
-          let taken : is_some (get found (block_slot parent)) ≡ true = ap is_some (get_lookup slots_total c.loop-reference.found.entries (block_slot parent)) ∙ sym w.contains_key.ensures ∙ w.if-not-contains_key.false in
+    elim c.if-not-contains_key.branch [
+      | then-not-contains_key+in_ok-insert+in_ok-push w ↦
+          let free : is_some (get found slot) ≡ false = ap is_some (get_lookup slots_total c.loop-reference.found.entries slot) ∙ sym c.contains_key.ensures ∙ w.if-not-contains_key.true in
+          rw (w.found-is, w.parents-is, w.in_ok-push.ensures.items, put_entries slots_total slots_apart c.loop-reference.found.entries w.insert.new.self.entries slot r.digest w.in_ok-insert.ensures.entries)
+          (one_on _ refs c.loop-reference.reference-index none _ _ _ _ c.loop-reference-test.true c.loop-reference.invariant free)
+      | else-not-contains_key w ↦
+          let taken : is_some (get found slot) ≡ true = ap is_some (get_lookup slots_total c.loop-reference.found.entries slot) ∙ sym c.contains_key.ensures ∙ w.if-not-contains_key.false in
           rw (w.found-is, w.parents-is)
-          (names_on _ refs c.loop-reference.reference-index none _ _ _ _ _ _ c.loop-reference-test.true c.loop-reference.invariant
-          (finds_again _ _ _ r.digest parent w.in-Some.ensures.closed under at taken))
-      | in_default w ↦ absurd (none_some there.0 (w.in_default.ensures.block ∙ there.1.0))
+          (again_on _ refs c.loop-reference.reference-index none _ _ _ _ c.loop-reference-test.true c.loop-reference.invariant taken)
     ]
 
 pub returns : goal.returns
-returns g c = rw (← c.as_slice-reference-items.ensures, ← take_all c.loop-reference.reference-index c.as_slice-reference-items.result.now c.loop-reference-test.false) c.loop-reference.invariant
+returns c = rw (← take_all c.loop-reference.reference-index c.args.references.now c.loop-reference-test.false) c.loop-reference.invariant
