@@ -193,10 +193,7 @@ impl Held {
 
     /// Keeps the certificate. It is for one whose reply is `Certified`. It is refused for want of memory alone, and then
     /// nothing changes.
-    pub fn put_certificate(
-        &mut self,
-        certificate: Shared<Certificate>,
-    ) -> Result<(), NoMemory>
+    pub fn put_certificate(&mut self, certificate: Shared<Certificate>) -> Result<(), NoMemory>
         requires absent { IsNone (map.get self.old.state.certificates certificate.digest) }
         requires open { certified_digest self.old.state (certificate_slot certificate) ≡ None }
         requires misfit { is_elsewhere block_slot (map.get self.old.state.blocks certificate.digest) (certificate_slot certificate) ≡ false }
