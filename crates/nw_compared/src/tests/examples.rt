@@ -1,4 +1,4 @@
-//! Lists of calls that both stores answer alike, by worked examples.
+//! What calls on small stores are answered, by worked examples for both stores.
 use super::both::Both;
 use super::words::words;
 use super::*;
@@ -218,7 +218,7 @@ fn answer_alike(alloc: Global, example: &Example) -> Result<bool, Fail> {
 }
 
 #[test]
-fn small_stores_answer_alike(rt: HostRuntime) -> Result<(), Fail> {
+fn small_stores_answer_as_the_table_of_steps_says(rt: HostRuntime) -> Result<(), Fail> {
     for example in &tables::EXAMPLES {
         assert!(rt; answer_alike(rt.alloc(), example)?, "{}", example.shows);
     }
