@@ -5,6 +5,7 @@ use std::test::Fail;
 
 mod both;
 mod examples;
+mod grids;
 mod random;
 mod views;
 mod words;

@@ -9,7 +9,8 @@ use Rattle.nw_waiting.specs.Pairs.{Pairs, Lacks, without_wanted}
 use Rattle.nw_model.specs.State.{State}
 use Rattle.nw_model.specs.Paths.{IsStanding}
 use Rattle.nw_model.proofs.Listed.{contains_cases, contains_first, contains_none}
-use Rattle.nw_dag.specs.Lacking.{Names, Stands, IsMet, IsReady, IsPromoted, AreLacking, AreUnmet, AreUnmetBut, named_as}
+use Rattle.nw_held.specs.Standing.{Stands, IsMet, named_as}
+use Rattle.nw_dag.specs.Lacking.{Names, IsReady, IsPromoted, AreLacking, AreUnmet, AreUnmetBut}
 use Rattle.nw_dag.specs.Settled.{AreListed}
 use Rattle.nw_dag.proofs.Pairs.{without_wanted_lacks}
 use Rattle.nw_dag.proofs.Cascade.{met_under}

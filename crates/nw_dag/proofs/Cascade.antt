@@ -11,7 +11,8 @@ use Rattle.nw_model.specs.State.{State}
 use Rattle.nw_model.specs.Paths.{IsStanding}
 use Rattle.nw_model.proofs.Complete.{one_block}
 use Rattle.nw_model.proofs.Listed.{contains_cases, contains_later}
-use Rattle.nw_dag.specs.Lacking.{Names, IsMet, IsReady, IsPromoted, AreLacking, named_as}
+use Rattle.nw_held.specs.Standing.{IsMet, named_as}
+use Rattle.nw_dag.specs.Lacking.{Names, IsReady, IsPromoted, AreLacking}
 use Rattle.nw_dag.specs.Changes.{Promotes}
 use Rattle.nw_dag.proofs.Pairs.{without_wanted_lacks, lacks_or_not, wanted_or_not}
 

@@ -1,21 +1,27 @@
 -- The tables of a store while it collects.
-use Rattle.std.proofs.Common.{◌≡◌, ℕ, ◌<◌, ◌≤◌, true, List, filter, length, drop, Option, Some, None, is_some, refl, ap, sym, ◌∙◌, subst, inl, inr}
+use Rattle.std.proofs.Common.{◌≡◌, ◌⊎◌, ℕ, ◌<◌, ◌≤◌, Bool, true, false, List, filter, length, drop, Option, Some, None, is_some, refl, ap, sym, ◌∙◌, subst, inl, inr}
 use Rattle.std.specs.Prelude.{Contains}
+use Rattle.std.specs.List.{list_any}
 use Rattle.std.specs.Ordering.{eq_by_cmp}
+use Rattle.std.specs.Cmp.{eq_by_cmp_equiv}
 use Rattle.std.specs.FinMap.{get, len}
 use Rattle.std.proofs.lemmas.List.{drop_at}
 use Rattle.std.proofs.lemmas.List.Elements.{All-filter, filter_passes, Contains-append_left, Contains-append_right}
+use Rattle.std.proofs.lemmas.Map.Views.{Contains-from_any, list_any-from_Contains}
 use Rattle.nw_digest.specs.declared.digest.Digest.{Digest}
 use Rattle.nw_codec.specs.declared.block.Block.{Block}
 use Rattle.nw_waiting.specs.Pairs.{Pairs}
 use Rattle.nw_model.specs.State.{State, digest_cmp}
 use Rattle.nw_model.specs.Step.{raised}
 use Rattle.nw_model.specs.Sound.{IsSound}
+use Rattle.nw_model.proofs.Kept.{same_digest}
+use Rattle.nw_model.proofs.Maps.{digests_total}
 use Rattle.nw_dag.specs.Lacking.{IsReady, AreLacking}
 use Rattle.nw_dag.specs.Changes.{Adds}
 use Rattle.nw_dag.specs.Settled.{AreListed, IsSettling, IsSettled}
-use Rattle.nw_dag.specs.Collection.{AreUpTo, AreWithout, IsStuck, IsCollecting}
-use Rattle.nw_dag.proofs.Filtered.{filter_has, distinct_filter, among_or_not}
+use Rattle.nw_held.specs.Collection.{AreUpTo}
+use Rattle.nw_dag.specs.Collection.{AreWithout, IsStuck, IsCollecting}
+use Rattle.nw_held.proofs.Filtered.{filter_has, distinct_filter}
 use Rattle.nw_dag.proofs.Raising.{held_stands, ready_cases, unmet_raised, lacking_raised}
 
 -- ---- what is listed
@@ -27,6 +33,17 @@ kept s complete = filter (λ d. is_some (get s.blocks d)) complete
 is_held : (found : Option Block) → is_some found ≡ true → (b : Block) × (found ≡ Some b)
 is_held (Some b) e = (b, refl)
 is_held None e = cc
+
+true_false : true ≡ false → ⊥
+true_false e = cc
+
+-- a digest is among these, or not
+among_or_not : (xs : List Digest) (x : Digest) → Contains xs x ⊎ (Contains xs x → ⊥)
+among_or_not xs x = by (list_any (eq_by_cmp digest_cmp x) xs) refl
+  where
+    by : (b : Bool) → list_any (eq_by_cmp digest_cmp x) xs ≡ b → Contains xs x ⊎ (Contains xs x → ⊥)
+    by true e = inl (Contains-from_any same_digest x xs e)
+    by false e = inr (λ among. true_false (sym (list_any-from_Contains (eq_by_cmp_equiv digests_total) x xs among) ∙ e))
 
 held_is : (found : Option Block) (b : Block) → found ≡ Some b → is_some found ≡ true
 held_is found b e = ap is_some e

@@ -3,7 +3,6 @@ pub mod Pairs
 pub mod Cascade
 pub mod Complete
 pub mod Arrival
-pub mod Puts
 pub mod Wanting
 pub mod Listed
 pub mod Missing
@@ -11,10 +10,7 @@ pub mod Steps
 pub mod Written
 pub mod Sorted
 pub mod Freezing
-pub mod Shelves
-pub mod HeldRaised
 pub mod Raising
-pub mod Filtered
 pub mod Releasing
 pub mod Collecting
 pub mod Refrozen

@@ -1,18 +1,15 @@
 -- A store in which nothing is.
 use Rattle.std.proofs.Common.{◌≡◌, ℕ, true, false, [], Some, None, sym, ◌∙◌, arith}
 use Rattle.std.specs.List.{IsDistinct}
-use Rattle.std.specs.List.Sorted.{IsStrictlySortedBy}
 use Rattle.std.specs.Ordering.{eq_by_cmp}
-use Rattle.std.specs.FinMap.{get, from_entries, get-empty, len-empty}
+use Rattle.std.specs.FinMap.{get-empty, len-empty}
 use Rattle.std.specs.FinSet.{empty, contains-empty}
 use Rattle.std.proofs.lemmas.List.Elements.{All-nil}
 use Rattle.nw_digest.specs.declared.digest.Digest.{Digest}
 use Rattle.nw_codec.specs.declared.block.Block.{Block}
-use Rattle.nw_rounds.specs.Slots.{no_digests}
 use Rattle.nw_waiting.specs.Pairs.{Lacks, pair_cmp}
 use Rattle.nw_waiting.specs.declared.wanted.Wanted.{Wanted}
 use Rattle.nw_model.specs.State.{opening, digest_cmp}
-use Rattle.nw_dag.specs.Held.{IsNamed}
 use Rattle.nw_dag.specs.Lacking.{Names}
 use Rattle.nw_dag.specs.Settled.{IsSettled}
 
@@ -32,10 +29,6 @@ once_none : IsDistinct (eq_by_cmp digest_cmp) []
 unfolding IsDistinct
 once_none = tt
 
-pub ordered_none : IsStrictlySortedBy digest_cmp []
-unfolding IsStrictlySortedBy
-ordered_none = tt
-
 pub settled_opening : (capacity : ℕ) → IsSettled opening empty empty [] capacity
 settled_opening capacity = record {
   standing = λ d w. (λ lacks. absurd (lacks_nothing d w lacks), λ names. absurd (names_nothing d w names.0));
@@ -47,6 +40,3 @@ settled_opening capacity = record {
   all = λ d ready. absurd (none_some ready.0.0 (sym (get-empty digest_cmp d) ∙ ready.0.1.0));
   room = omega (arith, len-empty digest_cmp Block);
 }
-
-pub nothing_named : (d : Digest) (b : Block) → get (from_entries {R = digest_cmp} []) d ≡ Some b → IsNamed no_digests d b
-nothing_named d b at = absurd (none_some b (sym (get-empty digest_cmp d) ∙ at))

@@ -15,8 +15,10 @@ use Rattle.nw_model.specs.Paths.{IsStanding}
 use Rattle.nw_model.proofs.Raised.{was_there, is_kept}
 use Rattle.nw_model.proofs.Complete.{one_block}
 use Rattle.nw_model.proofs.Listed.{contains_none}
-use Rattle.nw_dag.specs.Lacking.{Names, Stands, IsMet, IsReady, IsPromoted, AreLacking, AreUnmet}
-use Rattle.nw_dag.specs.Collection.{AreUpTo, AreWithout, IsStuck}
+use Rattle.nw_held.specs.Standing.{Stands, IsMet}
+use Rattle.nw_dag.specs.Lacking.{Names, IsReady, IsPromoted, AreLacking, AreUnmet}
+use Rattle.nw_held.specs.Collection.{AreUpTo}
+use Rattle.nw_dag.specs.Collection.{AreWithout, IsStuck}
 
 some_certificate : (found : Option Certificate) → IsSome found → (c : Certificate) × (found ≡ Some c)
 some_certificate (Some c) h = (c, refl)

@@ -11,7 +11,7 @@ use Rattle.nw_model.specs.State.{State, digest_cmp}
 use Rattle.nw_model.specs.Step.{raised}
 use Rattle.nw_model.proofs.Raised.{was_there, is_kept}
 use Rattle.nw_dag.specs.Frozen.{IsFrozenTo, Begins}
-use Rattle.nw_dag.proofs.Filtered.{filter_was, filter_has}
+use Rattle.nw_held.proofs.Filtered.{filter_was, filter_has}
 
 module _ (s : State) (round : ℕ) (complete more : List Digest) (blocks : FinMap digest_cmp Block) (count : ℕ) (higher : s.floor < round) (was : IsFrozenTo s complete blocks count) where
   abbrev t : State

@@ -15,7 +15,8 @@ use Rattle.nw_waiting.specs.declared.wanted.Wanted.{Wanted}
 use Rattle.nw_waiting.specs.Pairs.{Pairs, Lacks, AreHolders, without_wanted}
 use Rattle.nw_model.specs.State.{State, digest_cmp}
 use Rattle.nw_model.proofs.Maps.{digests_total}
-use Rattle.nw_dag.specs.Lacking.{Stands, IsReady, AreUnmet, AreUnmetBut, AreLacking, named_as}
+use Rattle.nw_held.specs.Standing.{Stands, named_as}
+use Rattle.nw_dag.specs.Lacking.{IsReady, AreUnmet, AreUnmetBut, AreLacking}
 use Rattle.nw_dag.specs.Changes.{Adds, Promotes}
 use Rattle.nw_dag.specs.Settled.{AreListed, IsSettling, IsSettled, IsSettledBut}
 use Rattle.nw_dag.proofs.Pairs.{without_wanted_lacks, lacks_or_not, same_or_not}

@@ -9,7 +9,8 @@ use Rattle.nw_waiting.specs.declared.wanted.Wanted.{Wanted}
 use Rattle.nw_waiting.specs.Pairs.{Pairs, Lacks, LacksCount}
 use Rattle.nw_model.specs.State.{State}
 use Rattle.nw_model.proofs.Listed.{contains_first, contains_none}
-use Rattle.nw_dag.specs.Lacking.{IsNamedAmong, IsReady, Stands}
+use Rattle.nw_held.specs.Standing.{Stands}
+use Rattle.nw_dag.specs.Lacking.{IsNamedAmong, IsReady}
 use Rattle.nw_model.specs.Missing.{IsNamedBy}
 use Rattle.nw_dag.specs.Changes.{AreSameBut, Wants}
 use Rattle.nw_dag.proofs.Pairs.{lacks_more, lacks_new, lacks_still}

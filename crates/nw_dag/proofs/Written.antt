@@ -13,7 +13,8 @@ use Rattle.nw_model.specs.Step.{with_block, with_certificate}
 use Rattle.nw_model.proofs.Kept.{after_insert, at_insert, same_digest}
 use Rattle.nw_model.proofs.Listed.{contains_none}
 use Rattle.nw_model.proofs.Maps.{digests_total}
-use Rattle.nw_dag.specs.Lacking.{Names, IsNamedAmong, IsMet, IsReady, AreUnmet, AreLacking}
+use Rattle.nw_held.specs.Standing.{IsMet}
+use Rattle.nw_dag.specs.Lacking.{Names, IsNamedAmong, IsReady, AreUnmet, AreLacking}
 use Rattle.nw_dag.specs.Changes.{AreSameBut, Wants}
 use Rattle.nw_dag.specs.Settled.{IsSettled, IsSettledBut}
 use Rattle.nw_dag.proofs.Pairs.{pairs_apart, pairs_total, without_holder_lacks}

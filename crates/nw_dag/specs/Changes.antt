@@ -6,7 +6,8 @@ use Rattle.nw_codec.specs.declared.block.Block.{Block}
 use Rattle.nw_waiting.specs.Pairs.{Pairs, Lacks, without_wanted}
 use Rattle.nw_waiting.specs.declared.wanted.Wanted.{Wanted}
 use Rattle.nw_model.specs.State.{State}
-use Rattle.nw_dag.specs.Lacking.{IsReady, named_as}
+use Rattle.nw_held.specs.Standing.{named_as}
+use Rattle.nw_dag.specs.Lacking.{IsReady}
 
 -- only what the holder lacks differs
 abbrev pub AreSameBut : Digest → Pairs → Pairs → Type 0

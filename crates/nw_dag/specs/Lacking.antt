@@ -7,8 +7,8 @@ use Rattle.nw_codec.specs.declared.block.Block.{Block}
 use Rattle.nw_waiting.specs.Pairs.{Pairs, Lacks}
 use Rattle.nw_waiting.specs.declared.wanted.Wanted.{Wanted}
 use Rattle.nw_model.specs.State.{State}
-use Rattle.nw_model.specs.Paths.{IsStanding}
 use Rattle.nw_model.specs.Missing.{IsNamedBy}
+use Rattle.nw_held.specs.Standing.{Stands, IsMet}
 
 -- one of these references of a block of this round names it
 abbrev pub IsNamedAmong : ℕ → List Ref → Wanted → Type 0
@@ -17,14 +17,6 @@ IsNamedAmong round refs w = (r : Ref) × Contains refs r × IsNamedBy round r w
 -- the block under d is of a round above the garbage round, and one of its references names w
 abbrev pub Names : State → Digest → Wanted → Type 0
 Names s d w = (b : Block) × (get s.blocks d ≡ Some b) × (s.floor < b.round) × IsNamedAmong b.round b.parents w
-
--- a block stands under d
-abbrev pub Stands : State → Digest → Type 0
-Stands s d = (b : Block) × IsStanding s d b
-
--- what w names stands, of that round and author
-abbrev pub IsMet : State → Wanted → Type 0
-IsMet s w = (b : Block) × IsStanding s w.digest b × (b.author ≡ w.author) × (b.round ≡ w.round)
 
 -- d stands and lacks nothing
 abbrev pub IsReady : State → Pairs → Digest → Type 0
@@ -46,7 +38,3 @@ AreUnmetBut s but unmet = (d : Digest) (w : Wanted) → Lacks unmet d w ↔ (Nam
 pub record AreLacking (s : State) (lacking : Pairs) (due : List Digest) : Type 0 where
   pub each : (d : Digest) (w : Wanted) → Names s d w → Lacks lacking d w ⊎ (IsMet s w × IsPromoted s lacking due w.digest)
   pub only : (d : Digest) (w : Wanted) → Lacks lacking d w → Names s d w × (IsMet s w → IsPromoted s lacking due w.digest → ⊥)
-
--- what names the block under d
-abbrev pub named_as : Digest → Block → Wanted
-named_as d b = record { round = b.round; author = b.author; digest = d }

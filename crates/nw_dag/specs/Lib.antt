@@ -1,7 +1,5 @@
-pub mod Held
 pub mod Lacking
 pub mod Changes
 pub mod Settled
 pub mod Frozen
-pub mod Shelf
 pub mod Collection

@@ -5,17 +5,18 @@ ghost use Rattle.nw_model.specs.State.{opening, block_slot, certificate_slot};
 ghost use Rattle.nw_model.specs.Paths.{IsComplete};
 ghost use Rattle.nw_model.specs.Missing.{AreFirstWanted, AreCounts};
 ghost use Rattle.nw_model.specs.Step.{after, write_reply, certify_reply, collect_reply, certified_digest, is_elsewhere, raised, rival, with_block, with_certificate};
-ghost use Rattle.nw_dag.specs.Lacking.{IsMet, IsReady, IsNamedAmong};
+ghost use Rattle.nw_held.specs.Standing.{IsMet};
+ghost use Rattle.nw_dag.specs.Lacking.{IsReady, IsNamedAmong};
 ghost use Rattle.nw_dag.specs.Changes.{AreSameBut, Wants};
 
 mod calls;
 mod causal;
 
 use crate::frozen::Frozen;
-use crate::held::Held;
 use crate::waits::Waits;
 use nw_codec::{Block, Certificate};
 use nw_digest::{Digest, NoMemory, Round, Sequence, Shared};
+use nw_held::Held;
 use nw_model::{Call, CertifyReply, CollectReply, Counts, WriteReply};
 use nw_waiting::Wanted;
 use std::alloc::Global;

@@ -5,10 +5,10 @@ ghost use Rattle.nw_model.specs.State.{digest_cmp};
 ghost use Rattle.nw_model.specs.View.{IsClosed};
 ghost use Rattle.nw_dag.specs.Frozen.{AreFrozen, AreOf, IsFrozenTo};
 
-use crate::held::Held;
 use nw_codec::Block;
 use nw_digest::{Digest, NoMemory, Round, Shared};
 use nw_generation::{Generation, Generations, View, freeze};
+use nw_held::Held;
 use nw_trie::Trie;
 use std::alloc::Global;
 

@@ -1,12 +1,11 @@
-//! The tables of a store: blocks in tries, the slots of each round, what is lacked and by whom.
+//! The tables of a store: what is held, what that lacks, and what of it is complete and frozen.
 //!
-//! Its contract: the calls of [`Dag`] are the steps of the table of `nw_model`. It stands on `nw_digest`, `nw_codec`,
-//! `nw_trie`, `nw_rounds` and `nw_waiting`, and for what is frozen on `nw_generation`.
+//! Its contract: the calls of [`Dag`] are the steps of the table of `nw_model`. It stands on `nw_held` for what is held, on
+//! `nw_waiting` for what is lacked and by whom, and on `nw_trie` and `nw_generation` for what is frozen.
 #![tactic(auto)]
 
 mod dag;
 mod frozen;
-mod held;
 mod waits;
 
 pub use dag::Dag;

@@ -13,7 +13,6 @@ const C: Digest = Digest([3; 32]);
 
 mod collections;
 mod diamonds;
-mod replies;
 
 /// A round and an author.
 type Slot = (u64, u16);

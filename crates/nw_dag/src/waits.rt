@@ -4,7 +4,8 @@ ghost use Rattle.std.specs.FinSet as set;
 ghost use Rattle.std.specs.FinMap as map;
 ghost use Rattle.std.specs.Vec.{vec_capacity};
 ghost use Rattle.nw_waiting.specs.Pairs.{AreFirst, Lacks, WantedCount, without_holder};
-ghost use Rattle.nw_dag.specs.Lacking.{Stands, IsMet, IsReady, IsNamedAmong};
+ghost use Rattle.nw_held.specs.Standing.{Stands, IsMet};
+ghost use Rattle.nw_dag.specs.Lacking.{IsReady, IsNamedAmong};
 ghost use Rattle.nw_model.specs.Missing.{IsNamedBy};
 ghost use Rattle.nw_dag.specs.Changes.{AreSameBut, Wants};
 ghost use Rattle.nw_dag.specs.Settled.{AreListed};
@@ -12,9 +13,9 @@ ghost use Rattle.nw_dag.specs.Settled.{AreListed};
 mod cascade;
 mod collection;
 
-use crate::held::Held;
 use nw_codec::{Block, Ref};
 use nw_digest::{Digest, NoMemory, Round};
+use nw_held::Held;
 use nw_waiting::{Waiting, Wanted};
 use std::alloc::Global;
 

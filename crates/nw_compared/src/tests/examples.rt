@@ -1,8 +1,8 @@
-//! Lists of calls that both stores answer alike, by worked examples.
+//! What calls on small stores are answered, by worked examples for both stores.
 use super::both::Both;
 use super::words::words;
 use super::*;
-use nw_model::{Call, CollectReply, Counts, Reply, Wanted};
+use nw_model::{Call, CertifyReply, CollectReply, Counts, Reply, Wanted, WriteReply};
 
 mod tables;
 
@@ -32,10 +32,22 @@ enum Asked {
 enum Answer {
     /// These words are for the reply.
     Is(&'static str),
+    /// The block of that name is the first of the slot.
+    Equivocates(Name),
+    /// The block of that name is certified for the slot.
+    Conflict(Name),
+    /// The round is below this garbage round.
+    Below(u64),
+    /// The block of that name is held.
+    Found(Name),
+    /// The certificate is for this slot.
+    Kept(Slot),
     /// Blocks of these slots.
     List(&'static [Slot]),
     /// So many blocks were dropped.
     Raised(u64),
+    /// The round is not higher than this garbage round.
+    NotHigher(u64),
     /// Blocks of these slots are wanted under the digests of these names.
     Wanted(&'static [(Slot, Name)]),
     /// The garbage round, and how many blocks, certificates, complete blocks and wanted parents there are.
@@ -129,13 +141,52 @@ fn are_counts(counts: &Counts, numbers: [u64; 5]) -> bool {
     ] == numbers
 }
 
+/// Whether it is the block of that name.
+fn is_block(block: &Block, name: Name) -> bool {
+    match block.transactions.as_slice() {
+        [text] => {
+            (block.round.get(), block.author) == (name.0, name.1)
+                && text.as_slice() == [name.2].as_slice()
+        }
+        _ => false,
+    }
+}
+
+fn is_answer_to_write(reply: &WriteReply, answer: Answer) -> bool {
+    match (reply, answer) {
+        (WriteReply::Equivocates(first), Answer::Equivocates(name)) => *first == digest_of(name),
+        (WriteReply::Collected(floor), Answer::Below(number)) => floor.get() == number,
+        _ => false,
+    }
+}
+
+fn is_answer_to_certify(reply: &CertifyReply, answer: Answer) -> bool {
+    match (reply, answer) {
+        (CertifyReply::Conflict(other), Answer::Conflict(name)) => *other == digest_of(name),
+        (CertifyReply::Collected(floor), Answer::Below(number)) => floor.get() == number,
+        _ => false,
+    }
+}
+
+fn is_answer_to_collect(reply: &CollectReply, answer: Answer) -> bool {
+    match (reply, answer) {
+        (CollectReply::Raised { dropped }, Answer::Raised(number)) => *dropped == number,
+        (CollectReply::NotHigher(floor), Answer::NotHigher(number)) => floor.get() == number,
+        _ => false,
+    }
+}
+
 fn is_answer(reply: &Reply, answer: Answer) -> bool {
     match (reply, answer) {
         (reply, Answer::Is(named)) => words(reply) == named,
-        (Reply::List(blocks), Answer::List(slots)) => have_slots(blocks.as_slice(), slots),
-        (Reply::Collect(CollectReply::Raised { dropped }), Answer::Raised(most)) => {
-            *dropped == most
+        (Reply::Write(reply), answer) => is_answer_to_write(reply, answer),
+        (Reply::Certify(reply), answer) => is_answer_to_certify(reply, answer),
+        (Reply::Collect(reply), answer) => is_answer_to_collect(reply, answer),
+        (Reply::Read(Some(block)), Answer::Found(name)) => is_block(block.get(), name),
+        (Reply::Certificate(Some(kept)), Answer::Kept(slot)) => {
+            (kept.get().round.get(), kept.get().author) == slot
         }
+        (Reply::List(blocks), Answer::List(slots)) => have_slots(blocks.as_slice(), slots),
         (Reply::Missing(found), Answer::Wanted(wanted)) => are_wanted(found.as_slice(), wanted),
         (Reply::Status(counts), Answer::Counts(numbers)) => are_counts(counts, numbers),
         _ => false,
@@ -167,7 +218,7 @@ fn answer_alike(alloc: Global, example: &Example) -> Result<bool, Fail> {
 }
 
 #[test]
-fn small_stores_answer_alike(rt: HostRuntime) -> Result<(), Fail> {
+fn small_stores_answer_as_the_table_of_steps_says(rt: HostRuntime) -> Result<(), Fail> {
     for example in &tables::EXAMPLES {
         assert!(rt; answer_alike(rt.alloc(), example)?, "{}", example.shows);
     }

@@ -5,14 +5,15 @@ ghost use Rattle.std.specs.Ordering.{eq_by_cmp};
 ghost use Rattle.std.specs.FinMap as map;
 ghost use Rattle.std.specs.Vec.{vec_capacity};
 ghost use Rattle.nw_model.specs.State.{digest_cmp};
-ghost use Rattle.nw_dag.specs.Lacking.{Stands, IsReady, AreUnmet, AreUnmetBut};
+ghost use Rattle.nw_held.specs.Standing.{Stands};
+ghost use Rattle.nw_dag.specs.Lacking.{IsReady, AreUnmet, AreUnmetBut};
 ghost use Rattle.nw_dag.specs.Changes.{Adds, Promotes};
 ghost use Rattle.nw_dag.specs.Frozen.{Begins};
 ghost use Rattle.nw_dag.specs.Settled.{AreListed, IsSettling, IsSettled, IsSettledBut};
 
 use super::Waits;
-use crate::held::Held;
 use nw_digest::Digest;
+use nw_held::Held;
 
 impl Waits {
     /// Lists the digest where it is ready.

@@ -12,8 +12,8 @@ ghost use Rattle.nw_dag.specs.Settled.{AreListed, IsSettled};
 ghost use Rattle.nw_dag.specs.Collection.{AreWithout, IsStuck, IsCollecting};
 
 use super::Waits;
-use crate::held::Held;
 use nw_digest::Digest;
+use nw_held::Held;
 
 impl Waits {
     /// Drops from the list what is no longer held; what stays keeps its order.

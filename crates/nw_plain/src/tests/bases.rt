@@ -4,11 +4,7 @@ use super::*;
 /// A store in which the block of round 0 and author 0 with this text is held and certified under A.
 fn store(alloc: Global, text: &[u8]) -> Result<Plain, Fail> {
     let mut plain = Plain::new(alloc, 16, 4);
-    write(
-        &mut plain,
-        A,
-        block_of(alloc, (0, 0), Vec::new(alloc), text)?,
-    )?;
+    write(&mut plain, A, block_of(alloc, (0, 0), text)?)?;
     certify(&mut plain, alloc, A, (0, 0))?;
     Ok(plain)
 }
@@ -35,7 +31,7 @@ fn a_base_answers_as_its_store(rt: HostRuntime) -> Result<(), Fail> {
 /// What a store over the base answers to another block of the slot under B and under A, and whether it stays as it was.
 fn answers_over(alloc: Global, base: &Base) -> Result<([WriteReply; 2], bool), Fail> {
     let mut plain = Plain::over(alloc, base)?;
-    let other = block_of(alloc, (0, 0), Vec::new(alloc), b"y")?;
+    let other = block_of(alloc, (0, 0), b"y")?;
     let under_b = write(&mut plain, B, other.try_clone()?)?;
     let under_a = write(&mut plain, A, other)?;
     Ok(([under_b, under_a], base.is_same(&Base::of(plain))))

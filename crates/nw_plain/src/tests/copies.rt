@@ -3,7 +3,7 @@ use super::*;
 
 /// The call that writes a block of round 0 under A.
 fn first_write(alloc: Global) -> Result<Call, Fail> {
-    Ok(Call::Write(A, block_of(alloc, (0, 0), Vec::new(alloc), b"x")?))
+    Ok(Call::Write(A, block_of(alloc, (0, 0), b"x")?))
 }
 
 /// A copy of the reply to a copy of the call, in words.

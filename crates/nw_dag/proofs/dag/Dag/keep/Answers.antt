@@ -2,7 +2,7 @@ use Rattle.std.proofs.Common.{sym, subst}
 use Rattle.nw_model.specs.State.{State}
 use Rattle.nw_dag.specs.Frozen.{IsFrozenTo}
 use Rattle.nw_dag.proofs.Freezing.{frozen_certified}
-use Rattle.nw_dag.proofs.Puts.{absent}
+use Rattle.nw_held.proofs.Puts.{absent}
 use Rattle.nw_dag.proofs.Written.{certified}
 use Rattle.nw_dag.proofs.dag.Dag.keep.Goals as goal
 

@@ -7,7 +7,7 @@ use Rattle.nw_model.specs.State.{State}
 use Rattle.nw_dag.specs.Changes.{AreSameBut}
 use Rattle.nw_dag.specs.Frozen.{Begins, IsFrozenTo}
 use Rattle.nw_dag.proofs.Freezing.{frozen_written}
-use Rattle.nw_dag.proofs.Puts.{absent}
+use Rattle.nw_held.proofs.Puts.{absent}
 use Rattle.nw_dag.proofs.Written.{written, forgotten, nothing_unmet, nothing_lacking, settled_wider}
 use Rattle.nw_dag.proofs.dag.Dag.store.Goals as goal
 

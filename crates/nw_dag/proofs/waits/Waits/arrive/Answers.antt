@@ -1,7 +1,8 @@
 use Rattle.std.proofs.Common.{[], ◌∷◌, ◌++◌, ap, ◌∙◌, Vec, Global}
 use Rattle.nw_digest.specs.declared.digest.Digest.{Digest}
 use Rattle.nw_model.specs.State.{State}
-use Rattle.nw_dag.specs.Lacking.{Stands, IsReady}
+use Rattle.nw_held.specs.Standing.{Stands}
+use Rattle.nw_dag.specs.Lacking.{IsReady}
 use Rattle.nw_dag.proofs.Steps.{not_standing, not_ready, now_ready}
 use Rattle.nw_dag.proofs.Freezing.{begins_same, begins_more}
 use Rattle.nw_dag.proofs.Wanting.{refuted}

@@ -1,5 +1,5 @@
 use Rattle.std.proofs.Common.{◌<◌, length, sym, subst, arith}
-use Rattle.nw_dag.specs.Lacking.{Stands}
+use Rattle.nw_held.specs.Standing.{Stands}
 use Rattle.nw_dag.specs.Changes.{Promotes}
 use Rattle.nw_dag.proofs.Freezing.{begins_same, begins_more}
 use Rattle.nw_dag.proofs.Steps.{stands_at, cascaded, all_due, none_due}

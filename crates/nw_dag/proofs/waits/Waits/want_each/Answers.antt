@@ -3,7 +3,8 @@ use Rattle.std.proofs.lemmas.List.{take_more}
 use Rattle.nw_codec.specs.declared.block.Ref.{Ref}
 use Rattle.nw_waiting.specs.declared.wanted.Wanted.{Wanted}
 use Rattle.nw_model.specs.State.{State}
-use Rattle.nw_dag.specs.Lacking.{IsMet, IsReady, IsNamedAmong}
+use Rattle.nw_held.specs.Standing.{IsMet}
+use Rattle.nw_dag.specs.Lacking.{IsReady, IsNamedAmong}
 use Rattle.nw_dag.specs.Changes.{Wants}
 use Rattle.nw_dag.proofs.Wanting.{wants_more, same_through, ready_same, ready_back}
 use Rattle.nw_dag.proofs.waits.Waits.want_each.Goals as goal

@@ -1,5 +1,6 @@
 use Rattle.std.specs.Prelude.{◌≡◌, ◌+◌, take}
-use Rattle.nw_dag.specs.Lacking.{IsMet, IsReady, IsNamedAmong}
+use Rattle.nw_held.specs.Standing.{IsMet}
+use Rattle.nw_dag.specs.Lacking.{IsReady, IsNamedAmong}
 use Rattle.nw_dag.specs.Changes.{AreSameBut, Wants}
 use Rattle.nw_dag.proofs.waits.Waits.want_each.Given as goal
 

@@ -1,6 +1,0 @@
-use Rattle.nw_model.proofs.Kept.{kept_opening}
-use Rattle.nw_dag.proofs.Opening.{ordered_none, nothing_named}
-use Rattle.nw_dag.proofs.held.Held.new.Goals as goal
-
-pub invariant_of-result-2 : goal.invariant_of-result-2
-invariant_of-result-2 c = rw (c.new_in.ensures, c.new_in-2.ensures, c.new_in-3.ensures) (record { kept = kept_opening; named = nothing_named; blocks_ordered = ordered_none; certificates_ordered = ordered_none })

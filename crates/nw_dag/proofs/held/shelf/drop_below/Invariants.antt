@@ -1,6 +1,0 @@
-use Rattle.std.proofs.Common.{take}
-use Rattle.nw_dag.specs.Shelf.{DropsBelow}
-use Rattle.nw_dag.proofs.held.shelf.drop_below.Given as goal
-
-abbrev pub invariant-loop-digest : goal.invariant-loop-digest
-invariant-loop-digest g l = DropsBelow g.V.OfRound.round_of l.round (take l.digest-index l.digests) l.fn.entries l.entries

@@ -1,0 +1,143 @@
+-- What is held with one more block or certificate.
+use Rattle.std.proofs.Common.{◌≡◌, ◌⊎◌, ℕ, ◌≤◌, true, false, not, Bool, List, [], ◌∷◌, Option, Some, None, IsNone, IsSome, is_some, cond, refl, ap, sym, ◌∙◌, subst, inl, inr}
+use Rattle.std.specs.Option.{option_and_then}
+use Rattle.std.specs.declared.cmp.Ordering.{Ordering}
+use Rattle.std.specs.declared.cmp.Ordering.TheVariants.{Less, Equal, Greater}
+use Rattle.std.specs.Ordering.{eq_by_cmp, is_eq, match_ordering}
+use Rattle.std.specs.Cmp.{eq_by_cmp_equiv}
+use Rattle.std.specs.Map.{lookup, remove_entry}
+use Rattle.std.specs.BTreeMap.{is_at, insert_entry}
+use Rattle.std.specs.FinMap.{FinMap, get, insert, from_entries, get-insert}
+use Rattle.nw_digest.specs.declared.digest.Digest.{Digest}
+use Rattle.nw_codec.specs.declared.block.Block.{Block}
+use Rattle.nw_codec.specs.declared.certificate.Certificate.{Certificate}
+use Rattle.nw_rounds.specs.Slots.{Tables}
+use Rattle.nw_trie.proofs.Inserts.{sorted_insert}
+use Rattle.nw_model.specs.State.{State, Slot, block_slot, certificate_slot, digest_cmp, slot_cmp}
+use Rattle.nw_model.specs.Step.{is_elsewhere, is_digest, rival, with_block, with_certificate, certified_digest}
+use Rattle.nw_model.specs.Sound.{IsKept}
+use Rattle.nw_model.proofs.Kept.{kept_written, index_with_certificate, sound_with_certificate, index_answers, after_insert, at_insert, tie}
+use Rattle.nw_model.proofs.Sames.{same_digest_decides}
+use Rattle.nw_model.proofs.Maps.{put_entries, digests_total, digests_apart, slots_total, slots_apart}
+use Rattle.nw_held.specs.Held.{IsHeld, IsNamed, state_of}
+
+pub absent : {A : Type 0} (found : Option A) → IsNone found → found ≡ None
+absent None h = refl
+absent (Some a) h = cc
+
+none_some : {X : Type 0} (x : X) → Some x ≡ None → ⊥
+none_some x e = cc
+
+-- what was put where nothing was, and is taken out again
+pub taken_back : {V : Type 0} (es : List (Digest × V)) (d : Digest) (v : V) → lookup (is_at (digest_cmp d)) es ≡ None → remove_entry (is_at (digest_cmp d)) (insert_entry digest_cmp es d v) ≡ es
+taken_back [] d v none = ap (λ b. cond b [] ((d, v) ∷ [])) ((eq_by_cmp_equiv digests_total).refl d)
+taken_back (e ∷ es) d v none = by (digest_cmp d e.0) refl none (taken_back es d v)
+  where
+    by : (r : Ordering) → digest_cmp d e.0 ≡ r → cond (is_at (digest_cmp d) e.0) (Some e.1) (lookup (is_at (digest_cmp d)) es) ≡ None
+        → (lookup (is_at (digest_cmp d)) es ≡ None → remove_entry (is_at (digest_cmp d)) (insert_entry digest_cmp es d v) ≡ es)
+        → remove_entry (is_at (digest_cmp d)) (match_ordering r ((d, v) ∷ e ∷ es) ((e.0, v) ∷ es) (e ∷ insert_entry digest_cmp es d v)) ≡ e ∷ es
+    by Less is at rest = ap (λ b. cond b (e ∷ es) ((d, v) ∷ remove_entry (is_at (digest_cmp d)) (e ∷ es))) ((eq_by_cmp_equiv digests_total).refl d)
+    by Equal is at rest = absurd (none_some e.1 (sym (ap (λ r. cond (is_eq r) (Some e.1) (lookup (is_at (digest_cmp d)) es)) is) ∙ at))
+    by Greater is at rest =
+        let here : is_at (digest_cmp d) e.0 ≡ false = ap is_eq is in
+        ap (λ b. cond b (insert_entry digest_cmp es d v) (e ∷ remove_entry (is_at (digest_cmp d)) (insert_entry digest_cmp es d v))) here
+        ∙ ap (λ xs. e ∷ xs) (rest (sym (ap (λ b. cond b (Some e.1) (lookup (is_at (digest_cmp d)) es)) here) ∙ at))
+
+-- the digest is the first of the block's slot, or certified
+abbrev pub IsKnown : Tables → List (Digest × Certificate) → Digest → Block → Type 0
+IsKnown slots certificates d b = (get slots.firsts (block_slot b) ≡ Some d) ⊎ IsSome (get (from_entries {R = digest_cmp} certificates) d)
+
+-- a block more
+pub block_held : (blocks more : List (Digest × Block)) (certificates : List (Digest × Certificate)) (slots after : Tables) (floor : ℕ) (d : Digest) (b : Block)
+    → IsHeld blocks certificates slots floor → is_elsewhere certificate_slot (get (from_entries {R = digest_cmp} certificates) d) (block_slot b) ≡ false → floor ≤ b.round
+    → more ≡ insert_entry digest_cmp blocks d b → after.certified ≡ slots.certified → IsKnown after certificates d b
+    → ((slot : Slot) (e : Digest) → get slots.firsts slot ≡ Some e → get after.firsts slot ≡ Some e) → IsHeld more certificates after floor
+block_held blocks more certificates slots after floor d b held fits above put same known still = record {
+  kept = kept;
+  named = λ e x at. elim (after_insert (from_entries blocks) d b e x (subst (λ m. get m e ≡ Some x) puts at)) [
+    | inl new ↦ subst (λ y. IsNamed after e y) new.1 (subst (λ q. IsNamed after q b) (sym new.0) new_is)
+    | inr old ↦ elim (held.named e x old) [ inl first ↦ inl (still (block_slot x) e first) | inr certified ↦ inr (subst (λ m. get m (block_slot x) ≡ Some e) (sym same) certified) ]
+  ];
+  blocks_ordered = rw put (sorted_insert d b blocks held.blocks_ordered);
+  certificates_ordered = held.certificates_ordered;
+}
+  where
+    puts : from_entries {R = digest_cmp} more ≡ insert (from_entries blocks) d b
+    puts = put_entries digests_total digests_apart blocks more d b put
+
+    kept : IsKept (state_of more certificates after floor) after.certified
+    kept = rw same (kept_written (state_of blocks certificates slots floor) slots.certified d b (from_entries more) after.firsts held.kept fits above puts)
+
+    certified : (found : Option Certificate) → get (from_entries {R = digest_cmp} certificates) d ≡ found → IsSome found → IsNamed after d b
+    certified None is some = absurd cc
+    certified (Some c) is some = inr ((kept.indexed (block_slot b) d).1 (c, is, sym (kept.sound.one_slot d b c (subst (λ m. get m d ≡ Some b) (sym puts) (at_insert (from_entries blocks) d b)) is)))
+
+    new_is : IsNamed after d b
+    new_is = elim known [ inl first ↦ inl first | inr some ↦ certified (get (from_entries {R = digest_cmp} certificates) d) refl some ]
+
+-- with a vote, the slot has no first digest
+pub vacant_first : (found : Option Digest) → true ≡ not (is_some found) → found ≡ None
+vacant_first None e = refl
+vacant_first (Some d) e = absurd cc
+
+-- without a vote, the slot has this digest first, or it is certified
+pub known_first : (s : State) (d : Digest) (slot : Slot) → rival s d slot ≡ None → false ≡ not (is_some (get s.firsts slot)) → (get s.firsts slot ≡ Some d) ⊎ IsSome (get s.certificates d)
+known_first s d slot alone voted = by (get s.certificates d) refl (get s.firsts slot) refl
+  where
+    only : (first : Digest) (b : Bool) → is_digest first d ≡ b → cond b None (Some first) ≡ None → first ≡ d
+    only first true is e = (same_digest_decides first d).0 is
+    only first false is e = absurd (none_some first e)
+
+    by : (c : Option Certificate) → get s.certificates d ≡ c → (f : Option Digest) → get s.firsts slot ≡ f → (get s.firsts slot ≡ Some d) ⊎ IsSome (get s.certificates d)
+    by (Some c) is f at = inr (subst IsSome (sym is) refl)
+    by None is None at = let no : false ≡ true = voted ∙ ap (λ f. not (is_some f)) at in absurd cc
+    by None is (Some first) at =
+        let here : first ≡ d = only first (is_digest first d) refl
+        (sym (ap (λ c. cond (is_some c) None (option_and_then (λ x. cond (is_digest x d) None (Some x)) (get s.firsts slot))) is ∙ ap (λ f. option_and_then (λ x. cond (is_digest x d) None (Some x)) f) at) ∙ alone) in
+        inl (at ∙ ap Some here)
+
+-- the same state
+pub same_held : (blocks more : List (Digest × Block)) (certificates : List (Digest × Certificate)) (slots after : Tables) (floor : ℕ) (d : Digest) (b : Block) (vote : Bool)
+    → more ≡ insert_entry digest_cmp blocks d b → after.firsts ≡ cond vote (insert slots.firsts (block_slot b) d) slots.firsts
+    → state_of more certificates after floor ≡ with_block (state_of blocks certificates slots floor) d b vote
+same_held blocks more certificates slots after floor d b vote put first =
+    let new = put_entries digests_total digests_apart blocks more d b put in
+    λ i. record { blocks = new i; certificates = from_entries certificates; firsts = first i; floor = floor }
+
+-- what a slot had, it has where another got a digest
+pub other_slot : (m : FinMap slot_cmp Digest) (k : Slot) (v : Digest) (slot : Slot) (d : Digest) → get m k ≡ None → get m slot ≡ Some d → get (insert m k v) slot ≡ Some d
+other_slot m k v slot d vacant has = get-insert slots_total m k v slot ∙ by (eq_by_cmp slot_cmp slot k) refl
+  where
+    by : (b : Bool) → eq_by_cmp slot_cmp slot k ≡ b → cond b (Some v) (get m slot) ≡ Some d
+    by true e = absurd (none_some d (sym has ∙ ap (get m) (slots_apart slot k (tie (slot_cmp slot k) e)) ∙ vacant))
+    by false e = has
+
+-- a certificate more
+pub certificate_held : (blocks : List (Digest × Block)) (certificates more : List (Digest × Certificate)) (slots after : Tables) (floor : ℕ) (c : Certificate)
+    → IsHeld blocks certificates slots floor → get (from_entries {R = digest_cmp} certificates) c.digest ≡ None → certified_digest (state_of blocks certificates slots floor) (certificate_slot c) ≡ None
+    → is_elsewhere block_slot (get (from_entries {R = digest_cmp} blocks) c.digest) (certificate_slot c) ≡ false → floor ≤ c.round
+    → more ≡ insert_entry digest_cmp certificates c.digest c → after.certified ≡ insert slots.certified (certificate_slot c) c.digest → after.firsts ≡ slots.firsts → IsHeld blocks more after floor
+certificate_held blocks certificates more slots after floor c held none first fits above put index firsts =
+    let s : State = state_of blocks certificates slots floor in
+    let new = sound_with_certificate s c held.kept.sound first fits above in
+    let entries = put_entries digests_total digests_apart certificates more c.digest c put in
+    let vacant : get slots.certified (certificate_slot c) ≡ None = index_answers s slots.certified (certificate_slot c) held.kept.indexed ∙ first in
+    record {
+      kept = rw (entries, index) (record {
+        sound = record { own_digest = new.own_digest; one_slot = new.one_slot; one_certificate = new.one_certificate; blocks_kept = new.blocks_kept; certificates_kept = new.certificates_kept };
+        indexed = index_with_certificate s slots.certified c held.kept.indexed none (index_answers s slots.certified (certificate_slot c) held.kept.indexed ∙ first);
+      });
+      named = λ d b at. elim (held.named d b at) [
+        | inl was ↦ inl (subst (λ m. get m (block_slot b) ≡ Some d) (sym firsts) was)
+        | inr was ↦ inr (subst (λ m. get m (block_slot b) ≡ Some d) (sym index) (other_slot slots.certified (certificate_slot c) c.digest (block_slot b) d vacant was))
+      ];
+      blocks_ordered = held.blocks_ordered;
+      certificates_ordered = rw put (sorted_insert c.digest c certificates held.certificates_ordered);
+    }
+
+pub same_certified : (blocks : List (Digest × Block)) (certificates more : List (Digest × Certificate)) (slots after : Tables) (floor : ℕ) (c : Certificate)
+    → more ≡ insert_entry digest_cmp certificates c.digest c → after.firsts ≡ slots.firsts
+    → state_of blocks more after floor ≡ with_certificate (state_of blocks certificates slots floor) c
+same_certified blocks certificates more slots after floor c put first =
+    let new = put_entries digests_total digests_apart certificates more c.digest c put in
+    λ i. record { blocks = from_entries blocks; certificates = new i; firsts = first i; floor = floor }

@@ -1,0 +1,4 @@
+pub mod Held
+pub mod Shelf
+pub mod Standing
+pub mod Collection

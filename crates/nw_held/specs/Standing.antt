@@ -1,0 +1,19 @@
+-- What stands of what is held, and what names it.
+use Rattle.std.specs.Prelude.{◌≡◌}
+use Rattle.nw_digest.specs.declared.digest.Digest.{Digest}
+use Rattle.nw_codec.specs.declared.block.Block.{Block}
+use Rattle.nw_waiting.specs.declared.wanted.Wanted.{Wanted}
+use Rattle.nw_model.specs.State.{State}
+use Rattle.nw_model.specs.Paths.{IsStanding}
+
+-- a block stands under d
+abbrev pub Stands : State → Digest → Type 0
+Stands s d = (b : Block) × IsStanding s d b
+
+-- what w names stands, of that round and author
+abbrev pub IsMet : State → Wanted → Type 0
+IsMet s w = (b : Block) × IsStanding s w.digest b × (b.author ≡ w.author) × (b.round ≡ w.round)
+
+-- what names the block under d
+abbrev pub named_as : Digest → Block → Wanted
+named_as d b = record { round = b.round; author = b.author; digest = d }

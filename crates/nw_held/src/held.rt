@@ -1,0 +1,226 @@
+//! What a store holds.
+ghost use Rattle.std.specs.Prelude.{◌≡◌, ◌↔◌, ◌≤◌, OnOk, OnErr, IsNone, None, IsTrue, false, not, is_some};
+ghost use Rattle.std.specs.Option.{option_copied, option_map};
+ghost use Rattle.std.specs.BTreeMap.{insert_entry};
+ghost use Rattle.std.specs.FinMap as map;
+ghost use Rattle.nw_model.specs.State.{digest_cmp, opening, block_slot, certificate_slot};
+ghost use Rattle.nw_model.specs.Sound.{IsSound};
+ghost use Rattle.nw_held.specs.Standing.{Stands, IsMet, named_as};
+ghost use Rattle.nw_model.specs.Step.{certified_digest, is_elsewhere, rival, with_block, with_certificate};
+
+mod collection;
+mod replies;
+mod shelf;
+
+use nw_codec::{Block, Certificate};
+use nw_digest::{Digest, NoMemory, Round, Shared};
+use nw_rounds::Rounds;
+use nw_trie::Trie;
+use nw_waiting::Wanted;
+use std::alloc::Global;
+use std::marker::Model;
+
+/// The blocks, the certificates and the digests of each slot, and the bounds under which more is taken. Contracts see the
+/// state, and the bounds.
+#[derive(Drop)]
+pub struct Held {
+    blocks: Trie<Shared<Block>, Global>,
+    certificates: Trie<Shared<Certificate>, Global>,
+    /// The first and the certified digest of each round and author.
+    slots: Rounds<Global>,
+    floor: Round,
+    most: u32,
+    window: u32,
+    alloc: Global,
+}
+
+impl Model for Held {
+    ghost use Rattle.nw_model.specs.Step.{Tables, coded_tables};
+    ghost use Rattle.nw_held.specs.Held.{IsHeld, state_of};
+
+    ghost Value = { Tables };
+
+    ghost coded = { coded_tables };
+
+    ghost view = { λ h. record {
+      bounds = record { blocks = h.most; window = h.window };
+      state = state_of h.blocks h.certificates h.slots h.floor;
+    } };
+
+    ghost invariant = { λ h. IsHeld h.blocks h.certificates h.slots h.floor };
+}
+
+impl Held {
+    /// Nothing, with garbage round 0. It takes no memory.
+    ///
+    /// At most `blocks` blocks and as many certificates are taken, of `window` rounds from the garbage round on.
+    pub fn new(alloc: Global, blocks: u32, window: u32) -> Held
+        ensures { result ≡ record { bounds = record { blocks = blocks; window = window }; state = opening } }
+    {
+        Held {
+            blocks: Trie::new_in(alloc),
+            certificates: Trie::new_in(alloc),
+            slots: Rounds::new_in(alloc),
+            floor: Round::ZERO,
+            most: blocks,
+            window,
+            alloc,
+        }
+    }
+
+    /// The garbage round.
+    pub fn floor(&self) -> Round
+        ensures { result ≡ self.now.state.floor }
+    {
+        self.floor
+    }
+
+    /// The block that is held under the digest, or `None` where none is.
+    pub fn block(&self, digest: &Digest) -> Option<&Shared<Block>>
+        ensures value { option_copied result ≡ map.get self.now.state.blocks digest.now }
+        ensures sound { IsSound self.now.state }
+    {
+        self.blocks.get(digest)
+    }
+
+    /// Whether a block is held under the digest.
+    pub fn holds(&self, digest: &Digest) -> bool
+        ensures { result ≡ is_some (map.get self.now.state.blocks digest.now) }
+    {
+        self.block(digest).is_some()
+    }
+
+    /// The certificate that is kept for the digest, or `None` where none is.
+    pub fn certificate(&self, digest: &Digest) -> Option<&Shared<Certificate>>
+        ensures { option_copied result ≡ map.get self.now.state.certificates digest.now }
+    {
+        self.certificates.get(digest)
+    }
+
+    /// The first digest of the round and author.
+    fn first(&self, round: Round, author: u16) -> Option<Digest>
+        ensures { result ≡ map.get self.now.state.firsts (round, author) }
+    {
+        self.slots.first(round, author)
+    }
+
+    /// The digest that is certified for the round and author.
+    fn certified(&self, round: Round, author: u16) -> Option<Digest>
+        ensures { result ≡ certified_digest self.now.state (round, author) }
+    {
+        self.slots.certified(round, author)
+    }
+
+    /// How many blocks are held.
+    pub fn blocks(&self) -> usize
+        ensures { result ≡ map.len self.now.state.blocks }
+    {
+        self.blocks.len()
+    }
+
+    /// How many certificates are kept.
+    pub fn certificates(&self) -> usize
+        ensures count { result ≡ map.len self.now.state.certificates }
+        ensures sound { IsSound self.now.state }
+    {
+        self.certificates.len()
+    }
+
+    /// Whether the block under the digest stands: it is held and certified.
+    pub fn stands(&self, digest: &Digest) -> bool
+        ensures stands { IsTrue result ↔ Stands self.now.state digest.now }
+        ensures sound { IsSound self.now.state }
+    {
+        self.block(digest).is_some() && self.certificate(digest).is_some()
+    }
+
+    /// Whether what is wanted stands, of that round and author. A block of another round or author does not count.
+    pub fn is_met(&self, wanted: &Wanted) -> bool
+        ensures { IsTrue result ↔ IsMet self.now.state wanted.now }
+    {
+        if self.certificate(&wanted.digest).is_none() {
+            return false;
+        }
+        match self.block(&wanted.digest) {
+            None => false,
+            Some(block) => {
+                let block = block.get();
+                block.author == wanted.author && block.round == wanted.round
+            }
+        }
+    }
+
+    /// What names the block that is held under the digest, or `None` where none is.
+    pub fn name(&self, digest: Digest) -> Option<Wanted>
+        ensures { result ≡ option_map (named_as digest) (map.get self.now.state.blocks digest) }
+    {
+        let block = self.block(&digest)?.get();
+        Some(Wanted {
+            round: block.round,
+            author: block.author,
+            digest,
+        })
+    }
+
+    /// Puts the block under the digest, which is the first of the block's slot where there is a vote. It is for a write
+    /// whose reply is `Stored` with this vote. It is refused for want of memory alone, and then nothing changes.
+    pub fn put_block(
+        &mut self,
+        digest: Digest,
+        block: Shared<Block>,
+        vote: bool,
+    ) -> Result<(), NoMemory>
+        requires absent { IsNone (map.get self.old.state.blocks digest) }
+        requires first { vote ≡ not (is_some (map.get self.old.state.firsts (block_slot block))) }
+        requires alone { rival self.old.state digest (block_slot block) ≡ None }
+        requires misfit { is_elsewhere certificate_slot (map.get self.old.state.certificates digest) (block_slot block) ≡ false }
+        requires kept { self.old.state.floor ≤ block.round }
+        ensures state { OnOk result (self.new.state ≡ with_block self.old.state digest block vote) }
+        ensures bounds { self.new.bounds ≡ self.old.bounds }
+        ensures unchanged { OnErr result (self.new ≡ self.old) }
+    {
+        let held = block.get();
+        let (round, author) = (held.round, held.author);
+        insert(&mut self.blocks, digest, block)?;
+        if vote {
+            if let Err(refused) = self.slots.put_first(round, author, digest) {
+                let _block = self.blocks.remove(&digest);
+                return Err(refused);
+            }
+        }
+        Ok(())
+    }
+
+    /// Keeps the certificate. It is for one whose reply is `Certified`. It is refused for want of memory alone, and then
+    /// nothing changes.
+    pub fn put_certificate(&mut self, certificate: Shared<Certificate>) -> Result<(), NoMemory>
+        requires absent { IsNone (map.get self.old.state.certificates certificate.digest) }
+        requires open { certified_digest self.old.state (certificate_slot certificate) ≡ None }
+        requires misfit { is_elsewhere block_slot (map.get self.old.state.blocks certificate.digest) (certificate_slot certificate) ≡ false }
+        requires kept { self.old.state.floor ≤ certificate.round }
+        ensures state { OnOk result (self.new.state ≡ with_certificate self.old.state certificate) }
+        ensures bounds { self.new.bounds ≡ self.old.bounds }
+        ensures unchanged { OnErr result (self.new ≡ self.old) }
+    {
+        let kept = certificate.get();
+        let digest = kept.digest;
+        let (round, author) = (kept.round, kept.author);
+        insert(&mut self.certificates, digest, certificate)?;
+        if let Err(refused) = self.slots.put_certified(round, author, digest) {
+            let _certificate = self.certificates.remove(&digest);
+            return Err(refused);
+        }
+        Ok(())
+    }
+}
+
+/// Puts the value at the digest.
+fn insert<V: Drop>(entries: &mut Trie<V, Global>, digest: Digest, value: V) -> Result<(), NoMemory>
+    ensures put { OnOk result (entries.new ≡ insert_entry digest_cmp entries.old digest value) }
+    ensures unchanged { OnErr result (entries.new ≡ entries.old) }
+{
+    match entries.insert(digest, value) {
+        Ok(_) => Ok(()),
+        Err((refused, _)) => Err(refused),
+    }
+}
