@@ -3,12 +3,11 @@ ghost use Rattle.std.specs.Prelude.{◌≡◌};
 ghost use Rattle.nw_store.specs.Held.{origin_of};
 ghost use Rattle.nw_store.specs.Kept.{parts_of_a_ledger};
 
-use super::chains::{Link, chain, wide_book, write_all};
+use super::chains::{Link, TAKEN, Taken, chain, collect, hand_in, wide_book};
 use super::*;
-use nw_book::{Done, Ticket};
-use nw_digest::Round;
+use nw_book::Ticket;
 use nw_intake::{Gate, Point, pass_start};
-use nw_model::{CertifyReply, CollectReply, WriteReply};
+use nw_model::CollectReply;
 use std::sync::atomic::AtomicBool;
 use std::sync::atomic::Ordering::SeqCst;
 use std::thread::{Threads, join, yield_now};
@@ -55,21 +54,7 @@ impl Gate for Late {
 }
 
 /// The replies to a collection, and to a block and its certificate.
-type Replies = (CollectReply, WriteReply, CertifyReply);
-
-/// The replies, where each is to its call.
-fn replies(
-    collected: Done<DemoScheme>,
-    written: Done<DemoScheme>,
-    certified: Done<DemoScheme>,
-) -> Option<Replies> {
-    match (&collected.reply, &written.reply, &certified.reply) {
-        (Reply::Collect(collected), Reply::Write(written), Reply::Certify(certified)) => {
-            Some((*collected, *written, *certified))
-        }
-        _ => None,
-    }
-}
+type Replies = (CollectReply, Taken);
 
 /// Collects the rounds below 3, and hands in the block of the link and its certificate.
 fn go_on<L: Home, R: Wait>(
@@ -79,10 +64,9 @@ fn go_on<L: Home, R: Wait>(
     session: &mut Session<DemoScheme, L>,
     link: &Link,
 ) -> Option<Replies> {
-    let collected = store.collect(rt, alloc, session, Round::new(3)?).ok()?;
-    let written = store.call(rt, alloc, session, &link.write).ok()?;
-    let certified = store.call(rt, alloc, session, &link.certify).ok()?;
-    replies(collected, written, certified)
+    let collected = collect(rt, alloc, store, session, 3).ok()??;
+    let taken = hand_in(rt, alloc, store, session, link).ok()??;
+    Some((collected, taken))
 }
 
 /// Goes on once the gate lets it, and tells the gate of it. Hands the session back.
@@ -241,7 +225,9 @@ fn outcome<L: Home, R: Threads + Wait + Sync>(
     let store = store_over::<L>(opening, book)?;
     let mut writer = store.session(rt, alloc)?;
     let reader = store.session(rt, alloc)?;
-    write_all(rt, alloc, &store, &mut writer, before)?;
+    for link in before {
+        hand_in(rt, alloc, &store, &mut writer, link)?;
+    }
     let mut both = run_both(rt, alloc, &store, writer, reader, third, last);
     let again = read_again(rt, alloc, &store, &mut both.reader, third, first);
     let counts = settled(alloc, store, both.writer, both.reader)?;
@@ -256,11 +242,7 @@ fn a_walk_lists_its_moment_though_it_starts_after_a_collection(
     let opening = Opening::new(rt.alloc())?;
     let book = wide_book(rt.alloc(), 4096, 2)?;
     let outcome = outcome::<Brand, _>(&rt, rt.alloc(), opening, book, links.as_slice())?;
-    let replies = (
-        CollectReply::Raised { dropped: 3 },
-        WriteReply::Stored { vote: true },
-        CertifyReply::Certified,
-    );
+    let replies = (CollectReply::Raised { dropped: 3 }, TAKEN);
     let walked = vec![in rt.alloc(); 0, 1, 2, 3]?;
     let again = (vec![in rt.alloc(); 3]?, true);
     assert_eq!(rt;
