@@ -19,6 +19,8 @@ use std::test::Fail;
 mod answers;
 mod chains;
 mod collecting;
+mod crowds;
+mod late;
 mod settling;
 mod threads;
 
