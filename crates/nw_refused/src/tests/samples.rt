@@ -1,0 +1,121 @@
+//! A committee whose members sign by the demonstration scheme, and blocks, votes and certificates under it.
+use super::*;
+use nw_check::{BlockFault, CertFault, CheckedBlock, CheckedCert, check_block, check_cert};
+use nw_codec::{Block, Certificate, Ref, Seal, Signature, Vote, block_digest};
+use nw_committee::{Committee, Key};
+use nw_digest::{Sequence, Shared};
+use nw_sig::{DemoScheme, DemoSigner, Signer, block_text, vote_text};
+
+/// A round and an author.
+pub(super) type Slot = (Round, u16);
+
+/// The digest of what is voted for where no block is asked for.
+pub(super) const VOTED: Digest = Digest([7; 32]);
+
+/// The keys of members with these numbers.
+pub(super) fn keys(alloc: Global, numbers: &[u8]) -> Result<Vec<Key>, NoMemory> {
+    let mut keys = Vec::new(alloc);
+    for number in numbers {
+        keys.push(Key([*number; 32]))?;
+    }
+    Ok(keys)
+}
+
+/// A committee of members with these numbers.
+pub(super) fn committee(alloc: Global, numbers: &[u8]) -> Result<Shared<Committee>, NoMemory> {
+    match Committee::new(alloc, keys(alloc, numbers)?) {
+        Ok(committee) => Shared::new(alloc, committee),
+        Err(_fault) => Err(NoMemory),
+    }
+}
+
+/// The member's signature; where there is no such member, that of a key of bytes 0.
+fn sign(committee: &Committee, member: u16, text: &[u8]) -> Signature {
+    let key = committee.key(member).copied().unwrap_or(Key([0; 32]));
+    DemoSigner::new(key).sign(text)
+}
+
+/// The vote of this signer for the digest of the slot.
+pub(super) fn vote(committee: &Committee, digest: Digest, slot: Slot, signer: u16) -> Vote {
+    let (round, author) = slot;
+    Vote {
+        digest,
+        round,
+        author,
+        signer,
+        signature: sign(committee, signer, &vote_text(&digest, round, author)),
+    }
+}
+
+/// The certificate of these signers for the digest of the slot.
+pub(super) fn certificate(
+    alloc: Global,
+    committee: &Committee,
+    digest: Digest,
+    slot: Slot,
+    signers: &[u16],
+) -> Result<Certificate, NoMemory> {
+    let mut votes = Vec::new(alloc);
+    for signer in signers {
+        votes.push(Seal {
+            signer: *signer,
+            signature: vote(committee, digest, slot, *signer).signature,
+        })?;
+    }
+    Ok(Certificate {
+        digest,
+        round: slot.0,
+        author: slot.1,
+        votes: Sequence::new(votes),
+    })
+}
+
+/// That certificate, checked.
+pub(super) fn checked_certificate(
+    alloc: Global,
+    committee: &Shared<Committee>,
+    digest: Digest,
+    slot: Slot,
+    signers: &[u16],
+) -> Result<CheckedCert<DemoScheme>, CertFault> {
+    let certificate = certificate(alloc, committee.get(), digest, slot, signers)?;
+    if !certificate.fits() {
+        return Err(CertFault::FewVotes);
+    }
+    check_cert(alloc, committee, certificate)
+}
+
+/// A block of the slot with one transaction of one byte.
+pub(super) fn unsigned(alloc: Global, slot: Slot, parents: &[Ref]) -> Result<Block, NoMemory> {
+    let mut transactions = Vec::new(alloc);
+    transactions.push(Sequence::new(b"x".to_vec(alloc)?))?;
+    Ok(Block {
+        author: slot.1,
+        round: slot.0,
+        parents: Sequence::new(parents.to_vec(alloc)?),
+        transactions: Sequence::new(transactions),
+    })
+}
+
+/// The member's signature of the block, where it fits.
+pub(super) fn signature(committee: &Committee, block: &Block, signer: u16) -> Option<Signature> {
+    if !block.fits() {
+        return None;
+    }
+    Some(sign(committee, signer, &block_text(&block_digest(block))))
+}
+
+/// Such a block that the member signs, checked.
+pub(super) fn checked_block(
+    alloc: Global,
+    committee: &Shared<Committee>,
+    slot: Slot,
+    parents: &[Ref],
+    signer: u16,
+) -> Result<CheckedBlock<DemoScheme>, BlockFault> {
+    let block = unsigned(alloc, slot, parents)?;
+    match signature(committee.get(), &block, signer) {
+        None => Err(BlockFault::ParentAuthor),
+        Some(signature) => check_block(alloc, committee, block, signature),
+    }
+}
