@@ -1,5 +1,5 @@
 use nw_digest::{Digest, NoMemory, Round};
-use std::alloc::Global;
+use std::alloc::{AllocError, Global};
 use std::test::Fail;
 
 /// What the call answers; where that is this want of memory, what it answers when it is asked again at once.
@@ -13,7 +13,9 @@ macro_rules! again {
 }
 
 mod checks;
+mod desk;
 mod samples;
+mod stores;
 mod tables;
 mod texts;
 
@@ -27,4 +29,20 @@ fn digest(first: u8, last: u8) -> Digest {
 
 fn round(number: u64) -> Result<Round, Fail> {
     Ok(Round::new(number).ok_or("a round has 48 bits")?)
+}
+
+/// A request of this size tells the library that `.ci/refusals` loads to refuse all memory from here on; else it changes nothing.
+const REFUSE_ALL: usize = 1_000_003;
+
+/// A request of this size ends that.
+const REFUSE_NONE: usize = 1_000_033;
+
+/// Has all memory refused, where the library is loaded.
+fn refuse_all(alloc: Global) {
+    drop(Vec::<u8>::with_capacity(alloc, REFUSE_ALL));
+}
+
+/// Has memory given again.
+fn refuse_none(alloc: Global) {
+    drop(Vec::<u8>::with_capacity(alloc, REFUSE_NONE));
 }

@@ -25,7 +25,7 @@ fn fault_of_block(
 ) -> Result<bool, BlockFault> {
     let checked = again!(
         BlockFault::NoMemory,
-        checked_block(alloc, four, (Round::ZERO, author), &[], signer)
+        checked_block(alloc, four, (Round::ZERO, author), &[], b'x', signer)
     )?;
     Ok(checked.committee().get() == four.get() && checked.block().get().author == author)
 }
@@ -82,7 +82,7 @@ fn text_of(alloc: Global, message: &Message) -> Result<Vec<u8>, EncodeError> {
 
 /// The text of a first block that this member signs.
 fn text_of_block(alloc: Global, four: &Committee, signer: u16) -> Result<Vec<u8>, Fail> {
-    let block = again!(NoMemory, unsigned(alloc, SLOT, &[]))?;
+    let block = again!(NoMemory, unsigned(alloc, SLOT, &[], b'x'))?;
     let signature = signature(four, &block, signer).ok_or("the block breaks a limit")?;
     Ok(text_of(alloc, &Message::Block { block, signature })?)
 }

@@ -85,10 +85,15 @@ pub(super) fn checked_certificate(
     check_cert(alloc, committee, certificate)
 }
 
-/// A block of the slot with one transaction of one byte.
-pub(super) fn unsigned(alloc: Global, slot: Slot, parents: &[Ref]) -> Result<Block, NoMemory> {
+/// A block of the slot with one transaction of this byte.
+pub(super) fn unsigned(
+    alloc: Global,
+    slot: Slot,
+    parents: &[Ref],
+    text: u8,
+) -> Result<Block, NoMemory> {
     let mut transactions = Vec::new(alloc);
-    transactions.push(Sequence::new(b"x".to_vec(alloc)?))?;
+    transactions.push(Sequence::new([text].to_vec(alloc)?))?;
     Ok(Block {
         author: slot.1,
         round: slot.0,
@@ -111,11 +116,36 @@ pub(super) fn checked_block(
     committee: &Shared<Committee>,
     slot: Slot,
     parents: &[Ref],
+    text: u8,
     signer: u16,
 ) -> Result<CheckedBlock<DemoScheme>, BlockFault> {
-    let block = unsigned(alloc, slot, parents)?;
+    let block = unsigned(alloc, slot, parents, text)?;
     match signature(committee.get(), &block, signer) {
         None => Err(BlockFault::ParentAuthor),
         Some(signature) => check_block(alloc, committee, block, signature),
     }
+}
+
+/// A block that nobody signs, shared.
+pub(super) fn shared_block(
+    alloc: Global,
+    slot: Slot,
+    parents: &[Ref],
+) -> Result<Shared<Block>, NoMemory> {
+    Shared::new(alloc, unsigned(alloc, slot, parents, b'x')?)
+}
+
+/// A certificate for the digest of the slot without votes, shared.
+pub(super) fn shared_certificate(
+    alloc: Global,
+    digest: Digest,
+    slot: Slot,
+) -> Result<Shared<Certificate>, NoMemory> {
+    let certificate = Certificate {
+        digest,
+        round: slot.0,
+        author: slot.1,
+        votes: Sequence::new(Vec::new(alloc)),
+    };
+    Shared::new(alloc, certificate)
 }

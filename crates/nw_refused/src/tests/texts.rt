@@ -9,7 +9,7 @@ use nw_committee::Committee;
 
 /// A block of round 0 with one transaction of one byte, signed by its author.
 fn block_message(alloc: Global, four: &Committee) -> Result<Message, Fail> {
-    let block = again!(NoMemory, unsigned(alloc, (Round::ZERO, 0), &[]))?;
+    let block = again!(NoMemory, unsigned(alloc, (Round::ZERO, 0), &[], b'x'))?;
     let signature = signature(four, &block, 0).ok_or("the block breaks a limit")?;
     Ok(Message::Block { block, signature })
 }
@@ -88,12 +88,12 @@ fn a_vote_is_spelled_and_read_again(rt: HostRuntime) -> Result<(), Fail> {
 
 /// How many bytes the body of the block with one transaction has, and why one whose parents descend has none.
 fn bodies(alloc: Global) -> Result<(usize, Option<EncodeError>), Fail> {
-    let block = again!(NoMemory, unsigned(alloc, (Round::ZERO, 0), &[]))?;
+    let block = again!(NoMemory, unsigned(alloc, (Round::ZERO, 0), &[], b'x'))?;
     let parents = [1, 0].map(|author| Ref {
         author,
         digest: VOTED,
     });
-    let other = again!(NoMemory, unsigned(alloc, (round(1)?, 0), &parents))?;
+    let other = again!(NoMemory, unsigned(alloc, (round(1)?, 0), &parents, b'x'))?;
     let body = again!(EncodeError::NoMemory, encode_body(alloc, &block))?;
     Ok((body.len(), encode_body(alloc, &other).err()))
 }
