@@ -1,19 +1,19 @@
 //! A committee whose members sign by the demonstration scheme, and blocks, votes and certificates under it.
-use super::*;
 use nw_check::{BlockFault, CertFault, CheckedBlock, CheckedCert, check_block, check_cert};
 use nw_codec::{Block, Certificate, Ref, Seal, Signature, Vote, block_digest};
 use nw_committee::{Committee, Key};
-use nw_digest::{Sequence, Shared};
+use nw_digest::{Digest, NoMemory, Round, Sequence, Shared};
 use nw_sig::{DemoScheme, DemoSigner, Signer, block_text, vote_text};
+use std::alloc::Global;
 
 /// A round and an author.
-pub(super) type Slot = (Round, u16);
+pub type Slot = (Round, u16);
 
 /// The digest of what is voted for where no block is asked for.
-pub(super) const VOTED: Digest = Digest([7; 32]);
+pub const VOTED: Digest = Digest([7; 32]);
 
 /// The keys of members with these numbers.
-pub(super) fn keys(alloc: Global, numbers: &[u8]) -> Result<Vec<Key>, NoMemory> {
+pub fn keys(alloc: Global, numbers: &[u8]) -> Result<Vec<Key>, NoMemory> {
     let mut keys = Vec::new(alloc);
     for number in numbers {
         keys.push(Key([*number; 32]))?;
@@ -22,7 +22,7 @@ pub(super) fn keys(alloc: Global, numbers: &[u8]) -> Result<Vec<Key>, NoMemory> 
 }
 
 /// A committee of members with these numbers.
-pub(super) fn committee(alloc: Global, numbers: &[u8]) -> Result<Shared<Committee>, NoMemory> {
+pub fn committee(alloc: Global, numbers: &[u8]) -> Result<Shared<Committee>, NoMemory> {
     match Committee::new(alloc, keys(alloc, numbers)?) {
         Ok(committee) => Shared::new(alloc, committee),
         Err(_fault) => Err(NoMemory),
@@ -36,7 +36,7 @@ fn sign(committee: &Committee, member: u16, text: &[u8]) -> Signature {
 }
 
 /// The vote of this signer for the digest of the slot.
-pub(super) fn vote(committee: &Committee, digest: Digest, slot: Slot, signer: u16) -> Vote {
+pub fn vote(committee: &Committee, digest: Digest, slot: Slot, signer: u16) -> Vote {
     let (round, author) = slot;
     Vote {
         digest,
@@ -48,7 +48,7 @@ pub(super) fn vote(committee: &Committee, digest: Digest, slot: Slot, signer: u1
 }
 
 /// The certificate of these signers for the digest of the slot.
-pub(super) fn certificate(
+pub fn certificate(
     alloc: Global,
     committee: &Committee,
     digest: Digest,
@@ -71,7 +71,7 @@ pub(super) fn certificate(
 }
 
 /// That certificate, checked.
-pub(super) fn checked_certificate(
+pub fn checked_certificate(
     alloc: Global,
     committee: &Shared<Committee>,
     digest: Digest,
@@ -86,12 +86,7 @@ pub(super) fn checked_certificate(
 }
 
 /// A block of the slot with one transaction of this byte.
-pub(super) fn unsigned(
-    alloc: Global,
-    slot: Slot,
-    parents: &[Ref],
-    text: u8,
-) -> Result<Block, NoMemory> {
+pub fn unsigned(alloc: Global, slot: Slot, parents: &[Ref], text: u8) -> Result<Block, NoMemory> {
     let mut transactions = Vec::new(alloc);
     transactions.push(Sequence::new([text].to_vec(alloc)?))?;
     Ok(Block {
@@ -103,7 +98,7 @@ pub(super) fn unsigned(
 }
 
 /// The member's signature of the block, where it fits.
-pub(super) fn signature(committee: &Committee, block: &Block, signer: u16) -> Option<Signature> {
+pub fn signature(committee: &Committee, block: &Block, signer: u16) -> Option<Signature> {
     if !block.fits() {
         return None;
     }
@@ -111,7 +106,7 @@ pub(super) fn signature(committee: &Committee, block: &Block, signer: u16) -> Op
 }
 
 /// Such a block that the member signs, checked.
-pub(super) fn checked_block(
+pub fn checked_block(
     alloc: Global,
     committee: &Shared<Committee>,
     slot: Slot,
@@ -124,28 +119,4 @@ pub(super) fn checked_block(
         None => Err(BlockFault::ParentAuthor),
         Some(signature) => check_block(alloc, committee, block, signature),
     }
-}
-
-/// A block that nobody signs, shared.
-pub(super) fn shared_block(
-    alloc: Global,
-    slot: Slot,
-    parents: &[Ref],
-) -> Result<Shared<Block>, NoMemory> {
-    Shared::new(alloc, unsigned(alloc, slot, parents, b'x')?)
-}
-
-/// A certificate for the digest of the slot without votes, shared.
-pub(super) fn shared_certificate(
-    alloc: Global,
-    digest: Digest,
-    slot: Slot,
-) -> Result<Shared<Certificate>, NoMemory> {
-    let certificate = Certificate {
-        digest,
-        round: slot.0,
-        author: slot.1,
-        votes: Sequence::new(Vec::new(alloc)),
-    };
-    Shared::new(alloc, certificate)
 }

@@ -11,7 +11,6 @@ use nw_committee::Committee;
 use nw_digest::Shared;
 use nw_history::Limits;
 use nw_model::Reply;
-use nw_sig::DemoScheme;
 use nw_store::{Home, Opening, Session, Settled, Store, settle};
 use std::marker::Brand;
 use std::sync::Wait;

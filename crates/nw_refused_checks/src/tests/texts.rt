@@ -1,27 +1,6 @@
 //! Messages that are spelled, and read again.
-use super::samples::{VOTED, certificate, committee, signature, unsigned, vote};
 use super::*;
-use nw_codec::{
-    Certificate, DecodeError, EncodeError, Message, Ref, decode_message, encode_body,
-    encode_message,
-};
-use nw_committee::Committee;
-
-/// A block of round 0 with one transaction of one byte, signed by its author.
-fn block_message(alloc: Global, four: &Committee) -> Result<Message, Fail> {
-    let block = again!(NoMemory, unsigned(alloc, (Round::ZERO, 0), &[], b'x'))?;
-    let signature = signature(four, &block, 0).ok_or("the block breaks a limit")?;
-    Ok(Message::Block { block, signature })
-}
-
-/// The certificate of members 0, 1 and 2.
-fn three_votes(alloc: Global, four: &Committee) -> Result<Certificate, NoMemory> {
-    certificate(alloc, four, VOTED, (Round::ZERO, 0), &[0, 1, 2])
-}
-
-fn encoded(alloc: Global, message: &Message) -> Result<Vec<u8>, EncodeError> {
-    again!(EncodeError::NoMemory, encode_message(alloc, message))
-}
+use nw_codec::{DecodeError, Ref, decode_message, encode_body};
 
 fn decoded(alloc: Global, text: &[u8]) -> Result<Message, DecodeError> {
     again!(DecodeError::NoMemory, decode_message(alloc, text))
@@ -52,7 +31,7 @@ fn is_trailing(alloc: Global, text: &[u8]) -> Result<bool, NoMemory> {
 
 /// How many bytes the message has, and whether they and no others are the message.
 fn spelled(alloc: Global, message: &Message) -> Result<(usize, [bool; 3]), Fail> {
-    let text = encoded(alloc, message)?;
+    let text = text_of(alloc, message)?;
     let read = decoded(alloc, &text)?;
     let is_read = read == *message;
     Ok((
@@ -64,7 +43,7 @@ fn spelled(alloc: Global, message: &Message) -> Result<(usize, [bool; 3]), Fail>
 #[test]
 fn a_block_is_spelled_and_read_again(rt: HostRuntime) -> Result<(), Fail> {
     let four = again!(NoMemory, committee(rt.alloc(), &[0, 1, 2, 3]))?;
-    let message = block_message(rt.alloc(), four.get())?;
+    let message = block_message(rt.alloc(), four.get(), 0)?;
     assert_eq!(rt; spelled(rt.alloc(), &message)?, (83, [true; 3]));
     Ok(())
 }
@@ -72,8 +51,7 @@ fn a_block_is_spelled_and_read_again(rt: HostRuntime) -> Result<(), Fail> {
 #[test]
 fn a_certificate_is_spelled_and_read_again(rt: HostRuntime) -> Result<(), Fail> {
     let four = again!(NoMemory, committee(rt.alloc(), &[0, 1, 2, 3]))?;
-    let three = again!(NoMemory, three_votes(rt.alloc(), four.get()))?;
-    let message = Message::Certificate(three);
+    let message = certificate_message(rt.alloc(), four.get(), &[0, 1, 2])?;
     assert_eq!(rt; spelled(rt.alloc(), &message)?, (241, [true; 3]));
     Ok(())
 }
@@ -81,19 +59,19 @@ fn a_certificate_is_spelled_and_read_again(rt: HostRuntime) -> Result<(), Fail> 
 #[test]
 fn a_vote_is_spelled_and_read_again(rt: HostRuntime) -> Result<(), Fail> {
     let four = again!(NoMemory, committee(rt.alloc(), &[0, 1, 2, 3]))?;
-    let message = Message::Vote(vote(four.get(), VOTED, (Round::ZERO, 0), 1));
+    let message = Message::Vote(vote(four.get(), VOTED, SLOT, 1));
     assert_eq!(rt; spelled(rt.alloc(), &message)?, (107, [true; 3]));
     Ok(())
 }
 
 /// How many bytes the body of the block with one transaction has, and why one whose parents descend has none.
 fn bodies(alloc: Global) -> Result<(usize, Option<EncodeError>), Fail> {
-    let block = again!(NoMemory, unsigned(alloc, (Round::ZERO, 0), &[], b'x'))?;
+    let block = again!(NoMemory, unsigned(alloc, SLOT, &[], b'x'))?;
     let parents = [1, 0].map(|author| Ref {
         author,
         digest: VOTED,
     });
-    let other = again!(NoMemory, unsigned(alloc, (round(1)?, 0), &parents, b'x'))?;
+    let other = again!(NoMemory, unsigned(alloc, SLOT, &parents, b'x'))?;
     let body = again!(EncodeError::NoMemory, encode_body(alloc, &block))?;
     Ok((body.len(), encode_body(alloc, &other).err()))
 }
@@ -106,8 +84,7 @@ fn a_body_is_spelled_and_one_over_a_limit_is_not(rt: HostRuntime) -> Result<(), 
 
 /// Why a certificate of signers 0, 2 and 2 is not read.
 fn repeated(alloc: Global, four: &Committee) -> Result<Option<DecodeError>, Fail> {
-    let three = again!(NoMemory, three_votes(alloc, four))?;
-    let mut text = encoded(alloc, &Message::Certificate(three))?;
+    let mut text = text_of(alloc, &certificate_message(alloc, four, &[0, 1, 2])?)?;
     if let Some(second) = text.get_mut(43 + 66 + 1) {
         *second = 2;
     }

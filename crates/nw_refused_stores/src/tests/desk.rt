@@ -1,12 +1,11 @@
 //! The blocks of an example, and what a store is asked about them.
-use super::samples::{Slot, checked_block, checked_certificate, committee};
 use super::*;
 use nw_check::{BlockFault, CertFault, CheckedBlock, CheckedCert};
 use nw_codec::{Block, Ref};
 use nw_committee::Committee;
 use nw_digest::Shared;
 use nw_model::{CausalReply, CertifyReply, CollectReply, Reply, WriteReply};
-use nw_sig::DemoScheme;
+use nw_sample_refused::{Slot, checked_block, checked_certificate, committee};
 
 /// A block by its round, its author, its transaction of one byte, and its parents, by their places in the example.
 pub(super) type Sketch = (u64, u16, u8, &'static [usize]);

@@ -1,20 +1,12 @@
 //! Blocks, certificates and messages that are checked, and votes that are gathered.
-use super::samples::{
-    Slot, VOTED, certificate, checked_block, checked_certificate, committee, signature, unsigned,
-    vote,
-};
 use super::*;
 use nw_check::{
     BlockFault, CertFault, Checked, Counted, FinishFault, Gather, GatherFault, StartFault,
     check_message, valid,
 };
-use nw_codec::{EncodeError, Message, encode_message};
-use nw_committee::Committee;
 use nw_digest::Shared;
+use nw_sample_refused::{checked_block, checked_certificate};
 use nw_sig::DemoScheme;
-
-/// Of what votes are for.
-const SLOT: Slot = (Round::ZERO, 0);
 
 /// Why a block of the author that the member signs is not taken, or that it is under this committee.
 fn fault_of_block(
@@ -75,24 +67,6 @@ fn a_certificate_is_checked_with_its_votes(rt: HostRuntime) -> Result<(), Fail> 
     Ok(())
 }
 
-/// The text of the message.
-fn text_of(alloc: Global, message: &Message) -> Result<Vec<u8>, EncodeError> {
-    again!(EncodeError::NoMemory, encode_message(alloc, message))
-}
-
-/// The text of a first block that this member signs.
-fn text_of_block(alloc: Global, four: &Committee, signer: u16) -> Result<Vec<u8>, Fail> {
-    let block = again!(NoMemory, unsigned(alloc, SLOT, &[], b'x'))?;
-    let signature = signature(four, &block, signer).ok_or("the block breaks a limit")?;
-    Ok(text_of(alloc, &Message::Block { block, signature })?)
-}
-
-/// The text of the certificate of these signers.
-fn text_of_certificate(alloc: Global, four: &Committee, signers: &[u16]) -> Result<Vec<u8>, Fail> {
-    let certificate = again!(NoMemory, certificate(alloc, four, VOTED, SLOT, signers))?;
-    Ok(text_of(alloc, &Message::Certificate(certificate))?)
-}
-
 /// A word for what a text is.
 fn word(checked: &Checked<DemoScheme>) -> &'static str {
     match checked {
@@ -117,14 +91,14 @@ fn found(alloc: Global, four: &Shared<Committee>, text: &[u8]) -> Result<&'stati
 fn texts_are_decoded_and_checked(rt: HostRuntime) -> Result<(), Fail> {
     let four = again!(NoMemory, committee(rt.alloc(), &[0, 1, 2, 3]))?;
     let (alloc, all) = (rt.alloc(), four.get());
-    let block = text_of_block(alloc, all, 0)?;
+    let block = text_of(alloc, &block_message(alloc, all, 0)?)?;
     assert_eq!(rt; found(alloc, &four, &block)?, "block");
     assert_eq!(rt; found(alloc, &four, &block[1..])?, "bad text");
-    let forged = text_of_block(alloc, all, 1)?;
+    let forged = text_of(alloc, &block_message(alloc, all, 1)?)?;
     assert_eq!(rt; found(alloc, &four, &forged)?, "signature");
-    let certificate = text_of_certificate(alloc, all, &[0, 1, 2])?;
+    let certificate = text_of(alloc, &certificate_message(alloc, all, &[0, 1, 2])?)?;
     assert_eq!(rt; found(alloc, &four, &certificate)?, "certificate");
-    let few = text_of_certificate(alloc, all, &[0, 1])?;
+    let few = text_of(alloc, &certificate_message(alloc, all, &[0, 1])?)?;
     assert_eq!(rt; found(alloc, &four, &few)?, "few votes");
     let vote = text_of(alloc, &Message::Vote(vote(all, VOTED, SLOT, 9)))?;
     assert_eq!(rt; found(alloc, &four, &vote)?, "vote");
