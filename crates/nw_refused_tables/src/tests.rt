@@ -3,7 +3,9 @@ use nw_sample_refused::again;
 use std::alloc::{AllocError, Global};
 use std::test::Fail;
 
+mod dags;
 mod tables;
+mod views;
 
 /// A digest that begins and ends with these bytes.
 fn digest(first: u8, last: u8) -> Digest {
