@@ -4,5 +4,7 @@ use nw_sig::DemoScheme;
 use std::alloc::{AllocError, Global};
 use std::test::Fail;
 
+mod asker;
+mod books;
 mod desk;
 mod stores;

@@ -14,7 +14,3 @@ fn digest(first: u8, last: u8) -> Digest {
     bytes[31] = last;
     Digest(bytes)
 }
-
-fn round(number: u64) -> Result<Round, Fail> {
-    Ok(Round::new(number).ok_or("a round has 48 bits")?)
-}

@@ -1,4 +1,7 @@
 //! A committee whose members sign by the demonstration scheme, and blocks, votes and certificates under it.
+ghost use Rattle.std.specs.Prelude.{IfSome};
+ghost use Rattle.nw_codec.specs.Fits.{Fits};
+
 use nw_check::{BlockFault, CertFault, CheckedBlock, CheckedCert, check_block, check_cert};
 use nw_codec::{Block, Certificate, Ref, Seal, Signature, Vote, block_digest};
 use nw_committee::{Committee, Key};
@@ -98,7 +101,9 @@ pub fn unsigned(alloc: Global, slot: Slot, parents: &[Ref], text: u8) -> Result<
 }
 
 /// The member's signature of the block, where it fits.
-pub fn signature(committee: &Committee, block: &Block, signer: u16) -> Option<Signature> {
+pub fn signature(committee: &Committee, block: &Block, signer: u16) -> Option<Signature>
+    ensures { IfSome result (λ _. Fits block.now) }
+{
     if !block.fits() {
         return None;
     }

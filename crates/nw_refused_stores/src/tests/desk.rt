@@ -21,6 +21,27 @@ pub(super) const FOUR: [Sketch; 4] = [
 /// Two blocks of one slot.
 pub(super) const TWO: [Sketch; 2] = [(0, 0, b'x', &[]), (0, 0, b'y', &[])];
 
+/// A chain of 17 blocks.
+pub(super) const CHAIN: [Sketch; 17] = [
+    (0, 0, b'x', &[]),
+    (1, 0, b'x', &[0]),
+    (2, 0, b'x', &[1]),
+    (3, 0, b'x', &[2]),
+    (4, 0, b'x', &[3]),
+    (5, 0, b'x', &[4]),
+    (6, 0, b'x', &[5]),
+    (7, 0, b'x', &[6]),
+    (8, 0, b'x', &[7]),
+    (9, 0, b'x', &[8]),
+    (10, 0, b'x', &[9]),
+    (11, 0, b'x', &[10]),
+    (12, 0, b'x', &[11]),
+    (13, 0, b'x', &[12]),
+    (14, 0, b'x', &[13]),
+    (15, 0, b'x', &[14]),
+    (16, 0, b'x', &[15]),
+];
+
 /// The blocks of an example, with their digests, under its committee.
 #[derive(Drop)]
 pub(super) struct Desk {
@@ -132,6 +153,7 @@ impl Desk {
             Reply::Certify(CertifyReply::Certified) => "certified",
             Reply::Certify(CertifyReply::Already) => "already",
             Reply::Certificate(Some(_)) => "kept",
+            Reply::Read(Some(_)) => "found",
             Reply::Read(None) | Reply::Causal(CausalReply::Unknown) => "unknown",
             Reply::Causal(CausalReply::Incomplete) => "incomplete",
             Reply::Collect(CollectReply::Raised { dropped: 1 }) => "raised 1",

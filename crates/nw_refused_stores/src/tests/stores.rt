@@ -3,211 +3,16 @@ ghost use Rattle.std.specs.Prelude.{◌≡◌};
 ghost use Rattle.nw_store.specs.Held.{first_origin, origin_of};
 ghost use Rattle.nw_store.specs.Kept.{parts_of_a_ledger};
 
-use super::desk::{Desk, FOUR, TWO};
+use super::asker::{Answer, Asked, Asker, Table};
+use super::desk::{CHAIN, Desk, FOUR, TWO};
 use super::*;
-use nw_book::{Book, BookError, Done, NoStep, Ticket};
-use nw_check::{BlockFault, CertFault};
+use nw_book::{Book, BookError, Ticket};
 use nw_committee::Committee;
 use nw_digest::Shared;
 use nw_history::Limits;
-use nw_model::Reply;
 use nw_store::{Home, Opening, Session, Settled, Store, settle};
 use std::marker::Brand;
 use std::sync::Wait;
-
-/// What a session asks of its store.
-#[derive(Clone, Copy)]
-enum Asked {
-    Write(usize),
-    Certify(usize),
-    Certificate(usize),
-    Read(usize),
-    /// A causal read is opened. A ticket is walked at once, and the last one kept.
-    Open(usize),
-    /// The ticket that was kept is walked.
-    Walk,
-    Collect(u64),
-    Missing,
-    Status,
-}
-
-/// What is answered.
-#[derive(Clone, Copy)]
-enum Answer {
-    /// These words are for the reply.
-    Is(&'static str),
-    /// These blocks are listed.
-    List(&'static [usize]),
-    /// The block at this place alone is missing.
-    Lacks(usize),
-    /// The garbage round, and how many blocks, certificates, complete blocks and wanted parents there are.
-    Counts([u64; 5]),
-}
-
-/// Questions, each with its answer.
-type Table<'a> = &'a [(Asked, Answer)];
-
-/// A store's session, what it is asked about, and the last ticket that it was given.
-#[derive(Drop)]
-struct Asker<'a, L: Home> {
-    session: Session<DemoScheme, L>,
-    desk: &'a Desk,
-    ticket: Option<Ticket<DemoScheme>>,
-}
-
-impl<'a, L: Home> Asker<'a, L> {
-    /// Writes the block at the place; a copy of it where it was dropped.
-    fn write<R: Wait>(
-        &mut self,
-        rt: &R,
-        alloc: Global,
-        store: &Store<DemoScheme, L>,
-        place: usize,
-    ) -> Result<Done<DemoScheme>, Fail> {
-        let block = again!(BlockFault::NoMemory, self.desk.block(alloc, place))?;
-        match store.write(rt, alloc, &mut self.session, block) {
-            Err(NoStep::NoMemory) => {
-                let copy = self.desk.block(alloc, place)?;
-                Ok(store.write(rt, alloc, &mut self.session, copy)?)
-            }
-            answer => Ok(answer?),
-        }
-    }
-
-    /// Certifies the block at the place, with a copy of the certificate where it was dropped.
-    fn certify<R: Wait>(
-        &mut self,
-        rt: &R,
-        alloc: Global,
-        store: &Store<DemoScheme, L>,
-        place: usize,
-    ) -> Result<Done<DemoScheme>, Fail> {
-        let certificate = again!(CertFault::NoMemory, self.desk.certificate(alloc, place))?;
-        match store.certify(rt, alloc, &mut self.session, certificate) {
-            Err(NoStep::NoMemory) => {
-                let copy = self.desk.certificate(alloc, place)?;
-                Ok(store.certify(rt, alloc, &mut self.session, copy)?)
-            }
-            answer => Ok(answer?),
-        }
-    }
-
-    /// The answer to a call that is handed no block or certificate.
-    fn ask<R: Wait>(
-        &mut self,
-        rt: &R,
-        alloc: Global,
-        store: &Store<DemoScheme, L>,
-        asked: Asked,
-    ) -> Result<Done<DemoScheme>, NoStep> {
-        let session = &mut self.session;
-        match asked {
-            Asked::Certificate(place) => {
-                store.certificate(rt, alloc, session, self.desk.digest(place))
-            }
-            Asked::Read(place) => store.read(rt, alloc, session, self.desk.digest(place)),
-            Asked::Collect(number) => {
-                let round = Round::new(number).unwrap_or(Round::ZERO);
-                store.collect(rt, alloc, session, round)
-            }
-            Asked::Missing => store.missing(rt, alloc, session, 5),
-            _ => store.status(rt, alloc, session),
-        }
-    }
-
-    /// Whether a causal read of the block at the place gets this answer.
-    fn opens<R: Wait>(
-        &mut self,
-        rt: &R,
-        alloc: Global,
-        store: &Store<DemoScheme, L>,
-        place: usize,
-        answer: Answer,
-    ) -> Result<bool, Fail> {
-        let digest = self.desk.digest(place);
-        let opened = again!(
-            NoStep::NoMemory,
-            store.open_causal(rt, alloc, &mut self.session, digest)
-        )?;
-        match opened {
-            Ok(ticket) => {
-                self.ticket = Some(ticket);
-                self.walks(alloc, answer)
-            }
-            Err(done) => Ok(self.is_answer(&done.reply, answer)),
-        }
-    }
-
-    /// Whether the last ticket lists this.
-    fn walks(&self, alloc: Global, answer: Answer) -> Result<bool, Fail> {
-        match (&self.ticket, answer) {
-            (Some(ticket), Answer::List(places)) => {
-                let blocks = again!(NoMemory, ticket.walk(alloc))?;
-                Ok(self.desk.are(&blocks, places))
-            }
-            _ => Ok(false),
-        }
-    }
-
-    /// Whether the reply is this.
-    fn is_answer(&self, reply: &Reply, answer: Answer) -> bool {
-        match (reply, answer) {
-            (reply, Answer::Is(words)) => self.desk.words(reply) == words,
-            (Reply::Missing(wanted), Answer::Lacks(place)) => match wanted.as_slice() {
-                [only] => {
-                    only.digest == self.desk.digest(place)
-                        && (only.round, only.author) == self.desk.slot(place)
-                }
-                _ => false,
-            },
-            (Reply::Status(counts), Answer::Counts(numbers)) => {
-                [
-                    counts.floor.get(),
-                    counts.blocks,
-                    counts.certificates,
-                    counts.complete,
-                    counts.wanted,
-                ] == numbers
-            }
-            _ => false,
-        }
-    }
-
-    /// Whether the store answers so.
-    fn is_answered<R: Wait>(
-        &mut self,
-        rt: &R,
-        alloc: Global,
-        store: &Store<DemoScheme, L>,
-        asked: Asked,
-        answer: Answer,
-    ) -> Result<bool, Fail> {
-        let done = match asked {
-            Asked::Open(place) => return self.opens(rt, alloc, store, place, answer),
-            Asked::Walk => return self.walks(alloc, answer),
-            Asked::Write(place) => self.write(rt, alloc, store, place)?,
-            Asked::Certify(place) => self.certify(rt, alloc, store, place)?,
-            _ => again!(NoStep::NoMemory, self.ask(rt, alloc, store, asked))?,
-        };
-        Ok(self.is_answer(&done.reply, answer))
-    }
-
-    /// How many of these questions, from the first on, the store answers so.
-    fn are_answered<R: Wait>(
-        &mut self,
-        rt: &R,
-        alloc: Global,
-        store: &Store<DemoScheme, L>,
-        table: Table<'_>,
-    ) -> Result<usize, Fail> {
-        for (place, (asked, answer)) in table.iter().enumerate() {
-            if !self.is_answered(rt, alloc, store, *asked, *answer)? {
-                return Ok(place);
-            }
-        }
-        Ok(table.len())
-    }
-}
 
 /// What became of a store whose session asked a table of questions.
 #[derive(Drop)]
@@ -218,7 +23,8 @@ struct Outcome {
     events: usize,
     /// The book that goes on with what it knew.
     book: Book<DemoScheme>,
-    ticket: Option<Ticket<DemoScheme>>,
+    /// The first ticket.
+    first: Option<Ticket<DemoScheme>>,
 }
 
 /// Settles the session, while all memory is refused, and gives the events and the book that goes on.
@@ -258,26 +64,23 @@ fn play<L: Home, R: Wait>(
     alloc: Global,
     store: Store<DemoScheme, L>,
     desk: &Desk,
-    ticket: Option<Ticket<DemoScheme>>,
+    first: Option<Ticket<DemoScheme>>,
     table: Table<'_>,
 ) -> Result<Outcome, Fail> {
     let mut asker = Asker {
         session: store.session(rt, alloc)?,
         desk,
-        ticket,
+        first,
+        last: None,
     };
     let answered = asker.are_answered(rt, alloc, &store, table)?;
-    let Asker {
-        session,
-        ticket,
-        ..
-    } = asker;
+    let Asker { session, first, .. } = asker;
     let (events, book) = ended(alloc, store, session)?;
     Ok(Outcome {
         answered,
         events,
         book,
-        ticket,
+        first,
     })
 }
 
@@ -329,7 +132,7 @@ fn play_over<L: Home, R: Wait>(
     opening: Opening<DemoScheme>,
     book: Book<DemoScheme>,
     desk: &Desk,
-    ticket: Option<Ticket<DemoScheme>>,
+    first: Option<Ticket<DemoScheme>>,
     table: Table<'_>,
 ) -> Result<Outcome, Fail>
     requires log { opening.log ≡ L.log }
@@ -337,7 +140,7 @@ fn play_over<L: Home, R: Wait>(
     requires origin { origin_of book ≡ L.origin }
 {
     match Store::<DemoScheme, L>::over(opening, book) {
-        Ok(store) => play(rt, alloc, store, desk, ticket, table),
+        Ok(store) => play(rt, alloc, store, desk, first, table),
         Err(_) => Err(Fail::from("the book has events")),
     }
 }
@@ -351,12 +154,12 @@ fn played_on<R: Wait>(
     table: Table<'_>,
 ) -> Result<Outcome, Fail> {
     let opening = again!(AllocError, Opening::new(alloc))?;
-    let Outcome { book, ticket, .. } = before;
-    play_over::<Brand, R>(rt, alloc, opening, book, desk, ticket, table)
+    let Outcome { book, first, .. } = before;
+    play_over::<Brand, R>(rt, alloc, opening, book, desk, first, table)
 }
 
 /// The first three blocks and the one over them are written and certified, but for a few writes.
-const LATE: [(Asked, Answer); 12] = [
+const LATE: [(Asked, Answer); 13] = [
     (Asked::Write(0), Answer::Is("stored vote")),
     (Asked::Write(1), Answer::Is("stored vote")),
     (Asked::Write(3), Answer::Is("stored vote")),
@@ -368,7 +171,8 @@ const LATE: [(Asked, Answer); 12] = [
     (Asked::Missing, Answer::Lacks(2)),
     (Asked::Status, Answer::Counts([0, 3, 4, 2, 1])),
     (Asked::Write(2), Answer::Is("stored vote")),
-    (Asked::Open(3), Answer::List(&[0, 1, 2, 3])),
+    (Asked::Open(3), Answer::Parts(1)),
+    (Asked::WalkFirst, Answer::List(&[0, 1, 2, 3])),
 ];
 
 /// A ticket is walked after its rounds were collected.
@@ -381,9 +185,9 @@ const COLLECTED: [(Asked, Answer); 13] = [
     (Asked::Certify(1), Answer::Is("certified")),
     (Asked::Certify(2), Answer::Is("certified")),
     (Asked::Certify(3), Answer::Is("certified")),
-    (Asked::Open(3), Answer::List(&[0, 1, 2, 3])),
+    (Asked::Open(3), Answer::Parts(1)),
     (Asked::Collect(2), Answer::Is("raised 4")),
-    (Asked::Walk, Answer::List(&[0, 1, 2, 3])),
+    (Asked::WalkFirst, Answer::List(&[0, 1, 2, 3])),
     (Asked::Read(3), Answer::Is("unknown")),
     (Asked::Open(3), Answer::Is("unknown")),
 ];
@@ -400,7 +204,7 @@ fn stores_of_four_members_answer(rt: HostRuntime) -> Result<(), Fail> {
     let desk = Desk::new(rt.alloc(), &[0, 1, 2, 3], &FOUR)?;
     let cases: [(Table<'_>, usize, usize); 3] = [
         (&COLLECTED, 13, 12),
-        (&LATE, 12, 12),
+        (&LATE, 13, 12),
         (&CERTIFIED, 3, 3),
     ];
     for (table, answered, events) in cases {
@@ -414,15 +218,15 @@ fn stores_of_four_members_answer(rt: HostRuntime) -> Result<(), Fail> {
 const FIRST: [(Asked, Answer); 3] = [
     (Asked::Write(0), Answer::Is("stored vote")),
     (Asked::Certify(0), Answer::Is("certified")),
-    (Asked::Open(0), Answer::List(&[0])),
+    (Asked::Open(0), Answer::Parts(1)),
 ];
 
 const SECOND: [(Asked, Answer); 5] = [
     (Asked::Write(1), Answer::Is("equivocates the first")),
     (Asked::Write(0), Answer::Is("held")),
-    (Asked::Open(0), Answer::List(&[0])),
+    (Asked::Open(0), Answer::Parts(1)),
     (Asked::Collect(1), Answer::Is("raised 1")),
-    (Asked::Walk, Answer::List(&[0])),
+    (Asked::WalkFirst, Answer::List(&[0])),
 ];
 
 const THIRD: [(Asked, Answer); 1] = [(Asked::Write(1), Answer::Is("collected 1"))];
@@ -437,5 +241,39 @@ fn stores_that_go_on_answer(rt: HostRuntime) -> Result<(), Fail> {
     assert_eq!(rt; (second.answered, second.events), (5, 4));
     let third = played_on(&rt, alloc, &desk, second, &THIRD)?;
     assert_eq!(rt; (third.answered, third.events), (1, 1));
+    Ok(())
+}
+
+/// What a store of one member is asked behind a chain of 17 blocks, each of which was written, certified and opened.
+const COMPACTED: [(Asked, Answer); 5] = [
+    (Asked::Compact, Answer::Is("compacted")),
+    (
+        Asked::WalkLast,
+        Answer::List(&[0, 1, 2, 3, 4, 5, 6, 7, 8, 9, 10, 11, 12, 13, 14, 15, 16]),
+    ),
+    (Asked::WalkFirst, Answer::List(&[0])),
+    (Asked::Open(16), Answer::Parts(1)),
+    (Asked::Read(16), Answer::Is("found")),
+];
+
+/// All that it is asked.
+fn chain(alloc: Global) -> Result<Vec<(Asked, Answer)>, AllocError> {
+    let mut table = Vec::with_capacity(alloc, 3 * 17 + COMPACTED.len())?;
+    for place in 0..17 {
+        let parts = if place < 16 { place + 1 } else { 2 };
+        table.push((Asked::Write(place), Answer::Is("stored vote")))?;
+        table.push((Asked::Certify(place), Answer::Is("certified")))?;
+        table.push((Asked::Open(place), Answer::Parts(parts)))?;
+    }
+    table.extend_from_slice(&COMPACTED)?;
+    Ok(table)
+}
+
+#[test]
+fn tickets_before_and_behind_a_compaction_are_walked(rt: HostRuntime) -> Result<(), Fail> {
+    let desk = Desk::new(rt.alloc(), &[0], &CHAIN)?;
+    let table = again!(AllocError, chain(rt.alloc()))?;
+    let played = played(&rt, rt.alloc(), &desk, &table)?;
+    assert_eq!(rt; (played.answered, played.events), (56, 53));
     Ok(())
 }

@@ -7,7 +7,7 @@ use nw_digest::{Sequence, Shared};
 use nw_generation::View;
 use nw_model::{Call, CausalReply, CertifyReply, CollectReply, Reply, WriteReply};
 use nw_plain::{Base, Plain};
-use nw_sample_blocks::{block, name};
+use nw_sample_blocks::{block, name, round};
 use nw_waiting::Wanted;
 
 /// A block of the round and author over these.
@@ -68,7 +68,7 @@ fn a_block_of_the_garbage_round_needs_no_parents(rt: HostRuntime) -> Result<(), 
         digest: p,
     };
     assert!(rt; extend(&mut dag, alloc, p, Round::ZERO, &[])? == TAKEN);
-    assert!(rt; extend(&mut dag, alloc, q, round(1)?, &[parent])? == TAKEN);
+    assert!(rt; extend(&mut dag, alloc, q, round(1), &[parent])? == TAKEN);
     let refused = view_for(&mut dag, alloc, q)?.err();
     assert_eq!(rt; refused, Some(CausalReply::Incomplete));
     let missing = again!(NoMemory, dag.missing(alloc, 1))?;
@@ -78,7 +78,7 @@ fn a_block_of_the_garbage_round_needs_no_parents(rt: HostRuntime) -> Result<(), 
         digest: p,
     };
     assert_eq!(rt; missing.as_slice(), [wanted].as_slice());
-    let collected = again!(NoMemory, dag.collect(round(1)?))?;
+    let collected = again!(NoMemory, dag.collect(round(1)))?;
     assert_eq!(rt; collected, CollectReply::Raised { dropped: 1 });
     assert!(rt; view_for(&mut dag, alloc, q)?.is_ok());
     Ok(())
@@ -91,7 +91,7 @@ fn next_parts(dag: &mut Dag, alloc: Global, number: u8) -> Result<usize, Fail> {
         digest: digest(number.saturating_sub(1), 0),
     };
     let parents: &[Ref] = if number == 0 { &[] } else { &[before] };
-    let round = round(u64::from(number))?;
+    let round = round(number);
     if extend(dag, alloc, digest(number, 0), round, parents)? != TAKEN {
         return Err(Fail::from("the chain is not taken"));
     }
@@ -123,42 +123,44 @@ fn views_of_a_chain_share_what_was_frozen(rt: HostRuntime) -> Result<(), Fail> {
     Ok(())
 }
 
-/// What the plain store is asked of the block of the round and author.
+/// What the plain store is asked.
 #[derive(Clone, Copy)]
 enum Asked {
-    Write(u8, u8),
-    Certify(u8, u8),
+    /// The block of round 0 of this author is written.
+    Write(u8),
+    /// The block over three of them is written.
+    WriteOver,
+    Certify(u8),
+    CertifyOver,
     Causal,
     Collect,
     Read,
 }
 
+/// References to the blocks of round 0 of three authors.
+fn over_three() -> [Ref; 3] {
+    [0, 1, 2].map(|author: u8| Ref {
+        author: u16::from(author),
+        digest: name(0, author),
+    })
+}
+
 /// The call. The block of round 1 is over those of three authors.
 fn call_of(alloc: Global, asked: Asked) -> Result<Call, NoMemory> {
-    let over = |number: u8| Ref {
-        author: u16::from(number),
-        digest: name(0, number),
-    };
-    let one = Round::new(1).ok_or(NoMemory)?;
+    let first = (round(1), 0);
     Ok(match asked {
-        Asked::Write(0, author) => {
-            let slot = (Round::ZERO, u16::from(author % 16));
-            Call::Write(name(0, author % 16), block_of(alloc, slot, &[])?)
+        Asked::Write(author) => {
+            let slot = (Round::ZERO, u16::from(author));
+            Call::Write(name(0, author), block_of(alloc, slot, &[])?)
         }
-        Asked::Write(_, _) => {
-            let parents = [over(0), over(1), over(2)];
-            Call::Write(name(1, 0), block_of(alloc, (one, 0), &parents)?)
+        Asked::WriteOver => { Call::Write(name(1, 0), block_of(alloc, first, &over_three())?) }
+        Asked::Certify(author) => {
+            let slot = (Round::ZERO, u16::from(author));
+            Call::Certify(certificate_of(alloc, name(0, author), slot)?)
         }
-        Asked::Certify(0, author) => {
-            let slot = (Round::ZERO, u16::from(author % 16));
-            Call::Certify(certificate_of(alloc, name(0, author % 16), slot)?)
-        }
-        Asked::Certify(_, _) => Call::Certify(certificate_of(alloc, name(1, 0), (one, 0))?),
+        Asked::CertifyOver => Call::Certify(certificate_of(alloc, name(1, 0), first)?),
         Asked::Causal => Call::Causal(name(1, 0)),
-        Asked::Collect => match Round::new(2) {
-            Some(two) => Call::Collect(two),
-            None => Call::Status,
-        },
+        Asked::Collect => Call::Collect(round(2)),
         Asked::Read => Call::Read(name(1, 0)),
     })
 }
@@ -190,14 +192,14 @@ fn is_answered(
 }
 
 const EXAMPLE: [(Asked, &str); 12] = [
-    (Asked::Write(0, 0), "stored vote"),
-    (Asked::Write(0, 1), "stored vote"),
-    (Asked::Write(0, 2), "stored vote"),
-    (Asked::Write(1, 0), "stored vote"),
-    (Asked::Certify(0, 0), "certified"),
-    (Asked::Certify(0, 1), "certified"),
-    (Asked::Certify(0, 2), "certified"),
-    (Asked::Certify(1, 0), "certified"),
+    (Asked::Write(0), "stored vote"),
+    (Asked::Write(1), "stored vote"),
+    (Asked::Write(2), "stored vote"),
+    (Asked::WriteOver, "stored vote"),
+    (Asked::Certify(0), "certified"),
+    (Asked::Certify(1), "certified"),
+    (Asked::Certify(2), "certified"),
+    (Asked::CertifyOver, "certified"),
     (Asked::Causal, "all four"),
     (Asked::Collect, "raised 4"),
     (Asked::Read, "unknown"),

@@ -1,6 +1,7 @@
 //! Tables: a trie, the slots of rounds, and what is waited for.
 use super::*;
 use nw_rounds::Rounds;
+use nw_sample_blocks::round;
 use nw_trie::Trie;
 use nw_waiting::{Waiting, Wanted};
 
@@ -41,7 +42,7 @@ fn a_trie_of_three_keys(rt: HostRuntime) -> Result<(), Fail> {
 
 /// Makes the digest the first of round 3 and the author.
 fn put_first(rounds: &mut Rounds<Global>, author: u16, digest: Digest) -> Result<(), Fail> {
-    let third = round(3)?;
+    let third = round(3);
     if rounds.first(third, author).is_some() {
         return Err(Fail::from("the slot has a first digest"));
     }
@@ -50,7 +51,7 @@ fn put_first(rounds: &mut Rounds<Global>, author: u16, digest: Digest) -> Result
 
 /// Certifies the digest for round 3 and author 1.
 fn put_certified(rounds: &mut Rounds<Global>, digest: Digest) -> Result<(), Fail> {
-    let third = round(3)?;
+    let third = round(3);
     if rounds.certified(third, 1).is_some() {
         return Err(Fail::from("the slot has a certified digest"));
     }
@@ -62,7 +63,7 @@ fn a_slot_has_two_digests(rt: HostRuntime) -> Result<(), Fail> {
     let mut rounds = Rounds::new_in(rt.alloc());
     put_first(&mut rounds, 1, digest(1, 0))?;
     put_certified(&mut rounds, digest(2, 0))?;
-    let third = round(3)?;
+    let third = round(3);
     assert_eq!(rt; rounds.first(third, 1), Some(digest(1, 0)));
     assert_eq!(rt; rounds.certified(third, 1), Some(digest(2, 0)));
     assert_eq!(rt; rounds.first(third, 2), None);
@@ -71,7 +72,7 @@ fn a_slot_has_two_digests(rt: HostRuntime) -> Result<(), Fail> {
 
 /// The digests of round 3.
 fn listed(rounds: &Rounds<Global>, alloc: Global) -> Result<Vec<Digest>, Fail> {
-    let third = round(3)?;
+    let third = round(3);
     Ok(again!(NoMemory, rounds.digests(alloc, third))?)
 }
 
@@ -82,11 +83,11 @@ fn a_round_is_listed_and_dropped(rt: HostRuntime) -> Result<(), Fail> {
     put_first(&mut rounds, 2, digest(1, 0))?;
     put_certified(&mut rounds, digest(3, 0))?;
     let before = listed(&rounds, rt.alloc())?;
-    rounds.drop_below(round(4)?);
+    rounds.drop_below(round(4));
     let after = listed(&rounds, rt.alloc())?;
     let all = [digest(1, 0), digest(2, 0), digest(3, 0)];
     assert!(rt; before.as_slice() == all.as_slice() && after.is_empty());
-    assert_eq!(rt; rounds.first(round(3)?, 1), None);
+    assert_eq!(rt; rounds.first(round(3), 1), None);
     Ok(())
 }
 

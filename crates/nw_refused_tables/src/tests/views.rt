@@ -8,8 +8,7 @@ use nw_causal::{Agreement, agree, walk};
 use nw_codec::Block;
 use nw_digest::Shared;
 use nw_generation::{Generation, View, freeze};
-use nw_sample_blocks::{Blocks, block, name, newer, older, put};
-use nw_trie::Trie;
+use nw_sample_blocks::{Blocks, name, newer, older, round};
 
 /// The generation of the blocks, which come back where memory is refused.
 fn frozen(alloc: Global, trie: Blocks) -> Result<Generation<Global>, NoMemory>
@@ -90,7 +89,7 @@ fn two_generations_are_walked(rt: HostRuntime) -> Result<(), Fail> {
     let all = both(alloc, Round::ZERO)?;
     let four = [(0, 0), (0, 1), (0, 2), (1, 0)];
     assert!(rt; all.parts() == 2 && lists(alloc, &all, name(1, 0), &four)?);
-    let above = both(alloc, round(1)?)?;
+    let above = both(alloc, round(1))?;
     assert!(rt; lists(alloc, &above, name(1, 0), &[(1, 0)])?);
     Ok(())
 }
