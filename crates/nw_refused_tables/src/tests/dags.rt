@@ -1,0 +1,239 @@
+//! The certified DAG, the plain store, and what they are asked.
+use super::views::have_slots;
+use super::*;
+use nw_codec::{Block, Certificate, Ref};
+use nw_dag::Dag;
+use nw_digest::{Sequence, Shared};
+use nw_generation::View;
+use nw_model::{Call, CausalReply, CertifyReply, CollectReply, Reply, WriteReply};
+use nw_plain::{Base, Plain};
+use nw_sample_blocks::{block, name, round};
+use nw_waiting::Wanted;
+
+/// A block of the round and author over these.
+fn block_of(alloc: Global, slot: (Round, u16), parents: &[Ref]) -> Result<Shared<Block>, NoMemory> {
+    block(alloc, slot, parents.to_vec(alloc)?, b"x")
+}
+
+/// A certificate of the digest for the round and author.
+fn certificate_of(
+    alloc: Global,
+    digest: Digest,
+    slot: (Round, u16),
+) -> Result<Shared<Certificate>, NoMemory> {
+    let certificate = Certificate {
+        digest,
+        round: slot.0,
+        author: slot.1,
+        votes: Sequence::new(Vec::new(alloc)),
+    };
+    Shared::new(alloc, certificate)
+}
+
+/// Writes and certifies a block of author 0 over these, under the digest.
+fn extend(
+    dag: &mut Dag,
+    alloc: Global,
+    digest: Digest,
+    round: Round,
+    parents: &[Ref],
+) -> Result<(WriteReply, CertifyReply), NoMemory> {
+    let block = again!(NoMemory, block_of(alloc, (round, 0), parents))?;
+    let certificate = again!(NoMemory, certificate_of(alloc, digest, (round, 0)))?;
+    let written = again!(NoMemory, dag.write(digest, &block))?;
+    Ok((written, again!(NoMemory, dag.certify(&certificate))?))
+}
+
+/// The view for a causal read of the digest, or why there is none.
+fn view_for(
+    dag: &mut Dag,
+    alloc: Global,
+    digest: Digest,
+) -> Result<Result<View<Global>, CausalReply>, NoMemory> {
+    again!(NoMemory, dag.freeze_for(alloc, digest))
+}
+
+/// What extends a store whose calls are all taken.
+const TAKEN: (WriteReply, CertifyReply) = (
+    WriteReply::Stored { vote: true },
+    CertifyReply::Certified,
+);
+
+#[test]
+fn a_block_of_the_garbage_round_needs_no_parents(rt: HostRuntime) -> Result<(), Fail> {
+    let (alloc, p, q) = (rt.alloc(), digest(1, 0), digest(2, 0));
+    let mut dag = Dag::new(alloc, 64, 64);
+    let parent = Ref {
+        author: 1,
+        digest: p,
+    };
+    assert!(rt; extend(&mut dag, alloc, p, Round::ZERO, &[])? == TAKEN);
+    assert!(rt; extend(&mut dag, alloc, q, round(1), &[parent])? == TAKEN);
+    let refused = view_for(&mut dag, alloc, q)?.err();
+    assert_eq!(rt; refused, Some(CausalReply::Incomplete));
+    let missing = again!(NoMemory, dag.missing(alloc, 1))?;
+    let wanted = Wanted {
+        round: Round::ZERO,
+        author: 1,
+        digest: p,
+    };
+    assert_eq!(rt; missing.as_slice(), [wanted].as_slice());
+    let collected = again!(NoMemory, dag.collect(round(1)))?;
+    assert_eq!(rt; collected, CollectReply::Raised { dropped: 1 });
+    assert!(rt; view_for(&mut dag, alloc, q)?.is_ok());
+    Ok(())
+}
+
+/// Adds the next block of a chain of one author. The number of parts of the view for it.
+fn next_parts(dag: &mut Dag, alloc: Global, number: u8) -> Result<usize, Fail> {
+    let before = Ref {
+        author: 0,
+        digest: digest(number.saturating_sub(1), 0),
+    };
+    let parents: &[Ref] = if number == 0 { &[] } else { &[before] };
+    let round = round(number);
+    if extend(dag, alloc, digest(number, 0), round, parents)? != TAKEN {
+        return Err(Fail::from("the chain is not taken"));
+    }
+    parts_of(dag, alloc, digest(number, 0))
+}
+
+/// The number of parts of the view for the digest.
+fn parts_of(dag: &mut Dag, alloc: Global, digest: Digest) -> Result<usize, Fail> {
+    match view_for(dag, alloc, digest)? {
+        Ok(view) => Ok(view.parts()),
+        Err(refusal) => Err(Fail::from(refusal)),
+    }
+}
+
+#[test]
+fn views_of_a_chain_share_what_was_frozen(rt: HostRuntime) -> Result<(), Fail> {
+    let alloc = rt.alloc();
+    let mut dag = Dag::new(alloc, 64, 64);
+    for number in 0..17u8 {
+        let parts = if number < 16 {
+            usize::from(number) + 1
+        } else {
+            2
+        };
+        assert_eq!(rt; next_parts(&mut dag, alloc, number)?, parts);
+    }
+    again!(NoMemory, dag.compact(alloc))?;
+    assert_eq!(rt; parts_of(&mut dag, alloc, digest(16, 0))?, 1);
+    Ok(())
+}
+
+/// What the plain store is asked.
+#[derive(Clone, Copy)]
+enum Asked {
+    /// The block of round 0 of this author is written.
+    Write(u8),
+    /// The block over three of them is written.
+    WriteOver,
+    Certify(u8),
+    CertifyOver,
+    Causal,
+    Collect,
+    Read,
+}
+
+/// References to the blocks of round 0 of three authors.
+fn over_three() -> [Ref; 3] {
+    [0, 1, 2].map(|author: u8| Ref {
+        author: u16::from(author),
+        digest: name(0, author),
+    })
+}
+
+/// The call. The block of round 1 is over those of three authors.
+fn call_of(alloc: Global, asked: Asked) -> Result<Call, NoMemory> {
+    let first = (round(1), 0);
+    Ok(match asked {
+        Asked::Write(author) => {
+            let slot = (Round::ZERO, u16::from(author));
+            Call::Write(name(0, author), block_of(alloc, slot, &[])?)
+        }
+        Asked::WriteOver => { Call::Write(name(1, 0), block_of(alloc, first, &over_three())?) }
+        Asked::Certify(author) => {
+            let slot = (Round::ZERO, u16::from(author));
+            Call::Certify(certificate_of(alloc, name(0, author), slot)?)
+        }
+        Asked::CertifyOver => Call::Certify(certificate_of(alloc, name(1, 0), first)?),
+        Asked::Causal => Call::Causal(name(1, 0)),
+        Asked::Collect => Call::Collect(round(2)),
+        Asked::Read => Call::Read(name(1, 0)),
+    })
+}
+
+/// The reply in words, where it is one of those that the example waits for.
+fn words(reply: &Reply) -> &'static str {
+    match reply {
+        Reply::Write(WriteReply::Stored { vote: true }) => "stored vote",
+        Reply::Certify(CertifyReply::Certified) => "certified",
+        Reply::List(blocks) if have_slots(blocks.as_slice(), &[(0, 0), (0, 1), (0, 2), (1, 0)]) => {
+            "all four"
+        }
+        Reply::Collect(CollectReply::Raised { dropped: 4 }) => "raised 4",
+        Reply::Read(None) | Reply::Causal(CausalReply::Unknown) => "unknown",
+        _ => "another reply",
+    }
+}
+
+/// Whether the plain store answers so.
+fn is_answered(
+    plain: &mut Plain,
+    alloc: Global,
+    asked: Asked,
+    answer: &str,
+) -> Result<bool, NoMemory> {
+    let call = again!(NoMemory, call_of(alloc, asked))?;
+    let reply = again!(NoMemory, plain.call(&call))?;
+    Ok(words(&reply) == answer)
+}
+
+const EXAMPLE: [(Asked, &str); 12] = [
+    (Asked::Write(0), "stored vote"),
+    (Asked::Write(1), "stored vote"),
+    (Asked::Write(2), "stored vote"),
+    (Asked::WriteOver, "stored vote"),
+    (Asked::Certify(0), "certified"),
+    (Asked::Certify(1), "certified"),
+    (Asked::Certify(2), "certified"),
+    (Asked::CertifyOver, "certified"),
+    (Asked::Causal, "all four"),
+    (Asked::Collect, "raised 4"),
+    (Asked::Read, "unknown"),
+    (Asked::Causal, "unknown"),
+];
+
+#[test]
+fn a_plain_store_answers(rt: HostRuntime) -> Result<(), Fail> {
+    let mut plain = Plain::new(rt.alloc(), 64, 64);
+    for (asked, answer) in EXAMPLE {
+        assert!(rt;
+            is_answered(&mut plain, rt.alloc(), asked, answer)?,
+            "{answer}"
+        );
+    }
+    Ok(())
+}
+
+#[test]
+fn a_plain_store_over_a_base_goes_on(rt: HostRuntime) -> Result<(), Fail> {
+    let mut before = Plain::new(rt.alloc(), 64, 64);
+    for (asked, answer) in &EXAMPLE[..8] {
+        assert!(rt;
+            is_answered(&mut before, rt.alloc(), *asked, answer)?,
+            "{answer}"
+        );
+    }
+    let base = Base::of(before);
+    let mut plain = again!(NoMemory, Plain::over(rt.alloc(), &base))?;
+    for (asked, answer) in &EXAMPLE[8..] {
+        assert!(rt;
+            is_answered(&mut plain, rt.alloc(), *asked, answer)?,
+            "{answer}"
+        );
+    }
+    Ok(())
+}
