@@ -175,6 +175,17 @@ fn tally<'a, L: Home>(
     alloc: Global,
     settled: &Settled<DemoScheme, L>,
 ) -> Result<Answer<'a>, PlayFault> {
+    Ok(Answer::Settled {
+        events: settled.history().len(),
+        calls: calls_of_each(alloc, settled)?,
+    })
+}
+
+// How many calls each session made.
+fn calls_of_each<L: Home>(
+    alloc: Global,
+    settled: &Settled<DemoScheme, L>,
+) -> Result<Vec<usize>, PlayFault> {
     let mut calls = Vec::new(alloc);
     for session in 0..=u16::MAX {
         match settled.journal(session) {
@@ -182,10 +193,7 @@ fn tally<'a, L: Home>(
             None => break,
         }
     }
-    Ok(Answer::Settled {
-        events: settled.history().len(),
-        calls,
-    })
+    Ok(calls)
 }
 
 fn print<W: Write>(out: &mut W, answer: &Answer<'_>) -> Result<(), PlayFault> {
