@@ -3,3 +3,4 @@ pub mod Stands
 pub mod Opened
 pub mod Agreed
 pub mod Sent
+pub mod Shared

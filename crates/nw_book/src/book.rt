@@ -3,6 +3,8 @@ ghost use Rattle.std.specs.Prelude.{◌≡◌, ◌↔◌, [], IsTrue, IfOk, IfEr
 ghost use Rattle.std.specs.Result.{IsErrOf, MatchResult};
 ghost use Rattle.nw_model.specs.State.{opening};
 ghost use Rattle.nw_model.specs.Step.{IsReply, IsShort};
+ghost use Rattle.nw_model.specs.declared.reply.Reply.TheVariants as replies;
+ghost use Rattle.nw_model.specs.declared.reply.WriteReply.TheVariants as writes;
 ghost use Rattle.nw_model.specs.View.{Shows};
 ghost use Rattle.nw_history.specs.Limits.{AreInRange};
 ghost use Rattle.nw_history.specs.Story.{IsLegalStory, bounds_of, state_of, with_event};
@@ -17,7 +19,7 @@ use nw_dag::Dag;
 use nw_digest::{Digest, NoMemory, Shared};
 use nw_generation::View;
 use nw_history::{Front, History, Limits};
-use nw_model::{Call, CausalReply, Event, Reply};
+use nw_model::{Call, CausalReply, Event, Reply, WriteReply};
 use nw_sig::Scheme;
 use std::alloc::Global;
 use std::marker::Model;
@@ -114,6 +116,7 @@ impl<S: Scheme> Book<S> {
         self.may_step(session, number, command)?;
         let call = command.call()?;
         let reply = self.tables.reply(alloc, &call)?;
+        let call = with_held(&self.tables, call, &reply)?;
         let event = Event {
             session,
             number,
@@ -287,4 +290,28 @@ impl<S: Scheme> Book<S> {
     {
         self.history.len() < self.history.limits().events as usize
     }
+}
+
+/// The call; where its block is held already, with the one that is held, so that a history keeps no second copy of it.
+fn with_held(tables: &Dag, call: Call, reply: &Reply) -> Result<Call, NoMemory>
+    requires reply { IsReply tables.now.bounds tables.now.state call reply.now }
+    ensures { IfOk result (λ shared. shared ≡ call) }
+{
+    let Call::Write(digest, _) = &call else {
+        return Ok(call);
+    };
+    if !is_held(reply) {
+        return Ok(call);
+    }
+    match tables.read(digest)? {
+        None => Ok(call),
+        Some(held) => Ok(Call::Write(*digest, held)),
+    }
+}
+
+/// Whether a write is answered that its block is held.
+fn is_held(reply: &Reply) -> bool
+    ensures { IsTrue result ↔ reply.now ≡ replies.Write writes.Held }
+{
+    matches!(reply, Reply::Write(WriteReply::Held))
 }
