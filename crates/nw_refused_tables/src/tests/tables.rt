@@ -101,8 +101,8 @@ fn wanted(author: u16, first: u8) -> Wanted {
 }
 
 /// Lets the holder lack it.
-fn want(waiting: &mut Waiting<Global>, wanted: Wanted, holder: Digest) -> Result<(), NoMemory> {
-    again!(NoMemory, waiting.want(wanted, holder))
+fn want(waiting: &mut Waiting<Global>, wanted: &Wanted, holder: Digest) -> Result<(), NoMemory> {
+    again!(NoMemory, waiting.want(*wanted, holder))
 }
 
 /// The first so many of what is wanted.
@@ -118,7 +118,7 @@ fn first_wanted(
 fn two_holders_wait(rt: HostRuntime) -> Result<(), Fail> {
     let (u, v, h1, h2) = (wanted(0, 1), wanted(1, 2), digest(8, 0), digest(9, 0));
     let mut waiting = Waiting::new_in(rt.alloc());
-    for (wanted, holder) in [(u, h1), (v, h1), (u, h2)] {
+    for (wanted, holder) in [(&u, h1), (&v, h1), (&u, h2)] {
         want(&mut waiting, wanted, holder)?;
     }
     assert_eq!(rt; (waiting.count(), waiting.lacks(h1)), (2, 2));
