@@ -9,6 +9,8 @@ use std::test::Fail;
 
 mod checks;
 mod committees;
+mod free;
+mod lent;
 mod texts;
 mod workers;
 
