@@ -31,7 +31,7 @@ fn certificate_of(
 }
 
 /// Writes and certifies a block of author 0 over these, under the digest.
-fn extend(
+pub(super) fn extend(
     dag: &mut Dag,
     alloc: Global,
     digest: Digest,
