@@ -1,12 +1,18 @@
 use nw_codec::{EncodeError, Message, encode_message};
 use nw_committee::Committee;
 use nw_digest::{NoMemory, Round};
-use nw_sample_refused::{Slot, VOTED, again, certificate, committee, signature, unsigned, vote};
-use std::alloc::Global;
+use nw_sample_refused::{
+    Slot, VOTED, again, certificate, committee, refuse_all, refuse_none, signature, unsigned, vote,
+};
+use std::alloc::{AllocError, Global};
 use std::test::Fail;
 
 mod checks;
+mod committees;
+mod free;
+mod lent;
 mod texts;
+mod workers;
 
 /// Of what votes and certificates are.
 const SLOT: Slot = (Round::ZERO, 0);

@@ -7,4 +7,5 @@ use std::test::Fail;
 mod asker;
 mod books;
 mod desk;
+mod free;
 mod stores;

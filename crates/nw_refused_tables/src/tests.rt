@@ -1,9 +1,10 @@
 use nw_digest::{Digest, NoMemory, Round};
-use nw_sample_refused::again;
+use nw_sample_refused::{again, refuse_all, refuse_none};
 use std::alloc::{AllocError, Global};
 use std::test::Fail;
 
 mod dags;
+mod free;
 mod tables;
 mod views;
 

@@ -58,17 +58,18 @@ pub fn certificate(
     slot: Slot,
     signers: &[u16],
 ) -> Result<Certificate, NoMemory> {
+    let (round, author) = slot;
     let mut votes = Vec::new(alloc);
     for signer in signers {
         votes.push(Seal {
             signer: *signer,
-            signature: vote(committee, digest, slot, *signer).signature,
+            signature: vote(committee, digest, (round, author), *signer).signature,
         })?;
     }
     Ok(Certificate {
         digest,
-        round: slot.0,
-        author: slot.1,
+        round,
+        author,
         votes: Sequence::new(votes),
     })
 }

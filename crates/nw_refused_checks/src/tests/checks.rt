@@ -68,7 +68,7 @@ fn a_certificate_is_checked_with_its_votes(rt: HostRuntime) -> Result<(), Fail> 
 }
 
 /// A word for what a text is.
-fn word(checked: &Checked<DemoScheme>) -> &'static str {
+pub(super) fn word(checked: &Checked<DemoScheme>) -> &'static str {
     match checked {
         Checked::Block(_) => "block",
         Checked::Cert(_) => "certificate",

@@ -3,23 +3,34 @@ use super::desk::{Desk, FOUR, TWO};
 use super::*;
 use nw_book::{Agreement, Book, BookError, Command, NoStep, Ticket};
 use nw_check::{BlockFault, CertFault};
+use nw_committee::Committee;
+use nw_digest::Shared;
 use nw_history::Limits;
 use nw_run::{Answer, Cause, Move, Run, Stop, run};
 
 /// The limits of a book of one session.
-const LIMITS: Limits = Limits {
+pub(super) const LIMITS: Limits = Limits {
     blocks: 16,
     events: 16,
     window: 4,
     sessions: 1,
 };
 
-fn new_book(alloc: Global, desk: &Desk) -> Result<Book<DemoScheme>, BookError> {
-    Book::new(alloc, desk.committee.try_clone()?, LIMITS)
+/// A book of the committee.
+pub(super) fn new_book(
+    alloc: Global,
+    committee: &Shared<Committee>,
+    limits: Limits,
+) -> Result<Book<DemoScheme>, BookError> {
+    Book::new(alloc, committee.try_clone()?, limits)
 }
 
 /// The command that writes the block at the place.
-fn write(alloc: Global, desk: &Desk, place: usize) -> Result<Command<DemoScheme>, BlockFault> {
+pub(super) fn write(
+    alloc: Global,
+    desk: &Desk,
+    place: usize,
+) -> Result<Command<DemoScheme>, BlockFault> {
     Ok(Command::Write(again!(BlockFault::NoMemory, desk.block(alloc, place))?))
 }
 
@@ -99,7 +110,10 @@ fn made(
     desk: &Desk,
     moves: &[Move<DemoScheme>],
 ) -> Result<(Option<Stop>, bool), Fail> {
-    let mut book = again!(BookError::NoMemory, new_book(alloc, desk))?;
+    let mut book = again!(
+        BookError::NoMemory,
+        new_book(alloc, &desk.committee, LIMITS)
+    )?;
     let run = run(&mut book, alloc, moves);
     let begun = is_begun(desk, &run, book.history().len());
     Ok((run.stop, begun))
@@ -131,8 +145,11 @@ fn step(
 }
 
 /// A ticket of a new book for the block over three.
-fn ticket(alloc: Global, desk: &Desk) -> Result<Ticket<DemoScheme>, Fail> {
-    let mut book = again!(BookError::NoMemory, new_book(alloc, desk))?;
+pub(super) fn ticket(alloc: Global, desk: &Desk) -> Result<Ticket<DemoScheme>, Fail> {
+    let mut book = again!(
+        BookError::NoMemory,
+        new_book(alloc, &desk.committee, LIMITS)
+    )?;
     for place in 0..4 {
         step(&mut book, alloc, &write(alloc, desk, place)?)?;
         step(&mut book, alloc, &certify(alloc, desk, place)?)?;

@@ -31,7 +31,7 @@ fn certificate_of(
 }
 
 /// Writes and certifies a block of author 0 over these, under the digest.
-fn extend(
+pub(super) fn extend(
     dag: &mut Dag,
     alloc: Global,
     digest: Digest,
@@ -86,16 +86,21 @@ fn a_block_of_the_garbage_round_needs_no_parents(rt: HostRuntime) -> Result<(), 
 
 /// Adds the next block of a chain of one author. The number of parts of the view for it.
 fn next_parts(dag: &mut Dag, alloc: Global, number: u8) -> Result<usize, Fail> {
-    let before = Ref {
-        author: 0,
-        digest: digest(number.saturating_sub(1), 0),
+    let link = digest(number, 0);
+    let taken = match number.checked_sub(1) {
+        None => extend(dag, alloc, link, round(0), &[])?,
+        Some(before) => {
+            let over = Ref {
+                author: 0,
+                digest: digest(before, 0),
+            };
+            extend(dag, alloc, link, round(number), &[over])?
+        }
     };
-    let parents: &[Ref] = if number == 0 { &[] } else { &[before] };
-    let round = round(number);
-    if extend(dag, alloc, digest(number, 0), round, parents)? != TAKEN {
+    if taken != TAKEN {
         return Err(Fail::from("the chain is not taken"));
     }
-    parts_of(dag, alloc, digest(number, 0))
+    parts_of(dag, alloc, link)
 }
 
 /// The number of parts of the view for the digest.

@@ -6,7 +6,7 @@ use nw_trie::Trie;
 use nw_waiting::{Waiting, Wanted};
 
 /// Inserts the value, and again where it comes back.
-fn insert(
+pub(super) fn insert(
     trie: &mut Trie<u64, Global>,
     key: Digest,
     value: u64,
@@ -18,7 +18,7 @@ fn insert(
 }
 
 /// Whether these are the entries of the trie, in order.
-fn has(trie: &Trie<u64, Global>, entries: &[(Digest, u64)]) -> bool {
+pub(super) fn has(trie: &Trie<u64, Global>, entries: &[(Digest, u64)]) -> bool {
     trie.len() == entries.len()
         && trie
             .iter()
@@ -41,7 +41,11 @@ fn a_trie_of_three_keys(rt: HostRuntime) -> Result<(), Fail> {
 }
 
 /// Makes the digest the first of round 3 and the author.
-fn put_first(rounds: &mut Rounds<Global>, author: u16, digest: Digest) -> Result<(), Fail> {
+pub(super) fn put_first(
+    rounds: &mut Rounds<Global>,
+    author: u16,
+    digest: Digest,
+) -> Result<(), Fail> {
     let third = round(3);
     if rounds.first(third, author).is_some() {
         return Err(Fail::from("the slot has a first digest"));
@@ -50,7 +54,7 @@ fn put_first(rounds: &mut Rounds<Global>, author: u16, digest: Digest) -> Result
 }
 
 /// Certifies the digest for round 3 and author 1.
-fn put_certified(rounds: &mut Rounds<Global>, digest: Digest) -> Result<(), Fail> {
+pub(super) fn put_certified(rounds: &mut Rounds<Global>, digest: Digest) -> Result<(), Fail> {
     let third = round(3);
     if rounds.certified(third, 1).is_some() {
         return Err(Fail::from("the slot has a certified digest"));
@@ -92,7 +96,7 @@ fn a_round_is_listed_and_dropped(rt: HostRuntime) -> Result<(), Fail> {
 }
 
 /// What is wanted of round 0 and the author, under the digest that begins with this byte.
-fn wanted(author: u16, first: u8) -> Wanted {
+pub(super) fn wanted(author: u16, first: u8) -> Wanted {
     Wanted {
         round: Round::ZERO,
         author,
@@ -101,8 +105,12 @@ fn wanted(author: u16, first: u8) -> Wanted {
 }
 
 /// Lets the holder lack it.
-fn want(waiting: &mut Waiting<Global>, wanted: Wanted, holder: Digest) -> Result<(), NoMemory> {
-    again!(NoMemory, waiting.want(wanted, holder))
+pub(super) fn want(
+    waiting: &mut Waiting<Global>,
+    wanted: &Wanted,
+    holder: Digest,
+) -> Result<(), NoMemory> {
+    again!(NoMemory, waiting.want(*wanted, holder))
 }
 
 /// The first so many of what is wanted.
@@ -118,7 +126,7 @@ fn first_wanted(
 fn two_holders_wait(rt: HostRuntime) -> Result<(), Fail> {
     let (u, v, h1, h2) = (wanted(0, 1), wanted(1, 2), digest(8, 0), digest(9, 0));
     let mut waiting = Waiting::new_in(rt.alloc());
-    for (wanted, holder) in [(u, h1), (v, h1), (u, h2)] {
+    for (wanted, holder) in [(&u, h1), (&v, h1), (&u, h2)] {
         want(&mut waiting, wanted, holder)?;
     }
     assert_eq!(rt; (waiting.count(), waiting.lacks(h1)), (2, 2));

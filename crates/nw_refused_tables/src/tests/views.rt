@@ -53,7 +53,7 @@ fn both(alloc: Global, floor: Round) -> Result<View<Global>, Fail> {
 }
 
 /// The view of the older ones alone, with this transaction.
-fn alone(alloc: Global, text: &[u8]) -> Result<View<Global>, Fail> {
+pub(super) fn alone(alloc: Global, text: &[u8]) -> Result<View<Global>, Fail> {
     let mut generations = room(alloc)?;
     generations.push(older_frozen(alloc, text)?)?;
     Ok(View::new(generations, Round::ZERO))
@@ -69,7 +69,7 @@ pub(super) fn have_slots(blocks: &[Shared<Block>], slots: &[(u64, u16)]) -> bool
 }
 
 /// Whether a walk of the view from the digest lists these.
-pub(super) fn lists(
+fn lists(
     alloc: Global,
     view: &View<Global>,
     digest: Digest,

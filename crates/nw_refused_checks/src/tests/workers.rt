@@ -1,0 +1,53 @@
+//! Messages that are checked by two workers.
+use super::checks::word;
+use super::*;
+use nw_check::Checked;
+use nw_digest::Shared;
+use nw_intake::{FreeGate, IntakeFault, check_all};
+use nw_sig::DemoScheme;
+use std::sync::Wait;
+use std::thread::Threads;
+
+/// The texts of a good block and of a vote.
+fn two_texts(alloc: Global, four: &Committee) -> Result<Vec<Vec<u8>>, Fail> {
+    let mut texts = again!(AllocError, Vec::with_capacity(alloc, 2))?;
+    texts.push(text_of(alloc, &block_message(alloc, four, 0)?)?)?;
+    texts.push(text_of(alloc, &Message::Vote(vote(four, VOTED, SLOT, 1)))?)?;
+    Ok(texts)
+}
+
+/// The answers, or why there are none, of two workers who are handed new texts.
+fn together<R: Threads + Wait + Sync>(
+    rt: &R,
+    alloc: Global,
+    four: &Shared<Committee>,
+) -> Result<Result<Vec<Checked<DemoScheme>>, IntakeFault>, Fail> {
+    let texts = two_texts(alloc, four.get())?;
+    if texts.len() > 2 {
+        return Err(Fail::from("there are two texts"));
+    }
+    Ok(check_all(rt, alloc, four, texts, 2, &FreeGate))
+}
+
+/// Whether two workers find a block and a vote. A thread that was not started wants memory too.
+fn find_both<R: Threads + Wait + Sync>(
+    rt: &R,
+    alloc: Global,
+    four: &Shared<Committee>,
+) -> Result<bool, Fail> {
+    let answers = match together(rt, alloc, four)? {
+        Err(IntakeFault::NoMemory | IntakeFault::Spawn) => together(rt, alloc, four)??,
+        answers => answers?,
+    };
+    match answers.as_slice() {
+        [one, other] => Ok(word(one) == "block" && word(other) == "vote"),
+        _ => Ok(false),
+    }
+}
+
+#[test]
+fn two_workers_check_two_messages(rt: HostRuntime) -> Result<(), Fail> {
+    let four = again!(NoMemory, committee(rt.alloc(), &[0, 1, 2, 3]))?;
+    assert!(rt; find_both(&rt, rt.alloc(), &four)?);
+    Ok(())
+}
