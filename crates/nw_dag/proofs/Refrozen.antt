@@ -1,17 +1,25 @@
 -- What is frozen after a collection.
 use Rattle.std.proofs.Common.{◌≡◌, ◌↔◌, ℕ, ◌<◌, ◌≤◌, Bool, List, ◌++◌, Some, length, take, drop, filter, is_some, ap, sym, ◌∙◌, subst, arith, append_assoc}
-use Rattle.std.specs.Prelude.{Contains}
+use Rattle.std.specs.Prelude.{Contains, IsPermutation}
 use Rattle.std.specs.FinMap.{FinMap, get}
 use Rattle.std.proofs.Math.Seq.{take-append_seam}
 use Rattle.std.proofs.lemmas.List.{take-append-drop, length-append}
 use Rattle.std.proofs.lemmas.List.Elements.{filter-append}
+use Rattle.std.proofs.lemmas.List.Sorted.{Contains-permutation, IsPermutation-sym}
 use Rattle.nw_digest.specs.declared.digest.Digest.{Digest}
 use Rattle.nw_codec.specs.declared.block.Block.{Block}
 use Rattle.nw_model.specs.State.{State, digest_cmp}
 use Rattle.nw_model.specs.Step.{raised}
 use Rattle.nw_model.proofs.Raised.{was_there, is_kept}
-use Rattle.nw_dag.specs.Frozen.{IsFrozenTo, Begins}
+use Rattle.nw_dag.specs.Frozen.{AreOf, IsFrozenTo, Begins}
 use Rattle.nw_held.proofs.Filtered.{filter_was, filter_has}
+
+-- blocks of some digests are those of the same digests in another order
+pub of_permutation : (s : State) (digests others : List Digest) (blocks : FinMap digest_cmp Block) → IsPermutation digests others → AreOf s others blocks → AreOf s digests blocks
+of_permutation s digests others blocks same of d b = (
+  λ at. let (among, held) = (of d b).0 at in (Contains-permutation others digests d (IsPermutation-sym digests others same) among, held),
+  λ (among, held). (of d b).1 (Contains-permutation digests others d same among, held),
+)
 
 module _ (s : State) (round : ℕ) (complete more : List Digest) (blocks : FinMap digest_cmp Block) (count : ℕ) (higher : s.floor < round) (was : IsFrozenTo s complete blocks count) where
   abbrev t : State

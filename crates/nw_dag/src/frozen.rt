@@ -1,5 +1,5 @@
 //! The complete blocks that are frozen, of which views are made.
-ghost use Rattle.std.specs.Prelude.{◌≡◌, ◌≤◌, IfOk, OnOk, OnErr, length, take, filter, is_some};
+ghost use Rattle.std.specs.Prelude.{◌≡◌, ◌≤◌, IfOk, OnOk, OnErr, IsPermutation, length, take, filter, is_some};
 ghost use Rattle.std.specs.FinMap as map;
 ghost use Rattle.nw_model.specs.State.{digest_cmp};
 ghost use Rattle.nw_model.specs.View.{IsClosed};
@@ -97,15 +97,25 @@ impl Frozen {
     }
 }
 
-/// One generation alone, of the blocks that are held under these digests.
+/// One generation alone, of the blocks that are held under these digests. They are taken in the order of the tries, so that
+/// each look-up and each insert keeps close to the one before.
 fn joined(alloc: Global, held: &Held, digests: &[Digest]) -> Result<Generations<Global>, NoMemory>
     ensures blocks { IfOk result (λ generations. AreOf held.now.state digests.now generations.blocks) }
     ensures parts { IfOk result (λ generations. generations.parts ≡ 1) }
 {
-    let all = freeze_held(alloc, held, digests)?;
+    let all = freeze_held(alloc, held, &ascending(alloc, digests)?)?;
     let mut generations = Generations::new(alloc);
     generations.replace(alloc, all)?;
     Ok(generations)
+}
+
+/// The digests in their order.
+fn ascending(alloc: Global, digests: &[Digest]) -> Result<Vec<Digest>, NoMemory>
+    ensures { IfOk result (λ found. IsPermutation digests.now found.items) }
+{
+    let mut found = digests.to_vec(alloc)?;
+    found.sort_unstable();
+    Ok(found)
 }
 
 /// The generation of the blocks that are held under these digests.
