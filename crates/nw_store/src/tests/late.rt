@@ -12,7 +12,10 @@ use std::sync::atomic::AtomicBool;
 use std::sync::atomic::Ordering::SeqCst;
 use std::thread::{Threads, join, yield_now};
 
-/// A gate that passes the writer once the walk is to start, and the walk once the writer is done. It yields before it says no.
+/// How often a gate yields before it says no, so that it outlasts a thread that is late on a busy machine.
+const YIELDS: u32 = 32;
+
+/// A gate that passes the writer once the walk is to start, and the walk once the writer is done.
 #[derive(Drop)]
 struct Late {
     walk_reached: AtomicBool,
@@ -47,7 +50,9 @@ impl Gate for Late {
             _ => true,
         };
         if !passed {
-            yield_now();
+            for _ in 0..YIELDS {
+                yield_now();
+            }
         }
         passed
     }
