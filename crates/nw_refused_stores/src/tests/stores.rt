@@ -200,17 +200,26 @@ const CERTIFIED: [(Asked, Answer); 3] = [
 ];
 
 #[test]
-fn stores_of_four_members_answer(rt: HostRuntime) -> Result<(), Fail> {
+fn a_ticket_is_walked_behind_a_collection(rt: HostRuntime) -> Result<(), Fail> {
     let desk = Desk::new(rt.alloc(), &[0, 1, 2, 3], &FOUR)?;
-    let cases: [(Table<'_>, usize, usize); 3] = [
-        (&COLLECTED, 13, 12),
-        (&LATE, 13, 12),
-        (&CERTIFIED, 3, 3),
-    ];
-    for (table, answered, events) in cases {
-        let played = played(&rt, rt.alloc(), &desk, table)?;
-        assert_eq!(rt; (played.answered, played.events), (answered, events));
-    }
+    let played = played(&rt, rt.alloc(), &desk, &COLLECTED)?;
+    assert_eq!(rt; (played.answered, played.events), (13, 12));
+    Ok(())
+}
+
+#[test]
+fn a_block_waits_for_its_parent(rt: HostRuntime) -> Result<(), Fail> {
+    let desk = Desk::new(rt.alloc(), &[0, 1, 2, 3], &FOUR)?;
+    let played = played(&rt, rt.alloc(), &desk, &LATE)?;
+    assert_eq!(rt; (played.answered, played.events), (13, 12));
+    Ok(())
+}
+
+#[test]
+fn a_certificate_is_kept_once(rt: HostRuntime) -> Result<(), Fail> {
+    let desk = Desk::new(rt.alloc(), &[0, 1, 2, 3], &FOUR)?;
+    let played = played(&rt, rt.alloc(), &desk, &CERTIFIED)?;
+    assert_eq!(rt; (played.answered, played.events), (3, 3));
     Ok(())
 }
 
