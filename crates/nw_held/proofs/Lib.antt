@@ -4,3 +4,4 @@ pub mod Shelves
 pub mod Filtered
 pub mod HeldRaised
 pub mod Sent
+pub mod Listings
