@@ -220,10 +220,13 @@ grown_collected s old mid new holders fresh listed more without adds grown = rec
   listed = λ x ready. elim (grown.listed x ready) [
     | inl was ↦ elim (among_or_not adds.added x) [
       | inl added ↦ inr (subst (λ xs. Contains xs x) (sym grown.begins.1) (Contains-append_left listed grown.begins.0 x (subst (λ xs. Contains xs x) (sym adds.are) (Contains-append_right fresh adds.added x added))))
-      | inr apart ↦ inl (was.0, λ w lacks. elim (among_or_not holders x) [
-        | inl holder ↦ apart ((adds.exactly x).1 (holder, (was.0, λ nothing. nothing w lacks)))
-        | inr free ↦ was.1 w ((without x w).1 (lacks, free))
-      ])
+      | inr apart ↦ inl (
+        was.0,
+        λ w lacks. elim (among_or_not holders x) [
+          | inl holder ↦ apart ((adds.exactly x).1 (holder, (was.0, λ nothing. nothing w lacks)))
+          | inr free ↦ was.1 w ((without x w).1 (lacks, free))
+        ],
+      )
     ]
     | inr among ↦ inr among
   ];

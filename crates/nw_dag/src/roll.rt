@@ -119,8 +119,7 @@ impl Roll {
         ensures fresh { (d : Digest) → Contains self.new.fresh.items d ↔ (Contains self.old.fresh.items d × IsReady held.now.state lacking.now d) }
         ensures pending { self.new.pending ≡ self.old.pending }
     {
-        self.fresh
-            .retain(|digest| is_ready(held, lacking, *digest));
+        self.fresh.retain(|digest| is_ready(held, lacking, *digest));
     }
 
     /// Lists nothing any more.

@@ -18,9 +18,11 @@ add_if_ready-requires c =
     let digests : List Digest = c.args.digests.now in
     let d : Digest = get_or digests i none in
     let inv = c.loop-digest.invariant in
-    record { pending = λ ready. pending_next s c.args.self.now.lacking digests (take i digests) c.args.self.now.roll.fresh.items c.loop-digest.self.roll.fresh.items c.args.self.now.roll.pending c.loop-digest.self.roll.pending d
-    c.requires.tally inv.added (λ x among. among_front i digests x among) inv.most (Contains-get_or digests i none c.loop-digest-test.true)
-    (not_before digests i none c.loop-digest-test.true c.requires.once) (subst (λ (m : Pairs). IsReady s m d) inv.lacking ready) }
+    record {
+      pending = λ ready. pending_next s c.args.self.now.lacking digests (take i digests) c.args.self.now.roll.fresh.items c.loop-digest.self.roll.fresh.items c.args.self.now.roll.pending c.loop-digest.self.roll.pending d
+          c.requires.tally inv.added (λ x among. among_front i digests x among) inv.most (Contains-get_or digests i none c.loop-digest-test.true)
+          (not_before digests i none c.loop-digest-test.true c.requires.once) (subst (λ (m : Pairs). IsReady s m d) inv.lacking ready);
+    }
 
 pub loop-digest-preserved : goal.loop-digest-preserved
 loop-digest-preserved c =

@@ -27,13 +27,15 @@ pub cascade-requires : goal.cascade-requires
 cascade-requires c =
     let s : State = c.args.held.now.state in
     let self = c.args.self.now in
-    record { due = rw c.meet.ensures.lacking
-    (now_ready s c.args.digest self.unmet c.meet.new.self.unmet self.lacking self.roll.fresh.items c.add.new.self.fresh.items self.roll.pending c.add.new.self.pending c.listed-first.result c.meet.ensures.unmet
-    (rw c.meet.ensures.lacking at (c.is_ready.ensures.0 c.if-is_ready.true))
-    (rw c.meet.ensures.roll at c.add.ensures.fresh)
-    (rw c.meet.ensures.roll at c.add.ensures.pending)
-    (rw c.meet.ensures.roll at c.listed-first.ensures)
-    c.requires) }
+    record {
+      due = rw c.meet.ensures.lacking
+          (now_ready s c.args.digest self.unmet c.meet.new.self.unmet self.lacking self.roll.fresh.items c.add.new.self.fresh.items self.roll.pending c.add.new.self.pending c.listed-first.result c.meet.ensures.unmet
+          (rw c.meet.ensures.lacking at (c.is_ready.ensures.0 c.if-is_ready.true))
+          (rw c.meet.ensures.roll at c.add.ensures.fresh)
+          (rw c.meet.ensures.roll at c.add.ensures.pending)
+          (rw c.meet.ensures.roll at c.listed-first.ensures)
+          c.requires);
+    }
 
 pub returns-then-is_ready : goal.returns-then-is_ready
 returns-then-is_ready c =

@@ -17,8 +17,10 @@ cascade-requires c =
     let s : State = c.args.held.now.state in
     let self = c.args.self.now in
     let new = c.release_each.new.self in
-    record { due = collected s self.unmet self.lacking self.roll.pending c.args.holders.now c.args.dropped c.requires new.unmet new.lacking c.dismiss.new.self.fresh.items new.roll.fresh.items c.dismiss.new.self.pending new.roll.pending c.listed-first.result
-    c.dismiss.ensures.pending c.release_each.ensures.unmet c.release_each.ensures.lacking c.release_each.ensures.added c.release_each.ensures.most c.listed-first.ensures }
+    record {
+      due = collected s self.unmet self.lacking self.roll.pending c.args.holders.now c.args.dropped c.requires new.unmet new.lacking c.dismiss.new.self.fresh.items new.roll.fresh.items c.dismiss.new.self.pending new.roll.pending c.listed-first.result
+          c.dismiss.ensures.pending c.release_each.ensures.unmet c.release_each.ensures.lacking c.release_each.ensures.added c.release_each.ensures.most c.listed-first.ensures;
+    }
 
 pub returns-clause-grown : goal.returns-clause-grown
 returns-clause-grown c =

@@ -9,8 +9,10 @@ use Rattle.nw_dag.proofs.waits.Waits.release.Goals as goal
 pub add_if_ready-requires : goal.add_if_ready-requires
 add_if_ready-requires c =
     let self = c.args.self.now in
-    record { pending = λ ready. subst (λ (r : Roll). 0 < r.pending) (sym c.forget.ensures.roll) (stuck_pending c.args.held.now.state self.lacking c.forget.new.self.lacking c.args.holder self.roll.pending c.forget.ensures.lacking
-    (refuted c.lacks_nothing-lacked_nothing.result ((w : Wanted) → Lacks self.lacking c.args.holder w → ⊥) c.lacks_nothing-lacked_nothing.ensures c.if-not-lacked_nothing.true) c.requires.tally ready) }
+    record {
+      pending = λ ready. subst (λ (r : Roll). 0 < r.pending) (sym c.forget.ensures.roll) (stuck_pending c.args.held.now.state self.lacking c.forget.new.self.lacking c.args.holder self.roll.pending c.forget.ensures.lacking
+          (refuted c.lacks_nothing-lacked_nothing.result ((w : Wanted) → Lacks self.lacking c.args.holder w → ⊥) c.lacks_nothing-lacked_nothing.ensures c.if-not-lacked_nothing.true) c.requires.tally ready);
+    }
 
 pub returns-then-not-lacked_nothing-clause-added : goal.returns-then-not-lacked_nothing-clause-added
 returns-then-not-lacked_nothing-clause-added c =

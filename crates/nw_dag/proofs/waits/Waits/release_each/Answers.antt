@@ -19,8 +19,10 @@ loop-holder-init c = record {
 pub release-requires : goal.release-requires
 release-requires c =
     let inv = c.loop-holder.invariant in
-    record { tally = tally_released c.args.held.now.state c.args.self.now.lacking c.loop-holder.self.lacking (take c.loop-holder.holder-index c.args.holders.now) c.args.self.now.roll.fresh.items c.loop-holder.self.roll.fresh.items c.args.self.now.roll.pending
-    c.loop-holder.self.roll.pending inv.lacking inv.added inv.most c.requires.tally }
+    record {
+      tally = tally_released c.args.held.now.state c.args.self.now.lacking c.loop-holder.self.lacking (take c.loop-holder.holder-index c.args.holders.now) c.args.self.now.roll.fresh.items c.loop-holder.self.roll.fresh.items c.args.self.now.roll.pending
+          c.loop-holder.self.roll.pending inv.lacking inv.added inv.most c.requires.tally;
+    }
 
 pub loop-holder-preserved : goal.loop-holder-preserved
 loop-holder-preserved c =
