@@ -40,7 +40,7 @@ pub(crate) fn ancestors<A: Allocator>(
 ) -> Result<BTreeMap<(Round, u16), Ancestor>, NoMemory>
     requires { (b : Block) × IsThere view.now.frozen digest b }
     ensures found { IfOk result (λ found. Reaches view.now.frozen digest (found_in found.entries)) }
-    ensures blocks { IfOk result (λ found. AreAt view.now.frozen (values_of found.entries)) }
+    ensures looked_up { IfOk result (λ found. AreAt view.now.frozen (values_of found.entries)) }
     ensures closed { OnOk result (IsClosed view.now.frozen) }
 {
     let mut found = BTreeMap::new(alloc);
@@ -68,10 +68,10 @@ fn parents_of_all<A: Allocator>(
     requires closed { IsClosed view.now.frozen }
     requires above { AreAbove view.now.frozen (digests frontier.now) }
     requires under { AreUnder view.now.frozen (found_in found.old.entries) }
-    requires blocks { HaveBlocks view.now.frozen found.old.entries frontier.now }
+    requires looked_up { HaveBlocks view.now.frozen found.old.entries frontier.now }
     ensures parents { IfOk result (λ parents. Finds view.now.frozen (IsParentOfAny view.now.frozen (digests frontier.now))
         (found_in found.old.entries) (found_in found.new.entries) [] (digests parents.items)) }
-    ensures blocks { IfOk result (λ parents. HaveBlocks view.now.frozen found.new.entries parents.items) }
+    ensures looked_up { IfOk result (λ parents. HaveBlocks view.now.frozen found.new.entries parents.items) }
 {
     let mut parents = Vec::new(alloc);
     for child in frontier {
@@ -93,10 +93,10 @@ fn find_parents<A: Allocator>(
     parents: &mut Vec<Ancestor>,
 ) -> Result<(), NoMemory>
     requires there { All (HasParent view.now.frozen.blocks (round + 1)) references.now }
-    requires blocks { HaveBlocks view.now.frozen found.old.entries parents.old.items }
+    requires looked_up { HaveBlocks view.now.frozen found.old.entries parents.old.items }
     ensures claims { OnOk result (Claims round references.now
         (found_in found.old.entries) (found_in found.new.entries) (digests parents.old.items) (digests parents.new.items)) }
-    ensures blocks { OnOk result (HaveBlocks view.now.frozen found.new.entries parents.new.items) }
+    ensures looked_up { OnOk result (HaveBlocks view.now.frozen found.new.entries parents.new.items) }
 {
     for reference in references {
         let slot = (round, reference.author);

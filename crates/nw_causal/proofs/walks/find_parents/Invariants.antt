@@ -6,5 +6,5 @@ use Rattle.nw_causal.proofs.walks.find_parents.Given as goal
 abbrev pub invariant-loop-reference : goal.invariant-loop-reference
 invariant-loop-reference g l = record {
   claims : Claims l.round (take l.reference-index l.references) (found_in l.fn.found.entries) (found_in l.found.entries) (digests l.fn.parents.items) (digests l.parents.items);
-  blocks : HaveBlocks l.view.frozen l.found.entries l.parents.items;
+  looked_up : HaveBlocks l.view.frozen l.found.entries l.parents.items;
 }
