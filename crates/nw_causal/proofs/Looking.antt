@@ -115,13 +115,14 @@ first_found v d a b x y before found nothing listed counter end there named at i
     let first : found ≡ (block_slot a.block, a) ∷ [] = put ∙ ap (λ es. insert_entry slot_cmp es (x.round, y.author) a) none ∙ ap (λ s. (s, a) ∷ []) slot in
     let alone : listed ≡ a ∷ [] = pushed ∙ ap (λ xs. xs ++ b ∷ []) empty ∙ ap (λ z. z ∷ []) is_b in
     let here : get v.blocks a.digest ≡ Some a.block = ap (get v.blocks) named ∙ at in
-    let top : end ≡ a.block.round = high ∙ ap (λ (z : Block). z.round) is_x in
-    (rw (found_put [] found (block_slot a.block) a first, alone, low, top, named)
-      (explores_first v d a.block (found_in []) (there_is v d a.block there at) (λ s. get_lookup slots_total [] s)),
-     record {
-      found_at = rw (first) (one here);
-      more_at = rw (alone) (one here);
-    })
+    let top : end ≡ a.block.round = high ∙ ap (λ (z : Block). z.round) is_x in (
+      rw (found_put [] found (block_slot a.block) a first, alone, low, top, named)
+          (explores_first v d a.block (found_in []) (there_is v d a.block there at) (λ s. get_lookup slots_total [] s)),
+      record {
+        found_at = rw (first) (one here);
+        more_at = rw (alone) (one here);
+      },
+    )
   where
     one : get v.blocks a.digest ≡ Some a.block → AreAt v (a ∷ [])
     one here = All-cons (λ (z : Ancestor). get v.blocks z.digest ≡ Some z.block) a [] here (All-nil (λ (z : Ancestor). get v.blocks z.digest ≡ Some z.block))
@@ -137,12 +138,13 @@ looked_on v round refs i r start old new listed more grown a b lt claims blocks 
     let pushed_a : grown ≡ more ++ a ∷ [] = pushed ∙ ap (λ z. more ++ z ∷ []) is_b in
     let here : get v.blocks a.digest ≡ Some a.block = ap (get v.blocks) named ∙ at in
     let entries : found_in new ≡ insert (found_in old) (round, (get_or refs i r).author) (get_or refs i r).digest = found_put old new (round, (get_or refs i r).author) a put ∙ ap (insert (found_in old) (round, (get_or refs i r).author)) named in
-    let names : digests grown ≡ digests more ++ (get_or refs i r).digest ∷ [] = ap digests pushed_a ∙ digests_push more a ∙ ap (λ z. digests more ++ z ∷ []) named in
-    (rw (entries, names) (one_on round refs i r (found_in start) (found_in old) (digests listed) (digests more) lt claims free),
-     record {
-      found_at = rw (put) (All-values-insert_entry slot_cmp (round, (get_or refs i r).author) a (λ (z : Ancestor). get v.blocks z.digest ≡ Some z.block) old blocks.found_at here);
-      more_at = rw (pushed_a) (All-push (λ (z : Ancestor). get v.blocks z.digest ≡ Some z.block) more a blocks.more_at here);
-    })
+    let names : digests grown ≡ digests more ++ (get_or refs i r).digest ∷ [] = ap digests pushed_a ∙ digests_push more a ∙ ap (λ z. digests more ++ z ∷ []) named in (
+      rw (entries, names) (one_on round refs i r (found_in start) (found_in old) (digests listed) (digests more) lt claims free),
+      record {
+        found_at = rw (put) (All-values-insert_entry slot_cmp (round, (get_or refs i r).author) a (λ (z : Ancestor). get v.blocks z.digest ≡ Some z.block) old blocks.found_at here);
+        more_at = rw (pushed_a) (All-push (λ (z : Ancestor). get v.blocks z.digest ≡ Some z.block) more a blocks.more_at here);
+      },
+    )
 
 -- a block of the frontier
 pub record IsChild (v : Frozen) (names : List Digest) (i : ℕ) (d : Digest) (b : Block) : Type 0 where

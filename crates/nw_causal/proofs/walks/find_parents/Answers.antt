@@ -27,14 +27,14 @@ loop-reference-preserved g c =
       | then-not-contains_key+in_ok-parent+in_ok-try_clone+in_ok-push+in_ok-insert+in-Some-1 w ↦
           let free : is_some (get (found_in c.loop-reference.found.entries) slot) ≡ false = found_taken c.loop-reference.found.entries slot ∙ sym c.contains_key.ensures ∙ w.if-not-contains_key.true in
           let on = looked_on v c.args.round refs c.loop-reference.reference-index none c.args.found.now.entries c.loop-reference.found.entries w.insert.new.self.entries c.args.parents.now.items c.loop-reference.parents.items w.push.new.self.items
-            w.in_ok-parent.parent w.in_ok-try_clone.field-0 c.loop-reference-test.true c.loop-reference.invariant.claims c.loop-reference.invariant.looked_up free
-            w.in_ok-parent.ensures.digest w.in_ok-parent.ensures.block w.in_ok-try_clone.ensures w.in_ok-insert.ensures.entries w.in_ok-push.ensures.items in
+          w.in_ok-parent.parent w.in_ok-try_clone.field-0 c.loop-reference-test.true c.loop-reference.invariant.claims c.loop-reference.invariant.looked_up free
+          w.in_ok-parent.ensures.digest w.in_ok-parent.ensures.block w.in_ok-try_clone.ensures w.in_ok-insert.ensures.entries w.in_ok-push.ensures.items in
           rw (w.found-is, w.parents-is) (record { claims = on.0; looked_up = on.1 })
       | then-not-contains_key+in_ok-parent+in_ok-try_clone+in_ok-push+in_ok-insert+in-None-1 w ↦
           let free : is_some (get (found_in c.loop-reference.found.entries) slot) ≡ false = found_taken c.loop-reference.found.entries slot ∙ sym c.contains_key.ensures ∙ w.if-not-contains_key.true in
           let on = looked_on v c.args.round refs c.loop-reference.reference-index none c.args.found.now.entries c.loop-reference.found.entries w.insert.new.self.entries c.args.parents.now.items c.loop-reference.parents.items w.push.new.self.items
-            w.in_ok-parent.parent w.in_ok-try_clone.field-0 c.loop-reference-test.true c.loop-reference.invariant.claims c.loop-reference.invariant.looked_up free
-            w.in_ok-parent.ensures.digest w.in_ok-parent.ensures.block w.in_ok-try_clone.ensures w.in_ok-insert.ensures.entries w.in_ok-push.ensures.items in
+          w.in_ok-parent.parent w.in_ok-try_clone.field-0 c.loop-reference-test.true c.loop-reference.invariant.claims c.loop-reference.invariant.looked_up free
+          w.in_ok-parent.ensures.digest w.in_ok-parent.ensures.block w.in_ok-try_clone.ensures w.in_ok-insert.ensures.entries w.in_ok-push.ensures.items in
           rw (w.found-is, w.parents-is) (record { claims = on.0; looked_up = on.1 })
       | else-not-contains_key w ↦
           let taken : is_some (get (found_in c.loop-reference.found.entries) slot) ≡ true = found_taken c.loop-reference.found.entries slot ∙ sym c.contains_key.ensures ∙ w.if-not-contains_key.false in

@@ -26,12 +26,12 @@ loop-child-preserved g c =
     let child = child_is v c.args.frontier.now c.loop-child.child-index a block c.loop-child-test.true c.child-item.is c.get-block.ensures c.requires.above c.requires.looked_up.more_at in
     elim c.match-before.branch [
       | in-Some+in_ok-find_parents w ↦ rw (w.found-is, w.parents-is) (record {
-          parents = parents_on v names c.loop-child.child-index a.digest block _ _ _ _ _ _ child.within child.at child.above c.loop-child.invariant.parents
+        parents = parents_on v names c.loop-child.child-index a.digest block _ _ _ _ _ _ child.within child.at child.above c.loop-child.invariant.parents
             (claims_find v (get_or names c.loop-child.child-index a.digest) block w.in-Some.round (found_in c.loop-child.found.entries) (found_in w.find_parents.new.found.entries) (digests c.loop-child.parents.items) (digests w.find_parents.new.parents.items) c.requires.closed child.at child.above w.in-Some.ensures
             (under_more _ _ _ _ _ _ c.loop-child.invariant.parents c.requires.under)
             (rw w.as_slice.ensures at w.in_ok-find_parents.ensures.claims));
-          looked_up = w.in_ok-find_parents.ensures.looked_up;
-        })
+        looked_up = w.in_ok-find_parents.ensures.looked_up;
+      })
       | in_default w ↦
           let zero : block.round ≡ 0 = w.in_default.ensures in
           absurd (omega (arith, child.above, zero))
