@@ -1,11 +1,11 @@
 -- Lists of ancestors, and their digests alone.
-use Rattle.std.proofs.Common.{◌≡◌, ℕ, ◌+◌, ◌<◌, Bool, true, false, zero, suc, List, [], ◌∷◌, ◌++◌, Option, Some, None, All, cond, is_some, length, map, take, get_or, refl, ap, sym, ◌∙◌, subst}
+use Rattle.std.proofs.Common.{◌≡◌, ℕ, ◌+◌, ◌<◌, Bool, true, false, zero, suc, List, [], ◌∷◌, ◌++◌, Option, Some, All, cond, is_some, length, map, take, get_or, refl, ap, sym, ◌∙◌, subst}
 use Rattle.std.specs.declared.cmp.Ordering.{Ordering}
 use Rattle.std.specs.declared.cmp.Ordering.TheVariants.{Less, Equal, Greater}
 use Rattle.std.specs.Ordering.{match_ordering}
 use Rattle.std.specs.Map.{keys_of, values_of, lookup}
 use Rattle.std.specs.BTreeMap.{is_at, insert_entry}
-use Rattle.std.specs.FinMap.{FinMap, get, insert, from_entries}
+use Rattle.std.specs.FinMap.{get, insert}
 use Rattle.std.specs.List.{AllByRecursion}
 use Rattle.std.specs.List.Sorted.{IsStrictlySortedBy}
 use Rattle.std.proofs.lemmas.List.Elements.{All-nil, All-cons, All-push, All-from_recursion, recursion_from_All}

@@ -1,5 +1,5 @@
 -- Ancestors that were looked up: digests, each with a block.
-use Rattle.std.specs.Prelude.{◌≡◌, List, [], ◌∷◌, Some, All, map}
+use Rattle.std.specs.Prelude.{◌≡◌, List, [], ◌∷◌, Some, All}
 use Rattle.std.specs.FinMap.{FinMap, get, from_entries}
 use Rattle.std.specs.Map.{values_of}
 use Rattle.nw_digest.specs.declared.digest.Digest.{Digest}

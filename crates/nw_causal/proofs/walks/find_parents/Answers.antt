@@ -1,7 +1,6 @@
 use Rattle.std.proofs.Common.{◌≡◌, true, false, List, [], get_or, sym, ◌∙◌}
 use Rattle.std.specs.Option.{is_some}
 use Rattle.std.specs.FinMap.{get}
-use Rattle.std.proofs.lemmas.List.{take_all}
 use Rattle.nw_codec.specs.declared.block.Ref.{Ref}
 use Rattle.nw_model.specs.State.{Slot}
 use Rattle.nw_model.specs.View.{Frozen}
