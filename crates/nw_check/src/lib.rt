@@ -20,6 +20,3 @@ pub use fault::{BlockFault, CertFault, Counted, FinishFault, GatherFault, StartF
 pub use gather::Gather;
 pub use laws::{blocks_have_one_fault, certificates_have_one_fault, votes_have_one_fault};
 pub use message::{Checked, check_message};
-
-#[cfg(test)]
-mod tests;

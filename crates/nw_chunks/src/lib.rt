@@ -9,6 +9,3 @@ mod chunks;
 mod trail;
 
 pub use chunks::Chunks;
-
-#[cfg(test)]
-mod tests;

@@ -17,6 +17,3 @@ pub use fault::{GateShut, IntakeFault};
 pub use gate::{FreeGate, Gate, pass_start};
 pub use point::Point;
 pub use threads::check_all;
-
-#[cfg(test)]
-mod tests;

@@ -7,6 +7,3 @@ mod rounds;
 mod table;
 
 pub use rounds::Rounds;
-
-#[cfg(test)]
-mod tests;

@@ -10,6 +10,3 @@ mod trie;
 
 pub use iter::Iter;
 pub use trie::Trie;
-
-#[cfg(test)]
-mod tests;

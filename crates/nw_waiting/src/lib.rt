@@ -9,6 +9,3 @@ mod wanted;
 
 pub use waiting::Waiting;
 pub use wanted::Wanted;
-
-#[cfg(test)]
-mod tests;
