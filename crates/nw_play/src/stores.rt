@@ -142,14 +142,22 @@ fn told<L: Home, W: Write>(
     lines: &mut Lines<'_>,
     out: &mut W,
 ) -> Result<Option<Start>, PlayFault> {
-    let goes_on = tally(alloc, &settled)
-        .and_then(|tally| print(out, &tally))
-        .and_then(|_| is_reopened(alloc, lines));
-    match goes_on {
+    match goes_on(alloc, &settled, lines, out) {
         Err(fault) => Err(fault),
         Ok(false) => Ok(None),
         Ok(true) => reopened(alloc, settled, out),
     }
+}
+
+// Prints the tally of the settlement. Whether the script goes on behind it.
+fn goes_on<L: Home, W: Write>(
+    alloc: Global,
+    settled: &Settled<DemoScheme, L>,
+    lines: &mut Lines<'_>,
+    out: &mut W,
+) -> Result<bool, PlayFault> {
+    print(out, &tally(alloc, settled)?)?;
+    is_reopened(alloc, lines)
 }
 
 // The start of the store that goes on with what is settled.
