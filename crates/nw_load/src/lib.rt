@@ -24,6 +24,3 @@ pub use crew::load;
 pub use fault::LoadFault;
 pub use program::run;
 pub use report::NodeReport;
-
-#[cfg(test)]
-mod tests;

@@ -78,66 +78,82 @@ enum Pace {
 }
 
 /// Whether the child is complete once all have come in this order, and not before.
-fn completes(alloc: Global, order: &[u16; 4], pace: Pace) -> Result<bool, Fail> {
-    let mut dag = Dag::new(alloc, 4, 2);
+fn completes_in(dag: &mut Dag, alloc: Global, order: &[u16; 4], pace: Pace) -> Result<bool, Fail> {
     for author in order {
         if dag.is_complete(&digest_of(3)) {
             return Ok(false);
         }
         match pace {
             Pace::BlockFirst => {
-                write(&mut dag, alloc, *author)?;
-                certify(&mut dag, alloc, *author)?;
+                write(dag, alloc, *author)?;
+                certify(dag, alloc, *author)?;
             }
             Pace::CertificateFirst => {
-                certify(&mut dag, alloc, *author)?;
-                write(&mut dag, alloc, *author)?;
+                certify(dag, alloc, *author)?;
+                write(dag, alloc, *author)?;
             }
         }
     }
     Ok(dag.is_complete(&digest_of(3)))
 }
 
+/// The same of new tables.
+fn completes(alloc: Global, order: &[u16; 4], pace: Pace) -> Result<bool, Fail> {
+    completes_in(&mut Dag::new(alloc, 4, 2), alloc, order, pace)
+}
+
 /// Whether the child is complete once all are written and then certified in this order, and not before.
-fn completes_late(alloc: Global, order: &[u16; 4]) -> Result<bool, Fail> {
-    let mut dag = Dag::new(alloc, 4, 2);
+fn completes_late_in(dag: &mut Dag, alloc: Global, order: &[u16; 4]) -> Result<bool, Fail> {
     for author in order {
-        write(&mut dag, alloc, *author)?;
+        write(dag, alloc, *author)?;
     }
     for author in order {
         if dag.is_complete(&digest_of(3)) {
             return Ok(false);
         }
-        certify(&mut dag, alloc, *author)?;
+        certify(dag, alloc, *author)?;
     }
     Ok(dag.is_complete(&digest_of(3)))
 }
 
+/// The same of new tables.
+fn completes_late(alloc: Global, order: &[u16; 4]) -> Result<bool, Fail> {
+    completes_late_in(&mut Dag::new(alloc, 4, 2), alloc, order)
+}
+
 /// The child is written, then its parents are, and then all are certified: what is wanted after each.
-fn wanted_counts(alloc: Global) -> Result<Vec<u64>, Fail> {
-    let mut dag = Dag::new(alloc, 4, 2);
+fn wanted_counts_in(dag: &mut Dag, alloc: Global) -> Result<Vec<u64>, Fail> {
     let mut counts = Vec::new(alloc);
     for author in [3, 0, 1, 2] {
-        write(&mut dag, alloc, author)?;
+        write(dag, alloc, author)?;
         counts.push(dag.status().wanted)?;
     }
     for author in [3, 0, 1, 2] {
-        certify(&mut dag, alloc, author)?;
+        certify(dag, alloc, author)?;
         counts.push(dag.status().wanted)?;
     }
     counts.push(dag.status().complete)?;
     Ok(counts)
 }
 
+/// The same of new tables.
+fn wanted_counts(alloc: Global) -> Result<Vec<u64>, Fail> {
+    wanted_counts_in(&mut Dag::new(alloc, 4, 2), alloc)
+}
+
 /// The authors of the first two parents that are wanted once the child is written.
-fn first_authors(alloc: Global) -> Result<Vec<u16>, Fail> {
-    let mut dag = Dag::new(alloc, 4, 2);
-    write(&mut dag, alloc, 3)?;
+fn first_authors_in(dag: &mut Dag, alloc: Global) -> Result<Vec<u16>, Fail> {
+    write(dag, alloc, 3)?;
     let mut authors = Vec::new(alloc);
     for wanted in dag.missing(alloc, 2)?.as_slice() {
         authors.push(wanted.author)?;
     }
     Ok(authors)
+}
+
+/// The same of new tables.
+fn first_authors(alloc: Global) -> Result<Vec<u16>, Fail> {
+    first_authors_in(&mut Dag::new(alloc, 4, 2), alloc)
 }
 
 /// Whether it does so in every order.

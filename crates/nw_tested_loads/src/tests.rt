@@ -1,5 +1,5 @@
 //! What loads report.
-use super::*;
+use nw_load::{LoadFault, NodeReport, load, run};
 use std::alloc::Global;
 use std::sync::Wait;
 use std::test::Fail;
