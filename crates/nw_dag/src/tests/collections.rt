@@ -224,7 +224,7 @@ fn answer(dag: &mut Dag, alloc: Global, done: Done) -> Result<u64, Fail> {
         Done::Write(digest, slot, parents) => write(dag, alloc, digest, slot, parents),
         Done::Certify(digest, slot) => certify(dag, alloc, digest, slot),
         Done::Collect(number) => Ok(number_of(&dag.collect(round(number)?)?)),
-        Done::Foresee(number) => Ok(number_of(&dag.collect_reply(round(number)?))),
+        Done::Foresee(number) => Ok(number_of(&dag.collect_reply(round(number)?)?)),
         Done::IsComplete(digest) => Ok(if dag.is_complete(&digest) { YES } else { NO }),
         Done::Blocks => Ok(dag.status().blocks),
         Done::Certificates => Ok(dag.status().certificates),

@@ -1,7 +1,7 @@
 //! Readers that drip and fail, and writers that fail.
 use super::one_member::PLAYED;
 use super::played;
-use crate::*;
+use nw_play::{PlayFault, play};
 use std::io::{self, ErrorKind, Read, Write};
 use std::test::Fail;
 

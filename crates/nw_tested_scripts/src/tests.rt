@@ -1,6 +1,6 @@
-use super::*;
 use bad_lines::{BAD, NEVER_BEGUN};
 use collections::COLLECTED;
+use nw_play::{PlayFault, play};
 use one_member::PLAYED;
 use sessions::SETTLED;
 use std::alloc::Global;

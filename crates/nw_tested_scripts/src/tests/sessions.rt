@@ -1,6 +1,6 @@
 //! Scripts of several sessions, of settled stores and of stores that go on, and what they print.
 use super::{Case, played};
-use crate::*;
+use nw_play::PlayFault;
 use std::test::Fail;
 
 pub const SETTLED: [Case; 7] = [

@@ -1,6 +1,6 @@
 //! Scripts of four members and of members with weights, and what they print.
 use super::{Case, played};
-use crate::*;
+use nw_play::{PlayFault, play};
 use std::alloc::Global;
 use std::sync::Wait;
 use std::test::Fail;
