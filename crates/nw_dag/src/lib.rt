@@ -10,6 +10,3 @@ mod roll;
 mod waits;
 
 pub use dag::Dag;
-
-#[cfg(test)]
-mod tests;

@@ -1,0 +1,7 @@
+//! Tests of tables: in which order blocks become complete and what collections leave, and what copies of a plain store's calls say.
+//!
+//! Its contract: it has tests alone, and nothing stands on it.
+#![tactic(auto)]
+
+#[cfg(test)]
+mod tests;
