@@ -12,6 +12,7 @@ const C: Digest = Digest([3; 32]);
 mod collections;
 mod diamonds;
 mod plains;
+mod views;
 
 /// A round and an author.
 type Slot = (u64, u16);

@@ -7,7 +7,9 @@ use nw_generation::View;
 
 /// The digest of c0, c1 and so on.
 fn link(number: u64) -> Digest {
-    digest_of((number, 0, 0))
+    let mut bytes = [7; 32];
+    bytes[..8].copy_from_slice(&number.to_be_bytes());
+    Digest(bytes)
 }
 
 /// References of the next block of the chain.
@@ -47,6 +49,11 @@ fn view_of(dag: &mut Dag, alloc: Global, number: u64) -> Result<View<Global>, Fa
     }
 }
 
+/// A new store with room for the chain.
+fn new_dag(alloc: Global) -> Dag {
+    Dag::new(alloc, 64, 64)
+}
+
 /// Of how many generations that view is made.
 fn parts_of(dag: &mut Dag, alloc: Global, number: u64) -> Result<usize, Fail> {
     Ok(view_of(dag, alloc, number)?.parts())
@@ -81,10 +88,14 @@ fn parts_of_chain(dag: &mut Dag, alloc: Global, blocks: u64) -> Result<Vec<usize
     Ok(parts)
 }
 
+/// Those of a new one.
+fn parts_of_new_chain(alloc: Global, blocks: u64) -> Result<Vec<usize>, Fail> {
+    parts_of_chain(&mut new_dag(alloc), alloc, blocks)
+}
+
 #[test]
 fn views_share_what_was_frozen(rt: HostRuntime) -> Result<(), Fail> {
-    let mut dag = Dag::new(rt.alloc(), 64, 64);
-    let parts = parts_of_chain(&mut dag, rt.alloc(), 17)?;
+    let parts = parts_of_new_chain(rt.alloc(), 17)?;
     assert!(rt;
         parts.as_slice() == [1, 2, 3, 4, 5, 6, 7, 8, 9, 10, 11, 12, 13, 14, 15, 16, 2].as_slice()
     );
@@ -100,10 +111,14 @@ fn parts_after_compact(dag: &mut Dag, alloc: Global) -> Result<usize, Fail> {
     parts_of(dag, alloc, 16)
 }
 
+/// Those in a new store.
+fn parts_of_compacted(alloc: Global) -> Result<usize, Fail> {
+    parts_after_compact(&mut new_dag(alloc), alloc)
+}
+
 #[test]
 fn after_compact_a_view_has_one_part(rt: HostRuntime) -> Result<(), Fail> {
-    let mut dag = Dag::new(rt.alloc(), 64, 64);
-    assert!(rt; parts_after_compact(&mut dag, rt.alloc())? == 1);
+    assert!(rt; parts_of_compacted(rt.alloc())? == 1);
     Ok(())
 }
 
@@ -113,12 +128,24 @@ fn is_shared(dag: &mut Dag, alloc: Global, number: u64) -> Result<bool, Fail> {
     Ok(parts_of(dag, alloc, number)? == parts)
 }
 
+/// Whether that is so of each of the first blocks.
+fn are_shared(dag: &mut Dag, alloc: Global, blocks: u64) -> Result<bool, Fail> {
+    for number in 0..blocks {
+        if !is_shared(dag, alloc, number)? {
+            return Ok(false);
+        }
+    }
+    Ok(true)
+}
+
+/// Whether it is in a new store.
+fn are_shared_by_new(alloc: Global, blocks: u64) -> Result<bool, Fail> {
+    are_shared(&mut new_dag(alloc), alloc, blocks)
+}
+
 #[test]
 fn where_nothing_became_complete_nothing_is_frozen(rt: HostRuntime) -> Result<(), Fail> {
-    let mut dag = Dag::new(rt.alloc(), 64, 64);
-    for number in 0..4 {
-        assert!(rt; is_shared(&mut dag, rt.alloc(), number)?);
-    }
+    assert!(rt; are_shared_by_new(rt.alloc(), 4)?);
     Ok(())
 }
 
@@ -143,10 +170,14 @@ fn rounds_of_last(dag: &mut Dag, alloc: Global) -> Result<Vec<u64>, Fail> {
     rounds_after_compact(dag, alloc, &view, 16)
 }
 
+/// Those in a new store.
+fn last_rounds(alloc: Global) -> Result<Vec<u64>, Fail> {
+    rounds_of_last(&mut new_dag(alloc), alloc)
+}
+
 #[test]
 fn a_view_of_what_was_frozen_anew_lists_the_whole_chain(rt: HostRuntime) -> Result<(), Fail> {
-    let mut dag = Dag::new(rt.alloc(), 64, 64);
-    let rounds = rounds_of_last(&mut dag, rt.alloc())?;
+    let rounds = last_rounds(rt.alloc())?;
     let all = [0, 1, 2, 3, 4, 5, 6, 7, 8, 9, 10, 11, 12, 13, 14, 15, 16];
     assert!(rt; rounds.as_slice() == all.as_slice());
     Ok(())
@@ -174,29 +205,37 @@ fn rounds_of_old(dag: &mut Dag, alloc: Global) -> Result<Vec<u64>, Fail> {
 }
 
 /// The rounds that a view of c3 lists that is taken after that.
-fn rounds_of_new(dag: &mut Dag, alloc: Global) -> Result<Vec<u64>, Fail> {
+fn rounds_of_later(dag: &mut Dag, alloc: Global) -> Result<Vec<u64>, Fail> {
     start(dag, alloc, 4)?;
     go_on(dag, alloc)?;
     let view = view_of(dag, alloc, 3)?;
     rounds(alloc, &view, 3)
 }
 
+/// Those of the view of before, in a new store.
+fn old_rounds(alloc: Global) -> Result<Vec<u64>, Fail> {
+    rounds_of_old(&mut new_dag(alloc), alloc)
+}
+
 #[test]
 fn a_late_walk_lists_what_was_complete_when_its_view_was_taken(
     rt: HostRuntime,
 ) -> Result<(), Fail> {
-    let mut dag = Dag::new(rt.alloc(), 64, 64);
-    let rounds = rounds_of_old(&mut dag, rt.alloc())?;
+    let rounds = old_rounds(rt.alloc())?;
     assert!(rt; rounds.as_slice() == [0, 1, 2, 3].as_slice());
     Ok(())
+}
+
+/// Those of the later view, in a new store.
+fn later_rounds(alloc: Global) -> Result<Vec<u64>, Fail> {
+    rounds_of_later(&mut new_dag(alloc), alloc)
 }
 
 #[test]
 fn a_view_that_is_taken_after_a_collection_lists_from_its_floor_on(
     rt: HostRuntime,
 ) -> Result<(), Fail> {
-    let mut dag = Dag::new(rt.alloc(), 64, 64);
-    let rounds = rounds_of_new(&mut dag, rt.alloc())?;
+    let rounds = later_rounds(rt.alloc())?;
     assert!(rt; rounds.as_slice() == [3].as_slice());
     Ok(())
 }

@@ -1,6 +1,6 @@
 use Rattle.nw_store.specs.Held.{first_origin}
 use Rattle.nw_store.specs.Kept.{parts_of_a_ledger}
-use Rattle.nw_refused_stores.proofs.tests.free.settle_at_once.Given as goal
+use Rattle.nw_refused_stores.proofs.tests.settling.settle_at_once.Given as goal
 
 -- the ledger that was opened
 abbrev pub ghosts-settle_new-L-Ledger : goal.ghosts-settle_new-L-Ledger
