@@ -16,6 +16,3 @@ pub use command::Command;
 pub use error::{BookError, NoStep};
 pub use nw_causal::Agreement;
 pub use ticket::Ticket;
-
-#[cfg(test)]
-mod tests;

@@ -1,5 +1,5 @@
 -- Two views have one walk of a digest exactly where no two blocks collide at its ancestors.
-use Rattle.std.proofs.Common.{◌≡◌, ◌⊎◌, ◌+◌, ◌<◌, List, [], ◌∷◌, Option, Some, None, IfSome, All, map, refl, ap, sym, ◌∙◌, subst, arith, inl, inr}
+use Rattle.std.proofs.Common.{◌≡◌, ◌⊎◌, ◌+◌, ◌<◌, ◌≤◌, List, [], ◌∷◌, Option, Some, None, IfSome, All, map, refl, ap, sym, ◌∙◌, subst, arith, inl, inr}
 use Rattle.std.specs.Prelude.{Contains}
 use Rattle.std.specs.FinMap.{FinMap, get, from_entries}
 use Rattle.std.specs.List.Sorted.{IsStrictlySortedBy}
@@ -19,7 +19,19 @@ use Rattle.nw_model.proofs.Maps.{get_lookup, slots_total}
 use Rattle.nw_model.proofs.Complete.{one_block}
 use Rattle.nw_model.proofs.Listed.{contains_first, contains_later, block_of, digest_of}
 use Rattle.nw_model.proofs.Walked.{values_there, walked}
-use Rattle.nw_causal.specs.Agreement.{HaveOneWalk, CollideAt, MatchAt}
+use Rattle.nw_causal.specs.Agreement.{HaveOneWalk, CollideAt, IsMatched, IsRival, MatchAt}
+
+-- ---- the other block under a digest
+
+-- a rival of the block that the first view has
+pub collide_at : (v w : Frozen) (e : Digest) (b c : Block) → v.floor ≡ w.floor → get v.blocks e ≡ Some b → IsRival w e b c → CollideAt v w e b c
+collide_at v w e b c floor at (above, there, differ) = ((at, subst (λ n. n ≤ b.round) (sym floor) above), there, differ)
+
+-- where the block that the first view has has no rival
+pub match_at : (v w : Frozen) (e : Digest) (b : Block) → v.floor ≡ w.floor → get v.blocks e ≡ Some b → IsMatched w e b → MatchAt v w e
+match_at v w e b floor at matched p q (at_p, above_p) there_q =
+    let same : p ≡ b = one_block p b at_p at in
+    same ∙ matched (subst (λ n. n ≤ b.round) floor (subst (λ (z : Block). v.floor ≤ z.round) same above_p)) q there_q
 
 -- ---- down from a block that both views have
 

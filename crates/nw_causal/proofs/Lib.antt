@@ -1,3 +1,4 @@
 pub mod Looked
+pub mod Looking
 pub mod Agreeing
 pub mod Claiming

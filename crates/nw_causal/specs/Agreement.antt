@@ -1,5 +1,5 @@
 -- Whether the walks of one digest in two views are equal lists.
-use Rattle.std.specs.Prelude.{◌≡◌, ◌≢◌, List}
+use Rattle.std.specs.Prelude.{◌≡◌, ◌≢◌, ◌≤◌, List}
 use Rattle.nw_digest.specs.declared.digest.Digest.{Digest}
 use Rattle.nw_codec.specs.declared.block.Block.{Block}
 use Rattle.nw_model.specs.View.{Frozen, IsThere, IsWalk}
@@ -21,6 +21,14 @@ Collide one other b c = (d : Digest) × CollideAt one other d b c
 -- the blocks under the digest are one, where neither is below the floor
 abbrev pub MatchAt : Frozen → Frozen → Digest → Type 0
 MatchAt one other d = (b c : Block) → IsThere one d b → IsThere other d c → b ≡ c
+
+-- c stands under the digest and differs from b, and neither is below the floor
+abbrev pub IsRival : Frozen → Digest → Block → Block → Type 0
+IsRival other d b c = (other.floor ≤ b.round) × IsThere other d c × (b ≢ c)
+
+-- no block is such a rival of b
+abbrev pub IsMatched : Frozen → Digest → Block → Type 0
+IsMatched other d b = other.floor ≤ b.round → (c : Block) → IsThere other d c → b ≡ c
 
 -- the answer is Same exactly where one list is both walks; else it has two blocks that collide
 abbrev pub IsAgreement : Frozen → Frozen → Digest → Agreement → Type 0

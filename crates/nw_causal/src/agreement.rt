@@ -1,8 +1,9 @@
 //! Whether two walks agree.
 ghost use Rattle.std.specs.Prelude.{◌≡◌, ◌↔◌, IfOk, IsTrue, MatchOption};
 ghost use Rattle.nw_model.specs.View.{IsThere};
-ghost use Rattle.nw_causal.specs.Agreement.{CollideAt, MatchAt, IsAgreement};
+ghost use Rattle.nw_causal.specs.Agreement.{IsAgreement, IsMatched, IsRival};
 
+use crate::ancestor::Ancestor;
 use crate::walks::ancestors;
 use nw_codec::Block;
 use nw_digest::{Digest, NoMemory, Round, Shared};
@@ -26,7 +27,7 @@ pub enum Agreement {
 /// Whether the walks of the digest in two views of one floor are equal lists; where they are not, two different blocks
 /// that stand under one digest, neither below the floor.
 ///
-/// It finds the ancestors in the first view, and looks each up in both.
+/// It finds the ancestors in the first view, and looks each up in the other.
 pub fn agree<A: Allocator>(
     alloc: Global,
     one: &View<A>,
@@ -41,9 +42,9 @@ pub fn agree<A: Allocator>(
     let found = ancestors(alloc, one, digest)?;
     let floor = other.floor();
     for ancestor in found.values() {
-        if let Some((block, rival)) = collision(one, other, floor, ancestor)? {
+        if let Some(rival) = rival(other, floor, ancestor)? {
             return Ok(Agreement::Collision {
-                one: block,
+                one: ancestor.block.try_clone()?,
                 other: rival,
             });
         }
@@ -51,23 +52,21 @@ pub fn agree<A: Allocator>(
     Ok(Agreement::Same)
 }
 
-/// The blocks under the digest in the two views, where they differ and neither is below the floor.
-fn collision<A: Allocator>(
-    one: &View<A>,
+/// The block under the digest in the other view, where it differs from the ancestor's and neither is below the floor.
+fn rival<A: Allocator>(
     other: &View<A>,
     floor: Round,
-    digest: &Digest,
-) -> Result<Option<(Shared<Block>, Shared<Block>)>, NoMemory>
-    requires in_one { floor ≡ one.now.frozen.floor }
-    requires in_other { floor ≡ other.now.frozen.floor }
+    ancestor: &Ancestor,
+) -> Result<Option<Shared<Block>>, NoMemory>
+    requires { floor ≡ other.now.frozen.floor }
     ensures { IfOk result (λ found. MatchOption found
-        (MatchAt one.now.frozen other.now.frozen digest.now)
-        (λ blocks. CollideAt one.now.frozen other.now.frozen digest.now blocks.0 blocks.1)) }
+        (IsMatched other.now.frozen ancestor.now.digest ancestor.now.block)
+        (λ rival. IsRival other.now.frozen ancestor.now.digest ancestor.now.block rival)) }
 {
-    if let (Some(block), Some(rival)) = (one.get(digest), other.get(digest)) {
-        let (one, other) = (block.get(), rival.get());
+    if let Some(rival) = other.get(&ancestor.digest) {
+        let (one, other) = (ancestor.block.get(), rival.get());
         if floor <= one.round && floor <= other.round && !is_same(one, other) {
-            return Ok(Some((block.try_clone()?, rival.try_clone()?)));
+            return Ok(Some(rival.try_clone()?));
         }
     }
     Ok(None)

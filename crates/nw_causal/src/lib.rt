@@ -6,6 +6,7 @@
 #![tactic(auto)]
 
 mod agreement;
+mod ancestor;
 mod walks;
 
 pub use agreement::{Agreement, agree};

@@ -7,7 +7,6 @@ mod both;
 mod examples;
 mod grids;
 mod random;
-mod views;
 mod words;
 
 /// A round and an author.

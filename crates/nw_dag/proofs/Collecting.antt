@@ -1,12 +1,13 @@
 -- The tables of a store while it collects.
-use Rattle.std.proofs.Common.{◌≡◌, ◌⊎◌, ℕ, ◌<◌, ◌≤◌, Bool, true, false, List, filter, length, drop, Option, Some, None, is_some, refl, ap, sym, ◌∙◌, subst, inl, inr}
+use Rattle.std.proofs.Common.{◌≡◌, ℕ, ◌+◌, ◌-◌, ◌<◌, ◌≤◌, Bool, true, false, List, [], ◌++◌, filter, length, drop, Option, Some, None, is_some, not, refl, ap, sym, ◌∙◌, subst, arith, inl, inr, length-append}
 use Rattle.std.specs.Prelude.{Contains}
-use Rattle.std.specs.List.{list_any}
 use Rattle.std.specs.Ordering.{eq_by_cmp}
 use Rattle.std.specs.Cmp.{eq_by_cmp_equiv}
-use Rattle.std.specs.FinMap.{get, len}
-use Rattle.std.proofs.lemmas.List.{drop_at}
-use Rattle.std.proofs.lemmas.List.Elements.{All-filter, filter_passes, Contains-append_left, Contains-append_right}
+use Rattle.std.specs.FinMap.{FinMap, get, len, entries, keys, len-entries, contains_key-keys}
+use Rattle.std.proofs.lemmas.Bool.{cases_lt}
+use Rattle.std.proofs.lemmas.List.{drop_at, length-map}
+use Rattle.std.proofs.lemmas.List.Elements.{All-contains, All-filter, filter_passes, Contains-append_cases, Contains-append_left, Contains-append_right}
+use Rattle.std.proofs.lemmas.List.Filters.{length-filter_both}
 use Rattle.std.proofs.lemmas.Map.Views.{Contains-from_any, list_any-from_Contains}
 use Rattle.nw_digest.specs.declared.digest.Digest.{Digest}
 use Rattle.nw_codec.specs.declared.block.Block.{Block}
@@ -14,14 +15,22 @@ use Rattle.nw_waiting.specs.Pairs.{Pairs}
 use Rattle.nw_model.specs.State.{State, digest_cmp}
 use Rattle.nw_model.specs.Step.{raised}
 use Rattle.nw_model.specs.Sound.{IsSound}
+use Rattle.nw_model.proofs.Complete.{one_block}
 use Rattle.nw_model.proofs.Kept.{same_digest}
 use Rattle.nw_model.proofs.Maps.{digests_total}
-use Rattle.nw_dag.specs.Lacking.{IsReady, AreLacking}
+use Rattle.nw_model.proofs.Listed.{contains_none}
+use Rattle.nw_model.proofs.Raised.{was_there, is_kept}
+use Rattle.nw_dag.specs.Lacking.{IsReady}
 use Rattle.nw_dag.specs.Changes.{Adds}
-use Rattle.nw_dag.specs.Settled.{AreListed, IsSettling, IsSettled}
+use Rattle.nw_dag.specs.Frozen.{Grows}
+use Rattle.nw_dag.specs.Settled.{AreListed, IsTally, IsSettling, IsCascading, IsSettled}
 use Rattle.nw_held.specs.Collection.{AreUpTo}
-use Rattle.nw_dag.specs.Collection.{AreWithout, IsStuck, IsCollecting}
-use Rattle.nw_held.proofs.Filtered.{filter_has, distinct_filter}
+use Rattle.nw_dag.specs.Collection.{AreWithout, IsStuck, IsLost, LostCount, IsCollecting}
+use Rattle.nw_held.proofs.Filtered.{filter_was, filter_has, distinct_filter}
+use Rattle.nw_dag.proofs.Listed.{listed_fits, most_left}
+use Rattle.nw_dag.proofs.Lists.{begins_more}
+use Rattle.nw_dag.proofs.Once.{among_or_not, no_longer, once_both, once_keys}
+use Rattle.nw_dag.proofs.Releasing.{released}
 use Rattle.nw_dag.proofs.Raising.{held_stands, ready_cases, unmet_raised, lacking_raised}
 
 -- ---- what is listed
@@ -37,19 +46,14 @@ is_held None e = cc
 true_false : true ≡ false → ⊥
 true_false e = cc
 
--- a digest is among these, or not
-among_or_not : (xs : List Digest) (x : Digest) → Contains xs x ⊎ (Contains xs x → ⊥)
-among_or_not xs x = by (list_any (eq_by_cmp digest_cmp x) xs) refl
-  where
-    by : (b : Bool) → list_any (eq_by_cmp digest_cmp x) xs ≡ b → Contains xs x ⊎ (Contains xs x → ⊥)
-    by true e = inl (Contains-from_any same_digest x xs e)
-    by false e = inr (λ among. true_false (sym (list_any-from_Contains (eq_by_cmp_equiv digests_total) x xs among) ∙ e))
+not_true : (b : Bool) → not b ≡ true → b ≡ false
+not_true true e = absurd cc
+not_true false e = refl
 
 held_is : (found : Option Block) (b : Block) → found ≡ Some b → is_some found ≡ true
 held_is found b e = ap is_some e
 
-module _ (s : State) (round : ℕ) (unmet lacking : Pairs) (complete holders : List Digest) (capacity : ℕ) (sound : IsSound s) (higher : s.floor < round) (are : AreUpTo s round holders)
-    (settled : IsSettled s unmet lacking complete capacity) where
+module _ (s : State) (round : ℕ) (unmet lacking : Pairs) (complete holders : List Digest) (sound : IsSound s) (higher : s.floor < round) (are : AreUpTo s round holders) (settled : IsSettling s unmet lacking complete []) where
   abbrev t : State
   t = raised s round
 
@@ -65,56 +69,165 @@ module _ (s : State) (round : ℕ) (unmet lacking : Pairs) (complete holders : L
     once = distinct_filter (λ d. is_some (get t.blocks d)) (eq_by_cmp digest_cmp) complete settled.listed.once;
   }
 
-  module _ (met new : Pairs) (more : List Digest) (wider place : ℕ) (met_without : AreWithout holders unmet met) (without : AreWithout holders lacking new)
-      (adds : Adds (IsStuck t lacking) holders (kept t complete) more) (listed : AreListed t new more) (fewer : len t.blocks ≤ wider) (at : place ≡ length (kept t complete)) where
-    all_listed : (x : Digest) → IsReady t new x → Contains more x
+  abbrev gone : List Digest
+  gone = filter (λ d. not (is_some (get t.blocks d))) complete
+
+  -- what was listed, and is held no more, is lost
+  gone_lost : (x : Digest) → Contains gone x → Contains holders x × IsLost s lacking round x
+  gone_lost x among =
+      let was = filter_was (λ d. not (is_some (get t.blocks d))) complete x among in
+      let ready = All-contains (IsReady s lacking) complete x settled.listed.ready was.0 in
+      let b = ready.0.0 in
+      let low : b.round < round = elim (cases_lt b.round round) [
+        | inl below ↦ below
+        | inr high ↦ absurd (true_false (sym (ap is_some (is_kept (λ (y : Block). y.round) round s.blocks x b ready.0.1.0 high)) ∙ not_true (is_some (get t.blocks x)) was.1))
+      ] in
+      ((are.exactly x).1 (b, ready.0.1.0, omega (arith, low)), (ready, (b, ready.0.1.0, low)))
+
+  lost_gone : (x : Digest) → IsLost s lacking round x → Contains gone x
+  lost_gone x (ready, (b, at, low)) = filter_has (λ d. not (is_some (get t.blocks d))) complete x (settled.all x ready) (none_held (get t.blocks x) refl)
+    where
+      none_held : (found : Option Block) → get t.blocks x ≡ found → not (is_some found) ≡ true
+      none_held None is = refl
+      none_held (Some c) is =
+          let was = was_there (λ (y : Block). y.round) round s.blocks x c is in
+          absurd (let same = one_block b c at was.0 in omega (arith, low, was.1, ap (λ (y : Block). y.round) same))
+
+  -- so many are listed still
+  pub kept_count : (lost : ℕ) → LostCount s lacking round holders lost → length (kept t complete) + lost ≡ length complete
+  kept_count lost (xs, adds, counts) =
+      let both = length-filter_both (λ d. is_some (get t.blocks d)) (λ d. not (is_some (get t.blocks d))) (λ d. refl) complete in
+      let once = distinct_filter (λ d. not (is_some (get t.blocks d))) (eq_by_cmp digest_cmp) complete settled.listed.once in
+      let few = no_longer gone adds.added once (λ x among. (adds.exactly x).1 (gone_lost x among)) in
+      let many = no_longer adds.added gone adds.once (λ x among. lost_gone x ((adds.exactly x).0 among).1) in
+      omega (arith, both, few, many, ap (λ (ys : List Digest). length ys) adds.are, counts)
+
+  module _ (met new : Pairs) (fresh more : List Digest) (met_without : AreWithout holders unmet met) (without : AreWithout holders lacking new) (adds : Adds (IsStuck t lacking) holders fresh more) where
+    all_listed : (x : Digest) → IsReady t new x → Contains (kept t complete ++ adds.added) x
     all_listed x ready = elim (among_or_not adds.added x) [
-      | inl added ↦ subst (λ ys. Contains ys x) (sym adds.are) (Contains-append_right (kept t complete) adds.added x added)
+      | inl added ↦ Contains-append_right (kept t complete) adds.added x added
       | inr apart ↦
           let was = ready_cases s round sound higher holders are lacking new without adds.added adds.exactly x ready apart in
           let here = filter_has (λ d. is_some (get t.blocks d)) complete x (settled.all x was) (held_is (get t.blocks x) ready.0.0 ready.0.1.0) in
-          subst (λ ys. Contains ys x) (sym adds.are) (Contains-append_left (kept t complete) adds.added x here)
+          Contains-append_left (kept t complete) adds.added x here
     ]
 
     -- what became ready is due
-    pub settling : IsSettling t met new more (drop place more) wider
+    pub settling : IsSettling t met new (kept t complete ++ adds.added) adds.added
     settling = record {
       standing = unmet_raised s round sound higher holders are unmet met settled.standing met_without;
-      promoted = subst (AreLacking t new) (sym (ap (drop place) adds.are ∙ drop_at (kept t complete) adds.added place (sym at)))
-          (lacking_raised s round sound higher holders are lacking new without adds.added adds.exactly settled.promoted);
-      listed = listed;
+      promoted = lacking_raised s round sound higher holders are lacking new without adds.added adds.exactly settled.promoted;
+      listed = released t lacking new holders (kept t complete) fresh more without adds kept_listed;
       all = all_listed;
-      room = fewer;
     }
+
+-- ---- how much is dropped
+
+-- at least what is lost
+pub lost_fits : (s : State) (lacking : Pairs) (round : ℕ) (holders : List Digest) (lost : ℕ) → LostCount s lacking round holders lost → len (raised s round).blocks + lost ≤ len s.blocks
+lost_fits s lacking round holders lost (xs, adds, counts) =
+    let few = no_longer (keys t.blocks ++ adds.added) (keys s.blocks) (once_both (keys t.blocks) adds.added (once_keys t.blocks) adds.once apart) within in
+    omega (arith, few, length-append (keys t.blocks) adds.added, sized t.blocks, sized s.blocks, ap (λ (ys : List Digest). length ys) adds.are, counts)
+  where
+    t : State
+    t = raised s round
+
+    sized : (m : FinMap digest_cmp Block) → length (keys m) ≡ len m
+    sized m = length-map (entries m) (λ (e : Digest × Block). e.0) ∙ sym (len-entries m)
+
+    held : (m : FinMap digest_cmp Block) (x : Digest) → Contains (keys m) x → (b : Block) × (get m x ≡ Some b)
+    held m x among = is_held (get m x) (contains_key-keys m x ∙ list_any-from_Contains (eq_by_cmp_equiv digests_total) x (keys m) among)
+
+    key : (m : FinMap digest_cmp Block) (x : Digest) (b : Block) → get m x ≡ Some b → Contains (keys m) x
+    key m x b at = Contains-from_any same_digest x (keys m) (sym (contains_key-keys m x) ∙ ap is_some at)
+
+    apart : (x : Digest) → Contains adds.added x → Contains (keys t.blocks) x → ⊥
+    apart x among is =
+        let (ready, (b, at, low)) = ((adds.exactly x).0 among).1 in
+        let (c, there) = held t.blocks x is in
+        let was = was_there (λ (y : Block). y.round) round s.blocks x c there in
+        let same = one_block b c at was.0 in
+        omega (arith, low, was.1, ap (λ (y : Block). y.round) same)
+
+    within : (x : Digest) → Contains (keys t.blocks ++ adds.added) x → Contains (keys s.blocks) x
+    within x among = elim (Contains-append_cases (keys t.blocks) adds.added x among) [
+      | inl is ↦ let (c, there) = held t.blocks x is in key s.blocks x c (was_there (λ (y : Block). y.round) round s.blocks x c there).0
+      | inr lost ↦ let (ready, (b, at, low)) = ((adds.exactly x).0 lost).1 in key s.blocks x b at
+    ]
 
 -- ---- the same, in the words of the contract
 
-pub listed_kept : (s : State) (unmet lacking : Pairs) (complete holders : List Digest) (capacity : ℕ) → IsCollecting s unmet lacking complete holders capacity → AreListed s lacking (kept s complete)
-listed_kept s unmet lacking complete holders capacity far =
-    subst (λ (t : State). AreListed t lacking (kept t complete)) (sym far.raised)
-    (kept_listed far.before s.floor unmet lacking complete holders capacity far.sound far.higher far.up_to far.settled)
+module _ (s : State) (unmet lacking : Pairs) (pending : ℕ) (holders : List Digest) (dropped : ℕ) (far : IsCollecting s unmet lacking pending holders dropped) where
+  abbrev was : IsSettling far.before unmet lacking far.settled.complete []
+  was = far.settled.settling
 
-pub collected : (s : State) (unmet met lacking new : Pairs) (complete holders listed more : List Digest) (capacity wider place : ℕ) → IsCollecting s unmet lacking complete holders capacity
-    → listed ≡ kept s complete → AreWithout holders unmet met → AreWithout holders lacking new → Adds (IsStuck s lacking) holders listed more → AreListed s new more → len s.blocks ≤ wider → place ≡ length listed
-    → IsSettling s met new more (drop place more) wider
-collected s unmet met lacking new complete holders listed more capacity wider place far same met_without without adds ready fewer at =
-    subst (λ (t : State). IsSettling t met new more (drop place more) wider) (sym far.raised)
-    (settling far.before s.floor unmet lacking complete holders capacity far.sound far.higher far.up_to far.settled met new more wider place met_without without
-    (subst (λ (t : State). Adds (IsStuck t lacking) holders (kept t complete) more) far.raised (subst (λ xs. Adds (IsStuck s lacking) holders xs more) same adds))
-    (subst (λ (t : State). AreListed t new more) far.raised ready)
-    (subst (λ (t : State). len t.blocks ≤ wider) far.raised fewer)
-    (subst (λ (t : State). place ≡ length (kept t complete)) far.raised (at ∙ ap length same)))
+  abbrev still : List Digest
+  still = kept (raised far.before s.floor) far.settled.complete
+
+  listed : AreListed (raised far.before s.floor) lacking still
+  listed = kept_listed far.before s.floor unmet lacking far.settled.complete holders far.sound far.higher far.up_to was
+
+  counted : length still + far.lost ≡ length far.settled.complete
+  counted = kept_count far.before s.floor unmet lacking far.settled.complete holders far.sound far.higher far.up_to was far.lost far.are_lost
+
+  fits : length still ≤ len s.blocks
+  fits = subst (λ (t : State). length still ≤ len t.blocks) (sym far.raised) (listed_fits (raised far.before s.floor) lacking still listed)
+
+  -- no more were dropped than were pending
+  pub dropped_fits : dropped ≤ pending
+  dropped_fits = omega (arith, far.counts, far.settled.counts, counted, fits)
+
+  pub tally_kept : (left : ℕ) → left ≡ pending - dropped → IsTally s lacking [] left
+  tally_kept left is = subst (λ (t : State). IsTally t lacking [] left) (sym far.raised) (record {
+    complete = still;
+    listed = listed;
+    apart = λ x none. absurd (contains_none x none);
+    counts = omega (arith, is, far.counts, far.settled.counts, counted, fits, ap (λ (t : State). len t.blocks) far.raised);
+  })
+
+  pub collected : (met new : Pairs) (fresh more : List Digest) (mid left place : ℕ) → mid ≡ pending - dropped → AreWithout holders unmet met → AreWithout holders lacking new → Adds (IsStuck s lacking) holders fresh more
+      → length more + left ≡ length fresh + mid → place ≡ length fresh → IsCascading s met new (drop place more) left
+  collected met new fresh more mid left place is met_without without adds most at = subst (λ (t : State). Adds (IsStuck t lacking) holders fresh more → IsCascading t met new (drop place more) left) (sym far.raised) go adds
+    where
+      go : Adds (IsStuck (raised far.before s.floor) lacking) holders fresh more → IsCascading (raised far.before s.floor) met new (drop place more) left
+      go stuck = subst (λ xs. IsCascading (raised far.before s.floor) met new xs left) (sym (ap (drop place) stuck.are ∙ drop_at fresh stuck.added place (sym at))) (record {
+        front = still;
+        settling = settling far.before s.floor unmet lacking far.settled.complete holders far.sound far.higher far.up_to was met new fresh more met_without without stuck;
+        counts = omega (arith, is, far.counts, far.settled.counts, counted, fits, ap (λ (t : State). len t.blocks) far.raised, length-append still stuck.added, most_left stuck mid left most);
+      })
 
 -- the garbage round of a settled store was raised
-pub collecting : (before s : State) (round : ℕ) (unmet lacking : Pairs) (complete low holders : List Digest) (capacity : ℕ) → s ≡ raised before round → IsSound before → IsSettled before unmet lacking complete capacity
-    → before.floor < round → len s.blocks ≤ len before.blocks → AreUpTo before round low → holders ≡ low → IsCollecting s unmet lacking complete holders capacity
-collecting before s round unmet lacking complete low holders capacity is sound settled higher fewer up_to same =
-    subst (λ (t : State). IsCollecting t unmet lacking complete holders capacity) (sym is) (record {
+pub collecting : (before s : State) (round : ℕ) (unmet lacking : Pairs) (pending : ℕ) (low holders : List Digest) (lost dropped : ℕ) → s ≡ raised before round → IsSound before → IsSettled before unmet lacking pending
+    → before.floor < round → AreUpTo before round low → holders ≡ low → LostCount before lacking round low lost → dropped + lost + len s.blocks ≡ len before.blocks → IsCollecting s unmet lacking pending holders dropped
+collecting before s round unmet lacking pending low holders lost dropped is sound settled higher up_to same are_lost counts =
+    subst (λ (t : State). IsCollecting t unmet lacking pending holders dropped) (sym is) (record {
       before = before;
       sound = sound;
       settled = settled;
       higher = higher;
       raised = refl;
-      fewer = subst (λ (t : State). len t.blocks ≤ len before.blocks) is fewer;
       up_to = subst (AreUpTo before round) (sym same) up_to;
+      lost = lost;
+      are_lost = subst (λ xs. LostCount before lacking round xs lost) (sym same) are_lost;
+      counts = subst (λ (t : State). dropped + lost + len t.blocks ≡ len before.blocks) is counts;
     })
+
+-- what grew since the holders were released
+pub grown_collected : (s : State) (old mid new : Pairs) (holders fresh listed more : List Digest) → AreWithout holders old mid → Adds (IsStuck s old) holders fresh listed → Grows s (IsReady s mid) mid new listed more → Grows s (IsReady s old) old new fresh more
+grown_collected s old mid new holders fresh listed more without adds grown = record {
+  still = λ x ready. grown.still x (ready.0, λ w lacks. ready.1 w ((without x w).0 lacks).0);
+  begins = begins_more fresh listed more (adds.added, adds.are) grown.begins;
+  listed = λ x ready. elim (grown.listed x ready) [
+    | inl was ↦ elim (among_or_not adds.added x) [
+      | inl added ↦ inr (subst (λ xs. Contains xs x) (sym grown.begins.1) (Contains-append_left listed grown.begins.0 x (subst (λ xs. Contains xs x) (sym adds.are) (Contains-append_right fresh adds.added x added))))
+      | inr apart ↦ inl (
+        was.0,
+        λ w lacks. elim (among_or_not holders x) [
+          | inl holder ↦ apart ((adds.exactly x).1 (holder, (was.0, λ nothing. nothing w lacks)))
+          | inr free ↦ was.1 w ((without x w).1 (lacks, free))
+        ],
+      )
+    ]
+    | inr among ↦ inr among
+  ];
+}

@@ -1,18 +1,15 @@
 -- What is frozen, and what views of it show.
-use Rattle.std.proofs.Common.{◌≡◌, ℕ, ◌≤◌, ◌-◌, Bool, true, false, cond, List, [], ◌∷◌, ◌++◌, Option, Some, None, IsSome, length, get_or, take, drop, refl, ap, sym, ◌∙◌, subst, arith, inl, inr, append_assoc, append-nil}
+use Rattle.std.proofs.Common.{◌≡◌, ◌↔◌, ◌⊎◌, ℕ, ◌≤◌, Bool, true, false, cond, List, [], ◌∷◌, ◌++◌, Option, Some, None, IsSome, get_or, refl, ap, sym, ◌∙◌, subst, arith, inl, inr}
 use Rattle.std.specs.Prelude.{Contains}
 use Rattle.std.specs.Option.{option_or}
 use Rattle.std.specs.Ordering.{eq_by_cmp}
 use Rattle.std.specs.FinMap.{FinMap, get, empty, insert, get-empty, get-insert}
-use Rattle.std.proofs.Math.Seq.{take-length}
-use Rattle.std.proofs.lemmas.List.{length-drop, take-append-drop, take-append-le, length-append}
-use Rattle.std.proofs.lemmas.List.Elements.{All-contains, Contains-append_cases, Contains-append_left, Contains-append_right}
+use Rattle.std.proofs.lemmas.List.Elements.{Contains-append_cases, Contains-append_left, Contains-append_right}
 use Rattle.nw_digest.specs.declared.digest.Digest.{Digest}
 use Rattle.nw_codec.specs.declared.block.Block.{Block}
 use Rattle.nw_codec.specs.declared.certificate.Certificate.{Certificate}
 use Rattle.nw_waiting.specs.Pairs.{Pairs}
 use Rattle.nw_model.specs.State.{State, digest_cmp, opening}
-use Rattle.nw_model.specs.Step.{with_block, with_certificate}
 use Rattle.nw_model.specs.Paths.{IsStanding}
 use Rattle.nw_model.specs.Sound.{IsSound}
 use Rattle.nw_model.specs.View.{Frozen, IsClosed, Shows}
@@ -21,102 +18,93 @@ use Rattle.nw_model.proofs.Kept.{after_insert, at_insert, same_digest}
 use Rattle.nw_model.proofs.Maps.{digests_total}
 use Rattle.nw_model.proofs.Listed.{contains_cases, contains_first, contains_none}
 use Rattle.nw_generation.specs.Seen.{IsOver}
+use Rattle.nw_held.specs.Standing.{Stands}
 use Rattle.nw_dag.specs.Lacking.{IsReady}
-use Rattle.nw_dag.specs.Settled.{AreListed, IsSettled}
-use Rattle.nw_dag.specs.Frozen.{IsHeldAmong, AreOf, AreFrozen, IsFrozenTo, Begins}
+use Rattle.nw_dag.specs.Settled.{IsSettled}
+use Rattle.nw_dag.specs.Frozen.{IsHeldReady, AreOf, AreFrozen, AreFrozenBut, Grows}
+use Rattle.nw_dag.proofs.Arrival.{Arrives, AreLackingSince, ready_still, ready_was}
 use Rattle.nw_dag.proofs.Complete.{ready_complete}
-use Rattle.nw_dag.proofs.Written.{get_other}
 
 none_some : {X : Type 0} (x : X) → None ≡ Some x → ⊥
 none_some x e = cc
 
--- ---- lists that begin as others
-
-pub begins_same : (xs : List Digest) → Begins xs xs
-begins_same xs = ([], sym (append-nil xs))
-
-pub begins_more : (xs ys zs : List Digest) → Begins xs ys → Begins ys zs → Begins xs zs
-begins_more xs ys zs (one, is) (two, are) = (one ++ two, are ∙ ap (λ q. q ++ two) is ∙ append_assoc xs one two)
-
-among_front : (n : ℕ) (xs : List Digest) (x : Digest) → Contains (take n xs) x → Contains xs x
-among_front n xs x among = subst (λ q. Contains q x) (take-append-drop n xs) (Contains-append_left (take n xs) (drop n xs) x among)
-
--- a slice to the end
-pub to_the_end : (n : ℕ) (xs : List Digest) → take (length xs - n) (drop n xs) ≡ drop n xs
-to_the_end n xs = ap (λ m. take m (drop n xs)) (sym (length-drop n xs)) ∙ take-length (drop n xs)
-
 -- ---- what is frozen as the store goes on
 
-pub frozen_opening : IsFrozenTo opening [] empty 0
-frozen_opening = record {
-  within = omega arith;
-  frozen = λ d b kept. (λ at. absurd (none_some b (sym (get-empty digest_cmp d) ∙ at)), λ held. absurd (contains_none d held.0));
+pub frozen_opening : (lacking : Pairs) → AreFrozenBut opening lacking [] empty
+frozen_opening lacking = record {
+  only = λ d b kept at. absurd (none_some b (sym (get-empty digest_cmp d) ∙ at));
+  each = λ d b kept (ready, at). absurd (none_some b (sym (get-empty digest_cmp d) ∙ at));
 }
 
--- what is frozen stays so where nothing of it changes, and more become complete
-pub frozen_still : (s t : State) (complete more : List Digest) (blocks : FinMap digest_cmp Block) (count : ℕ) → IsFrozenTo s complete blocks count → Begins complete more
-    → t.floor ≡ s.floor → ((x : Digest) → Contains complete x → get t.blocks x ≡ get s.blocks x) → IsFrozenTo t more blocks count
-frozen_still s t complete more blocks count was (rest, is) floor same = record {
-  within = omega (arith, was.within, ap (λ (q : List Digest). length q) is, length-append complete rest);
-  frozen = λ d b kept.
-      let front : take count more ≡ take count complete = ap (take count) is ∙ take-append-le count complete rest was.within in
-      let before = was.frozen d b (omega (arith, kept, floor)) in (
-        λ at. let held = before.0 at in (subst (λ q. Contains q d) (sym front) held.0, same d (among_front count complete d held.0) ∙ held.1),
-        λ (among, at). let here = subst (λ q. Contains q d) front among in before.1 (here, sym (same d (among_front count complete d here)) ∙ at),
-      );
+-- what is frozen stays so where nothing of it changes, and what becomes ready is listed
+pub frozen_still : (s t : State) (old new : Pairs) (fresh more : List Digest) (blocks : FinMap digest_cmp Block) → AreFrozenBut s old fresh blocks → t.floor ≡ s.floor
+    → ((x : Digest) → IsReady s old x → IsReady t new x × (get t.blocks x ≡ get s.blocks x)) → ((x : Digest) → IsReady t new x → IsReady s old x ⊎ Contains more x)
+    → ((x : Digest) → IsReady s old x → Contains fresh x → Contains more x) → AreFrozenBut t new more blocks
+frozen_still s t old new fresh more blocks was floor same cases kept = record {
+  only = λ d b high at. let before = was.only d b (omega (arith, high, floor)) at in (let now = same d before.0 in (now.0, now.1 ∙ before.1));
+  each = λ d b high (ready, at). elim (cases d ready) [
+    | inl before ↦ elim (was.each d b (omega (arith, high, floor)) (before, sym (same d before).1 ∙ at)) [ inl frozen ↦ inl frozen | inr among ↦ inr (kept d before among) ]
+    | inr among ↦ inr among
+  ];
 }
 
--- a block more, which was not held
-pub frozen_written : (s : State) (d : Digest) (b : Block) (vote : Bool) (lacking : Pairs) (complete more : List Digest) (blocks : FinMap digest_cmp Block) (count : ℕ) → get s.blocks d ≡ None → AreListed s lacking complete
-    → IsFrozenTo s complete blocks count → Begins complete more → IsFrozenTo (with_block s d b vote) more blocks count
-frozen_written s d b vote lacking complete more blocks count absent listed was begins = frozen_still s (with_block s d b vote) complete more blocks count was begins refl (λ x among.
-    let ready = All-contains (IsReady s lacking) complete x listed.ready among in
-    get_other s.blocks d b x (λ is. none_some ready.0.0 (sym absent ∙ ap (get s.blocks) (sym is) ∙ ready.0.1.0)))
+-- fewer are listed, but each that is ready
+pub frozen_fewer : (s : State) (lacking : Pairs) (fresh more : List Digest) (blocks : FinMap digest_cmp Block) → AreFrozenBut s lacking fresh blocks → ((x : Digest) → Contains fresh x → IsReady s lacking x → Contains more x)
+    → AreFrozenBut s lacking more blocks
+frozen_fewer s lacking fresh more blocks was kept = record {
+  only = was.only;
+  each = λ d b high held. elim (was.each d b high held) [ inl frozen ↦ inl frozen | inr among ↦ inr (kept d among held.0) ];
+}
 
--- a certificate more
-pub frozen_certified : (s : State) (c : Certificate) (complete more : List Digest) (blocks : FinMap digest_cmp Block) (count : ℕ) → IsFrozenTo s complete blocks count → Begins complete more → IsFrozenTo (with_certificate s c) more blocks count
-frozen_certified s c complete more blocks count was begins = frozen_still s (with_certificate s c) complete more blocks count was begins refl (λ x among. refl)
+module _ (s t : State) (d : Digest) (old mid new : Pairs) (start fresh more : List Digest) (blocks : FinMap digest_cmp Block) (arrives : Arrives s t d) (since : AreLackingSince s t d old mid)
+    (others : (x : Digest) → (x ≡ d → ⊥) → get t.blocks x ≡ get s.blocks x) (floor : t.floor ≡ s.floor) (was : AreFrozenBut s old start blocks) (kept : (x : Digest) → Contains start x → IsReady s old x → Contains fresh x)
+    (grown : Grows t (λ x. IsReady t mid x × (x ≡ d → ⊥)) mid new fresh more) where
+  -- one block more stands
+  pub frozen_arrived : AreFrozenBut t new more blocks
+  frozen_arrived = frozen_still s t old new start more blocks was floor
+      (λ x ready. (grown.still x (ready_still s t d arrives old mid since x ready), others x (λ same. arrives.absent (subst (λ q. Stands s q) same ready.0))))
+      (λ x ready. elim (grown.listed x ready) [
+        | inl before ↦ inl (ready_was s t d arrives old mid since x before.1 before.0)
+        | inr among ↦ inr among
+      ])
+      (λ x ready among. subst (λ xs. Contains xs x) (sym grown.begins.1) (Contains-append_left fresh grown.begins.0 x (kept x among ready)))
 
 -- all is frozen
-pub frozen_all : (s : State) (complete : List Digest) (blocks : FinMap digest_cmp Block) (count : ℕ) → AreFrozen s complete blocks → count ≡ length complete → IsFrozenTo s complete blocks count
-frozen_all s complete blocks count are is = record {
-  within = omega (arith, is);
-  frozen = subst (λ q. AreFrozen s q blocks) (sym (ap (λ n. take n complete) is ∙ take-length complete)) are;
+pub frozen_all : (s : State) (lacking : Pairs) (fresh : List Digest) (blocks : FinMap digest_cmp Block) → AreFrozen s lacking blocks → AreFrozenBut s lacking fresh blocks
+frozen_all s lacking fresh blocks are = record {
+  only = λ d b kept at. (are d b kept).0 at;
+  each = λ d b kept held. inl ((are d b kept).1 held);
 }
 
-pub frozen_whole : (s : State) (complete : List Digest) (blocks : FinMap digest_cmp Block) (count : ℕ) → IsFrozenTo s complete blocks count → count ≡ length complete → AreFrozen s complete blocks
-frozen_whole s complete blocks count was is = subst (λ q. AreFrozen s q blocks) (ap (λ n. take n complete) is ∙ take-length complete) was.frozen
+-- nothing is listed
+pub frozen_whole : (s : State) (lacking : Pairs) (fresh : List Digest) (blocks : FinMap digest_cmp Block) → AreFrozenBut s lacking fresh blocks → fresh ≡ [] → AreFrozen s lacking blocks
+frozen_whole s lacking fresh blocks was none d b kept = (λ at. was.only d b kept at, λ held. elim (was.each d b kept held) [ inl at ↦ at | inr among ↦ absurd (contains_none d (subst (λ xs. Contains xs d) none among)) ])
 
-pub frozen_from : (s : State) (complete : List Digest) (blocks : FinMap digest_cmp Block) → AreOf s complete blocks → AreFrozen s complete blocks
-frozen_from s complete blocks are d b kept = are d b
-
--- those that were frozen before are frozen anew
-pub frozen_anew : (s : State) (complete : List Digest) (blocks : FinMap digest_cmp Block) (count : ℕ) → count ≤ length complete → AreOf s (take count complete) blocks → IsFrozenTo s complete blocks count
-frozen_anew s complete blocks count within are = record { within = within; frozen = frozen_from s (take count complete) blocks are }
+pub frozen_from : (s : State) (lacking : Pairs) (complete : List Digest) (blocks : FinMap digest_cmp Block) → ((d : Digest) → Contains complete d ↔ IsReady s lacking d) → AreOf s complete blocks → AreFrozen s lacking blocks
+frozen_from s lacking complete blocks all are d b kept = (
+  λ at. let held = (are d b).0 at in ((all d).0 held.0, held.1),
+  λ (ready, at). (are d b).1 ((all d).1 ready, at),
+)
 
 -- one generation more
-pub frozen_over : (s : State) (complete : List Digest) (older newer blocks : FinMap digest_cmp Block) (count : ℕ) → IsFrozenTo s complete older count → AreOf s (drop count complete) newer → IsOver newer older blocks → AreFrozen s complete blocks
-frozen_over s complete older newer blocks count was are over d b kept = (λ at. down (get newer d) (get older d) refl refl (sym (over d) ∙ at), up)
+pub frozen_over : (s : State) (lacking : Pairs) (fresh : List Digest) (older newer blocks : FinMap digest_cmp Block) → AreFrozenBut s lacking fresh older → ((d : Digest) → Contains fresh d → IsReady s lacking d) → AreOf s fresh newer
+    → IsOver newer older blocks → AreFrozen s lacking blocks
+frozen_over s lacking fresh older newer blocks was ready are over d b kept = (λ at. down (get newer d) (get older d) refl refl (sym (over d) ∙ at), up)
   where
-    parts : take count complete ++ drop count complete ≡ complete
-    parts = take-append-drop count complete
-
-    down : (fresh old : Option Block) → get newer d ≡ fresh → get older d ≡ old → option_or fresh old ≡ Some b → IsHeldAmong s complete d b
+    down : (one old : Option Block) → get newer d ≡ one → get older d ≡ old → option_or one old ≡ Some b → IsHeldReady s lacking d b
     down (Some c) old here there is =
         let held = (are d b).0 (here ∙ is) in
-        (subst (λ q. Contains q d) parts (Contains-append_right (take count complete) (drop count complete) d held.0), held.1)
-    down None old here there is =
-        let held = (was.frozen d b kept).0 (there ∙ is) in
-        (among_front count complete d held.0, held.1)
+        (ready d held.0, held.1)
+    down None old here there is = was.only d b kept (there ∙ is)
 
-    later : (fresh : Option Block) → get newer d ≡ fresh → get s.blocks d ≡ Some b → get older d ≡ Some b → option_or fresh (get older d) ≡ Some b
+    later : (one : Option Block) → get newer d ≡ one → get s.blocks d ≡ Some b → get older d ≡ Some b → option_or one (get older d) ≡ Some b
     later (Some c) here at there = ap Some (one_block c b ((are d c).0 here).1 at)
     later None here at there = there
 
-    up : IsHeldAmong s complete d b → get blocks d ≡ Some b
-    up (among, at) = over d ∙ elim (Contains-append_cases (take count complete) (drop count complete) d (subst (λ q. Contains q d) (sym parts) among)) [
-      | inl front ↦ ap (λ (f : Option Block). option_or f (get older d)) refl ∙ later (get newer d) refl at ((was.frozen d b kept).1 (front, at))
-      | inr behind ↦ ap (λ f. option_or f (get older d)) ((are d b).1 (behind, at))
+    up : IsHeldReady s lacking d b → get blocks d ≡ Some b
+    up held = over d ∙ elim (was.each d b kept held) [
+      | inl there ↦ later (get newer d) refl held.1 there
+      | inr among ↦ ap (λ f. option_or f (get older d)) ((are d b).1 (among, held.1))
     ]
 
 -- ---- the blocks that are held under digests
@@ -163,15 +151,15 @@ held_same s xs old new d are lacks same q c = (
 
 -- ---- what a view of it shows
 
-pub shown : (s : State) (unmet lacking : Pairs) (complete : List Digest) (capacity : ℕ) (v : Frozen) → IsSound s → IsSettled s unmet lacking complete capacity → v.floor ≡ s.floor → AreFrozen s complete v.blocks → Shows v s
-shown s unmet lacking complete capacity v sound settled floor are = record {
+pub shown : (s : State) (unmet lacking : Pairs) (pending : ℕ) (v : Frozen) → IsSound s → IsSettled s unmet lacking pending → v.floor ≡ s.floor → AreFrozen s lacking v.blocks → Shows v s
+shown s unmet lacking pending v sound settled floor are = record {
   floor = floor;
   complete = λ d b.
-      let same = ready_complete s lacking sound settled.promoted d in (
+      let same = ready_complete s lacking sound settled.settling.promoted d in (
         λ (at, kept).
             let held = (are d b (omega (arith, floor, kept))).0 at in
-            (held.1, omega (arith, floor, kept), same.0 (All-contains (IsReady s lacking) complete d settled.listed.ready held.0)),
-        λ (at, kept, whole). ((are d b kept).1 (settled.all d (same.1 whole), at), omega (arith, floor, kept)),
+            (held.1, omega (arith, floor, kept), same.0 held.0),
+        λ (at, kept, whole). ((are d b kept).1 (same.1 whole, at), omega (arith, floor, kept)),
       );
 }
 

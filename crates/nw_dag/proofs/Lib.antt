@@ -4,6 +4,8 @@ pub mod Cascade
 pub mod Complete
 pub mod Arrival
 pub mod Wanting
+pub mod Once
+pub mod Lists
 pub mod Listed
 pub mod Missing
 pub mod Steps
@@ -14,4 +16,5 @@ pub mod Raising
 pub mod Releasing
 pub mod Collecting
 pub mod Refrozen
+pub mod Retained
 pub mod Sent

@@ -1,13 +1,12 @@
 -- What is complete, listed once.
-use Rattle.std.proofs.Common.{◌≡◌, ℕ, ◌<◌, ◌≤◌, Bool, true, false, List, [], ◌∷◌, ◌++◌, length, get_or, take, Result, Ok, Err, is_ok, cond, is_some, refl, ap, sym, ◌∙◌, subst, arith, inl, inr, append_assoc, append-nil, length-take}
-use Rattle.std.specs.Prelude.{Contains, IsOk}
-use Rattle.std.specs.List.{IsDistinct, list_any}
+use Rattle.std.proofs.Common.{◌≡◌, ℕ, zero, suc, ◌+◌, ◌<◌, ◌≤◌, List, [], ◌∷◌, ◌++◌, length, get_or, take, Result, Ok, Err, is_ok, cond, is_some, refl, ap, sym, ◌∙◌, subst, arith, inl, inr, append_assoc, append-nil, length-append}
+use Rattle.std.specs.Prelude.{Contains, IsOk, All}
+use Rattle.std.specs.List.{IsDistinct}
 use Rattle.std.specs.Ordering.{eq_by_cmp}
 use Rattle.std.specs.Cmp.{eq_by_cmp_equiv}
 use Rattle.std.specs.FinMap.{entries, keys, len, len-entries, contains_key-keys}
-use Rattle.std.proofs.lemmas.List.{length-map, length_push, get_or-take, get_or_default}
-use Rattle.std.proofs.lemmas.List.Elements.{All-push, All-contains, Contains-append_cases, Contains-append_left, Contains-append_right, Contains-get_or}
-use Rattle.std.proofs.lemmas.Map.Keys.{IsDistinct-push, apart_from_distinct}
+use Rattle.std.proofs.lemmas.List.{length-map, length_push}
+use Rattle.std.proofs.lemmas.List.Elements.{All-append, All-contains, Contains-append_cases, Contains-append_left, Contains-append_right, Contains-get_or}
 use Rattle.std.proofs.lemmas.Map.Made.{length-le_from_is_member}
 use Rattle.std.proofs.lemmas.Map.Views.{Contains-from_any}
 use Rattle.nw_digest.specs.declared.digest.Digest.{Digest}
@@ -16,23 +15,19 @@ use Rattle.nw_waiting.specs.Pairs.{Pairs}
 use Rattle.nw_model.specs.State.{State, digest_cmp}
 use Rattle.nw_model.proofs.Kept.{same_digest}
 use Rattle.nw_model.proofs.Maps.{digests_total}
-use Rattle.nw_model.proofs.Listed.{contains_cases, contains_none}
+use Rattle.nw_model.proofs.Listed.{contains_cases, contains_first, contains_none}
 use Rattle.nw_dag.specs.Lacking.{IsReady}
 use Rattle.nw_dag.specs.Changes.{Adds}
-use Rattle.nw_dag.specs.Settled.{AreListed}
+use Rattle.nw_dag.specs.Settled.{AreListed, IsTally}
+use Rattle.nw_dag.proofs.Once.{once_none, once_one, once_both}
 
-true_false : true ≡ false → ⊥
-true_false e = cc
+-- ---- how many are listed
 
-is_false : (b : Bool) → (b ≡ true → ⊥) → b ≡ false
-is_false true never = absurd (never refl)
-is_false false never = refl
-
--- one more is listed
-pub listed_more : (s : State) (lacking : Pairs) (complete : List Digest) (d : Digest) → AreListed s lacking complete → IsReady s lacking d → (Contains complete d → ⊥) → AreListed s lacking (complete ++ d ∷ [])
-listed_more s lacking complete d listed ready apart = record {
-  ready = All-push (IsReady s lacking) complete d listed.ready ready;
-  once = IsDistinct-push (eq_by_cmp_equiv digests_total) complete d listed.once (is_false (list_any (eq_by_cmp digest_cmp d) complete) (λ any. apart (Contains-from_any same_digest d complete any)));
+-- more are listed
+pub listed_both : (s : State) (lacking : Pairs) (complete more : List Digest) → AreListed s lacking complete → AreListed s lacking more → ((x : Digest) → Contains more x → Contains complete x → ⊥) → AreListed s lacking (complete ++ more)
+listed_both s lacking complete more listed and apart = record {
+  ready = All-append (IsReady s lacking) complete more listed.ready and.ready;
+  once = once_both complete more listed.once and.once apart;
 }
 
 -- no more are listed than are held
@@ -43,11 +38,21 @@ listed_fits s lacking complete listed =
     sym (contains_key-keys s.blocks q) ∙ ap is_some ready.0.1.0) in
     omega (arith, few, length-map (entries s.blocks) (λ (e : Digest × Block). e.0), len-entries s.blocks)
 
--- so there is room for one more
-pub fits_push : (s : State) (lacking : Pairs) (complete : List Digest) (d : Digest) (size room : ℕ) → AreListed s lacking complete → IsReady s lacking d → (Contains complete d → ⊥) → size ≡ length complete → len s.blocks ≤ room → size < room
-fits_push s lacking complete d size room listed ready apart is fits =
-    let few = listed_fits s lacking (complete ++ d ∷ []) (listed_more s lacking complete d listed ready apart) in
-    omega (arith, few, length_push complete d, is, fits)
+-- one is listed alone
+pub listed_one : (s : State) (lacking : Pairs) (d : Digest) → IsReady s lacking d → AreListed s lacking (d ∷ [])
+listed_one s lacking d ready = record { ready = λ k x lt. subst (IsReady s lacking) (only d x k lt) ready; once = once_one d }
+  where
+    only : (d x : Digest) (k : ℕ) → k < length (d ∷ []) → d ≡ get_or (d ∷ []) k x
+    only d x zero lt = refl
+    only d x (suc k) lt = absurd (omega (arith, lt))
+
+-- a ready block that is not listed is pending
+pub pending_left : (s : State) (lacking : Pairs) (but : List Digest) (pending : ℕ) (d : Digest) → IsTally s lacking but pending → Contains but d → IsReady s lacking d → 0 < pending
+pending_left s lacking but pending d tally among ready =
+    let one : AreListed s lacking (d ∷ []) = listed_one s lacking d ready in
+    let all = listed_both s lacking tally.complete (d ∷ []) tally.listed one (λ x is. elim (contains_cases d [] x is) [ inl here ↦ subst (λ y. Contains tally.complete y → ⊥) here (tally.apart d among) | inr none ↦ absurd (contains_none x none) ]) in
+    let few = listed_fits s lacking (tally.complete ++ d ∷ []) all in
+    omega (arith, few, length_push tally.complete d, tally.counts)
 
 pub pushed : {T E : Type 0} (r : Result T E) (items more same : List Digest) → IsOk r → items ≡ cond (is_ok r) more same → items ≡ more
 pushed (Ok x) items more same ok is = is
@@ -55,14 +60,12 @@ pushed (Err e) items more same ok is = cc
 
 -- ---- those that are ready
 
-none_added : {P : Digest → Type 0} (old : List Digest) → Adds P [] old old
-none_added old = record { added = []; are = sym (append-nil old); exactly = λ x. (λ among. absurd (contains_none x among), λ both. absurd (contains_none x both.0)) }
-
 -- one was looked at, and added
 pub one_added : (P : Digest → Type 0) (d : Digest) (old new : List Digest) → P d → new ≡ old ++ d ∷ [] → Adds P (d ∷ []) old new
 one_added P d old new has is = record {
   added = d ∷ [];
   are = is;
+  once = once_one d;
   exactly = λ x. (λ among. (among, elim (contains_cases d [] x among) [ inl here ↦ subst P here has | inr there ↦ absurd (contains_none x there) ]), λ both. both.0);
 }
 
@@ -71,17 +74,22 @@ pub one_left : (P : Digest → Type 0) (d : Digest) (old : List Digest) → (P d
 one_left P d old fails = record {
   added = [];
   are = sym (append-nil old);
+  once = once_none;
   exactly = λ x. (
     λ among. absurd (contains_none x among),
     λ both. elim (contains_cases d [] x both.0) [ inl here ↦ absurd (fails (subst P (sym here) both.1)) | inr there ↦ there ],
   );
 }
 
--- after one more was looked at
-pub adds_more : (P : Digest → Type 0) (xs : List Digest) (d : Digest) (a b c : List Digest) → Adds P xs a b → Adds P (d ∷ []) b c → Adds P (xs ++ d ∷ []) a c
-adds_more P xs d a b c one two = record {
+-- after one more was looked at, which is another
+pub adds_more : (P : Digest → Type 0) (xs : List Digest) (d : Digest) (a b c : List Digest) → (Contains xs d → ⊥) → Adds P xs a b → Adds P (d ∷ []) b c → Adds P (xs ++ d ∷ []) a c
+adds_more P xs d a b c other one two = record {
   added = one.added ++ two.added;
   are = two.are ∙ ap (λ ys. ys ++ two.added) one.are ∙ append_assoc a one.added two.added;
+  once = once_both one.added two.added one.once two.once (λ x late early. elim (contains_cases d [] x ((two.exactly x).0 late).0) [
+    | inl here ↦ other (subst (Contains xs) (sym here) ((one.exactly x).0 early).0)
+    | inr none ↦ contains_none x none
+  ]);
   exactly = λ x. (
     λ among. elim (Contains-append_cases one.added two.added x among) [
       | inl early ↦ let both = (one.exactly x).0 early in (Contains-append_left xs (d ∷ []) x both.0, both.1)
@@ -95,20 +103,30 @@ adds_more P xs d a b c one two = record {
 }
 
 pub adds_none : (P : Digest → Type 0) (old : List Digest) → Adds P [] old old
-adds_none P old = none_added old
+adds_none P old = record { added = []; are = sym (append-nil old); once = once_none; exactly = λ x. (λ among. absurd (contains_none x among), λ both. absurd (contains_none x both.0)) }
 
--- the next is not listed
-pub next_apart : (P : Digest → Type 0) (digests old new : List Digest) (i : ℕ) (d : Digest) → i < length digests → IsDistinct (eq_by_cmp digest_cmp) digests → ((x : Digest) → Contains digests x → Contains old x → ⊥)
-    → Adds P (take i digests) old new → Contains new (get_or digests i d) → ⊥
-next_apart P digests old new i d lt once apart adds among =
-    let x = get_or digests i d in
-    elim (Contains-append_cases old adds.added x (subst (λ ys. Contains ys x) adds.are among)) [
-      | inl before ↦ apart x (Contains-get_or digests i d lt) before
-      | inr added ↦
-          let (k, below, at) = ((adds.exactly x).0 added).0 in
-          let short : k < i = omega (arith, below, length-take i digests) in
-          let differ = apart_from_distinct (eq_by_cmp digest_cmp) digests k i x once short lt in
-          let at_k : get_or digests k x ≡ x = sym (get_or-take i digests k x short) ∙ at in
-          let at_i : get_or digests i x ≡ x = get_or_default digests i x d lt in
-          true_false (sym ((eq_by_cmp_equiv digests_total).refl x) ∙ ap (λ y. eq_by_cmp digest_cmp y x) (sym at_k) ∙ ap (eq_by_cmp digest_cmp (get_or digests k x)) (sym at_i) ∙ differ)
-    ]
+-- ---- those that were added are pending no more
+
+-- all that was added has P
+pub added_all : {P : Digest → Type 0} {digests old new : List Digest} → (adds : Adds P digests old new) → All P adds.added
+added_all {P} adds = λ k d lt. ((adds.exactly (get_or adds.added k d)).0 (Contains-get_or adds.added k d lt)).1
+
+pub most_left : {P : Digest → Type 0} {digests old new : List Digest} (adds : Adds P digests old new) (pending left : ℕ) → length new + left ≡ length old + pending → length adds.added + left ≡ pending
+most_left {old = old} adds pending left most = omega (arith, most, ap (λ (xs : List Digest). length xs) adds.are, length-append old adds.added)
+
+-- the next is pending, where it is ready
+pub pending_next : (s : State) (lacking : Pairs) (digests seen old new : List Digest) (pending left : ℕ) (d : Digest) → IsTally s lacking digests pending → Adds (IsReady s lacking) seen old new → ((x : Digest) → Contains seen x → Contains digests x)
+    → length new + left ≡ length old + pending → Contains digests d → (Contains seen d → ⊥) → IsReady s lacking d → 0 < left
+pending_next s lacking digests seen old new pending left d tally adds within most among other ready =
+    pending_left s lacking (d ∷ []) left d (record {
+      complete = tally.complete ++ adds.added;
+      listed = listed_both s lacking tally.complete adds.added tally.listed (record { ready = added_all adds; once = adds.once }) (λ x is. tally.apart x (within x ((adds.exactly x).0 is).0));
+      apart = λ x is both. elim (contains_cases d [] x is) [
+        | inl here ↦ elim (Contains-append_cases tally.complete adds.added x both) [
+          | inl before ↦ tally.apart d among (subst (Contains tally.complete) (sym here) before)
+          | inr added ↦ other (subst (Contains seen) (sym here) ((adds.exactly x).0 added).0)
+        ]
+        | inr none ↦ contains_none x none
+      ];
+      counts = omega (arith, tally.counts, length-append tally.complete adds.added, most_left adds pending left most);
+    }) (contains_first d []) ready

@@ -1,7 +1,5 @@
 -- A store in which nothing is.
 use Rattle.std.proofs.Common.{◌≡◌, ℕ, true, false, [], Some, None, sym, ◌∙◌, arith}
-use Rattle.std.specs.List.{IsDistinct}
-use Rattle.std.specs.Ordering.{eq_by_cmp}
 use Rattle.std.specs.FinMap.{get-empty, len-empty}
 use Rattle.std.specs.FinSet.{empty, contains-empty}
 use Rattle.std.proofs.lemmas.List.Elements.{All-nil}
@@ -12,6 +10,7 @@ use Rattle.nw_waiting.specs.declared.wanted.Wanted.{Wanted}
 use Rattle.nw_model.specs.State.{opening, digest_cmp}
 use Rattle.nw_dag.specs.Lacking.{Names}
 use Rattle.nw_dag.specs.Settled.{IsSettled}
+use Rattle.nw_dag.proofs.Once.{once_none}
 
 none_some : {X : Type 0} (x : X) → None ≡ Some x → ⊥
 none_some x e = cc
@@ -25,18 +24,17 @@ lacks_nothing d w lacks = wrong (sym (contains-empty pair_cmp (w, d)) ∙ lacks)
     wrong : false ≡ true → ⊥
     wrong e = cc
 
-once_none : IsDistinct (eq_by_cmp digest_cmp) []
-unfolding IsDistinct
-once_none = tt
-
-pub settled_opening : (capacity : ℕ) → IsSettled opening empty empty [] capacity
-settled_opening capacity = record {
-  standing = λ d w. (λ lacks. absurd (lacks_nothing d w lacks), λ names. absurd (names_nothing d w names.0));
-  promoted = record {
-    each = λ d w names. absurd (names_nothing d w names);
-    only = λ d w lacks. absurd (lacks_nothing d w lacks);
+pub settled_opening : IsSettled opening empty empty 0
+settled_opening = record {
+  complete = [];
+  settling = record {
+    standing = λ d w. (λ lacks. absurd (lacks_nothing d w lacks), λ names. absurd (names_nothing d w names.0));
+    promoted = record {
+      each = λ d w names. absurd (names_nothing d w names);
+      only = λ d w lacks. absurd (lacks_nothing d w lacks);
+    };
+    listed = record { ready = All-nil _; once = once_none };
+    all = λ d ready. absurd (none_some ready.0.0 (sym (get-empty digest_cmp d) ∙ ready.0.1.0));
   };
-  listed = record { ready = All-nil _; once = once_none };
-  all = λ d ready. absurd (none_some ready.0.0 (sym (get-empty digest_cmp d) ∙ ready.0.1.0));
-  room = omega (arith, len-empty digest_cmp Block);
+  counts = omega (arith, len-empty digest_cmp Block);
 }

@@ -1,24 +1,24 @@
 -- Holders that lack nothing any more.
-use Rattle.std.proofs.Common.{◌≡◌, ℕ, ◌<◌, List, [], ◌∷◌, ◌++◌, length, get_or, take, true, false, ap, sym, ◌∙◌, subst, arith, inl, inr, length-take}
+use Rattle.std.proofs.Common.{◌≡◌, ℕ, ◌+◌, ◌<◌, List, [], ◌∷◌, ◌++◌, length, get_or, take, true, false, ap, sym, ◌∙◌, subst, arith, inl, inr, length-append, length-take}
 use Rattle.std.specs.Prelude.{Contains}
 use Rattle.std.specs.List.{IsDistinct}
 use Rattle.std.specs.Ordering.{eq_by_cmp}
 use Rattle.std.specs.Cmp.{eq_by_cmp_equiv}
 use Rattle.std.proofs.lemmas.List.{get_or-take, get_or_default}
-use Rattle.std.proofs.lemmas.List.Elements.{All-weaker, All-contains, Contains-push_cases, Contains-append_left, Contains-push}
+use Rattle.std.proofs.lemmas.List.Elements.{All-weaker, All-contains, Contains-push_cases, Contains-append_left, Contains-push, Contains-get_or}
 use Rattle.std.proofs.lemmas.Map.Keys.{apart_from_distinct}
 use Rattle.nw_digest.specs.declared.digest.Digest.{Digest}
 use Rattle.nw_waiting.specs.declared.wanted.Wanted.{Wanted}
 use Rattle.nw_waiting.specs.Pairs.{Pairs, Lacks, without_holder}
 use Rattle.nw_model.specs.State.{State, digest_cmp}
-use Rattle.nw_model.proofs.Listed.{contains_cases, contains_none}
+use Rattle.nw_model.proofs.Listed.{contains_cases, contains_first, contains_none}
 use Rattle.nw_model.proofs.Maps.{digests_total}
 use Rattle.nw_dag.specs.Lacking.{IsReady}
 use Rattle.nw_dag.specs.Changes.{Adds}
-use Rattle.nw_dag.specs.Settled.{AreListed}
+use Rattle.nw_dag.specs.Settled.{AreListed, IsTally}
 use Rattle.nw_dag.specs.Collection.{AreWithout, IsStuck}
 use Rattle.nw_dag.proofs.Pairs.{without_holder_lacks}
-use Rattle.nw_dag.proofs.Listed.{adds_more, one_left}
+use Rattle.nw_dag.proofs.Listed.{adds_more, listed_both, most_left, one_left, pending_left}
 
 -- ---- one holder
 
@@ -39,6 +39,7 @@ pub stuck_added : (s : State) (old new : Pairs) (holder : Digest) (complete more
 stuck_added s old new holder complete more is lacks adds = record {
   added = adds.added;
   are = adds.are;
+  once = adds.once;
   exactly = λ x. (
     λ among. let both = (adds.exactly x).0 among in (both.0, (both.1.0, subst (λ d. ((w : Wanted) → Lacks old d w → ⊥) → ⊥) (itself x both.0) lacks)),
     λ both. (adds.exactly x).1 (both.0, (both.1.0, λ w still. ((without_holder_lacks old holder x w).0 (subst (λ (m : Pairs). Lacks m x w) is still)).1 (itself x both.0))),
@@ -85,9 +86,10 @@ not_before xs i d lt once (k, below, at) =
 -- what another lacked is what it lacked before
 pub stuck_more : (s : State) (holders : List Digest) (d : Digest) (old mid : Pairs) (a b c : List Digest) → AreWithout holders old mid → (Contains holders d → ⊥) → Adds (IsStuck s old) holders a b
     → Adds (IsStuck s mid) (d ∷ []) b c → Adds (IsStuck s old) (holders ++ d ∷ []) a c
-stuck_more s holders d old mid a b c without apart adds last = adds_more (IsStuck s old) holders d a b c adds (record {
+stuck_more s holders d old mid a b c without apart adds last = adds_more (IsStuck s old) holders d a b c apart adds (record {
   added = last.added;
   are = last.are;
+  once = last.once;
   exactly = λ x. (
     λ among.
         let both = (last.exactly x).0 among in
@@ -98,3 +100,39 @@ stuck_more s holders d old mid a b c without apart adds last = adds_more (IsStuc
   where
     itself : (x : Digest) → Contains (d ∷ []) x → d ≡ x
     itself x among = elim (contains_cases d [] x among) [ inl same ↦ same | inr none ↦ absurd (contains_none x none) ]
+
+-- ---- how many are pending
+
+-- what lacked something is pending
+pub stuck_pending : (s : State) (old new : Pairs) (holder : Digest) (pending : ℕ) → new ≡ without_holder old holder → (((w : Wanted) → Lacks old holder w → ⊥) → ⊥) → IsTally s old [] pending → IsReady s new holder → 0 < pending
+stuck_pending s old new holder pending is lacks tally ready = pending_left s new (holder ∷ []) pending holder (record {
+  complete = tally.complete;
+  listed = listed_without s old new holder tally.complete is tally.listed;
+  apart = λ x among. elim (contains_cases holder [] x among) [
+    | inl same ↦ subst (λ y. Contains tally.complete y → ⊥) same (lacking_apart s old tally.complete holder tally.listed lacks)
+    | inr none ↦ absurd (contains_none x none)
+  ];
+  counts = tally.counts;
+}) (contains_first holder []) ready
+
+module _ (s : State) (old new : Pairs) (holders complete fresh more : List Digest) (without : AreWithout holders old new) (adds : Adds (IsStuck s old) holders fresh more) (listed : AreListed s old complete) where
+  still : (x : Digest) → IsReady s old x → IsReady s new x
+  still x ready = (ready.0, λ w lacks. ready.1 w ((without x w).0 lacks).0)
+
+  freed : (x : Digest) → Contains adds.added x → IsReady s new x
+  freed x among = let both = (adds.exactly x).0 among in (both.1.0, λ w lacks. ((without x w).0 lacks).1 both.0)
+
+  -- what was listed, and what was stuck, are ready now
+  pub released : AreListed s new (complete ++ adds.added)
+  released = listed_both s new complete adds.added
+      (record { ready = All-weaker (IsReady s old) (IsReady s new) still complete listed.ready; once = listed.once })
+      (record { ready = λ k d lt. freed (get_or adds.added k d) (Contains-get_or adds.added k d lt); once = adds.once })
+      (λ x among before. ((adds.exactly x).0 among).1.1 (All-contains (IsReady s old) complete x listed.ready before).1)
+
+pub tally_released : (s : State) (old new : Pairs) (holders fresh more : List Digest) (pending left : ℕ) → AreWithout holders old new → Adds (IsStuck s old) holders fresh more → length more + left ≡ length fresh + pending → IsTally s old [] pending → IsTally s new [] left
+tally_released s old new holders fresh more pending left without adds most tally = record {
+  complete = tally.complete ++ adds.added;
+  listed = released s old new holders tally.complete fresh more without adds tally.listed;
+  apart = λ x none. absurd (contains_none x none);
+  counts = omega (arith, tally.counts, length-append tally.complete adds.added, most_left adds pending left most);
+}

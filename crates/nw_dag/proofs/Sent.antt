@@ -10,13 +10,17 @@ use Rattle.nw_held.proofs.Sent.{held_send}
 use Rattle.nw_dag.specs.contracts.dag.Dag as dag
 use Rattle.nw_dag.specs.contracts.dag.Dag.TheInside as dag_inside
 use Rattle.nw_dag.specs.contracts.frozen.Frozen as frozen
+use Rattle.nw_dag.specs.contracts.roll.Roll as roll
 use Rattle.nw_dag.specs.contracts.waits.Waits as waits
 
+roll_send : IsSend roll.the_row
+roll_send = declared_send roll.the_type (search (sendable, crosses) depth 30, (search (sendable, crosses) depth 30, tt))
+
 waits_send : IsSend waits.the_row
-waits_send = declared_send waits.the_type (search (sendable, crosses, waiting.the_send) depth 30, (search (sendable, crosses, waiting.the_send) depth 30, (search (sendable, crosses) depth 30, tt)))
+waits_send = declared_send waits.the_type (search (sendable, crosses, waiting.the_send) depth 30, (search (sendable, crosses, waiting.the_send) depth 30, (roll_send, tt)))
 
 frozen_send : IsSend frozen.the_row
-frozen_send = declared_send frozen.the_type (generations_send global.the_row ghosts send sync frees, (search (sendable, crosses) depth 30, tt))
+frozen_send = declared_send frozen.the_type (generations_send global.the_row ghosts send sync frees, tt)
 
 pub dag_send : IsSend dag.the_row
 dag_send = view_send dag_inside.the_row _ _ _ _ (declared_send dag_inside.the_type (held_send, (waits_send, (frozen_send, tt))))

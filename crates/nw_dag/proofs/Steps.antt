@@ -1,28 +1,27 @@
 -- The tables, from one step of the cascade to the next.
-use Rattle.std.proofs.Common.{◌≡◌, ℕ, ◌+◌, ◌<◌, ◌≤◌, true, false, List, [], ◌∷◌, ◌++◌, length, get_or, drop, Option, Some, None, refl, ap, sym, ◌∙◌, subst, arith, inl, inr}
+use Rattle.std.proofs.Common.{◌≡◌, ◌⊎◌, ℕ, ◌+◌, ◌-◌, ◌<◌, ◌≤◌, List, [], ◌∷◌, ◌++◌, length, get_or, drop, Option, Some, None, refl, ap, sym, ◌∙◌, subst, arith, inl, inr, append_assoc, length-append}
 use Rattle.std.specs.Prelude.{Contains}
-use Rattle.std.specs.List.{IsDistinct}
 use Rattle.std.specs.Option.{option_map}
-use Rattle.std.specs.Ordering.{eq_by_cmp}
-use Rattle.std.specs.Cmp.{eq_by_cmp_equiv}
-use Rattle.std.specs.FinMap.{get, len}
-use Rattle.std.proofs.lemmas.List.{drop_more, drop_all, drop-append-le, drop_at, get_or-drop, get_or_default, length-drop}
-use Rattle.std.proofs.lemmas.List.Elements.{All-weaker, All-contains, Contains-append_left, Contains-append_right, Contains-push}
-use Rattle.std.proofs.lemmas.Map.Keys.{apart_from_distinct}
+use Rattle.std.specs.FinMap.{get}
+use Rattle.std.proofs.lemmas.List.{drop_more, drop_all, drop-append-le, drop_at, length_push}
+use Rattle.std.proofs.lemmas.List.Elements.{All-weaker, All-contains, Contains-append_left, Contains-append_right, Contains-push, Contains-get_or}
 use Rattle.nw_digest.specs.declared.digest.Digest.{Digest}
 use Rattle.nw_codec.specs.declared.block.Block.{Block}
 use Rattle.nw_waiting.specs.declared.wanted.Wanted.{Wanted}
 use Rattle.nw_waiting.specs.Pairs.{Pairs, Lacks, AreHolders, without_wanted}
-use Rattle.nw_model.specs.State.{State, digest_cmp}
-use Rattle.nw_model.proofs.Maps.{digests_total}
+use Rattle.nw_model.specs.State.{State}
+use Rattle.nw_model.proofs.Listed.{contains_cases, contains_first, contains_none}
 use Rattle.nw_held.specs.Standing.{Stands, named_as}
 use Rattle.nw_dag.specs.Lacking.{IsReady, AreUnmet, AreUnmetBut, AreLacking}
 use Rattle.nw_dag.specs.Changes.{Adds, Promotes}
-use Rattle.nw_dag.specs.Settled.{AreListed, IsSettling, IsSettled, IsSettledBut}
+use Rattle.nw_dag.specs.Frozen.{Grows}
+use Rattle.nw_dag.specs.Settled.{AreListed, IsTally, IsSettling, IsCascading, IsSettled, IsSettledBut}
 use Rattle.nw_dag.proofs.Pairs.{without_wanted_lacks, lacks_or_not, same_or_not}
 use Rattle.nw_dag.proofs.Cascade.{promoted}
 use Rattle.nw_dag.proofs.Arrival.{met_now, met_not_yet, not_ready_yet}
-use Rattle.nw_dag.proofs.Listed.{listed_fits}
+use Rattle.nw_dag.proofs.Listed.{listed_one, listed_both, pending_left}
+use Rattle.nw_dag.proofs.Lists.{begins_same, begins_more}
+use Rattle.nw_dag.proofs.Once.{first_once, once_back}
 
 -- ---- one block is promoted
 
@@ -58,61 +57,112 @@ promotes s e old new v complete more holders name are is adds =
       lost = is ∙ ap (without_wanted old) same;
       added = adds.added;
       are = adds.are;
+      once = adds.once;
       exactly = λ x. (
         λ among. let both = (adds.exactly x).0 among in (subst (λ (w : Wanted). Lacks old x w) same ((are.exactly x).0 both.0), both.1),
         λ both. (adds.exactly x).1 ((are.exactly x).1 (subst (λ (w : Wanted). Lacks old x w) (sym same) both.0), both.1),
       );
     }
 
--- ---- one place of the list
-
--- nothing stands twice in a list
-once_only : (complete : List Digest) (place : ℕ) (d : Digest) → IsDistinct (eq_by_cmp digest_cmp) complete → place < length complete → Contains (drop (place + 1) complete) (get_or complete place d) → ⊥
-once_only complete place d once lt (k, below, at) =
-    let e = get_or complete place d in
-    let within : place + 1 + k < length complete = omega (arith, below, length-drop (place + 1) complete) in
-    let differ = apart_from_distinct (eq_by_cmp digest_cmp) complete place (place + 1 + k) e once (omega arith) within in
-    let here : get_or complete place e ≡ e = get_or_default complete place e d lt in
-    let there : get_or complete (place + 1 + k) e ≡ e = sym (get_or-drop (place + 1) complete k e) ∙ at in
-    wrong (sym ((eq_by_cmp_equiv digests_total).refl e) ∙ ap (λ y. eq_by_cmp digest_cmp y e) (sym here) ∙ ap (eq_by_cmp digest_cmp (get_or complete place e)) (sym there) ∙ differ)
-  where
-    wrong : true ≡ false → ⊥
-    wrong e = cc
-
-pub stands_at : (s : State) (lacking : Pairs) (complete : List Digest) (place : ℕ) (d : Digest) → AreListed s lacking complete → place < length complete → Stands s (get_or complete place d)
-stands_at s lacking complete place d listed lt = (listed.ready place d lt).0
-
-pub cascaded : (s : State) (unmet met old new : Pairs) (complete more : List Digest) (room wider place : ℕ) (d : Digest) → IsSettling s unmet old complete (drop place complete) room → place < length complete
-    → met ≡ unmet → Promotes s (get_or complete place d) old new complete more → AreListed s new more → room ≤ wider → IsSettling s met new more (drop (place + 1) more) wider
-cascaded s unmet met old new complete more room wider place d far lt same step listed wide =
-    let e = get_or complete place d in
-    let rest = drop (place + 1) complete in
-    let due : AreLacking s old (e ∷ rest) = subst (AreLacking s old) (drop_more complete place d lt) far.promoted in
-    let left : drop (place + 1) more ≡ rest ++ step.added = ap (drop (place + 1)) step.are ∙ drop-append-le (place + 1) complete step.added (omega arith) in
-    record {
-      standing = subst (AreUnmet s) (sym same) far.standing;
-      promoted = subst (AreLacking s new) (sym left) (promoted s e old new complete more rest due (far.listed.ready place d lt) (once_only complete place d far.listed.once lt) step);
-      listed = listed;
-      all = λ x ready. subst (λ ys. Contains ys x) (sym step.are) (elim (lacks_or_not old x (named_as e step.block)) [
-        | inl lacked ↦ Contains-append_right complete step.added x ((step.exactly x).1 (lacked, ready))
-        | inr never ↦ Contains-append_left complete step.added x (far.all x (ready_before s old new (named_as e step.block) step.lost x ready never))
-      ]);
-      room = omega (arith, far.room, wide);
-    }
-
--- nothing is left
-pub none_due : (s : State) (unmet lacking : Pairs) (complete : List Digest) (room place : ℕ) → IsSettling s unmet lacking complete (drop place complete) room → length complete ≤ place → IsSettled s unmet lacking complete room
-none_due s unmet lacking complete room place far past = record {
-  standing = far.standing;
-  promoted = subst (AreLacking s lacking) (drop_all place complete past) far.promoted;
-  listed = far.listed;
-  all = far.all;
-  room = far.room;
+-- those that lacked it are no part of the tally
+pub tally_fewer : (s : State) (old new : Pairs) (v : Wanted) (pending : ℕ) (holders : List Digest) → new ≡ without_wanted old v → AreHolders old v holders → IsTally s old [] pending → IsTally s new holders pending
+tally_fewer s old new v pending holders is are tally = record {
+  complete = tally.complete;
+  listed = listed_fewer s old new v tally.complete is tally.listed;
+  apart = holders_apart s old v tally.complete holders tally.listed are;
+  counts = tally.counts;
 }
 
--- each place was looked at
-pub all_due : (s : State) (unmet lacking : Pairs) (complete : List Digest) (room place : ℕ) → IsSettling s unmet lacking complete (drop place complete) room → len s.blocks ≤ place → IsSettled s unmet lacking complete room
-all_due s unmet lacking complete room place far past = none_due s unmet lacking complete room place far (let few = listed_fits s lacking complete far.listed in omega (arith, few, past))
+-- ---- one place of the list
+
+pub tally_of : (s : State) (unmet lacking : Pairs) (due : List Digest) (pending : ℕ) → IsCascading s unmet lacking due pending → IsTally s lacking [] pending
+tally_of s unmet lacking due pending far = record { complete = far.front ++ due; listed = far.settling.listed; apart = λ x none. absurd (contains_none x none); counts = far.counts }
+
+pub stands_at : (s : State) (unmet lacking : Pairs) (fresh : List Digest) (pending place : ℕ) (d : Digest) → IsCascading s unmet lacking (drop place fresh) pending → place < length fresh → Stands s (get_or fresh place d)
+stands_at s unmet lacking fresh pending place d far lt =
+    (All-contains (IsReady s lacking) (far.front ++ drop place fresh) (get_or fresh place d) far.settling.listed.ready
+    (Contains-append_right far.front (drop place fresh) (get_or fresh place d) (subst (λ xs. Contains xs (get_or fresh place d)) (sym (drop_more fresh place d lt)) (contains_first (get_or fresh place d) (drop (place + 1) fresh))))).0
+
+module _ (s : State) (unmet old new : Pairs) (e : Digest) (rest fresh more : List Digest) (pending left : ℕ) (far : IsCascading s unmet old (e ∷ rest) pending) (step : Promotes s e old new fresh more)
+    (most : length more + left ≡ length fresh + pending) where
+  abbrev was : List Digest
+  was = far.front ++ (e ∷ rest)
+
+  e_ready : IsReady s old e
+  e_ready = All-contains (IsReady s old) was e far.settling.listed.ready (Contains-append_right far.front (e ∷ rest) e (contains_first e rest))
+
+  longer : was ++ step.added ≡ (far.front ++ e ∷ []) ++ (rest ++ step.added)
+  longer = append_assoc far.front (e ∷ rest) step.added ∙ sym (append_assoc far.front (e ∷ []) (rest ++ step.added))
+
+  stays : AreListed s new was
+  stays = listed_fewer s old new (named_as e step.block) was step.lost far.settling.listed
+
+  added_ready : AreListed s new step.added
+  added_ready = record { ready = λ k d lt. ((step.exactly (get_or step.added k d)).0 (Contains-get_or step.added k d lt)).1; once = step.once }
+
+  unready : (x : Digest) → Contains step.added x → Contains was x → ⊥
+  unready x among before = (All-contains (IsReady s old) was x far.settling.listed.ready before).1 (named_as e step.block) ((step.exactly x).0 among).0
+
+  listed : AreListed s new (was ++ step.added)
+  listed = listed_both s new was step.added stays added_ready unready
+
+  all : (x : Digest) → IsReady s new x → Contains (was ++ step.added) x
+  all x ready = elim (lacks_or_not old x (named_as e step.block)) [
+    | inl lacked ↦ Contains-append_right was step.added x ((step.exactly x).1 (lacked, ready))
+    | inr never ↦ Contains-append_left was step.added x (far.settling.all x (ready_before s old new (named_as e step.block) step.lost x ready never))
+  ]
+
+  -- the next is due
+  pub next_due : IsCascading s unmet new (rest ++ step.added) left
+  next_due = record {
+    front = far.front ++ e ∷ [];
+    settling = subst (λ xs. IsSettling s unmet new xs (rest ++ step.added)) longer (record {
+      standing = far.settling.standing;
+      promoted = promoted s e old new fresh more rest far.settling.promoted e_ready (first_once e rest (once_back far.front (e ∷ rest) far.settling.listed.once)) step;
+      listed = listed;
+      all = all;
+    });
+    counts = omega (arith, far.counts, ap (λ (xs : List Digest). length xs) longer, length-append was step.added, ap (λ (xs : List Digest). length xs) step.are, length-append fresh step.added, most);
+  }
+
+  -- what is ready now was ready, or is listed
+  pub ready_cases : (x : Digest) → IsReady s new x → IsReady s old x ⊎ Contains more x
+  ready_cases x ready = elim (lacks_or_not old x (named_as e step.block)) [
+    | inl lacked ↦ inr (subst (λ xs. Contains xs x) (sym step.are) (Contains-append_right fresh step.added x ((step.exactly x).1 (lacked, ready))))
+    | inr never ↦ inl (ready_before s old new (named_as e step.block) step.lost x ready never)
+  ]
+
+pub cascaded : (s : State) (unmet met old new : Pairs) (fresh more : List Digest) (pending left place : ℕ) (d : Digest) → IsCascading s unmet old (drop place fresh) pending → place < length fresh → met ≡ unmet
+    → Promotes s (get_or fresh place d) old new fresh more → length more + left ≡ length fresh + pending → IsCascading s met new (drop (place + 1) more) left
+cascaded s unmet met old new fresh more pending left place d far lt same step most =
+    let e = get_or fresh place d in
+    let rest = drop (place + 1) fresh in
+    let due : drop (place + 1) more ≡ rest ++ step.added = ap (drop (place + 1)) step.are ∙ drop-append-le (place + 1) fresh step.added (omega arith) in
+    subst (λ (m : Pairs). IsCascading s m new (drop (place + 1) more) left) (sym same)
+    (subst (λ xs. IsCascading s unmet new xs left) (sym due) (next_due s unmet old new e rest fresh more pending left (subst (λ xs. IsCascading s unmet old xs pending) (drop_more fresh place d lt) far) step most))
+
+-- the tables as they were, and what grew since
+pub grown_same : (s : State) (lacking : Pairs) (fresh : List Digest) → Grows s (IsReady s lacking) lacking lacking fresh fresh
+grown_same s lacking fresh = record { still = λ x ready. ready; begins = begins_same fresh; listed = λ x ready. inl ready }
+
+pub grown_more : (s : State) (P : Digest → Type 0) (first old new : Pairs) (start fresh more : List Digest) (e : Digest) → Grows s P first old start fresh → Promotes s e old new fresh more → Grows s P first new start more
+grown_more s P first old new start fresh more e grown step = record {
+  still = λ x ready. ready_fewer s old new (named_as e step.block) step.lost x (grown.still x ready);
+  begins = begins_more start fresh more grown.begins (step.added, step.are);
+  listed = λ x ready. elim (lacks_or_not old x (named_as e step.block)) [
+    | inl lacked ↦ inr (subst (λ xs. Contains xs x) (sym step.are) (Contains-append_right fresh step.added x ((step.exactly x).1 (lacked, ready))))
+    | inr never ↦ elim (grown.listed x (ready_before s old new (named_as e step.block) step.lost x ready never)) [
+      | inl was ↦ inl was
+      | inr among ↦ inr (subst (λ xs. Contains xs x) (sym step.are) (Contains-append_left fresh step.added x among))
+    ]
+  ];
+}
+
+-- nothing is left
+pub none_due : (s : State) (unmet lacking : Pairs) (fresh : List Digest) (pending place : ℕ) → IsCascading s unmet lacking (drop place fresh) pending → length fresh ≤ place → IsSettled s unmet lacking pending
+none_due s unmet lacking fresh pending place far past =
+    let end = subst (λ xs. IsCascading s unmet lacking xs pending) (drop_all place fresh past) far in
+    record { complete = end.front ++ []; settling = end.settling; counts = end.counts }
 
 -- ---- one block stands
 
@@ -122,34 +172,76 @@ met_by_name s d v old new name stands but is =
     met_now s d b old new (held, stands.1.1) but (is ∙ ap (without_wanted old) same)
 
 -- it does not stand, or lacks something
-pub not_standing : (s : State) (d : Digest) (unmet lacking : Pairs) (complete : List Digest) (room : ℕ) → (Stands s d → ⊥) → IsSettledBut s d unmet lacking complete room → IsSettled s unmet lacking complete room
-not_standing s d unmet lacking complete room never far = record {
-  standing = met_not_yet s d unmet never far.standing;
-  promoted = not_ready_yet s d lacking (λ ready. never ready.0) far.promoted;
-  listed = far.listed;
-  all = λ x ready. far.all x (λ same. never (subst (λ q. Stands s q) same ready.0)) ready;
-  room = far.room;
+pub not_standing : (s : State) (d : Digest) (unmet lacking : Pairs) (pending : ℕ) → (Stands s d → ⊥) → IsSettledBut s d unmet lacking pending → IsSettled s unmet lacking pending
+not_standing s d unmet lacking pending never far = record {
+  complete = far.complete;
+  settling = record {
+    standing = met_not_yet s d unmet never far.standing;
+    promoted = not_ready_yet s d lacking (λ ready. never ready.0) far.promoted;
+    listed = far.listed;
+    all = λ x ready. far.all x (λ same. never (subst (λ q. Stands s q) same ready.0)) ready;
+  };
+  counts = far.counts;
 }
 
-pub not_ready : (s : State) (d : Digest) (unmet met lacking : Pairs) (complete : List Digest) (room : ℕ) → (IsReady s lacking d → ⊥) → AreUnmet s met → IsSettledBut s d unmet lacking complete room → IsSettled s met lacking complete room
-not_ready s d unmet met lacking complete room never standing far = record {
-  standing = standing;
-  promoted = not_ready_yet s d lacking never far.promoted;
-  listed = far.listed;
-  all = λ x ready. far.all x (λ same. never (subst (λ q. IsReady s lacking q) same ready)) ready;
-  room = far.room;
+pub not_ready : (s : State) (d : Digest) (unmet met lacking : Pairs) (pending : ℕ) → (IsReady s lacking d → ⊥) → AreUnmet s met → IsSettledBut s d unmet lacking pending → IsSettled s met lacking pending
+not_ready s d unmet met lacking pending never standing far = record {
+  complete = far.complete;
+  settling = record {
+    standing = standing;
+    promoted = not_ready_yet s d lacking never far.promoted;
+    listed = far.listed;
+    all = λ x ready. far.all x (λ same. never (subst (λ q. IsReady s lacking q) same ready)) ready;
+  };
+  counts = far.counts;
+}
+
+-- nothing grew
+pub grown_none : (s : State) (d : Digest) (lacking : Pairs) (fresh : List Digest) → (IsReady s lacking d → ⊥) → Grows s (λ x. IsReady s lacking x × (x ≡ d → ⊥)) lacking lacking fresh fresh
+grown_none s d lacking fresh never = record {
+  still = λ x ready. ready;
+  begins = begins_same fresh;
+  listed = λ x ready. inl (ready, λ same. never (subst (λ q. IsReady s lacking q) same ready));
 }
 
 -- it is ready, and due
-pub now_ready : (s : State) (d : Digest) (unmet met lacking : Pairs) (complete more : List Digest) (room wider place : ℕ) → AreUnmet s met → AreListed s lacking more → more ≡ complete ++ d ∷ [] → room ≤ wider → place ≡ length complete
-    → IsSettledBut s d unmet lacking complete room → IsSettling s met lacking more (drop place more) wider
-now_ready s d unmet met lacking complete more room wider place standing listed is wide at far = record {
-  standing = standing;
-  promoted = subst (AreLacking s lacking) (sym (ap (drop place) is ∙ drop_at complete (d ∷ []) place (sym at))) far.promoted;
-  listed = listed;
-  all = λ x ready. subst (λ ys. Contains ys x) (sym is) (elim (same_or_not x d) [
-    | inl same ↦ subst (Contains (complete ++ d ∷ [])) (sym same) (Contains-push complete d)
-    | inr other ↦ Contains-append_left complete (d ∷ []) x (far.all x other ready)
-  ]);
-  room = omega (arith, far.room, wide);
+pub pending_but : (s : State) (d : Digest) (unmet lacking : Pairs) (pending : ℕ) → IsSettledBut s d unmet lacking pending → IsReady s lacking d → 0 < pending
+pending_but s d unmet lacking pending far ready = pending_left s lacking (d ∷ []) pending d (record {
+  complete = far.complete;
+  listed = far.listed;
+  apart = λ x is. elim (contains_cases d [] x is) [ inl here ↦ subst (λ y. Contains far.complete y → ⊥) here far.apart | inr none ↦ absurd (contains_none x none) ];
+  counts = far.counts;
+}) (contains_first d []) ready
+
+pub now_ready : (s : State) (d : Digest) (unmet met lacking : Pairs) (fresh more : List Digest) (pending left place : ℕ) → AreUnmet s met → IsReady s lacking d → more ≡ fresh ++ d ∷ [] → left ≡ pending - 1 → place ≡ length fresh
+    → IsSettledBut s d unmet lacking pending → IsCascading s met lacking (drop place more) left
+now_ready s d unmet met lacking fresh more pending left place standing ready is one at far =
+    let lt = pending_but s d unmet lacking pending far ready in
+    subst (λ xs. IsCascading s met lacking xs left) (sym (ap (drop place) is ∙ drop_at fresh (d ∷ []) place (sym at))) (record {
+      front = far.complete;
+      settling = record {
+        standing = standing;
+        promoted = far.promoted;
+        listed = listed_both s lacking far.complete (d ∷ []) far.listed (listed_one s lacking d ready)
+            (λ x among. elim (contains_cases d [] x among) [ inl here ↦ subst (λ y. Contains far.complete y → ⊥) here far.apart | inr none ↦ absurd (contains_none x none) ]);
+        all = λ x whole. elim (same_or_not x d) [
+          | inl same ↦ subst (Contains (far.complete ++ d ∷ [])) (sym same) (Contains-push far.complete d)
+          | inr other ↦ Contains-append_left far.complete (d ∷ []) x (far.all x other whole)
+        ];
+      };
+      counts = omega (arith, far.counts, length_push far.complete d, one, lt);
+    })
+
+-- what grew since d was listed
+pub grown_from : (s : State) (d : Digest) (old new : Pairs) (fresh listed more : List Digest) → listed ≡ fresh ++ d ∷ [] → Grows s (IsReady s old) old new listed more → Grows s (λ x. IsReady s old x × (x ≡ d → ⊥)) old new fresh more
+grown_from s d old new fresh listed more is grown = record {
+  still = grown.still;
+  begins = begins_more fresh listed more (d ∷ [], is) grown.begins;
+  listed = λ x ready. elim (grown.listed x ready) [
+    | inl was ↦ elim (same_or_not x d) [
+      | inl same ↦ inr (subst (λ xs. Contains xs x) (sym grown.begins.1) (Contains-append_left listed grown.begins.0 x (subst (λ xs. Contains xs x) (sym is) (subst (Contains (fresh ++ d ∷ [])) (sym same) (Contains-push fresh d)))))
+      | inr other ↦ inl (was, other)
+    ]
+    | inr among ↦ inr among
+  ];
 }

@@ -16,7 +16,7 @@ use Rattle.nw_model.proofs.Maps.{digests_total}
 use Rattle.nw_held.specs.Standing.{IsMet}
 use Rattle.nw_dag.specs.Lacking.{Names, IsNamedAmong, IsReady, AreUnmet, AreLacking}
 use Rattle.nw_dag.specs.Changes.{AreSameBut, Wants}
-use Rattle.nw_dag.specs.Settled.{IsSettled, IsSettledBut}
+use Rattle.nw_dag.specs.Settled.{IsSettling, IsSettled, IsSettledBut}
 use Rattle.nw_dag.proofs.Pairs.{pairs_apart, pairs_total, without_holder_lacks}
 use Rattle.nw_dag.proofs.Arrival.{Arrives, AreLackingSince, arrived, listed_arrived, listed_apart, ready_was, unmet_arrived}
 
@@ -43,7 +43,7 @@ module _ (s : State) (d : Digest) (b : Block) (vote : Bool) (absent : get s.bloc
   nobody : (w : Wanted) → Names s d w → ⊥
   nobody w (x, at, above, among) = some_none x (sym at ∙ absent)
 
-  block_arrives : Arrives s t d
+  pub block_arrives : Arrives s t d
   block_arrives = record {
     absent = λ (x, stands). some_none x (sym stands.0 ∙ absent);
     others = λ x y other. (
@@ -65,10 +65,28 @@ module _ (s : State) (d : Digest) (b : Block) (vote : Bool) (absent : get s.bloc
   names_new : (h : Digest) (w : Wanted) → h ≡ d → named w → Names t h w
   names_new h w same (above, among) = (b, ap (get (insert s.blocks d b)) same ∙ at_insert s.blocks d b, above, among)
 
+  -- what each block lacks now
+  pub since_written : (lacking after : Pairs) → AreLacking s lacking [] → Wants (λ w. IsMet s w × IsReady s lacking w.digest) named d lacking after → AreLackingSince s t d lacking after
+  since_written lacking after promoted wants = record {
+    each = λ h w names. elim (names_cases h w names) [
+      | inl (same, is) ↦ elim (wants.each w is) [ inl lacks ↦ inl (subst (λ q. Lacks after q w) (sym same) lacks) | inr has ↦ inr has ]
+      | inr old ↦ elim (promoted.each h w old) [ inl lacks ↦ inl (wants.still h w lacks) | inr (is, ready) ↦ inr (is, ready.0) ]
+    ];
+    only = λ h w lacks. elim (wants.only h w lacks) [
+      | inl was ↦ let both = promoted.only h w was in (names_still h w both.0, λ is ready. both.1 is (ready, contains_none w.digest))
+      | inr new ↦ (names_new h w new.0 new.1, λ is ready. new.2 (is, ready))
+    ];
+    same = λ h w other. (
+      λ lacks. elim (wants.only h w lacks) [ inl was ↦ was | inr new ↦ absurd (other new.0) ],
+      λ lacks. wants.still h w lacks,
+    );
+  }
+
   -- what it lacks is known
-  pub written : (unmet lacking met after : Pairs) (complete : List Digest) (room wider : ℕ) → IsSettled s unmet lacking complete room → Wants (IsMet s) named d unmet met
-      → Wants (λ w. IsMet s w × IsReady s lacking w.digest) named d lacking after → len s.blocks < wider → IsSettledBut t d met after complete wider
-  written unmet lacking met after complete room wider settled wants_met wants space = record {
+  pub written : (unmet lacking met after : Pairs) (pending more : ℕ) → IsSettled s unmet lacking pending → Wants (IsMet s) named d unmet met
+      → Wants (λ w. IsMet s w × IsReady s lacking w.digest) named d lacking after → more ≡ pending + 1 → IsSettledBut t d met after more
+  written unmet lacking met after pending more known wants_met wants one_more = record {
+    complete = known.complete;
     standing = unmet_arrived s t d block_arrives met (λ h w. (
       λ lacks. elim (wants_met.only h w lacks) [
         | inl was ↦ let both = (settled.standing h w).0 was in (names_still h w both.0, both.1)
@@ -80,60 +98,54 @@ module _ (s : State) (d : Digest) (b : Block) (vote : Bool) (absent : get s.bloc
       ],
     ));
     promoted = arrived s t d block_arrives lacking after since;
-    listed = listed_arrived s t d block_arrives lacking after since complete settled.listed;
-    apart = listed_apart s t d block_arrives lacking after since complete settled.listed;
+    listed = listed_arrived s t d block_arrives lacking after since known.complete settled.listed;
+    apart = listed_apart s t d block_arrives lacking after since known.complete settled.listed;
     all = λ x other ready. settled.all x (ready_was s t d block_arrives lacking after since x other ready);
-    room = let more = len-insert digests_total s.blocks d b ∙ ap (λ found. cond (is_some found) (len s.blocks) (len s.blocks + 1)) absent in omega (arith, more, space);
+    counts = let longer = len-insert digests_total s.blocks d b ∙ ap (λ found. cond (is_some found) (len s.blocks) (len s.blocks + 1)) absent in omega (arith, longer, known.counts, one_more);
   }
     where
+      settled : IsSettling s unmet lacking known.complete []
+      settled = known.settling
+
       since : AreLackingSince s t d lacking after
-      since = record {
-        each = λ h w names. elim (names_cases h w names) [
-          | inl (same, is) ↦ elim (wants.each w is) [ inl lacks ↦ inl (subst (λ q. Lacks after q w) (sym same) lacks) | inr has ↦ inr has ]
-          | inr old ↦ elim (settled.promoted.each h w old) [ inl lacks ↦ inl (wants.still h w lacks) | inr (is, ready) ↦ inr (is, ready.0) ]
-        ];
-        only = λ h w lacks. elim (wants.only h w lacks) [
-          | inl was ↦ let both = settled.promoted.only h w was in (names_still h w both.0, λ is ready. both.1 is (ready, contains_none w.digest))
-          | inr new ↦ (names_new h w new.0 new.1, λ is ready. new.2 (is, ready))
-        ];
-        same = λ h w other. (
-          λ lacks. elim (wants.only h w lacks) [ inl was ↦ was | inr new ↦ absurd (other new.0) ],
-          λ lacks. wants.still h w lacks,
-        );
-      }
+      since = since_written lacking after settled.promoted wants
 
 -- ---- a certificate more
 
-pub certified : (s : State) (c : Certificate) (unmet lacking : Pairs) (complete : List Digest) (room : ℕ) → get s.certificates c.digest ≡ None → IsSettled s unmet lacking complete room
-    → IsSettledBut (with_certificate s c) c.digest unmet lacking complete room
-certified s c unmet lacking complete room absent settled = record {
-  standing = unmet_arrived s (with_certificate s c) c.digest arrives unmet (λ h w. settled.standing h w);
-  promoted = arrived s (with_certificate s c) c.digest arrives lacking lacking since;
-  listed = listed_arrived s (with_certificate s c) c.digest arrives lacking lacking since complete settled.listed;
-  apart = listed_apart s (with_certificate s c) c.digest arrives lacking lacking since complete settled.listed;
-  all = λ x other ready. settled.all x (ready_was s (with_certificate s c) c.digest arrives lacking lacking since x other ready);
-  room = settled.room;
-}
-  where
-    none_is : (found : Option Certificate) → found ≡ None → IsSome found → ⊥
-    none_is (Some x) e some = some_none x e
-    none_is None e some = cc
+module _ (s : State) (c : Certificate) (absent : get s.certificates c.digest ≡ None) where
+  none_is : (found : Option Certificate) → found ≡ None → IsSome found → ⊥
+  none_is (Some x) e some = some_none x e
+  none_is None e some = cc
 
-    arrives : Arrives s (with_certificate s c) c.digest
-    arrives = record {
-      absent = λ (x, stands). none_is (get s.certificates c.digest) absent stands.1;
-      others = λ x y other. (
-        λ stands. (stands.0, subst IsSome (get_other s.certificates c.digest c x other) stands.1),
-        λ stands. (stands.0, subst IsSome (sym (get_other s.certificates c.digest c x other)) stands.1),
-      );
-    }
+  pub certificate_arrives : Arrives s (with_certificate s c) c.digest
+  certificate_arrives = record {
+    absent = λ (x, stands). none_is (get s.certificates c.digest) absent stands.1;
+    others = λ x y other. (
+      λ stands. (stands.0, subst IsSome (get_other s.certificates c.digest c x other) stands.1),
+      λ stands. (stands.0, subst IsSome (sym (get_other s.certificates c.digest c x other)) stands.1),
+    );
+  }
 
-    since : AreLackingSince s (with_certificate s c) c.digest lacking lacking
-    since = record {
-      each = λ h w names. elim (settled.promoted.each h w names) [ inl lacks ↦ inl lacks | inr (is, ready) ↦ inr (is, ready.0) ];
-      only = λ h w lacks. let both = settled.promoted.only h w lacks in (both.0, λ is ready. both.1 is (ready, contains_none w.digest));
-      same = λ h w other. (λ lacks. lacks, λ lacks. lacks);
-    }
+  pub since_certified : (lacking : Pairs) → AreLacking s lacking [] → AreLackingSince s (with_certificate s c) c.digest lacking lacking
+  since_certified lacking promoted = record {
+    each = λ h w names. elim (promoted.each h w names) [ inl lacks ↦ inl lacks | inr (is, ready) ↦ inr (is, ready.0) ];
+    only = λ h w lacks. let both = promoted.only h w lacks in (both.0, λ is ready. both.1 is (ready, contains_none w.digest));
+    same = λ h w other. (λ lacks. lacks, λ lacks. lacks);
+  }
+
+  pub certified : (unmet lacking : Pairs) (pending : ℕ) → IsSettled s unmet lacking pending → IsSettledBut (with_certificate s c) c.digest unmet lacking pending
+  certified unmet lacking pending known =
+      let settled = known.settling in
+      let since = since_certified lacking settled.promoted in
+      record {
+        complete = known.complete;
+        standing = unmet_arrived s (with_certificate s c) c.digest certificate_arrives unmet (λ h w. settled.standing h w);
+        promoted = arrived s (with_certificate s c) c.digest certificate_arrives lacking lacking since;
+        listed = listed_arrived s (with_certificate s c) c.digest certificate_arrives lacking lacking since known.complete settled.listed;
+        apart = listed_apart s (with_certificate s c) c.digest certificate_arrives lacking lacking since known.complete settled.listed;
+        all = λ x other ready. settled.all x (ready_was s (with_certificate s c) c.digest certificate_arrives lacking lacking since x other ready);
+        counts = known.counts;
+      }
 
 -- ---- a write that was refused memory
 
@@ -156,6 +168,3 @@ nothing_unmet s d unmet absent are w lacks = let names = ((are d w).0 lacks).0 i
 
 pub nothing_lacking : (s : State) (d : Digest) (lacking : Pairs) → get s.blocks d ≡ None → AreLacking s lacking [] → (w : Wanted) → Lacks lacking d w → ⊥
 nothing_lacking s d lacking absent are w lacks = let names = (are.only d w lacks).0 in some_none names.0 (sym names.1 ∙ absent)
-
-pub settled_wider : (s : State) (unmet lacking : Pairs) (complete : List Digest) (room wider : ℕ) → IsSettled s unmet lacking complete room → room ≤ wider → IsSettled s unmet lacking complete wider
-settled_wider s unmet lacking complete room wider settled wide = record { standing = settled.standing; promoted = settled.promoted; listed = settled.listed; all = settled.all; room = omega (arith, settled.room, wide) }

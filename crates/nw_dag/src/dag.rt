@@ -33,7 +33,6 @@ pub struct Dag {
 impl Model for Dag {
     ghost use Rattle.nw_model.specs.Step.{Tables, coded_tables};
     ghost use Rattle.nw_dag.specs.Frozen.{AreTables};
-    ghost use Rattle.std.specs.Vec.{vec_capacity};
 
     ghost Value = { Tables };
 
@@ -41,7 +40,7 @@ impl Model for Dag {
 
     ghost view = { λ d. d.held };
 
-    ghost invariant = { λ d. AreTables d.held.state d.waits.unmet d.waits.lacking d.waits.complete.items (vec_capacity d.waits.complete) d.frozen.generations.blocks d.frozen.count };
+    ghost invariant = { λ d. AreTables d.held.state d.waits.unmet d.waits.lacking d.waits.roll.fresh.items d.waits.roll.pending d.frozen.generations.blocks };
 }
 
 impl Dag {
@@ -120,9 +119,9 @@ impl Dag {
         })
     }
 
-    /// The reply that a collection would get now. It takes no memory.
-    pub fn collect_reply(&self, round: Round) -> CollectReply
-        ensures { result ≡ collect_reply self.now.state round }
+    /// The reply that a collection would get now. It is refused for want of memory alone.
+    pub fn collect_reply(&self, round: Round) -> Result<CollectReply, NoMemory>
+        ensures { IfOk result (λ reply. reply ≡ collect_reply self.now.state round) }
     {
         self.held.collect_reply(round)
     }
@@ -172,7 +171,7 @@ impl Dag {
             floor: self.held.floor(),
             blocks: self.held.blocks() as u64,
             certificates: self.held.certificates() as u64,
-            complete: self.waits.complete() as u64,
+            complete: (self.held.blocks() - self.waits.pending()) as u64,
             wanted: self.waits.unmet() as u64,
         }
     }
@@ -188,11 +187,12 @@ impl Dag {
         ensures bounds { self.new.bounds ≡ self.old.bounds }
         ensures unchanged { OnErr result (self.new ≡ self.old) }
     {
-        self.waits.reserve(self.held.blocks())?;
+        self.waits.reserve(&self.held)?;
         if let Err(refused) = hold(&mut self.held, &mut self.waits, digest, block, vote) {
             self.waits.forget(digest);
             return Err(refused);
         }
+        self.waits.admit();
         self.waits.arrive(&self.held, digest);
         Ok(())
     }
@@ -207,10 +207,11 @@ impl Dag {
     {
         let holders = self.held.up_to(round)?;
         let certified = self.held.certified_up_to(round)?;
+        let lost = self.waits.lost(&self.held, &holders, round);
+        let blocks = self.held.blocks();
         self.held.raise(round, &holders, &certified);
-        self.frozen
-            .recount(&self.held, self.waits.complete_digests());
-        self.waits.collect(&self.held, &holders);
+        let dropped = blocks - self.held.blocks();
+        self.waits.collect(&self.held, &holders, dropped - lost);
         Ok(())
     }
 
@@ -252,7 +253,7 @@ fn hold(
     ensures lacking { OnOk result (Wants (λ w. IsMet held.old.state w × IsReady held.old.state waits.old.lacking w.digest) (λ w. (held.old.state.floor < block.round) × IsNamedAmong block.round block.parents w) digest waits.old.lacking waits.new.lacking) }
     ensures same_unmet { AreSameBut digest waits.old.unmet waits.new.unmet }
     ensures same_lacking { AreSameBut digest waits.old.lacking waits.new.lacking }
-    ensures complete { waits.new.complete ≡ waits.old.complete }
+    ensures roll { waits.new.roll ≡ waits.old.roll }
 {
     waits.want_parents(held, block.get(), digest)?;
     held.put_block(digest, block, vote)

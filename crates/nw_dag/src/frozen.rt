@@ -1,10 +1,12 @@
 //! The complete blocks that are frozen, of which views are made.
-ghost use Rattle.std.specs.Prelude.{◌≡◌, ◌≤◌, IfOk, OnOk, OnErr, IsPermutation, length, take, filter, is_some};
+ghost use Rattle.std.specs.Prelude.{◌≡◌, IfOk, OnOk, OnErr, Contains};
 ghost use Rattle.std.specs.FinMap as map;
 ghost use Rattle.nw_model.specs.State.{digest_cmp};
 ghost use Rattle.nw_model.specs.View.{IsClosed};
-ghost use Rattle.nw_dag.specs.Frozen.{AreFrozen, AreOf, IsFrozenTo};
+ghost use Rattle.nw_dag.specs.Lacking.{IsReady};
+ghost use Rattle.nw_dag.specs.Frozen.{AreFrozen, AreFrozenBut, AreOf};
 
+use crate::waits::Waits;
 use nw_codec::Block;
 use nw_digest::{Digest, NoMemory, Round, Shared};
 use nw_generation::{Generation, Generations, View, freeze};
@@ -15,77 +17,51 @@ use std::alloc::Global;
 /// How many generations there are at most.
 const MOST_PARTS: usize = 16;
 
-/// The generations of the blocks that became complete first, and how many blocks these are.
+/// The generations of the blocks that were complete at the last view.
 #[derive(Drop)]
 pub(crate) struct Frozen {
     generations: Generations<Global>,
-    /// Of the complete digests, in the order in which they became so.
-    count: usize,
 }
 
 impl Frozen {
     /// Nothing is frozen. It takes no memory.
     pub(crate) fn new(alloc: Global) -> Frozen
-        ensures { result ≡ record { generations = record { blocks = map.empty; parts = 0 }; count = 0 } }
+        ensures { result ≡ record { generations = record { blocks = map.empty; parts = 0 } } }
     {
         Frozen {
             generations: Generations::new(alloc),
-            count: 0,
         }
     }
 
-    /// Freezes those of the complete blocks that are not frozen yet, as one more generation. Where there are as many as there
-    /// may be, those that were frozen before are frozen anew as one first. Want of memory changes nothing.
-    pub(crate) fn add(
-        &mut self,
-        alloc: Global,
-        held: &Held,
-        complete: &[Digest],
-    ) -> Result<(), NoMemory>
-        requires { IsFrozenTo held.now.state complete.now self.old.generations.blocks self.old.count }
-        ensures all { OnOk result (AreFrozen held.now.state complete.now self.new.generations.blocks × (self.new.count ≡ length complete.now)) }
+    /// Freezes the blocks that became complete since the last view, as one more generation, or none where none did. Where
+    /// there are as many as there may be, all that is complete is frozen anew as one first. Want of memory changes nothing.
+    pub(crate) fn add(&mut self, alloc: Global, held: &Held, waits: &Waits) -> Result<(), NoMemory>
+        requires frozen { AreFrozenBut held.now.state waits.now.lacking waits.now.roll.fresh.items self.old.generations.blocks }
+        requires fresh { (d : Digest) → Contains waits.now.roll.fresh.items d → IsReady held.now.state waits.now.lacking d }
+        ensures all { OnOk result (AreFrozen held.now.state waits.now.lacking self.new.generations.blocks) }
         ensures unchanged { OnErr result (self.new ≡ self.old) }
     {
-        if self.count == complete.len() {
+        if waits.fresh().is_empty() {
             return Ok(());
         }
-        let fresh = freeze_held(alloc, held, &complete[self.count..])?;
+        let fresh = freeze_held(alloc, held, waits.fresh())?;
         if self.generations.parts() == MOST_PARTS {
-            let mut generations = joined(alloc, held, &complete[..self.count])?;
+            let mut generations = joined(alloc, held, waits)?;
             generations.push(fresh)?;
             self.generations = generations;
         } else {
             self.generations.push(fresh)?;
         }
-        self.count = complete.len();
         Ok(())
     }
 
     /// Freezes the complete blocks anew, as one generation in the place of all. Want of memory changes nothing.
-    pub(crate) fn join(
-        &mut self,
-        alloc: Global,
-        held: &Held,
-        complete: &[Digest],
-    ) -> Result<(), NoMemory>
-        ensures all { OnOk result (AreFrozen held.now.state complete.now self.new.generations.blocks × (self.new.count ≡ length complete.now)) }
+    pub(crate) fn join(&mut self, alloc: Global, held: &Held, waits: &Waits) -> Result<(), NoMemory>
+        ensures all { OnOk result (AreFrozen held.now.state waits.now.lacking self.new.generations.blocks) }
         ensures unchanged { OnErr result (self.new ≡ self.old) }
     {
-        self.generations = joined(alloc, held, complete)?;
-        self.count = complete.len();
+        self.generations = joined(alloc, held, waits)?;
         Ok(())
-    }
-
-    /// Takes in that the garbage round was raised: of the frozen blocks those count that are still held. It takes no memory.
-    pub(crate) fn recount(&mut self, held: &Held, complete: &[Digest])
-        requires { self.old.count ≤ length complete.now }
-        ensures generations { self.new.generations ≡ self.old.generations }
-        ensures count { self.new.count ≡ length (filter (λ d. is_some (map.get held.now.state.blocks d)) (take self.old.count complete.now)) }
-    {
-        self.count = complete[..self.count]
-            .iter()
-            .filter(|digest| held.holds(digest))
-            .count();
     }
 
     /// A view of what is frozen.
@@ -97,25 +73,16 @@ impl Frozen {
     }
 }
 
-/// One generation alone, of the blocks that are held under these digests. They are taken in the order of the tries, so that
-/// each look-up and each insert keeps close to the one before.
-fn joined(alloc: Global, held: &Held, digests: &[Digest]) -> Result<Generations<Global>, NoMemory>
-    ensures blocks { IfOk result (λ generations. AreOf held.now.state digests.now generations.blocks) }
+/// One generation alone, of all complete blocks. They are taken in the order of the tries, so that each look-up and each
+/// insert keeps close to the one before.
+fn joined(alloc: Global, held: &Held, waits: &Waits) -> Result<Generations<Global>, NoMemory>
+    ensures blocks { IfOk result (λ generations. AreFrozen held.now.state waits.now.lacking generations.blocks) }
     ensures parts { IfOk result (λ generations. generations.parts ≡ 1) }
 {
-    let all = freeze_held(alloc, held, &ascending(alloc, digests)?)?;
+    let all = freeze_held(alloc, held, &waits.complete(held)?)?;
     let mut generations = Generations::new(alloc);
     generations.replace(alloc, all)?;
     Ok(generations)
-}
-
-/// The digests in their order.
-fn ascending(alloc: Global, digests: &[Digest]) -> Result<Vec<Digest>, NoMemory>
-    ensures { IfOk result (λ found. IsPermutation digests.now found.items) }
-{
-    let mut found = digests.to_vec(alloc)?;
-    found.sort_unstable();
-    Ok(found)
 }
 
 /// The generation of the blocks that are held under these digests.

@@ -6,9 +6,7 @@
 
 mod dag;
 mod frozen;
+mod roll;
 mod waits;
 
 pub use dag::Dag;
-
-#[cfg(test)]
-mod tests;

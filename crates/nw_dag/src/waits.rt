@@ -12,7 +12,9 @@ ghost use Rattle.nw_dag.specs.Settled.{AreListed};
 
 mod cascade;
 mod collection;
+mod complete;
 
+use crate::roll::{Roll, is_ready, lacks_nothing};
 use nw_codec::{Block, Ref};
 use nw_digest::{Digest, NoMemory, Round};
 use nw_held::Held;
@@ -26,8 +28,8 @@ pub(crate) struct Waits {
     unmet: Waiting<Global>,
     /// The parents that are not complete, and the blocks that name them.
     lacking: Waiting<Global>,
-    /// The blocks that are complete, the last that became so at the end.
-    complete: Vec<Digest>,
+    /// The blocks that lack nothing, and stand.
+    roll: Roll,
 }
 
 impl Waits {
@@ -35,12 +37,13 @@ impl Waits {
     pub(crate) fn new(alloc: Global) -> Waits
         ensures unmet { result.unmet ≡ set.empty }
         ensures lacking { result.lacking ≡ set.empty }
-        ensures complete { result.complete.items ≡ [] }
+        ensures fresh { result.roll.fresh.items ≡ [] }
+        ensures pending { result.roll.pending ≡ 0 }
     {
         Waits {
             unmet: Waiting::new_in(alloc),
             lacking: Waiting::new_in(alloc),
-            complete: Vec::new(alloc),
+            roll: Roll::new(alloc),
         }
     }
 
@@ -48,14 +51,14 @@ impl Waits {
     fn is_ready(&self, held: &Held, digest: Digest) -> bool
         ensures { IsTrue result ↔ IsReady held.now.state self.now.lacking digest }
     {
-        held.stands(&digest) && self.lacks_nothing(digest)
+        is_ready(held, &self.lacking, digest)
     }
 
     /// Whether the digest lacks no parent: each that it names is complete.
     pub(crate) fn lacks_nothing(&self, digest: Digest) -> bool
         ensures { IsTrue result ↔ ((w : Wanted) → Lacks self.now.lacking digest w → ⊥) }
     {
-        self.lacking.lacks(digest) == 0
+        lacks_nothing(&self.lacking, digest)
     }
 
     /// Lets the holder lack it, where it does not stand or is not complete. Want of memory may leave that half done.
@@ -64,7 +67,7 @@ impl Waits {
         ensures lacking { OnOk result (Wants (λ w. IsMet held.now.state w × IsReady held.now.state self.old.lacking w.digest) (λ w. w ≡ wanted) holder self.old.lacking self.new.lacking) }
         ensures same_unmet { AreSameBut holder self.old.unmet self.new.unmet }
         ensures same_lacking { AreSameBut holder self.old.lacking self.new.lacking }
-        ensures complete { self.new.complete ≡ self.old.complete }
+        ensures roll { self.new.roll ≡ self.old.roll }
     {
         if !held.is_met(&wanted) {
             self.unmet.want(wanted, holder)?;
@@ -90,7 +93,7 @@ impl Waits {
         ensures lacking { OnOk result (Wants (λ w. IsMet held.now.state w × IsReady held.now.state self.old.lacking w.digest) (IsNamedAmong (round + 1) references.now) holder self.old.lacking self.new.lacking) }
         ensures same_unmet { AreSameBut holder self.old.unmet self.new.unmet }
         ensures same_lacking { AreSameBut holder self.old.lacking self.new.lacking }
-        ensures complete { self.new.complete ≡ self.old.complete }
+        ensures roll { self.new.roll ≡ self.old.roll }
     {
         for reference in references {
             self.want(held, named_by(reference, round), holder)?;
@@ -111,7 +114,7 @@ impl Waits {
         ensures lacking { OnOk result (Wants (λ w. IsMet held.now.state w × IsReady held.now.state self.old.lacking w.digest) (λ w. (held.now.state.floor < block.now.round) × IsNamedAmong block.now.round block.now.parents w) holder self.old.lacking self.new.lacking) }
         ensures same_unmet { AreSameBut holder self.old.unmet self.new.unmet }
         ensures same_lacking { AreSameBut holder self.old.lacking self.new.lacking }
-        ensures complete { self.new.complete ≡ self.old.complete }
+        ensures roll { self.new.roll ≡ self.old.roll }
     {
         if block.round <= held.floor() {
             return Ok(());
@@ -126,24 +129,17 @@ impl Waits {
     pub(crate) fn forget(&mut self, holder: Digest)
         ensures unmet { self.new.unmet ≡ without_holder self.old.unmet holder }
         ensures lacking { self.new.lacking ≡ without_holder self.old.lacking holder }
-        ensures complete { self.new.complete ≡ self.old.complete }
+        ensures roll { self.new.roll ≡ self.old.roll }
     {
         self.unmet.unwant(holder);
         self.lacking.unwant(holder);
     }
 
-    /// How many blocks are complete. It takes no memory.
-    pub(crate) fn complete(&self) -> usize
-        ensures { result ≡ length self.now.complete.items }
+    /// How many held blocks are not complete. It takes no memory.
+    pub(crate) fn pending(&self) -> usize
+        ensures { result ≡ self.now.roll.pending }
     {
-        self.complete.len()
-    }
-
-    /// The blocks that are complete, in the order in which they became so.
-    pub(crate) fn complete_digests(&self) -> &[Digest]
-        ensures { result.now ≡ self.now.complete.items }
-    {
-        self.complete.as_slice()
+        self.roll.pending()
     }
 
     /// How many different parents do not stand. It takes no memory.
@@ -160,38 +156,30 @@ impl Waits {
         self.unmet.first_wanted(alloc, most)
     }
 
-    /// Makes room to list one block more than so many.
-    pub(crate) fn reserve(&mut self, blocks: usize) -> Result<(), NoMemory>
+    /// Makes room for one block more. Want of memory changes nothing but that what was collected is listed no more.
+    pub(crate) fn reserve(&mut self, held: &Held) -> Result<(), NoMemory>
         ensures unmet { self.new.unmet ≡ self.old.unmet }
         ensures lacking { self.new.lacking ≡ self.old.lacking }
-        ensures complete { self.new.complete.items ≡ self.old.complete.items }
-        ensures capacity { vec_capacity self.old.complete ≤ vec_capacity self.new.complete }
-        ensures room { OnOk result (blocks < vec_capacity self.new.complete) }
+        ensures kept { (d : Digest) → Contains self.old.roll.fresh.items d → IsReady held.now.state self.old.lacking d → Contains self.new.roll.fresh.items d }
+        ensures pending { self.new.roll.pending ≡ self.old.roll.pending }
+        ensures room { OnOk result (length self.new.roll.fresh.items + self.new.roll.pending < vec_capacity self.new.roll.fresh) }
     {
-        let listed = self.complete.len();
-        if blocks < listed {
+        if self.roll.has_room() {
             return Ok(());
         }
-        let Some(more) = (blocks - listed).checked_add(1) else {
-            return Err(NoMemory);
-        };
-        self.complete.reserve(more)?;
-        Ok(())
+        self.drop_stale(held);
+        self.roll.grow()
     }
 
-    /// Lists the digest, which is ready.
-    fn add(&mut self, held: &Held, digest: Digest)
-        requires room { map.len held.now.state.blocks ≤ vec_capacity self.old.complete }
-        requires listed { AreListed held.now.state self.old.lacking self.old.complete.items }
-        requires ready { IsReady held.now.state self.old.lacking digest }
-        requires apart { Contains self.old.complete.items digest → ⊥ }
+    /// Takes in that one block more is held.
+    pub(crate) fn admit(&mut self)
+        requires { length self.old.roll.fresh.items + self.old.roll.pending < vec_capacity self.old.roll.fresh }
         ensures unmet { self.new.unmet ≡ self.old.unmet }
         ensures lacking { self.new.lacking ≡ self.old.lacking }
-        ensures added { self.new.complete.items ≡ self.old.complete.items ++ digest ∷ [] }
-        ensures listed { AreListed held.now.state self.old.lacking self.new.complete.items }
-        ensures capacity { vec_capacity self.old.complete ≤ vec_capacity self.new.complete }
+        ensures fresh { self.new.roll.fresh ≡ self.old.roll.fresh }
+        ensures pending { self.new.roll.pending ≡ self.old.roll.pending + 1 }
     {
-        let _added = self.complete.push(digest);
+        self.roll.admit();
     }
 }
 

@@ -4,3 +4,5 @@ pub mod Shelves
 pub mod Filtered
 pub mod HeldRaised
 pub mod Sent
+pub mod Listings
+pub mod Counted

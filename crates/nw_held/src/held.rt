@@ -1,8 +1,9 @@
 //! What a store holds.
-ghost use Rattle.std.specs.Prelude.{◌≡◌, ◌↔◌, ◌≤◌, OnOk, OnErr, IsNone, None, IsTrue, false, not, is_some};
+ghost use Rattle.std.specs.Prelude.{◌≡◌, ◌↔◌, ◌≤◌, OnOk, OnErr, IfOk, Contains, IsNone, None, IsTrue, false, not, is_some};
 ghost use Rattle.std.specs.Option.{option_copied, option_map};
 ghost use Rattle.std.specs.BTreeMap.{insert_entry};
 ghost use Rattle.std.specs.FinMap as map;
+ghost use Rattle.nw_digest.specs.declared.digest.Digest.{Digest};
 ghost use Rattle.nw_model.specs.State.{digest_cmp, opening, block_slot, certificate_slot};
 ghost use Rattle.nw_model.specs.Sound.{IsSound};
 ghost use Rattle.nw_held.specs.Standing.{Stands, IsMet, named_as};
@@ -132,6 +133,19 @@ impl Held {
         ensures sound { IsSound self.now.state }
     {
         self.block(digest).is_some() && self.certificate(digest).is_some()
+    }
+
+    /// The digests of the blocks that stand, in their order. It is refused for want of memory alone.
+    pub fn standing(&self) -> Result<Vec<Digest>, NoMemory>
+        ensures { IfOk result (λ found. (d : Digest) → Contains found.items d ↔ Stands self.now.state d) }
+    {
+        let mut found = Vec::new(self.alloc);
+        for (digest, _block) in self.blocks.iter() {
+            if self.certificate(digest).is_some() {
+                found.push(*digest)?;
+            }
+        }
+        Ok(found)
     }
 
     /// Whether what is wanted stands, of that round and author. A block of another round or author does not count.

@@ -9,6 +9,3 @@ mod plain;
 
 pub use base::Base;
 pub use plain::Plain;
-
-#[cfg(test)]
-mod tests;

@@ -15,6 +15,3 @@ mod stores;
 
 pub use fault::PlayFault;
 pub use script::play;
-
-#[cfg(test)]
-mod tests;

@@ -1,41 +1,21 @@
 //! Lines, played on one store.
-ghost use Rattle.std.specs.Prelude.{◌≡◌};
-ghost use Rattle.nw_store.specs.Held.{origin_of};
-ghost use Rattle.nw_store.specs.Kept.{parts_of_a_ledger};
-
 use crate::calls::{Calls, Opened};
-use nw_book::{Book, Command};
+use nw_book::Command;
 use nw_desk::{Answer, Desk, LineFault};
 use nw_script::{Name, Request};
 use nw_sig::DemoScheme;
-use nw_store::{Home, Opening};
+use nw_store::Home;
 use std::alloc::Global;
 use std::sync::Wait;
 
 /// A store that a script asks, and what the names of the script stand for.
 #[derive(Drop)]
-pub struct Player<'a, L: Home> {
-    pub calls: Calls<L>,
-    pub desk: Desk<'a>,
+pub struct Player<'c, 'd, 'a, L: Home> {
+    pub calls: &'c mut Calls<L>,
+    pub desk: &'d mut Desk<'a>,
 }
 
-impl<'a, L: Home> Player<'a, L> {
-    /// A store over the book, whose history is empty, before the first line that asks it.
-    pub fn over<R: Wait>(
-        rt: &R,
-        alloc: Global,
-        opening: Opening<DemoScheme>,
-        book: Book<DemoScheme>,
-        desk: Desk<'a>,
-    ) -> Result<Player<'a, L>, LineFault>
-        requires log { opening.log ≡ L.log }
-        requires ledger { (opening.ledger ≡ L.name) × (L.parts ≡ parts_of_a_ledger) }
-        requires origin { origin_of book ≡ L.origin }
-    {
-        let calls = Calls::over(rt, alloc, opening, book)?;
-        Ok(Player { calls, desk })
-    }
-
+impl<'c, 'd, 'a, L: Home> Player<'c, 'd, 'a, L> {
     /// The answer to the request.
     pub fn answer<R: Wait>(
         &mut self,

@@ -6,7 +6,7 @@ use crate::input::read_script;
 use crate::lines::{Lines, read_line};
 use crate::stores::{Start, play_store};
 use nw_book::Book;
-use nw_desk::{LineFault, committee};
+use nw_desk::{Desk, LineFault, committee};
 use nw_digest::Shared;
 use nw_history::Limits;
 use nw_script::{CommitteeLine, Line};
@@ -71,10 +71,11 @@ fn play_stores<Rt: Wait, W: Write>(
     out: &mut W,
 ) -> Result<(), PlayFault> {
     let mut lines = Lines::new(script);
-    let mut start = Start::first(alloc, first_book(alloc, &mut lines)?);
+    let mut start = Start::first(first_book(alloc, &mut lines)?);
+    let mut desk = Desk::new(alloc);
     for _ in 0..=script.len() {
         let opening = Opening::new(alloc)?;
-        match play_store::<Brand, Rt, W>(rt, alloc, opening, start, &mut lines, out)? {
+        match play_store::<Brand, Rt, W>(rt, alloc, opening, start, &mut desk, &mut lines, out)? {
             Some(next) => start = next,
             None => return Ok(()),
         }

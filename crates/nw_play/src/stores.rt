@@ -3,6 +3,7 @@ ghost use Rattle.std.specs.Prelude.{◌≡◌};
 ghost use Rattle.nw_store.specs.Held.{origin_of};
 ghost use Rattle.nw_store.specs.Kept.{parts_of_a_ledger};
 
+use crate::calls::Calls;
 use crate::fault::PlayFault;
 use crate::lines::{Lines, read_line};
 use crate::player::Player;
@@ -18,27 +19,24 @@ use std::sync::Wait;
 
 /// What a store of a script starts from.
 #[derive(Drop)]
-pub struct Start<'a> {
+pub struct Start {
     book: Book<DemoScheme>,
-    desk: Desk<'a>,
     /// Whether its first line may be that with the limits.
     may_limit: bool,
 }
 
-impl<'a> Start<'a> {
-    /// The start of a script, behind its committee. It takes no memory.
-    pub fn first(alloc: Global, book: Book<DemoScheme>) -> Start<'a> {
+impl Start {
+    /// The start of a script, behind its committee.
+    pub fn first(book: Book<DemoScheme>) -> Start {
         Start {
             book,
-            desk: Desk::new(alloc),
             may_limit: true,
         }
     }
 
-    fn behind(book: Book<DemoScheme>, desk: Desk<'a>) -> Start<'a> {
+    fn behind(book: Book<DemoScheme>) -> Start {
         Start {
             book,
-            desk,
             may_limit: false,
         }
     }
@@ -59,71 +57,120 @@ pub fn play_store<'a, L: Home, R: Wait, W: Write>(
     rt: &R,
     alloc: Global,
     opening: Opening<DemoScheme>,
-    start: Start<'a>,
+    start: Start,
+    desk: &mut Desk<'a>,
     lines: &mut Lines<'a>,
     out: &mut W,
-) -> Result<Option<Start<'a>>, PlayFault>
+) -> Result<Option<Start>, PlayFault>
     requires log { opening.log ≡ L.log }
     requires ledger { (opening.ledger ≡ L.name) × (L.parts ≡ parts_of_a_ledger) }
     requires origin { origin_of start.book ≡ L.origin }
 {
-    let Start {
-        book,
-        desk,
-        may_limit,
-    } = start;
+    let Start { book, may_limit } = start;
     let first = lines.taken();
-    let mut player: Player<'a, L> = Player::over(rt, alloc, opening, book, desk).map_err(
-        |fault| PlayFault::at(first, fault),
-    )?;
-    let end = play_requests(rt, alloc, &mut player, may_limit, lines, out)?;
-    let last = lines.taken();
+    let calls = Calls::<L>::over(rt, alloc, opening, book).map_err(|fault| PlayFault::at(
+        first, fault,
+    ))?;
+    play_calls(rt, alloc, calls, may_limit, desk, lines, out)
+}
+
+// Plays lines by calls of the store, and ends it as they say.
+fn play_calls<'a, L: Home, R: Wait, W: Write>(
+    rt: &R,
+    alloc: Global,
+    mut calls: Calls<L>,
+    may_limit: bool,
+    desk: &mut Desk<'a>,
+    lines: &mut Lines<'a>,
+    out: &mut W,
+) -> Result<Option<Start>, PlayFault> {
+    let mut player = Player {
+        calls: &mut calls,
+        desk,
+    };
+    let end = play_requests(rt, alloc, &mut player, may_limit, lines, out);
+    ended(alloc, calls, end, lines, out)
+}
+
+// What goes on behind the end of the store's lines.
+fn ended<L: Home, W: Write>(
+    alloc: Global,
+    calls: Calls<L>,
+    end: Result<End, PlayFault>,
+    lines: &mut Lines<'_>,
+    out: &mut W,
+) -> Result<Option<Start>, PlayFault> {
     match end {
-        End::Script => Ok(None),
-        End::Limits(line) => {
-            let start = limited(alloc, player, line).map_err(|fault| PlayFault::at(last, fault))?;
-            Ok(Some(start))
-        }
-        End::Settle => {
-            let Player { calls, desk } = player;
-            let settled = calls
-                .settle()
-                .map_err(|fault| PlayFault::unsettled(last, fault))?;
-            print(out, &tally(alloc, &settled)?)?;
-            match reopened(alloc, settled, lines)? {
-                None => Ok(None),
-                Some(book) => {
-                    print(out, &Answer::Reopened)?;
-                    Ok(Some(Start::behind(book, desk)))
-                }
-            }
-        }
+        Err(fault) => Err(fault),
+        Ok(End::Script) => Ok(None),
+        Ok(End::Limits(line)) => limited(alloc, &calls, line, lines.taken()),
+        Ok(End::Settle) => settled(alloc, calls, lines, out),
     }
 }
 
-// The start of a store with other limits in the place of the player's.
-fn limited<'a, L: Home>(
+// The start of a store with other limits in the place of this one's, which the line of this number sets.
+fn limited<L: Home>(
     alloc: Global,
-    player: Player<'a, L>,
+    calls: &Calls<L>,
     line: LimitsLine,
-) -> Result<Start<'a>, LineFault> {
-    let Player { calls, desk } = player;
+    number: usize,
+) -> Result<Option<Start>, PlayFault> {
     let committee = calls.committee().try_clone()?;
-    let book = Book::new(alloc, committee, limits_of(line))?;
-    Ok(Start::behind(book, desk))
+    match Book::new(alloc, committee, limits_of(line)) {
+        Ok(book) => Ok(Some(Start::behind(book))),
+        Err(fault) => Err(PlayFault::at(number, LineFault::from(fault))),
+    }
 }
 
-// The book that a store goes on with, or `None` where the script ends behind the settlement.
-fn reopened<L: Home>(
+// Settles the store, and gives what goes on behind the settlement.
+fn settled<L: Home, W: Write>(
+    alloc: Global,
+    calls: Calls<L>,
+    lines: &mut Lines<'_>,
+    out: &mut W,
+) -> Result<Option<Start>, PlayFault> {
+    match calls.settle() {
+        Ok(settled) => told(alloc, settled, lines, out),
+        Err(fault) => Err(PlayFault::unsettled(lines.taken(), fault)),
+    }
+}
+
+// Prints the tally of the settlement, and gives what goes on behind it.
+fn told<L: Home, W: Write>(
     alloc: Global,
     settled: Settled<DemoScheme, L>,
     lines: &mut Lines<'_>,
-) -> Result<Option<Book<DemoScheme>>, PlayFault> {
-    if !is_reopened(alloc, lines)? {
-        return Ok(None);
+    out: &mut W,
+) -> Result<Option<Start>, PlayFault> {
+    match goes_on(alloc, &settled, lines, out) {
+        Err(fault) => Err(fault),
+        Ok(false) => Ok(None),
+        Ok(true) => reopened(alloc, settled, out),
     }
+}
+
+// Prints the tally of the settlement. Whether the script goes on behind it.
+fn goes_on<L: Home, W: Write>(
+    alloc: Global,
+    settled: &Settled<DemoScheme, L>,
+    lines: &mut Lines<'_>,
+    out: &mut W,
+) -> Result<bool, PlayFault> {
+    print(out, &tally(alloc, settled)?)?;
+    is_reopened(alloc, lines)
+}
+
+// The start of the store that goes on with what is settled.
+fn reopened<L: Home, W: Write>(
+    alloc: Global,
+    settled: Settled<DemoScheme, L>,
+    out: &mut W,
+) -> Result<Option<Start>, PlayFault> {
     match settled.reopen(alloc) {
-        Ok(book) => Ok(Some(book)),
+        Ok(book) => {
+            let start = Start::behind(book);
+            print(out, &Answer::Reopened).map(|_| Some(start))
+        }
         Err(_refused) => Err(PlayFault::NoMemory),
     }
 }
@@ -132,7 +179,7 @@ fn reopened<L: Home>(
 fn play_requests<'a, L: Home, R: Wait, W: Write>(
     rt: &R,
     alloc: Global,
-    player: &mut Player<'a, L>,
+    player: &mut Player<'_, '_, 'a, L>,
     may_limit: bool,
     lines: &mut Lines<'a>,
     out: &mut W,

@@ -7,5 +7,7 @@ use std::test::Fail;
 mod asker;
 mod books;
 mod desk;
+mod endings;
 mod free;
+mod settling;
 mod stores;

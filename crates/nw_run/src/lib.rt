@@ -9,6 +9,3 @@ mod moves;
 
 pub use making::run;
 pub use moves::{Answer, Cause, Move, Run, Stop};
-
-#[cfg(test)]
-mod tests;

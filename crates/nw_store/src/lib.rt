@@ -22,6 +22,3 @@ pub use locked::{
 pub use session::{Entry, Session};
 pub use settlement::{Settled, Unsettled, settle, settle_locked};
 pub use store::{Opening, Store};
-
-#[cfg(test)]
-mod tests;

@@ -25,10 +25,10 @@ impl Both {
     /// Gives the call to both, and the reply, where both answer the same; else none.
     pub(super) fn call(&mut self, alloc: Global, call: &Call) -> Result<Option<Reply>, Fail> {
         let expected = self.plain.call(call)?;
-        if self.answers(alloc, call, &expected)? {
-            Ok(Some(expected))
-        } else {
-            Ok(None)
+        match self.answers(alloc, call, &expected) {
+            Ok(true) => Ok(Some(expected)),
+            Ok(false) => Ok(None),
+            Err(refused) => Err(refused),
         }
     }
 

@@ -196,10 +196,11 @@ fn is_answer(reply: &Reply, answer: Answer) -> bool {
 /// Whether both stores answer the call so.
 fn is_answered(both: &mut Both, alloc: Global, asked: Asked, answer: Answer) -> Result<bool, Fail> {
     let call = call_of(alloc, asked)?;
-    Ok(match both.call(alloc, &call)? {
-        Some(reply) => is_answer(&reply, answer),
-        None => false,
-    })
+    match both.call(alloc, &call) {
+        Ok(Some(reply)) => Ok(is_answer(&reply, answer)),
+        Ok(None) => Ok(false),
+        Err(refused) => Err(refused),
+    }
 }
 
 /// Whether both stores, which are new, answer each of these calls so, in turn.

@@ -64,13 +64,23 @@ fn add_round(
     Ok(())
 }
 
-/// A grid in which all blocks are certified but that slot's.
-fn grid(alloc: Global, authors: u16, rounds: u64, missing: Option<Slot>) -> Result<Both, Fail> {
-    let mut both = Both::new(alloc, 1_000, 4_096);
+/// Adds a grid in which all blocks are certified but that slot's.
+fn add_grid(
+    both: &mut Both,
+    alloc: Global,
+    authors: u16,
+    rounds: u64,
+    missing: Option<Slot>,
+) -> Result<(), Fail> {
     for round in 0..rounds {
-        add_round(&mut both, alloc, authors, round, missing)?;
+        add_round(both, alloc, authors, round, missing)?;
     }
-    Ok(both)
+    Ok(())
+}
+
+/// Both stores, new.
+fn both_new(alloc: Global) -> Both {
+    Both::new(alloc, 1_000, 4_096)
 }
 
 /// The slots of these blocks.
@@ -94,12 +104,17 @@ fn whole(alloc: Global, authors: u16, slot: Slot) -> Result<Vec<Slot>, Fail> {
 }
 
 /// What the block of the slot lists in both stores, in a grid up to its round.
-fn listed(alloc: Global, authors: u16, slot: Slot) -> Result<Vec<Slot>, Fail> {
-    let mut both = grid(alloc, authors, slot.0.saturating_add(1), None)?;
-    match give(&mut both, alloc, &Call::Causal(digest_at(slot)))? {
+fn listed_in(both: &mut Both, alloc: Global, authors: u16, slot: Slot) -> Result<Vec<Slot>, Fail> {
+    add_grid(both, alloc, authors, slot.0.saturating_add(1), None)?;
+    match give(both, alloc, &Call::Causal(digest_at(slot)))? {
         Reply::List(blocks) => slots(alloc, blocks.as_slice()),
         _ => Err(Fail::from("the block is complete")),
     }
+}
+
+/// That in new ones.
+fn listed(alloc: Global, authors: u16, slot: Slot) -> Result<Vec<Slot>, Fail> {
+    listed_in(&mut both_new(alloc), alloc, authors, slot)
 }
 
 // Two diamonds and a chain. A walk that took a block again for each reference to it would go over 4^39 paths.
@@ -118,11 +133,20 @@ fn words_at_the_top(both: &mut Both, alloc: Global) -> Result<&'static str, Fail
 }
 
 /// Those while the slot is not certified, and once it is.
+fn words_in(
+    both: &mut Both,
+    alloc: Global,
+    slot: Slot,
+) -> Result<(&'static str, &'static str), Fail> {
+    add_grid(both, alloc, 4, 4, Some(slot))?;
+    let before = words_at_the_top(both, alloc)?;
+    certify(both, alloc, slot)?;
+    Ok((before, words_at_the_top(both, alloc)?))
+}
+
+/// Those of new stores.
 fn words_without(alloc: Global, slot: Slot) -> Result<(&'static str, &'static str), Fail> {
-    let mut both = grid(alloc, 4, 4, Some(slot))?;
-    let before = words_at_the_top(&mut both, alloc)?;
-    certify(&mut both, alloc, slot)?;
-    Ok((before, words_at_the_top(&mut both, alloc)?))
+    words_in(&mut both_new(alloc), alloc, slot)
 }
 
 #[test]
@@ -134,13 +158,18 @@ fn a_block_is_incomplete_at_each_depth(rt: HostRuntime) -> Result<(), Fail> {
 }
 
 /// A view of the plain store over a diamond without its last block, after that one was certified.
-fn view_of_before(alloc: Global) -> Result<View, Fail> {
-    let mut both = grid(alloc, 4, 4, Some((3, 3)))?;
+fn view_in(both: &mut Both, alloc: Global) -> Result<View, Fail> {
+    add_grid(both, alloc, 4, 4, Some((3, 3)))?;
     let Ok(view) = both.plain.freeze_for(digest_at((1, 0)))? else {
         return Err(Fail::from("the block is complete"));
     };
-    certify(&mut both, alloc, (3, 3))?;
+    certify(both, alloc, (3, 3))?;
     Ok(view)
+}
+
+/// That of a new one.
+fn view_of_before(alloc: Global) -> Result<View, Fail> {
+    view_in(&mut both_new(alloc), alloc)
 }
 
 /// The slots of a walk, where the block is in the view.

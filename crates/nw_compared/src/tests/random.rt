@@ -161,10 +161,11 @@ fn next_words(
     random: &mut Pcg32,
 ) -> Result<Option<&'static str>, Fail> {
     let call = next_call(alloc, random, both.dag.status().floor)?;
-    Ok(match both.call(alloc, &call)? {
-        Some(reply) => Some(words(&reply)),
-        None => None,
-    })
+    match both.call(alloc, &call) {
+        Ok(Some(reply)) => Ok(Some(words(&reply))),
+        Ok(None) => Ok(None),
+        Err(refused) => Err(refused),
+    }
 }
 
 /// Takes the next call, and adds the words for its reply. Whether both answer the same, and their views are the same.
@@ -198,11 +199,14 @@ fn count_replies(
     Ok(Some(seen.len()))
 }
 
+/// Those to so many calls on new stores.
+fn count_new(alloc: Global, calls: u32) -> Result<Option<usize>, Fail> {
+    let seen = &mut BTreeSet::new(alloc);
+    count_replies(alloc, &mut Both::new(alloc, ROOM, WINDOW), seen, calls)
+}
+
 #[test]
 fn random_calls_are_answered_as_by_the_plain_store(rt: HostRuntime) -> Result<(), Fail> {
-    let mut both = Both::new(rt.alloc(), ROOM, WINDOW);
-    let mut seen = BTreeSet::new(rt.alloc());
-    let count = count_replies(rt.alloc(), &mut both, &mut seen, CALLS)?;
-    assert!(rt; count == Some(REPLIES));
+    assert!(rt; count_new(rt.alloc(), CALLS)? == Some(REPLIES));
     Ok(())
 }

@@ -29,8 +29,9 @@ impl Dag {
         if let Some(refusal) = self.refusal(&digest) {
             return Ok(Err(refusal));
         }
-        let complete = self.waits.complete_digests();
-        self.frozen.add(alloc, &self.held, complete)?;
+        self.waits.drop_stale(&self.held);
+        self.frozen.add(alloc, &self.held, &self.waits)?;
+        self.waits.clear_fresh();
         Ok(Ok(self.frozen.view(alloc, self.held.floor())?))
     }
 
@@ -39,8 +40,8 @@ impl Dag {
     pub fn compact(&mut self, alloc: Global) -> Result<(), NoMemory>
         ensures { self.new ≡ self.old }
     {
-        let complete = self.waits.complete_digests();
-        self.frozen.join(alloc, &self.held, complete)?;
+        self.frozen.join(alloc, &self.held, &self.waits)?;
+        self.waits.clear_fresh();
         Ok(())
     }
 

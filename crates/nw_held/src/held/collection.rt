@@ -1,34 +1,31 @@
 //! What a collection finds and drops of what is held.
-ghost use Rattle.std.specs.Prelude.{◌≡◌, ◌≤◌, ◌-◌, IfOk, filter};
+ghost use Rattle.std.specs.Prelude.{◌≡◌, ◌≤◌, IfOk, filter};
 ghost use Rattle.std.specs.FinMap as map;
 ghost use Rattle.nw_model.specs.Sound.{IsSound};
 ghost use Rattle.nw_model.specs.Step.{collect_reply, raised};
 ghost use Rattle.nw_held.specs.Collection.{AreUpTo, AreCertifiedUpTo, is_up_to};
 
 use super::Held;
-use super::shelf::{count_from, drop_below};
+use super::shelf::drop_below;
 use nw_digest::{Digest, NoMemory, Round};
 use nw_model::CollectReply;
 
 impl Held {
-    /// The reply that a collection would get now. It takes no memory, and looks once at each block where the round is higher
-    /// than the garbage round.
-    pub fn collect_reply(&self, round: Round) -> CollectReply
-        ensures { result ≡ collect_reply self.now.state round }
+    /// The reply that a collection would get now. It goes through what is of rounds below this one alone, and through
+    /// nothing where the round is not higher than the garbage round. It is refused for want of memory alone.
+    pub fn collect_reply(&self, round: Round) -> Result<CollectReply, NoMemory>
+        ensures { IfOk result (λ reply. reply ≡ collect_reply self.now.state round) }
     {
         if round <= self.floor {
-            return CollectReply::NotHigher(self.floor);
+            return Ok(CollectReply::NotHigher(self.floor));
         }
-        CollectReply::Raised {
-            dropped: self.held_below(round),
-        }
-    }
-
-    /// How many blocks are held of rounds below this one.
-    fn held_below(&self, round: Round) -> u64
-        ensures { result ≡ map.len self.now.state.blocks - map.len (raised self.now.state round).blocks }
-    {
-        (self.blocks() - count_from(&self.blocks, round)) as u64
+        let Some(before) = round.before() else {
+            unreachable!()
+        };
+        let dropped = self.up_to(before)?;
+        Ok(CollectReply::Raised {
+            dropped: dropped.len() as u64,
+        })
     }
 
     /// The digests of the blocks of this round and those below. It looks at no slot of a higher round. It is refused for

@@ -1,5 +1,5 @@
 //! Shared values of rounds, under digests.
-ghost use Rattle.std.specs.Prelude.{◌≡◌, ◌↔◌, ℕ, IsTrue, [], ◌∷◌, filter, length, nat_le};
+ghost use Rattle.std.specs.Prelude.{◌≡◌, ◌↔◌, ℕ, IsTrue, [], ◌∷◌};
 ghost use Rattle.std.specs.List.Sorted.{IsStrictlySortedBy};
 ghost use Rattle.std.specs.Map.{keys_of, lookup};
 ghost use Rattle.std.specs.BTreeMap.{is_at};
@@ -35,20 +35,6 @@ impl OfRound for Certificate {
     fn round(&self) -> Round {
         self.round
     }
-}
-
-/// How many values are of rounds from this one on.
-pub(super) fn count_from<V: OfRound>(entries: &Trie<Shared<V>, Global>, round: Round) -> usize
-    ensures ordered { IsStrictlySortedBy digest_cmp (keys_of entries.now) }
-    ensures count { result ≡ length (filter (λ e. nat_le round (V.round_of e.1)) entries.now) }
-{
-    let mut count = entries.len();
-    for (_digest, value) in entries.iter() {
-        if value.get().round() < round {
-            count -= 1;
-        }
-    }
-    count
 }
 
 /// Drops those of the digests whose values are of rounds below this one.

@@ -18,16 +18,15 @@ fn block_over(alloc: Global, round: u64, number: u16) -> Result<CheckedBlock<Dem
     block(alloc, &committee(alloc, 1)?, 0, round, &[digest(number)])
 }
 
-/// Tables of a window of four rounds, which hold a block of round 0 and its certificate, and a block of round 3.
-fn tables(alloc: Global) -> Result<Dag, Fail> {
+/// Hands in a block of round 0 and its certificate, and a block of round 3.
+fn fill(alloc: Global, dag: &mut Dag) -> Result<(), Fail> {
     let one = committee(alloc, 1)?;
-    let mut dag = Dag::new(alloc, 64, 4);
     let first = block(alloc, &one, 0, 0, &[])?;
     dag.write(first.digest(), first.block())?;
     dag.certify(certificate(alloc, &one, 0, 0, first.digest())?.certificate())?;
     let last = block_over(alloc, 3, 0)?;
     dag.write(last.digest(), last.block())?;
-    Ok(dag)
+    Ok(())
 }
 
 /// What is kept of that: the block of round 3 lacks its parent.
@@ -64,16 +63,25 @@ fn count_far_certificates(alloc: Global, dag: &mut Dag) -> Result<usize, Fail> {
     Ok(count)
 }
 
+/// What is kept before and after a flood, and how much of it is too far.
+type Flooded = (Counts, Counts, usize, usize);
+
+/// Floods tables with two blocks.
+fn flooded(alloc: Global, dag: &mut Dag) -> Result<Flooded, Fail> {
+    fill(alloc, dag)?;
+    let before = dag.status();
+    let blocks = count_far_blocks(alloc, dag)?;
+    let certificates = count_far_certificates(alloc, dag)?;
+    Ok((before, dag.status(), blocks, certificates))
+}
+
+/// Floods tables of a window of four rounds.
+fn flood(alloc: Global) -> Result<Flooded, Fail> {
+    flooded(alloc, &mut Dag::new(alloc, 64, 4))
+}
+
 #[test]
 fn a_flood_beyond_the_window_changes_nothing(rt: HostRuntime) -> Result<(), Fail> {
-    let mut dag = tables(rt.alloc())?;
-    let before = dag.status();
-    let blocks = count_far_blocks(rt.alloc(), &mut dag)?;
-    let certificates = count_far_certificates(rt.alloc(), &mut dag)?;
-    let after = dag.status();
-    assert_eq!(rt;
-        (before, after, blocks, certificates),
-        (KEPT, KEPT, 1000, 1000)
-    );
+    assert_eq!(rt; flood(rt.alloc())?, (KEPT, KEPT, 1000, 1000));
     Ok(())
 }

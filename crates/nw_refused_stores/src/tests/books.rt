@@ -144,15 +144,15 @@ fn step(
     Ok(())
 }
 
-/// A ticket of a new book for the block over three.
-pub(super) fn ticket(alloc: Global, desk: &Desk) -> Result<Ticket<DemoScheme>, Fail> {
-    let mut book = again!(
-        BookError::NoMemory,
-        new_book(alloc, &desk.committee, LIMITS)
-    )?;
+/// A ticket for the block over three, which are handed in first.
+fn ticket_of(
+    book: &mut Book<DemoScheme>,
+    alloc: Global,
+    desk: &Desk,
+) -> Result<Ticket<DemoScheme>, Fail> {
     for place in 0..4 {
-        step(&mut book, alloc, &write(alloc, desk, place)?)?;
-        step(&mut book, alloc, &certify(alloc, desk, place)?)?;
+        step(book, alloc, &write(alloc, desk, place)?)?;
+        step(book, alloc, &certify(alloc, desk, place)?)?;
     }
     again!(NoMemory, book.compact(alloc))?;
     let number = book.next_number(0)?;
@@ -163,6 +163,15 @@ pub(super) fn ticket(alloc: Global, desk: &Desk) -> Result<Ticket<DemoScheme>, F
         Ok(ticket) => Ok(ticket),
         Err(_) => Err(Fail::from("the block is complete")),
     }
+}
+
+/// That of a new book.
+pub(super) fn ticket(alloc: Global, desk: &Desk) -> Result<Ticket<DemoScheme>, Fail> {
+    let mut book = again!(
+        BookError::NoMemory,
+        new_book(alloc, &desk.committee, LIMITS)
+    )?;
+    ticket_of(&mut book, alloc, desk)
 }
 
 /// Whether the lists of two tickets for one digest are equal.

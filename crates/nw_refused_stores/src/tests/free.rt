@@ -1,24 +1,13 @@
-//! Calls of books and stores that take no memory, made while all memory is refused.
-ghost use Rattle.std.specs.Prelude.{◌≡◌};
-ghost use Rattle.nw_store.specs.Held.{first_origin};
-ghost use Rattle.nw_store.specs.Kept.{parts_of_a_ledger};
-
+//! Calls of books that take no memory, made while all memory is refused.
 use super::books::{LIMITS, new_book, ticket, write};
 use super::desk::{Desk, FOUR, TWO};
 use super::*;
 use nw_book::{Book, BookError, Command, NoStep};
 use nw_committee::Committee;
-use nw_digest::Shared;
 use nw_history::{Front, Limits};
-use nw_store::{
-    Home, Locked, Opening, Session, SettleFault, Store, TooMany, Unsettled, session_locked, settle,
-    settle_locked,
-};
-use std::marker::Brand;
-use std::sync::Wait;
 
 /// The limits of a book with room for two events, and three sessions.
-const FEW: Limits = Limits {
+pub(super) const FEW: Limits = Limits {
     events: 2,
     sessions: 3,
     ..LIMITS
@@ -75,21 +64,44 @@ fn is_told(book: &Book<DemoScheme>, four: &Committee) -> bool {
         && history.limits() == FEW
 }
 
-/// The refusals of a full book, and whether it tells of its fronts and its history.
+/// Why calls of a full book are refused, and whether it tells of its fronts and its history.
+type Found = ([Option<NoStep>; 5], [bool; 2]);
+
+/// What is found of a book that is full with these two fronts, while all memory is refused.
+fn found_of(
+    book: &mut Book<DemoScheme>,
+    alloc: Global,
+    fronts: [&Front<DemoScheme>; 2],
+    four: &Committee,
+    stranger: &Command<DemoScheme>,
+) -> Found {
+    refuse_all(alloc);
+    let refusals = refusals(book, alloc, stranger);
+    let told = [are_told(fronts[0], fronts[1], four), is_told(book, four)];
+    refuse_none(alloc);
+    (refusals, told)
+}
+
+/// What is found of a book once it is full.
+fn found_in(
+    book: &mut Book<DemoScheme>,
+    alloc: Global,
+    desk: &Desk,
+    stranger: &Command<DemoScheme>,
+) -> Result<Found, Fail> {
+    let one = front(book, alloc, &write(alloc, desk, 0)?)?;
+    let two = front(book, alloc, &Command::Status)?;
+    Ok(found_of(book, alloc, [&one, &two], desk.committee.get(), stranger))
+}
+
+/// That of a new book.
 fn of_a_full_book(
     alloc: Global,
     desk: &Desk,
     stranger: &Command<DemoScheme>,
-) -> Result<([Option<NoStep>; 5], [bool; 2]), Fail> {
+) -> Result<Found, Fail> {
     let mut book = again!(BookError::NoMemory, new_book(alloc, &desk.committee, FEW))?;
-    let one = front(&mut book, alloc, &write(alloc, desk, 0)?)?;
-    let two = front(&mut book, alloc, &Command::Status)?;
-    refuse_all(alloc);
-    let refusals = refusals(&mut book, alloc, stranger);
-    let four = desk.committee.get();
-    let told = [are_told(&one, &two, four), is_told(&book, four)];
-    refuse_none(alloc);
-    Ok((refusals, told))
+    found_in(&mut book, alloc, desk, stranger)
 }
 
 #[test]
@@ -131,121 +143,5 @@ fn tickets_and_bad_limits_take_no_memory(rt: HostRuntime) -> Result<(), Fail> {
     let desk = Desk::new(rt.alloc(), &[0, 1, 2, 3], &FOUR)?;
     let found = of_a_ticket(rt.alloc(), &desk)?;
     assert_eq!(rt; found, (Some(BookError::BadLimits), (9, 1)));
-    Ok(())
-}
-
-/// What is handed back where one session of two is given.
-fn unsettled<L: Home>(
-    store: Store<DemoScheme, L>,
-    given: Vec<Session<DemoScheme, L>>,
-) -> Option<Unsettled<DemoScheme, L>> {
-    settle(store, given).err()
-}
-
-/// A third session, and why there is no fourth.
-fn third<L: Home>(
-    locked: &mut Locked<DemoScheme, L>,
-    alloc: Global,
-) -> (Result<Session<DemoScheme, L>, TooMany>, Option<TooMany>) {
-    let third = session_locked(locked, alloc);
-    (third, session_locked(locked, alloc).err())
-}
-
-/// Whether all three settle, with no event, and tell their journals.
-fn settles<L: Home>(locked: Locked<DemoScheme, L>, sessions: Vec<Session<DemoScheme, L>>) -> bool {
-    match settle_locked(locked, sessions) {
-        Err(_) => false,
-        Ok(settled) => {
-            settled.history().is_empty()
-                && settled.journal(2).map(|entries| entries.len()) == Some(0)
-                && settled.journal(3).is_none()
-        }
-    }
-}
-
-/// Whether two sessions of the store settle with a third, while all memory is refused.
-fn settle_late<L: Home, R: Wait>(
-    rt: &R,
-    alloc: Global,
-    store: Store<DemoScheme, L>,
-) -> Result<bool, Fail> {
-    let mut given = again!(AllocError, Vec::with_capacity(alloc, 3))?;
-    refuse_all(alloc);
-    let first = store.session(rt, alloc)?;
-    let second = store.session(rt, alloc)?;
-    let ids = [first.id(), second.id()] == [0, 1] && first.calls() == 0;
-    given.push(second)?;
-    let Unsettled {
-        fault,
-        mut locked,
-        mut sessions,
-    } = unsettled(store, given).ok_or("one session of two settles")?;
-    let (third, fourth) = third(&mut locked, alloc);
-    sessions.push(third?)?;
-    sessions.push(first)?;
-    let settles = settles(locked, sessions);
-    refuse_none(alloc);
-    let unfinished = SettleFault::Unfinished { made: 2, given: 1 };
-    Ok(ids && settles && fault == unfinished && fourth == Some(TooMany))
-}
-
-/// The same of a new store.
-fn settle_new<L: Home, R: Wait>(
-    rt: &R,
-    alloc: Global,
-    opening: Opening<DemoScheme>,
-    committee: Shared<Committee>,
-    limits: Limits,
-) -> Result<Result<bool, Fail>, BookError>
-    requires log { opening.log ≡ L.log }
-    requires ledger { (opening.ledger ≡ L.name) × (L.parts ≡ parts_of_a_ledger) }
-    requires origin { first_origin committee limits ≡ L.origin }
-{
-    let store = Store::<DemoScheme, L>::new(alloc, opening, committee, limits)?;
-    Ok(settle_late(rt, alloc, store))
-}
-
-/// The same of a store with these limits that is made with all that it takes, without memory where they are bad.
-fn settle_at_once<R: Wait>(
-    rt: &R,
-    alloc: Global,
-    committee: &Shared<Committee>,
-    limits: Limits,
-) -> Result<Result<bool, Fail>, BookError> {
-    let opening = Opening::new(alloc)?;
-    let committee = committee.try_clone()?;
-    if !limits.are_in_range() {
-        refuse_all(alloc);
-    }
-    let settles = settle_new::<Brand, R>(rt, alloc, opening, committee, limits);
-    refuse_none(alloc);
-    settles
-}
-
-/// The same of a store with these limits, or why there is none.
-fn settled_late<R: Wait>(
-    rt: &R,
-    alloc: Global,
-    committee: &Shared<Committee>,
-    limits: Limits,
-) -> Result<Result<bool, BookError>, Fail> {
-    let asked = again!(
-        BookError::NoMemory,
-        settle_at_once(rt, alloc, committee, limits)
-    );
-    match asked {
-        Ok(settles) => Ok(Ok(settles?)),
-        Err(fault) => Ok(Err(fault)),
-    }
-}
-
-#[test]
-fn sessions_settle_late_without_memory(rt: HostRuntime) -> Result<(), Fail> {
-    let desk = Desk::new(rt.alloc(), &[0], &TWO)?;
-    let bad = Limits { window: 0, ..FEW };
-    for (limits, wanted) in [(FEW, Ok(true)), (bad, Err(BookError::BadLimits))] {
-        let settles = settled_late(&rt, rt.alloc(), &desk.committee, limits)?;
-        assert_eq!(rt; settles, wanted);
-    }
     Ok(())
 }

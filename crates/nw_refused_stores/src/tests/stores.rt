@@ -5,12 +5,13 @@ ghost use Rattle.nw_store.specs.Kept.{parts_of_a_ledger};
 
 use super::asker::{Answer, Asked, Asker, Table};
 use super::desk::{CHAIN, Desk, FOUR, TWO};
+use super::endings::ended;
 use super::*;
 use nw_book::{Book, BookError, Ticket};
 use nw_committee::Committee;
 use nw_digest::Shared;
 use nw_history::Limits;
-use nw_store::{Home, Opening, Session, Settled, Store, settle};
+use nw_store::{Home, Opening, Store};
 use std::marker::Brand;
 use std::sync::Wait;
 
@@ -25,37 +26,6 @@ struct Outcome {
     book: Book<DemoScheme>,
     /// The first ticket.
     first: Option<Ticket<DemoScheme>>,
-}
-
-/// Settles the session, while all memory is refused, and gives the events and the book that goes on.
-fn ended<L: Home>(
-    alloc: Global,
-    store: Store<DemoScheme, L>,
-    session: Session<DemoScheme, L>,
-) -> Result<(usize, Book<DemoScheme>), Fail> {
-    let mut sessions = again!(AllocError, Vec::with_capacity(alloc, 1))?;
-    sessions.push(session)?;
-    refuse_all(alloc);
-    let settled = settle(store, sessions);
-    refuse_none(alloc);
-    match settled {
-        Ok(settled) => Ok((settled.history().len(), reopened(alloc, settled)?)),
-        Err(_) => Err(Fail::from("the session does not settle")),
-    }
-}
-
-/// The book that goes on with what was settled.
-fn reopened<L: Home>(
-    alloc: Global,
-    settled: Settled<DemoScheme, L>,
-) -> Result<Book<DemoScheme>, NoMemory> {
-    match settled.reopen(alloc) {
-        Ok(book) => Ok(book),
-        Err((NoMemory, settled)) => match settled.reopen(alloc) {
-            Ok(book) => Ok(book),
-            Err((refused, _settled)) => Err(refused),
-        },
-    }
 }
 
 /// Asks the questions of the store, in its first session.
@@ -73,15 +43,29 @@ fn play<L: Home, R: Wait>(
         first,
         last: None,
     };
-    let answered = asker.are_answered(rt, alloc, &store, table)?;
+    match asker.are_answered(rt, alloc, &store, table) {
+        Ok(answered) => ended_with(alloc, store, asker, answered),
+        Err(refused) => Err(refused),
+    }
+}
+
+/// What became of the store, whose session answered so many questions.
+fn ended_with<L: Home>(
+    alloc: Global,
+    store: Store<DemoScheme, L>,
+    asker: Asker<'_, L>,
+    answered: usize,
+) -> Result<Outcome, Fail> {
     let Asker { session, first, .. } = asker;
-    let (events, book) = ended(alloc, store, session)?;
-    Ok(Outcome {
-        answered,
-        events,
-        book,
-        first,
-    })
+    match ended(alloc, store, session) {
+        Ok((events, book)) => Ok(Outcome {
+            answered,
+            events,
+            book,
+            first,
+        }),
+        Err(refused) => Err(refused),
+    }
 }
 
 /// Asks the questions of a new store.

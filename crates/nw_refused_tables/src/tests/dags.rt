@@ -9,6 +9,7 @@ use nw_model::{Call, CausalReply, CertifyReply, CollectReply, Reply, WriteReply}
 use nw_plain::{Base, Plain};
 use nw_sample_blocks::{block, name, round};
 use nw_waiting::Wanted;
+use std::process::Abort;
 
 /// A block of the round and author over these.
 fn block_of(alloc: Global, slot: (Round, u16), parents: &[Ref]) -> Result<Shared<Block>, NoMemory> {
@@ -59,17 +60,16 @@ const TAKEN: (WriteReply, CertifyReply) = (
     CertifyReply::Certified,
 );
 
-#[test]
-fn a_block_of_the_garbage_round_needs_no_parents(rt: HostRuntime) -> Result<(), Fail> {
-    let (alloc, p, q) = (rt.alloc(), digest(1, 0), digest(2, 0));
-    let mut dag = Dag::new(alloc, 64, 64);
+/// A block of round 1 waits for its parent, until that is its garbage round.
+fn needs_no_parents(rt: &impl Abort, dag: &mut Dag, alloc: Global) -> Result<(), Fail> {
+    let (p, q) = (digest(1, 0), digest(2, 0));
     let parent = Ref {
         author: 1,
         digest: p,
     };
-    assert!(rt; extend(&mut dag, alloc, p, Round::ZERO, &[])? == TAKEN);
-    assert!(rt; extend(&mut dag, alloc, q, round(1), &[parent])? == TAKEN);
-    let refused = view_for(&mut dag, alloc, q)?.err();
+    assert!(rt; extend(dag, alloc, p, Round::ZERO, &[])? == TAKEN);
+    assert!(rt; extend(dag, alloc, q, round(1), &[parent])? == TAKEN);
+    let refused = view_for(dag, alloc, q)?.err();
     assert_eq!(rt; refused, Some(CausalReply::Incomplete));
     let missing = again!(NoMemory, dag.missing(alloc, 1))?;
     let wanted = Wanted {
@@ -80,8 +80,13 @@ fn a_block_of_the_garbage_round_needs_no_parents(rt: HostRuntime) -> Result<(), 
     assert_eq!(rt; missing.as_slice(), [wanted].as_slice());
     let collected = again!(NoMemory, dag.collect(round(1)))?;
     assert_eq!(rt; collected, CollectReply::Raised { dropped: 1 });
-    assert!(rt; view_for(&mut dag, alloc, q)?.is_ok());
+    assert!(rt; view_for(dag, alloc, q)?.is_ok());
     Ok(())
+}
+
+#[test]
+fn a_block_of_the_garbage_round_needs_no_parents(rt: HostRuntime) -> Result<(), Fail> {
+    needs_no_parents(&rt, &mut Dag::new(rt.alloc(), 64, 64), rt.alloc())
 }
 
 /// Adds the next block of a chain of one author. The number of parts of the view for it.
@@ -111,20 +116,30 @@ fn parts_of(dag: &mut Dag, alloc: Global, digest: Digest) -> Result<usize, Fail>
     }
 }
 
-#[test]
-fn views_of_a_chain_share_what_was_frozen(rt: HostRuntime) -> Result<(), Fail> {
-    let alloc = rt.alloc();
-    let mut dag = Dag::new(alloc, 64, 64);
+/// Whether the views of a chain of 17 blocks have 1 to 16 parts and then 2, and 1 after all is frozen anew.
+fn are_shared(dag: &mut Dag, alloc: Global) -> Result<bool, Fail> {
     for number in 0..17u8 {
         let parts = if number < 16 {
             usize::from(number) + 1
         } else {
             2
         };
-        assert_eq!(rt; next_parts(&mut dag, alloc, number)?, parts);
+        if next_parts(dag, alloc, number)? != parts {
+            return Ok(false);
+        }
     }
     again!(NoMemory, dag.compact(alloc))?;
-    assert_eq!(rt; parts_of(&mut dag, alloc, digest(16, 0))?, 1);
+    Ok(parts_of(dag, alloc, digest(16, 0))? == 1)
+}
+
+/// The same of new tables.
+fn are_shared_from_the_start(alloc: Global) -> Result<bool, Fail> {
+    are_shared(&mut Dag::new(alloc, 64, 64), alloc)
+}
+
+#[test]
+fn views_of_a_chain_share_what_was_frozen(rt: HostRuntime) -> Result<(), Fail> {
+    assert!(rt; are_shared_from_the_start(rt.alloc())?);
     Ok(())
 }
 
@@ -211,34 +226,40 @@ const EXAMPLE: [(Asked, &str); 12] = [
     (Asked::Causal, "unknown"),
 ];
 
-#[test]
-fn a_plain_store_answers(rt: HostRuntime) -> Result<(), Fail> {
-    let mut plain = Plain::new(rt.alloc(), 64, 64);
-    for (asked, answer) in EXAMPLE {
-        assert!(rt;
-            is_answered(&mut plain, rt.alloc(), asked, answer)?,
-            "{answer}"
-        );
+/// The plain store answers each of these so, in turn.
+fn answers(
+    rt: &impl Abort,
+    plain: &mut Plain,
+    alloc: Global,
+    table: &[(Asked, &str)],
+) -> Result<(), Fail> {
+    for (asked, answer) in table {
+        assert!(rt; is_answered(plain, alloc, *asked, answer)?, "{answer}");
     }
     Ok(())
 }
 
 #[test]
+fn a_plain_store_answers(rt: HostRuntime) -> Result<(), Fail> {
+    answers(
+        &rt,
+        &mut Plain::new(rt.alloc(), 64, 64),
+        rt.alloc(),
+        &EXAMPLE,
+    )
+}
+
+/// A store over the base answers the last part of the example.
+fn goes_on(rt: &impl Abort, alloc: Global, base: &Base) -> Result<(), Fail> {
+    let mut plain = again!(NoMemory, Plain::over(alloc, base))?;
+    answers(rt, &mut plain, alloc, &EXAMPLE[8..])
+}
+
+#[test]
 fn a_plain_store_over_a_base_goes_on(rt: HostRuntime) -> Result<(), Fail> {
     let mut before = Plain::new(rt.alloc(), 64, 64);
-    for (asked, answer) in &EXAMPLE[..8] {
-        assert!(rt;
-            is_answered(&mut before, rt.alloc(), *asked, answer)?,
-            "{answer}"
-        );
+    match answers(&rt, &mut before, rt.alloc(), &EXAMPLE[..8]) {
+        Ok(()) => goes_on(&rt, rt.alloc(), &Base::of(before)),
+        Err(refused) => Err(refused),
     }
-    let base = Base::of(before);
-    let mut plain = again!(NoMemory, Plain::over(rt.alloc(), &base))?;
-    for (asked, answer) in &EXAMPLE[8..] {
-        assert!(rt;
-            is_answered(&mut plain, rt.alloc(), *asked, answer)?,
-            "{answer}"
-        );
-    }
-    Ok(())
 }

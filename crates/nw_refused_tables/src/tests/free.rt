@@ -6,6 +6,7 @@ use super::*;
 use nw_dag::Dag;
 use nw_digest::InRound;
 use nw_generation::View;
+use nw_model::Counts;
 use nw_plain::{Base, Plain};
 use nw_rounds::Rounds;
 use nw_sample_blocks::{name, round};
@@ -124,19 +125,29 @@ fn views_are_seen_without_memory(rt: HostRuntime) -> Result<(), Fail> {
     Ok(())
 }
 
-#[test]
-fn stores_are_made_and_counted_without_memory(rt: HostRuntime) -> Result<(), Fail> {
-    let mut dag = Dag::new(rt.alloc(), 16, 4);
-    extend(&mut dag, rt.alloc(), digest(1, 0), Round::ZERO, &[])?;
-    refuse_all(rt.alloc());
+/// What a store with a block and its certificate counts, and whether a base is made that has nothing.
+fn counted_in(dag: &mut Dag, alloc: Global) -> Result<(Counts, bool), NoMemory> {
+    extend(dag, alloc, digest(1, 0), Round::ZERO, &[])?;
+    refuse_all(alloc);
     let counts = dag.status();
-    let base = Base::of(Plain::new(rt.alloc(), 16, 4));
+    let base = Base::of(Plain::new(alloc, 16, 4));
     let is_empty = base.is_opening()
         && base.floor() == Round::ZERO
         && base.block(&digest(1, 0)).is_none()
         && base.certificate(&digest(1, 0)).is_none()
         && base.first(Round::ZERO, 0).is_none();
-    refuse_none(rt.alloc());
+    refuse_none(alloc);
+    Ok((counts, is_empty))
+}
+
+/// Those of a new store.
+fn counted(alloc: Global) -> Result<(Counts, bool), NoMemory> {
+    counted_in(&mut Dag::new(alloc, 16, 4), alloc)
+}
+
+#[test]
+fn stores_are_made_and_counted_without_memory(rt: HostRuntime) -> Result<(), Fail> {
+    let (counts, is_empty) = counted(rt.alloc())?;
     assert!(rt; is_empty && counts.blocks == 1 && counts.certificates == 1);
     assert_eq!(rt; (counts.complete, counts.wanted), (1, 0));
     Ok(())

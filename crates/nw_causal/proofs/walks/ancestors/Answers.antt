@@ -1,34 +1,31 @@
-use Rattle.std.proofs.Common.{Some, ap, sym, ◌∙◌, arith}
-use Rattle.std.specs.Map.{lookup}
-use Rattle.std.specs.BTreeMap.{is_at}
-use Rattle.nw_codec.specs.declared.block.Block.{Block}
-use Rattle.nw_model.specs.State.{block_slot, slot_cmp}
-use Rattle.nw_model.proofs.Maps.{get_lookup, put_entries, slots_total, slots_apart}
-use Rattle.nw_model.proofs.Finding.{none_some, there_is}
-use Rattle.nw_model.proofs.Ancestors.{explores_first, explores_above, explores_on, reaches_floor, reaches_early, none_left}
-use Rattle.nw_causal.proofs.Looked.{IsAt}
+use Rattle.std.proofs.Common.{◌∙◌, arith}
+use Rattle.nw_model.proofs.Ancestors.{explores_above, explores_on, reaches_floor, reaches_early, none_left}
+use Rattle.nw_causal.specs.Looked.{digests}
+use Rattle.nw_causal.proofs.Looking.{first_found, digests_length}
 use Rattle.nw_causal.proofs.walks.ancestors.Goals as goal
-use Rattle.nw_causal.proofs.walks.ancestors.Goals.{in-Some+in_ok-insert+in_ok-push+else-loop-test, in-Some+in_ok-insert+in_ok-push+then-loop-test+then-is_empty, in_default}
+use Rattle.nw_causal.proofs.walks.ancestors.Goals.{else-loop-test, then-loop-test+then-is_empty}
 
 pub loop-init : goal.loop-init
 loop-init g c =
-    let block : Block = c.get-block.result.now in
-    let at : IsAt c.args.view.now.frozen c.args.digest block = sym c.in-Some.ensures.block ∙ ap Some (sym c.get-block.ensures) in
-    rw (c.get-end.ensures.number, c.get-counter.ensures.number, c.floor.ensures.floor, c.in_ok-push.ensures.items, c.new-frontier.ensures.items, put_entries slots_total slots_apart c.new-found.result.entries c.insert.new.self.entries (block_slot block) c.args.digest c.in_ok-insert.ensures.entries)
-    (explores_first c.args.view.now.frozen c.args.digest block _ (there_is _ _ block c.requires at) (λ slot. get_lookup slots_total c.new-found.result.entries slot ∙ ap (lookup (is_at (slot_cmp slot))) c.new-found.ensures.empty))
+    let on = first_found c.args.view.now.frozen c.args.digest c.in_ok-first.first c.in_ok-try_clone.field-0 c.get.result.now c.get-2.result.now c.new-found.result.entries c.insert.new.self.entries c.new-frontier.result.items c.push.new.self.items
+    c.get-counter.result c.get-end.result c.requires c.in_ok-first.ensures.digest c.in_ok-first.ensures.block c.get.ensures c.get-2.ensures c.in_ok-try_clone.ensures c.new-found.ensures.empty c.new-frontier.ensures.items
+    c.in_ok-insert.ensures.entries c.in_ok-push.ensures.items (c.get-counter.ensures.number ∙ c.floor.ensures.floor) c.get-end.ensures.number in
+    record { explores = on.0; looked_up = on.1 }
 
 pub parents_of_all-requires-clause-above : goal.parents_of_all-requires-clause-above
-parents_of_all-requires-clause-above g c = rw (c.deref.ensures.value) (explores_above _ _ _ _ _ _ c.loop.invariant c.loop-test.true)
-
-pub parents_of_all-requires-clause-under : goal.parents_of_all-requires-clause-under
-parents_of_all-requires-clause-under g c = c.loop.invariant.under
+parents_of_all-requires-clause-above g c = rw (c.deref.ensures.value) (explores_above _ _ _ _ _ _ c.loop.invariant.explores c.loop-test.true)
 
 pub loop-preserved : goal.loop-preserved
-loop-preserved g c = explores_on _ _ _ _ c.loop.frontier.items _ _ _ c.floor.ensures.closed c.loop.invariant (rw c.deref.ensures.value at c.in_ok-frontier.ensures)
+loop-preserved g c = record {
+  explores = explores_on _ _ _ _ (digests c.loop.frontier.items) _ _ _ c.floor.ensures.closed c.loop.invariant.explores (rw c.deref.ensures.value at c.in_ok-frontier.ensures.parents);
+  looked_up = c.in_ok-frontier.ensures.looked_up;
+}
 
 pub returns-clause-found : goal.returns-clause-found
-returns-clause-found g c = elim c.match-get.branch [
-  | in-Some+in_ok-insert+in_ok-push+else-loop-test w ↦ rw (w.found-is) (reaches_floor _ _ _ _ _ _ w.loop.invariant w.loop-test.false)
-  | in-Some+in_ok-insert+in_ok-push+then-loop-test+then-is_empty w ↦ rw (w.found-is) (reaches_early _ _ _ _ _ _ w.loop.invariant (let none = none_left w.loop.frontier.len w.if-is_empty.ensures in omega (arith, none, w.loop.frontier.ok.0)))
-  | in_default w ↦ absurd (none_some c.requires.0 (w.in_default.ensures.block ∙ c.requires.1.0))
+returns-clause-found g c = elim c.loop-test.branch [
+  | else-loop-test w ↦ reaches_floor _ _ _ _ _ _ c.loop.invariant.explores w.loop-test.false
+  | then-loop-test+then-is_empty w ↦ reaches_early _ _ _ _ _ _ c.loop.invariant.explores
+      (let none = none_left c.loop.frontier.len w.if-is_empty.ensures in
+      let same = digests_length c.loop.frontier.items in
+      omega (arith, none, same, c.loop.frontier.ok.0))
 ]

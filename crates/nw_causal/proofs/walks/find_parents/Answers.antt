@@ -1,35 +1,44 @@
-use Rattle.std.proofs.Common.{◌≡◌, true, false, List, [], get_or, ap, sym, ◌∙◌}
+use Rattle.std.proofs.Common.{◌≡◌, true, false, List, [], get_or, sym, ◌∙◌}
 use Rattle.std.specs.Option.{is_some}
-use Rattle.std.specs.FinMap.{FinMap, get, from_entries}
-use Rattle.std.proofs.lemmas.List.{take_all}
-use Rattle.nw_digest.specs.declared.digest.Digest.{Digest}
+use Rattle.std.specs.FinMap.{get}
 use Rattle.nw_codec.specs.declared.block.Ref.{Ref}
-use Rattle.nw_model.specs.State.{Slot, slot_cmp}
-use Rattle.nw_model.proofs.Maps.{get_lookup, slots_total, slots_apart, put_entries}
-use Rattle.nw_causal.proofs.Claiming.{claims_nothing, again_on, one_on}
+use Rattle.nw_model.specs.State.{Slot}
+use Rattle.nw_model.specs.View.{Frozen}
+use Rattle.nw_causal.specs.Looked.{found_in}
+use Rattle.nw_causal.proofs.Claiming.{again_on}
+use Rattle.nw_causal.proofs.Looking.{found_taken, looked_on}
 use Rattle.nw_causal.proofs.walks.find_parents.Goals as goal
-use Rattle.nw_causal.proofs.walks.find_parents.Goals.{then-not-contains_key+in_ok-insert+in_ok-push, else-not-contains_key}
+use Rattle.nw_causal.proofs.walks.find_parents.Goals.{then-not-contains_key+in_ok-parent+in_ok-try_clone+in_ok-push+in_ok-insert+in-Some-1, then-not-contains_key+in_ok-parent+in_ok-try_clone+in_ok-push+in_ok-insert+in-None-1, else-not-contains_key}
 
-pub loop-reference-init : goal.loop-reference-init
-loop-reference-init c = claims_nothing _ _ _
+pub look_up-requires : goal.look_up-requires
+look_up-requires g c =
+    let there = c.requires.there c.loop-reference.reference-index (record { author = 0; digest = record { 0 = [] } }) c.loop-reference-test.true in
+    (there.0, there.1)
 
 pub loop-reference-preserved : goal.loop-reference-preserved
-loop-reference-preserved c =
+loop-reference-preserved g c =
+    let v : Frozen = c.args.view.now.frozen in
     let refs : List Ref = c.args.references.now in
     let none : Ref = record { author = 0; digest = record { 0 = [] } } in
     let r : Ref = get_or refs c.loop-reference.reference-index none in
     let slot : Slot = (c.args.round, r.author) in
-    let found : FinMap slot_cmp Digest = from_entries c.loop-reference.found.entries in
     elim c.if-not-contains_key.branch [
-      | then-not-contains_key+in_ok-insert+in_ok-push w ↦
-          let free : is_some (get found slot) ≡ false = ap is_some (get_lookup slots_total c.loop-reference.found.entries slot) ∙ sym c.contains_key.ensures ∙ w.if-not-contains_key.true in
-          rw (w.found-is, w.parents-is, w.in_ok-push.ensures.items, put_entries slots_total slots_apart c.loop-reference.found.entries w.insert.new.self.entries slot r.digest w.in_ok-insert.ensures.entries)
-          (one_on _ refs c.loop-reference.reference-index none _ _ _ _ c.loop-reference-test.true c.loop-reference.invariant free)
+      | then-not-contains_key+in_ok-parent+in_ok-try_clone+in_ok-push+in_ok-insert+in-Some-1 w ↦
+          let free : is_some (get (found_in c.loop-reference.found.entries) slot) ≡ false = found_taken c.loop-reference.found.entries slot ∙ sym c.contains_key.ensures ∙ w.if-not-contains_key.true in
+          let on = looked_on v c.args.round refs c.loop-reference.reference-index none c.args.found.now.entries c.loop-reference.found.entries w.insert.new.self.entries c.args.parents.now.items c.loop-reference.parents.items w.push.new.self.items
+          w.in_ok-parent.parent w.in_ok-try_clone.field-0 c.loop-reference-test.true c.loop-reference.invariant.claims c.loop-reference.invariant.looked_up free
+          w.in_ok-parent.ensures.digest w.in_ok-parent.ensures.block w.in_ok-try_clone.ensures w.in_ok-insert.ensures.entries w.in_ok-push.ensures.items in
+          rw (w.found-is, w.parents-is) (record { claims = on.0; looked_up = on.1 })
+      | then-not-contains_key+in_ok-parent+in_ok-try_clone+in_ok-push+in_ok-insert+in-None-1 w ↦
+          let free : is_some (get (found_in c.loop-reference.found.entries) slot) ≡ false = found_taken c.loop-reference.found.entries slot ∙ sym c.contains_key.ensures ∙ w.if-not-contains_key.true in
+          let on = looked_on v c.args.round refs c.loop-reference.reference-index none c.args.found.now.entries c.loop-reference.found.entries w.insert.new.self.entries c.args.parents.now.items c.loop-reference.parents.items w.push.new.self.items
+          w.in_ok-parent.parent w.in_ok-try_clone.field-0 c.loop-reference-test.true c.loop-reference.invariant.claims c.loop-reference.invariant.looked_up free
+          w.in_ok-parent.ensures.digest w.in_ok-parent.ensures.block w.in_ok-try_clone.ensures w.in_ok-insert.ensures.entries w.in_ok-push.ensures.items in
+          rw (w.found-is, w.parents-is) (record { claims = on.0; looked_up = on.1 })
       | else-not-contains_key w ↦
-          let taken : is_some (get found slot) ≡ true = ap is_some (get_lookup slots_total c.loop-reference.found.entries slot) ∙ sym c.contains_key.ensures ∙ w.if-not-contains_key.false in
-          rw (w.found-is, w.parents-is)
-          (again_on _ refs c.loop-reference.reference-index none _ _ _ _ c.loop-reference-test.true c.loop-reference.invariant taken)
+          let taken : is_some (get (found_in c.loop-reference.found.entries) slot) ≡ true = found_taken c.loop-reference.found.entries slot ∙ sym c.contains_key.ensures ∙ w.if-not-contains_key.false in
+          rw (w.found-is, w.parents-is) (record {
+            claims = again_on _ refs c.loop-reference.reference-index none _ _ _ _ c.loop-reference-test.true c.loop-reference.invariant.claims taken;
+            looked_up = c.loop-reference.invariant.looked_up;
+          })
     ]
-
-pub returns : goal.returns
-returns c = rw (← take_all c.loop-reference.reference-index c.args.references.now c.loop-reference-test.false) c.loop-reference.invariant

@@ -1,42 +1,44 @@
-use Rattle.std.proofs.Common.{◌≡◌, ◌+◌, ◌<◌, Some, [], get_or, ap, sym, ◌∙◌, arith}
+use Rattle.std.proofs.Common.{◌≡◌, ◌≤◌, List, get_or, length, arith}
 use Rattle.std.proofs.lemmas.List.{take_all}
 use Rattle.nw_digest.specs.declared.digest.Digest.{Digest}
 use Rattle.nw_codec.specs.declared.block.Block.{Block}
 use Rattle.nw_model.specs.View.{Frozen}
-use Rattle.nw_model.proofs.Finding.{finds_nothing, under_more, parents_nothing, parents_on, above_is, none_some}
-use Rattle.nw_causal.proofs.Looked.{IsAt}
+use Rattle.nw_model.proofs.Finding.{under_more, parents_on}
+use Rattle.nw_causal.specs.declared.ancestor.Ancestor.{Ancestor}
+use Rattle.nw_causal.specs.Looked.{digests, found_in}
 use Rattle.nw_causal.proofs.Claiming.{claims_find}
+use Rattle.nw_causal.proofs.Looking.{digests_length, child_is, parents_all}
 use Rattle.nw_causal.proofs.walks.parents_of_all.Goals as goal
-use Rattle.nw_causal.proofs.walks.parents_of_all.Goals.{in-Some+in-Some-before+in_ok-find_parents, in-Some+in_default-before, in_default}
+use Rattle.nw_causal.proofs.walks.parents_of_all.Goals.{in-Some+in_ok-find_parents, in_default}
 
-pub loop-digest-init : goal.loop-digest-init
-loop-digest-init g c = rw (c.new-parents.ensures.items) (finds_nothing _ _ _ _ (parents_nothing c.args.view.now.frozen))
-
-pub loop-digest-preserved : goal.loop-digest-preserved
-loop-digest-preserved g c =
+pub find_parents-requires-clause-there : goal.find_parents-requires-clause-there
+find_parents-requires-clause-there g c =
     let v : Frozen = c.args.view.now.frozen in
-    let none : Digest = record { 0 = [] } in
-    let d : Digest = get_or c.args.frontier.now c.loop-digest.digest-index none in
-    let above = c.requires.above c.loop-digest.digest-index none c.loop-digest-test.true in
-    elim c.match-get.branch [
-      | in-Some+in-Some-before+in_ok-find_parents w ↦
-          let block : Block = w.get-block.result.now in
-          let at : IsAt v d block = sym w.in-Some.ensures.block ∙ ap Some (sym w.get-block.ensures) in
-          let higher : v.floor < block.round = above_is v d block above at in
-          let before : w.in-Some-before.round + 1 ≡ block.round = w.in-Some-before.ensures in
-          rw (w.found-is, w.parents-is)
-          (parents_on v c.args.frontier.now c.loop-digest.digest-index none block _ _ _ _ _ _ c.loop-digest-test.true at higher c.loop-digest.invariant
-          (claims_find v d block _ _ _ _ _ c.get.ensures.closed at higher before
-          (under_more _ _ _ _ _ _ c.loop-digest.invariant c.requires.under)
-          (rw w.as_slice.ensures at w.in_ok-find_parents.ensures)))
-      | in-Some+in_default-before w ↦
-          let block : Block = w.get-block.result.now in
-          let at : IsAt v d block = sym w.in-Some.ensures.block ∙ ap Some (sym w.get-block.ensures) in
-          let higher : v.floor < block.round = above_is v d block above at in
-          let zero : block.round ≡ 0 = w.in_default-before.ensures in
-          absurd (omega (arith, higher, zero))
-      | in_default w ↦ absurd (none_some above.0 (w.in_default.ensures.block ∙ above.1))
+    let child = child_is v c.args.frontier.now c.loop-child.child-index c.child-item.result c.get-block.result.now c.loop-child-test.true c.child-item.is c.get-block.ensures c.requires.above c.requires.looked_up.more_at in
+    parents_all v _ c.get-block.result.now c.as_slice.result.now c.in-Some.round c.requires.closed child.at child.above c.as_slice.ensures c.in-Some.ensures
+
+pub loop-child-preserved : goal.loop-child-preserved
+loop-child-preserved g c =
+    let v : Frozen = c.args.view.now.frozen in
+    let a : Ancestor = c.child-item.result in
+    let names : List Digest = digests c.args.frontier.now in
+    let block : Block = c.get-block.result.now in
+    let child = child_is v c.args.frontier.now c.loop-child.child-index a block c.loop-child-test.true c.child-item.is c.get-block.ensures c.requires.above c.requires.looked_up.more_at in
+    elim c.match-before.branch [
+      | in-Some+in_ok-find_parents w ↦ rw (w.found-is, w.parents-is) (record {
+        parents = parents_on v names c.loop-child.child-index a.digest block _ _ _ _ _ _ child.within child.at child.above c.loop-child.invariant.parents
+            (claims_find v (get_or names c.loop-child.child-index a.digest) block w.in-Some.round (found_in c.loop-child.found.entries) (found_in w.find_parents.new.found.entries) (digests c.loop-child.parents.items) (digests w.find_parents.new.parents.items) c.requires.closed child.at child.above w.in-Some.ensures
+            (under_more _ _ _ _ _ _ c.loop-child.invariant.parents c.requires.under)
+            (rw w.as_slice.ensures at w.in_ok-find_parents.ensures.claims));
+        looked_up = w.in_ok-find_parents.ensures.looked_up;
+      })
+      | in_default w ↦
+          let zero : block.round ≡ 0 = w.in_default.ensures in
+          absurd (omega (arith, child.above, zero))
     ]
 
-pub returns : goal.returns
-returns g c = rw (← take_all c.loop-digest.digest-index c.args.frontier.now c.loop-digest-test.false) c.loop-digest.invariant
+pub returns-clause-parents : goal.returns-clause-parents
+returns-clause-parents g c =
+    let names : List Digest = digests c.args.frontier.now in
+    let past : length names ≤ c.loop-child.child-index = rw (digests_length c.args.frontier.now) c.loop-child-test.false in
+    rw (← take_all c.loop-child.child-index names past) c.loop-child.invariant.parents

@@ -1,8 +1,10 @@
 use Rattle.std.proofs.Common.{take, []}
-use Rattle.std.specs.FinMap.{from_entries}
 use Rattle.nw_model.specs.Search.{IsParentOfAny, Finds}
+use Rattle.nw_causal.specs.Looked.{HaveBlocks, digests, found_in}
 use Rattle.nw_causal.proofs.walks.parents_of_all.Given as goal
 
-abbrev pub invariant-loop-digest : goal.invariant-loop-digest
-invariant-loop-digest g l =
-    Finds l.view.frozen (IsParentOfAny l.view.frozen (take l.digest-index l.frontier)) (from_entries l.fn.found.entries) (from_entries l.found.entries) [] l.parents.items
+abbrev pub invariant-loop-child : goal.invariant-loop-child
+invariant-loop-child g l = record {
+  parents : Finds l.view.frozen (IsParentOfAny l.view.frozen (take l.child-index (digests l.frontier))) (found_in l.fn.found.entries) (found_in l.found.entries) [] (digests l.parents.items);
+  looked_up : HaveBlocks l.view.frozen l.found.entries l.parents.items;
+}

@@ -1,28 +1,13 @@
-use Rattle.std.proofs.Common.{Some, List, ap, sym, refl, ◌∙◌}
+use Rattle.std.proofs.Common.{List, ◌∙◌}
 use Rattle.std.specs.Map.{values_of}
-use Rattle.std.specs.Map.Iter.{deref}
-use Rattle.std.proofs.lemmas.Map.Iter.{iter_turn, iter_end}
-use Rattle.nw_digest.specs.declared.digest.Digest.{Digest}
-use Rattle.nw_model.proofs.Finding.{none_some}
-use Rattle.nw_model.proofs.Walked.{values_there, walk_on, turn_among, walked}
+use Rattle.std.proofs.lemmas.Map.Iter.{iter_end}
+use Rattle.nw_model.specs.State.{Slot}
+use Rattle.nw_causal.specs.declared.ancestor.Ancestor.{Ancestor}
+use Rattle.nw_causal.proofs.Looking.{walk_of}
 use Rattle.nw_causal.proofs.walks.walk.Goals as goal
-
-pub loop-digest-init : goal.loop-digest-init
-loop-digest-init g c = rw (c.in_ok-blocks.ensures.items) refl
-
-pub loop-digest-preserved-in_ok-push : goal.loop-digest-preserved-in_ok-push
-loop-digest-preserved-in_ok-push g c = rw (c.in_ok-push.ensures.items)
-    (walk_on c.args.view.now.frozen c.loop-digest.yielded c.in-Some.digest _ c.in_ok-try_clone.field-0 c.loop-digest.invariant
-    (sym c.in-Some-get.ensures.block ∙ ap Some (sym c.in_ok-try_clone.ensures)))
-
-pub loop-digest-preserved : goal.loop-digest-preserved
-loop-digest-preserved g c =
-    let values : List Digest = values_of c.in_ok-found.found.entries in
-    let turn = iter_turn deref values c.loop-digest.yielded _ _ _ _ (c.into_iter-digest-iterator.ensures.into_iter_gives ∙ c.values-digest-items.ensures.rest) c.loop-digest.yielded_by c.in-Some.digest c.in-Some.is c.next.ensures.steps in
-    let there = values_there c.args.view.now.frozen c.args.digest c.in_ok-found.found.entries c.len.ensures.ordered c.in_ok-found.ensures.found c.in-Some.digest.now (turn_among values _ _ turn.0 turn.1) in
-    absurd (none_some there.0 (c.in_default.ensures.block ∙ there.1))
 
 pub returns : goal.returns
 returns g c =
-    let all = iter_end deref (values_of c.in_ok-found.found.entries) c.loop-digest.yielded _ _ _ _ (c.into_iter-digest-iterator.ensures.into_iter_gives ∙ c.values-digest-items.ensures.rest) c.loop-digest.yielded_by c.in-None.is c.next.ensures.steps in
-    walked c.args.view.now.frozen c.args.digest c.in_ok-found.found.entries _ c.len.ensures.ordered c.in_ok-found.ensures.found (rw all.0 at c.loop-digest.invariant)
+    let es : List (Slot × Ancestor) = c.in_ok-found.found.entries in
+    let all = iter_end (λ (a : Ancestor). a) (values_of es) c.loop-ancestor.yielded _ _ _ _ (c.into_iter-ancestor-iterator.ensures.into_iter_gives ∙ c.into_values-ancestor-items.ensures.rest) c.loop-ancestor.yielded_by c.in-None.is c.next.ensures.steps in
+    walk_of c.args.view.now.frozen c.args.digest es c.loop-ancestor.blocks.items c.loop-ancestor.yielded c.len.ensures.ordered c.in_ok-found.ensures.found c.in_ok-found.ensures.looked_up all.0 c.loop-ancestor.invariant

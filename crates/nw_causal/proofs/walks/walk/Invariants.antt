@@ -1,7 +1,6 @@
-use Rattle.std.proofs.Common.{◌≡◌, Some, map}
-use Rattle.std.specs.FinMap.{get}
-use Rattle.std.specs.Map.Iter.{deref}
+use Rattle.std.proofs.Common.{◌≡◌, map}
+use Rattle.nw_causal.specs.declared.ancestor.Ancestor.{Ancestor}
 use Rattle.nw_causal.proofs.walks.walk.Given as goal
 
-abbrev pub invariant-loop-digest : goal.invariant-loop-digest
-invariant-loop-digest g l = map (get l.view.frozen.blocks) (map deref l.yielded) ≡ map Some l.blocks.items
+abbrev pub invariant-loop-ancestor : goal.invariant-loop-ancestor
+invariant-loop-ancestor g l = l.blocks.items ≡ map (λ (a : Ancestor). a.block) l.yielded

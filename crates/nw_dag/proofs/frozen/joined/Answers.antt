@@ -1,5 +1,5 @@
-use Rattle.nw_dag.proofs.Refrozen.{of_permutation}
+use Rattle.nw_dag.proofs.Freezing.{frozen_from}
 use Rattle.nw_dag.proofs.frozen.joined.Goals as goal
 
 pub returns-clause-blocks : goal.returns-clause-blocks
-returns-clause-blocks c = rw c.in_ok-replace.ensures.blocks (of_permutation c.args.held.now.state _ _ _ c.in_ok-ascending.ensures (rw c.deref.ensures.value at c.in_ok-all.ensures))
+returns-clause-blocks c = rw c.in_ok-replace.ensures.blocks (frozen_from c.args.held.now.state c.args.waits.now.lacking _ _ c.in_ok-complete.ensures (rw c.deref.ensures.value at c.in_ok-all.ensures))

@@ -1,23 +1,38 @@
+use Rattle.std.proofs.Common.{◌+◌, ◌≡◌, ◌≤◌, ap, sym, subst, arith}
+use Rattle.std.specs.FinMap.{len}
 use Rattle.nw_model.specs.State.{State}
+use Rattle.nw_model.specs.Step.{raised}
+use Rattle.nw_dag.specs.Collection.{LostCount}
+use Rattle.nw_dag.specs.Frozen.{AreFrozenBut}
 use Rattle.nw_dag.proofs.Refrozen.{frozen_raised}
-use Rattle.nw_dag.proofs.Collecting.{collecting}
+use Rattle.nw_dag.proofs.Collecting.{collecting, lost_fits}
 use Rattle.nw_dag.proofs.dag.Dag.raise.Goals as goal
+
+pub overflow_sub-dropped-2 : goal.overflow_sub-dropped-2
+overflow_sub-dropped-2 c =
+    let s : State = c.self.inside.held.state in
+    let fits = lost_fits s c.self.inside.waits.lacking c.args.round c.deref.result.now c.lost-lost.result c.lost-lost.ensures in
+    omega (arith, fits, c.blocks-blocks.ensures, c.blocks-2.ensures, ap (λ (t : State). len t.blocks) c.raise.ensures.state)
 
 pub collect-requires : goal.collect-requires
 collect-requires c =
+    let s : State = c.self.inside.held.state in
     let waits = c.self.inside.waits in
-    collecting c.self.inside.held.state c.raise.new.self.state c.args.round waits.unmet waits.lacking waits.complete.items c.in_ok-holders.holders.items c.deref-3.result.now _ c.raise.ensures.state c.up_to.ensures.sound
-    c.self.invariant.settled (rw (← c.self.view_is) at c.requires.higher) c.raise.ensures.fewer c.in_ok-holders.ensures.digests c.deref-3.ensures.value
+    let low = c.in_ok-holders.holders.items in
+    let fits = lost_fits s waits.lacking c.args.round c.deref.result.now c.lost-lost.result c.lost-lost.ensures in
+    collecting s c.raise.new.self.state c.args.round waits.unmet waits.lacking waits.roll.pending low c.deref-4.result.now c.lost-lost.result _ c.raise.ensures.state c.up_to.ensures.sound c.self.invariant.settled
+    (rw (← c.self.view_is) at c.requires.higher) c.in_ok-holders.ensures.digests c.deref-4.ensures.value
+    (subst (λ xs. LostCount s waits.lacking c.args.round xs c.lost-lost.result) c.deref.ensures.value c.lost-lost.ensures)
+    (omega (arith, fits, c.blocks-blocks.ensures, c.blocks-2.ensures, ap (λ (t : State). len t.blocks) c.raise.ensures.state))
 
 pub invariant_of-self : goal.invariant_of-self
 invariant_of-self c =
     let s : State = c.self.inside.held.state in
     let waits = c.self.inside.waits in
-    let new = c.collect.new.self.complete.items in
-    let frozen = c.self.inside.frozen in
+    let new = c.collect.new.self in
     record {
       settled = c.collect.ensures.settled;
-      frozen = rw (c.recount.ensures.generations, c.raise.ensures.state)
-          (frozen_raised s c.args.round waits.complete.items new frozen.generations.blocks frozen.count (rw (← c.self.view_is) at c.requires.higher) c.self.invariant.frozen c.recount.new.self.count
-          (rw (c.raise.ensures.state, c.complete_digests.ensures) at c.recount.ensures.count) (rw c.raise.ensures.state at c.collect.ensures.grown));
+      frozen = subst (λ (t : State). AreFrozenBut t new.lacking new.roll.fresh.items c.self.inside.frozen.generations.blocks) (sym c.raise.ensures.state)
+          (frozen_raised s c.args.round c.up_to.ensures.sound (rw (← c.self.view_is) at c.requires.higher) c.in_ok-holders.holders.items c.in_ok-holders.ensures.digests waits.lacking new.lacking waits.roll.fresh.items new.roll.fresh.items
+          c.self.inside.frozen.generations.blocks c.self.invariant.frozen (rw c.raise.ensures.state at c.collect.ensures.grown));
     }

@@ -1,4 +1,4 @@
-use Rattle.std.proofs.Common.{sym, subst}
+use Rattle.std.proofs.Common.{◌≡◌, ◌-◌, length, subst, arith}
 use Rattle.std.proofs.lemmas.List.Elements.{All-contains}
 use Rattle.nw_model.specs.State.{State, digest_cmp}
 use Rattle.nw_model.specs.Paths.{IsComplete}
@@ -14,11 +14,13 @@ pub returns : goal.returns
 returns c =
     let s : State = c.self.inside.held.state in
     let waits = c.self.inside.waits in
-    let inv = c.self.invariant.settled in
+    let inv = c.self.invariant.settled.settling in
     let same = ready_complete s waits.lacking c.certificates.ensures.sound inv.promoted in
-    let complete : HasCount digest_cmp (IsComplete s) c.complete.result =
-    subst (HasCount digest_cmp (IsComplete s)) (sym c.complete.ensures) (count_of (IsComplete s) waits.complete.items inv.listed.once (λ x. (
-      λ among. (same x).0 (All-contains (IsReady s waits.lacking) waits.complete.items x inv.listed.ready among),
+    let listed = c.self.invariant.settled.complete in
+    let counts : length listed ≡ c.blocks-3.result - c.pending.result = omega (arith, c.self.invariant.settled.counts, c.blocks-3.ensures, c.pending.ensures) in
+    let complete : HasCount digest_cmp (IsComplete s) (c.blocks-3.result - c.pending.result) =
+    subst (HasCount digest_cmp (IsComplete s)) counts (count_of (IsComplete s) listed inv.listed.once (λ x. (
+      λ among. (same x).0 (All-contains (IsReady s waits.lacking) listed x inv.listed.ready among),
       λ whole. inv.all x ((same x).1 whole),
     ))) in
     let wanted : HasCount wanted_cmp (IsWanted s) c.unmet.result = wanted_count s waits.unmet c.unmet.result inv.standing c.unmet.ensures in

@@ -1,17 +1,28 @@
-use Rattle.std.proofs.Common.{◌≡◌, ◌+◌, List, [], ◌∷◌, ◌++◌, get_or, take, sym, ◌∙◌, subst, arith}
+use Rattle.std.proofs.Common.{◌≡◌, ◌+◌, List, [], ◌∷◌, ◌++◌, get_or, take, refl, sym, ◌∙◌, subst}
 use Rattle.std.proofs.lemmas.List.{take_more}
+use Rattle.std.proofs.lemmas.List.Elements.{Contains-get_or}
 use Rattle.nw_digest.specs.declared.digest.Digest.{Digest}
 use Rattle.nw_waiting.specs.Pairs.{Pairs}
 use Rattle.nw_dag.specs.Lacking.{IsReady}
 use Rattle.nw_dag.specs.Changes.{Adds}
-use Rattle.nw_dag.specs.Settled.{AreListed}
-use Rattle.nw_dag.proofs.Listed.{adds_more, next_apart}
+use Rattle.nw_dag.proofs.Listed.{adds_more, adds_none, pending_next}
+use Rattle.nw_dag.proofs.Lists.{among_front}
+use Rattle.nw_dag.proofs.Releasing.{not_before}
 use Rattle.nw_dag.proofs.waits.Waits.add_ready.Goals as goal
 
-pub add_if_ready-requires-clause-apart : goal.add_if_ready-requires-clause-apart
-add_if_ready-requires-clause-apart c =
-    next_apart (IsReady c.args.held.now.state c.args.self.now.lacking) c.args.digests.now c.args.self.now.complete.items c.loop-digest.self.complete.items c.loop-digest.digest-index (record { 0 = [] })
-    c.loop-digest-test.true c.requires.once c.requires.apart c.loop-digest.invariant.added
+pub add_if_ready-requires : goal.add_if_ready-requires
+add_if_ready-requires c =
+    let s = c.args.held.now.state in
+    let none : Digest = record { 0 = [] } in
+    let i = c.loop-digest.digest-index in
+    let digests : List Digest = c.args.digests.now in
+    let d : Digest = get_or digests i none in
+    let inv = c.loop-digest.invariant in
+    record {
+      pending = λ ready. pending_next s c.args.self.now.lacking digests (take i digests) c.args.self.now.roll.fresh.items c.loop-digest.self.roll.fresh.items c.args.self.now.roll.pending c.loop-digest.self.roll.pending d
+          c.requires.tally inv.added (λ x among. among_front i digests x among) inv.most (Contains-get_or digests i none c.loop-digest-test.true)
+          (not_before digests i none c.loop-digest-test.true c.requires.once) (subst (λ (m : Pairs). IsReady s m d) inv.lacking ready);
+    }
 
 pub loop-digest-preserved : goal.loop-digest-preserved
 loop-digest-preserved c =
@@ -20,13 +31,18 @@ loop-digest-preserved c =
     let seen : List Digest = take c.loop-digest.digest-index c.args.digests.now in
     let d : Digest = get_or c.args.digests.now c.loop-digest.digest-index none in
     let more : take (c.loop-digest.digest-index + 1) c.args.digests.now ≡ seen ++ d ∷ [] = take_more c.args.digests.now c.loop-digest.digest-index none c.loop-digest-test.true in
-    let one : Adds (P c.args.self.now.lacking) (d ∷ []) c.loop-digest.self.complete.items c.add_if_ready.new.self.complete.items =
-    subst (λ (m : Pairs). Adds (P m) (d ∷ []) c.loop-digest.self.complete.items c.add_if_ready.new.self.complete.items) c.loop-digest.invariant.lacking c.add_if_ready.ensures.added in
+    let inv = c.loop-digest.invariant in
+    let new = c.add_if_ready.new.self.roll.fresh.items in
+    let one : Adds (P c.args.self.now.lacking) (d ∷ []) c.loop-digest.self.roll.fresh.items new =
+    subst (λ (m : Pairs). Adds (P m) (d ∷ []) c.loop-digest.self.roll.fresh.items new) inv.lacking c.add_if_ready.ensures.added in
     record {
-      unmet = c.add_if_ready.ensures.unmet ∙ c.loop-digest.invariant.unmet;
-      lacking = c.add_if_ready.ensures.lacking ∙ c.loop-digest.invariant.lacking;
-      added = subst (λ xs. Adds (P c.args.self.now.lacking) xs c.args.self.now.complete.items c.add_if_ready.new.self.complete.items) (sym more)
-          (adds_more (P c.args.self.now.lacking) seen d c.args.self.now.complete.items c.loop-digest.self.complete.items c.add_if_ready.new.self.complete.items c.loop-digest.invariant.added one);
-      listed = subst (λ (m : Pairs). AreListed c.args.held.now.state m c.add_if_ready.new.self.complete.items) c.loop-digest.invariant.lacking c.add_if_ready.ensures.listed;
-      capacity = omega (arith, c.loop-digest.invariant.capacity, c.add_if_ready.ensures.capacity);
+      unmet = c.add_if_ready.ensures.unmet ∙ inv.unmet;
+      lacking = c.add_if_ready.ensures.lacking ∙ inv.lacking;
+      added = subst (λ xs. Adds (P c.args.self.now.lacking) xs c.args.self.now.roll.fresh.items new) (sym more)
+          (adds_more (P c.args.self.now.lacking) seen d c.args.self.now.roll.fresh.items c.loop-digest.self.roll.fresh.items new
+          (not_before c.args.digests.now c.loop-digest.digest-index none c.loop-digest-test.true c.requires.once) inv.added one);
+      most = c.add_if_ready.ensures.most ∙ inv.most;
     }
+
+pub loop-digest-init : goal.loop-digest-init
+loop-digest-init c = record { unmet = refl; lacking = refl; added = adds_none (IsReady c.args.held.now.state c.args.self.now.lacking) c.args.self.now.roll.fresh.items; most = refl }

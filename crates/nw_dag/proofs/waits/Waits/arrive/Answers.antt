@@ -1,45 +1,59 @@
-use Rattle.std.proofs.Common.{[], ◌∷◌, ◌++◌, ap, ◌∙◌, Vec, Global}
-use Rattle.nw_digest.specs.declared.digest.Digest.{Digest}
+use Rattle.std.proofs.Common.{◌<◌, sym, subst}
 use Rattle.nw_model.specs.State.{State}
 use Rattle.nw_held.specs.Standing.{Stands}
 use Rattle.nw_dag.specs.Lacking.{IsReady}
-use Rattle.nw_dag.proofs.Steps.{not_standing, not_ready, now_ready}
-use Rattle.nw_dag.proofs.Freezing.{begins_same, begins_more}
+use Rattle.nw_dag.specs.declared.roll.Roll.{Roll}
+use Rattle.nw_dag.proofs.Steps.{not_standing, not_ready, now_ready, pending_but, grown_none, grown_from}
 use Rattle.nw_dag.proofs.Wanting.{refuted}
 use Rattle.nw_dag.proofs.waits.Waits.arrive.Goals as goal
 
 pub returns-then-not-stands : goal.returns-then-not-stands
 returns-then-not-stands c =
     let s : State = c.args.held.now.state in
+    let self = c.args.self.now in
+    let never = refuted c.stands.result (Stands s c.args.digest) c.stands.ensures.stands c.if-not-stands.true in
     record {
-      settled = not_standing s c.args.digest c.args.self.now.unmet c.args.self.now.lacking c.args.self.now.complete.items _ (refuted c.stands.result (Stands s c.args.digest) c.stands.ensures.stands c.if-not-stands.true) c.requires;
-      grown = begins_same c.args.self.now.complete.items;
+      settled = not_standing s c.args.digest self.unmet self.lacking self.roll.pending never c.requires;
+      grown = grown_none s c.args.digest self.lacking self.roll.fresh.items (λ ready. never ready.0);
     }
 
-pub cascade-requires-clause-due : goal.cascade-requires-clause-due
-cascade-requires-clause-due c =
+pub add-requires : goal.add-requires
+add-requires c =
     let s : State = c.args.held.now.state in
-    rw (c.add.ensures.unmet, c.add.ensures.lacking, c.meet.ensures.lacking)
-    (now_ready s c.args.digest c.args.self.now.unmet c.meet.new.self.unmet c.args.self.now.lacking c.args.self.now.complete.items c.add.new.self.complete.items _ _ c.len-first.result c.meet.ensures.unmet
-    (rw c.meet.ensures.lacking at c.add.ensures.listed)
-    (rw c.meet.ensures.complete at c.add.ensures.added)
-    (rw c.meet.ensures.complete at c.add.ensures.capacity)
-    (rw c.meet.ensures.complete at (c.len-first.ensures ∙ c.meet.new.self.complete.ok.0))
-    c.requires)
+    let self = c.args.self.now in
+    subst (λ (r : Roll). 0 < r.pending) (sym c.meet.ensures.roll) (pending_but s c.args.digest self.unmet self.lacking self.roll.pending c.requires (rw c.meet.ensures.lacking at (c.is_ready.ensures.0 c.if-is_ready.true)))
+
+pub cascade-requires : goal.cascade-requires
+cascade-requires c =
+    let s : State = c.args.held.now.state in
+    let self = c.args.self.now in
+    record {
+      due = rw c.meet.ensures.lacking
+          (now_ready s c.args.digest self.unmet c.meet.new.self.unmet self.lacking self.roll.fresh.items c.add.new.self.fresh.items self.roll.pending c.add.new.self.pending c.listed-first.result c.meet.ensures.unmet
+          (rw c.meet.ensures.lacking at (c.is_ready.ensures.0 c.if-is_ready.true))
+          (rw c.meet.ensures.roll at c.add.ensures.fresh)
+          (rw c.meet.ensures.roll at c.add.ensures.pending)
+          (rw c.meet.ensures.roll at c.listed-first.ensures)
+          c.requires);
+    }
 
 pub returns-then-is_ready : goal.returns-then-is_ready
-returns-then-is_ready c = record {
-  settled = c.cascade.ensures.settled;
-  grown = begins_more c.args.self.now.complete.items c.add.new.self.complete.items c.cascade.new.self.complete.items
-      (c.args.digest ∷ [], c.add.ensures.added ∙ ap (λ (q : Vec Digest Global). q.items ++ c.args.digest ∷ []) c.meet.ensures.complete) c.cascade.ensures.grown;
-}
+returns-then-is_ready c =
+    let s : State = c.args.held.now.state in
+    let self = c.args.self.now in
+    record {
+      settled = c.cascade.ensures.settled;
+      grown = grown_from s c.args.digest self.lacking c.cascade.new.self.lacking self.roll.fresh.items c.add.new.self.fresh.items c.cascade.new.self.roll.fresh.items
+          (rw c.meet.ensures.roll at c.add.ensures.fresh) (rw c.meet.ensures.lacking at c.cascade.ensures.grown);
+    }
 
 pub returns-else-is_ready : goal.returns-else-is_ready
 returns-else-is_ready c =
     let s : State = c.args.held.now.state in
-    rw (c.meet.ensures.lacking, c.meet.ensures.complete)
+    let self = c.args.self.now in
+    let never = refuted c.is_ready.result (IsReady s self.lacking c.args.digest) (rw c.meet.ensures.lacking at c.is_ready.ensures) c.if-is_ready.false in
+    rw (c.meet.ensures.lacking, c.meet.ensures.roll)
     (record {
-      settled = not_ready s c.args.digest c.args.self.now.unmet c.meet.new.self.unmet c.args.self.now.lacking c.args.self.now.complete.items _
-          (refuted c.is_ready.result (IsReady s c.args.self.now.lacking c.args.digest) (rw c.meet.ensures.lacking at c.is_ready.ensures) c.if-is_ready.false) c.meet.ensures.unmet c.requires;
-      grown = begins_same c.args.self.now.complete.items;
+      settled = not_ready s c.args.digest self.unmet c.meet.new.self.unmet self.lacking self.roll.pending never c.meet.ensures.unmet c.requires;
+      grown = grown_none s c.args.digest self.lacking self.roll.fresh.items never;
     })

@@ -1,37 +1,43 @@
-use Rattle.std.proofs.Common.{◌<◌, length, sym, subst, arith}
+use Rattle.std.proofs.Common.{◌<◌, ◌∙◌, refl, length, sym, subst, arith}
 use Rattle.nw_held.specs.Standing.{Stands}
+use Rattle.nw_dag.specs.Lacking.{IsReady}
 use Rattle.nw_dag.specs.Changes.{Promotes}
-use Rattle.nw_dag.proofs.Freezing.{begins_same, begins_more}
-use Rattle.nw_dag.proofs.Steps.{stands_at, cascaded, all_due, none_due}
+use Rattle.nw_dag.proofs.Steps.{tally_of, stands_at, cascaded, grown_same, grown_more, none_due}
 use Rattle.nw_dag.proofs.waits.Waits.cascade.Goals as goal
+
+pub promote-requires-clause-tally : goal.promote-requires-clause-tally
+promote-requires-clause-tally c = tally_of c.args.held.now.state c.loop-place.self.unmet c.loop-place.self.lacking _ c.loop-place.self.roll.pending c.loop-place.invariant.settling
 
 pub promote-requires-clause-stands : goal.promote-requires-clause-stands
 promote-requires-clause-stands c =
-    let lt : c.loop-place.place < length c.loop-place.self.complete.items = omega (arith, c.if-place-len.false, c.len.ensures, c.loop-place.self.complete.ok.0) in
-    subst (λ d. Stands c.args.held.now.state d) (sym c.index-digest.ensures) (stands_at c.args.held.now.state c.loop-place.self.lacking c.loop-place.self.complete.items c.loop-place.place c.index-digest.result.now c.loop-place.invariant.settling.listed lt)
+    subst (λ d. Stands c.args.held.now.state d) (sym c.in-Some.ensures.1)
+    (stands_at c.args.held.now.state c.loop-place.self.unmet c.loop-place.self.lacking c.loop-place.self.roll.fresh.items c.loop-place.self.roll.pending c.loop-place.place c.in-Some.digest c.loop-place.invariant.settling c.in-Some.ensures.0)
 
 pub loop-place-init : goal.loop-place-init
-loop-place-init c = record { settling = c.requires.due; grown = begins_same c.args.self.now.complete.items }
+loop-place-init c = record { settling = c.requires.due; grown = grown_same c.args.held.now.state c.args.self.now.lacking c.args.self.now.roll.fresh.items; most = refl }
 
 pub loop-place-preserved : goal.loop-place-preserved
 loop-place-preserved c =
-    let lt : c.loop-place.place < length c.loop-place.self.complete.items = omega (arith, c.if-place-len.false, c.len.ensures, c.loop-place.self.complete.ok.0) in
+    let s = c.args.held.now.state in
+    let was = c.loop-place.self in
+    let new = c.promote.new.self in
+    let inv = c.loop-place.invariant in
     record {
-      settling = cascaded c.args.held.now.state c.loop-place.self.unmet c.promote.new.self.unmet c.loop-place.self.lacking c.promote.new.self.lacking c.loop-place.self.complete.items c.promote.new.self.complete.items
-          _ _ c.loop-place.place c.index-digest.result.now c.loop-place.invariant.settling lt c.promote.ensures.unmet
-          (subst (λ d. Promotes c.args.held.now.state d c.loop-place.self.lacking c.promote.new.self.lacking c.loop-place.self.complete.items c.promote.new.self.complete.items) c.index-digest.ensures c.promote.ensures.promotes)
-          c.promote.ensures.listed c.promote.ensures.capacity;
-      grown = begins_more c.args.self.now.complete.items c.loop-place.self.complete.items c.promote.new.self.complete.items c.loop-place.invariant.grown (c.promote.ensures.promotes.added, c.promote.ensures.promotes.are);
+      settling = cascaded s was.unmet new.unmet was.lacking new.lacking was.roll.fresh.items new.roll.fresh.items was.roll.pending new.roll.pending c.loop-place.place c.in-Some.digest inv.settling c.in-Some.ensures.0 c.promote.ensures.unmet
+          (subst (λ d. Promotes s d was.lacking new.lacking was.roll.fresh.items new.roll.fresh.items) c.in-Some.ensures.1 c.promote.ensures.promotes) c.promote.ensures.most;
+      grown = grown_more s (IsReady s c.args.self.now.lacking) c.args.self.now.lacking was.lacking new.lacking c.args.self.now.roll.fresh.items was.roll.fresh.items new.roll.fresh.items c.in-Some.digest inv.grown c.promote.ensures.promotes;
+      most = c.promote.ensures.most ∙ inv.most;
     }
 
-pub returns-then-place-len : goal.returns-then-place-len
-returns-then-place-len c = record {
-  settled = none_due c.args.held.now.state c.loop-place.self.unmet c.loop-place.self.lacking c.loop-place.self.complete.items _ c.loop-place.place c.loop-place.invariant.settling (omega (arith, c.if-place-len.true, c.len.ensures, c.loop-place.self.complete.ok.0));
+pub returns-in-None : goal.returns-in-None
+returns-in-None c = record {
+  settled = none_due c.args.held.now.state c.loop-place.self.unmet c.loop-place.self.lacking c.loop-place.self.roll.fresh.items c.loop-place.self.roll.pending c.loop-place.place c.loop-place.invariant.settling c.in-None.ensures;
   grown = c.loop-place.invariant.grown;
 }
 
 pub returns : goal.returns
 returns c = record {
-  settled = all_due c.args.held.now.state c.loop-place.self.unmet c.loop-place.self.lacking c.loop-place.self.complete.items _ c.loop-place.place c.loop-place.invariant.settling (omega (arith, c.loop-place-test.false, c.blocks-place-end.ensures));
+  settled = none_due c.args.held.now.state c.loop-place.self.unmet c.loop-place.self.lacking c.loop-place.self.roll.fresh.items c.loop-place.self.roll.pending c.loop-place.place c.loop-place.invariant.settling
+      (omega (arith, c.loop-place-test.false, c.most-place-end.ensures, c.loop-place.invariant.most));
   grown = c.loop-place.invariant.grown;
 }

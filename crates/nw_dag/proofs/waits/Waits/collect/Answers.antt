@@ -1,33 +1,31 @@
-use Rattle.std.proofs.Common.{◌++◌, ap, ◌∙◌, arith}
 use Rattle.nw_model.specs.State.{State}
-use Rattle.nw_dag.proofs.Collecting.{listed_kept, collected}
-use Rattle.nw_dag.proofs.Freezing.{begins_more}
+use Rattle.nw_dag.proofs.Collecting.{dropped_fits, tally_kept, collected, grown_collected}
 use Rattle.nw_dag.proofs.waits.Waits.collect.Goals as goal
 
-pub release_each-requires-clause-listed : goal.release_each-requires-clause-listed
-release_each-requires-clause-listed c =
-    let s : State = c.args.held.now.state in
-    let self = c.args.self.now in
-    rw (c.drop_collected.ensures.lacking, c.drop_collected.ensures.kept)
-    (listed_kept s self.unmet self.lacking self.complete.items c.args.holders.now _ c.requires)
+pub dismiss-requires : goal.dismiss-requires
+dismiss-requires c = dropped_fits c.args.held.now.state c.args.self.now.unmet c.args.self.now.lacking c.args.self.now.roll.pending c.args.holders.now c.args.dropped c.requires
 
-pub release_each-requires-clause-room : goal.release_each-requires-clause-room
-release_each-requires-clause-room c = omega (arith, c.requires.fewer, c.requires.settled.room, c.drop_collected.ensures.capacity)
+pub release_each-requires-clause-tally : goal.release_each-requires-clause-tally
+release_each-requires-clause-tally c =
+    tally_kept c.args.held.now.state c.args.self.now.unmet c.args.self.now.lacking c.args.self.now.roll.pending c.args.holders.now c.args.dropped c.requires c.dismiss.new.self.pending c.dismiss.ensures.pending
 
 pub release_each-requires-clause-once : goal.release_each-requires-clause-once
 release_each-requires-clause-once c = c.requires.up_to.once
 
-pub cascade-requires-clause-due : goal.cascade-requires-clause-due
-cascade-requires-clause-due c =
+pub cascade-requires : goal.cascade-requires
+cascade-requires c =
     let s : State = c.args.held.now.state in
     let self = c.args.self.now in
     let new = c.release_each.new.self in
-    collected s self.unmet new.unmet self.lacking new.lacking self.complete.items c.args.holders.now c.drop_collected.new.self.complete.items new.complete.items _ _ c.len-first.result c.requires
-    c.drop_collected.ensures.kept (rw c.drop_collected.ensures.unmet at c.release_each.ensures.unmet) (rw c.drop_collected.ensures.lacking at c.release_each.ensures.lacking)
-    (rw c.drop_collected.ensures.lacking at c.release_each.ensures.added) c.release_each.ensures.listed (omega (arith, c.requires.fewer, c.requires.settled.room, c.drop_collected.ensures.capacity, c.release_each.ensures.capacity)) (c.len-first.ensures ∙ c.drop_collected.new.self.complete.ok.0)
+    record {
+      due = collected s self.unmet self.lacking self.roll.pending c.args.holders.now c.args.dropped c.requires new.unmet new.lacking c.dismiss.new.self.fresh.items new.roll.fresh.items c.dismiss.new.self.pending new.roll.pending c.listed-first.result
+          c.dismiss.ensures.pending c.release_each.ensures.unmet c.release_each.ensures.lacking c.release_each.ensures.added c.release_each.ensures.most c.listed-first.ensures;
+    }
 
 pub returns-clause-grown : goal.returns-clause-grown
 returns-clause-grown c =
-    let added = c.release_each.ensures.added in
-    begins_more _ c.release_each.new.self.complete.items c.cascade.new.self.complete.items
-    (added.added, added.are ∙ ap (λ xs. xs ++ added.added) c.drop_collected.ensures.kept) c.cascade.ensures.grown
+    let s : State = c.args.held.now.state in
+    let self = c.args.self.now in
+    let mid = c.release_each.new.self in
+    grown_collected s self.lacking mid.lacking c.cascade.new.self.lacking c.args.holders.now self.roll.fresh.items mid.roll.fresh.items c.cascade.new.self.roll.fresh.items
+    c.release_each.ensures.lacking (rw c.dismiss.ensures.fresh at c.release_each.ensures.added) c.cascade.ensures.grown

@@ -31,5 +31,5 @@ loop-reference-preserved c =
           inv.lacking c.in_ok-want.ensures.lacking);
       same_unmet = same_through c.args.holder c.args.self.now.unmet c.loop-reference.self.unmet c.want.new.self.unmet inv.same_unmet c.want.ensures.same_unmet;
       same_lacking = same_through c.args.holder c.args.self.now.lacking c.loop-reference.self.lacking c.want.new.self.lacking inv.same_lacking c.want.ensures.same_lacking;
-      complete = c.want.ensures.complete ∙ inv.complete;
+      roll = c.want.ensures.roll ∙ inv.roll;
     }

@@ -11,5 +11,5 @@ invariant-loop-reference l =
       lacking : Wants (λ w. IsMet l.held.state w × IsReady l.held.state l.fn.self.lacking w.digest) (IsNamedAmong (l.round + 1) (take l.reference-index l.references)) l.holder l.fn.self.lacking l.self.lacking;
       same_unmet : AreSameBut l.holder l.fn.self.unmet l.self.unmet;
       same_lacking : AreSameBut l.holder l.fn.self.lacking l.self.lacking;
-      complete : l.self.complete ≡ l.fn.self.complete;
+      roll : l.self.roll ≡ l.fn.self.roll;
     }
