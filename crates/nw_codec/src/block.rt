@@ -4,7 +4,7 @@ ghost use Rattle.std.specs.List.Sorted.{IsStrictlyIncreasing};
 ghost use Rattle.nw_codec.specs.Fits.{Fits, authors, transactions_size, body_size};
 
 use crate::limits::{MAX_BODY, MAX_PARENTS, MAX_TRANSACTION, MAX_TRANSACTIONS};
-use nw_digest::{Digest, Round, Sequence};
+use nw_digest::{Digest, InRound, Round, Sequence};
 
 /// A reference to a parent: its author and its digest.
 #[derive(Clone, Copy, Debug, PartialEq, Eq)]
@@ -38,6 +38,14 @@ impl Block {
     }
 }
 
+impl InRound for Block {
+    ghost round_of = { λ b. b.round };
+
+    fn round(&self) -> Round {
+        self.round
+    }
+}
+
 /// Whether each author is greater than the one before.
 fn is_ascending(parents: &[Ref]) -> bool
     ensures { IsTrue result ↔ IsStrictlyIncreasing (authors parents.now) }
@@ -64,4 +72,22 @@ fn size_of_all(transactions: &[Sequence<u8>]) -> usize
         size += 4 + transaction.as_slice().len();
     }
     size
+}
+
+#[cfg(test)]
+mod tests {
+    use super::*;
+    use std::test::Fail;
+
+    #[test]
+    fn a_block_is_in_its_round(rt: HostRuntime) -> Result<(), Fail> {
+        let block = Block {
+            author: 0,
+            round: Round::new(7).ok_or("out of range")?,
+            parents: Sequence::new(Vec::new(rt.alloc())),
+            transactions: Sequence::new(Vec::new(rt.alloc())),
+        };
+        assert_eq!(rt; block.round().get(), 7);
+        Ok(())
+    }
 }

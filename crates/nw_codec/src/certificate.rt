@@ -4,7 +4,7 @@ ghost use Rattle.std.specs.List.Sorted.{IsStrictlyIncreasing};
 ghost use Rattle.nw_codec.specs.Fits.{CertificateFits, signers};
 
 use crate::limits::MAX_VOTES;
-use nw_digest::{Digest, Round, Sequence};
+use nw_digest::{Digest, InRound, Round, Sequence};
 
 /// A signature of 64 bytes.
 #[derive(Clone, Copy, Debug, PartialEq, Eq)]
@@ -33,6 +33,14 @@ impl Certificate {
     {
         let votes = self.votes.as_slice();
         votes.len() <= MAX_VOTES && is_ascending(votes)
+    }
+}
+
+impl InRound for Certificate {
+    ghost round_of = { λ c. c.round };
+
+    fn round(&self) -> Round {
+        self.round
     }
 }
 
@@ -73,6 +81,18 @@ mod tests {
             };
             assert_eq!(rt; certificate.fits(), fits, "{signers:?}");
         }
+        Ok(())
+    }
+
+    #[test]
+    fn a_certificate_is_in_its_round(rt: HostRuntime) -> Result<(), Fail> {
+        let certificate = Certificate {
+            digest: Digest([1; 32]),
+            round: Round::new(7).ok_or("out of range")?,
+            author: 0,
+            votes: Sequence::new(Vec::new(rt.alloc())),
+        };
+        assert_eq!(rt; certificate.round().get(), 7);
         Ok(())
     }
 }

@@ -1,5 +1,5 @@
 -- What is frozen, and what views of it show.
-use Rattle.std.proofs.Common.{◌≡◌, ◌↔◌, ◌⊎◌, ℕ, ◌≤◌, Bool, true, false, cond, List, [], ◌∷◌, ◌++◌, Option, Some, None, IsSome, get_or, refl, ap, sym, ◌∙◌, subst, arith, inl, inr}
+use Rattle.std.proofs.Common.{◌≡◌, ◌⊎◌, ℕ, Bool, true, false, cond, List, [], ◌∷◌, ◌++◌, Option, Some, None, IsSome, get_or, refl, ap, sym, ◌∙◌, subst, arith, inl, inr}
 use Rattle.std.specs.Prelude.{Contains}
 use Rattle.std.specs.Option.{option_or}
 use Rattle.std.specs.Ordering.{eq_by_cmp}
@@ -7,15 +7,16 @@ use Rattle.std.specs.FinMap.{FinMap, get, empty, insert, get-empty, get-insert}
 use Rattle.std.proofs.lemmas.List.Elements.{Contains-append_cases, Contains-append_left, Contains-append_right}
 use Rattle.nw_digest.specs.declared.digest.Digest.{Digest}
 use Rattle.nw_codec.specs.declared.block.Block.{Block}
-use Rattle.nw_codec.specs.declared.certificate.Certificate.{Certificate}
 use Rattle.nw_waiting.specs.Pairs.{Pairs}
 use Rattle.nw_model.specs.State.{State, digest_cmp, opening}
 use Rattle.nw_model.specs.Paths.{IsStanding}
+use Rattle.nw_model.specs.Step.{from_round}
 use Rattle.nw_model.specs.Sound.{IsSound}
 use Rattle.nw_model.specs.View.{Frozen, IsClosed, Shows}
 use Rattle.nw_model.proofs.Complete.{one_block, parents_complete}
 use Rattle.nw_model.proofs.Kept.{after_insert, at_insert, same_digest}
 use Rattle.nw_model.proofs.Maps.{digests_total}
+use Rattle.nw_model.proofs.Raised.{is_kept, was_there}
 use Rattle.nw_model.proofs.Listed.{contains_cases, contains_first, contains_none}
 use Rattle.nw_generation.specs.Seen.{IsOver}
 use Rattle.nw_held.specs.Standing.{Stands}
@@ -80,11 +81,15 @@ frozen_all s lacking fresh blocks are = record {
 pub frozen_whole : (s : State) (lacking : Pairs) (fresh : List Digest) (blocks : FinMap digest_cmp Block) → AreFrozenBut s lacking fresh blocks → fresh ≡ [] → AreFrozen s lacking blocks
 frozen_whole s lacking fresh blocks was none d b kept = (λ at. was.only d b kept at, λ held. elim (was.each d b kept held) [ inl at ↦ at | inr among ↦ absurd (contains_none d (subst (λ xs. Contains xs d) none among)) ])
 
-pub frozen_from : (s : State) (lacking : Pairs) (complete : List Digest) (blocks : FinMap digest_cmp Block) → ((d : Digest) → Contains complete d ↔ IsReady s lacking d) → AreOf s complete blocks → AreFrozen s lacking blocks
-frozen_from s lacking complete blocks all are d b kept = (
-  λ at. let held = (are d b).0 at in ((all d).0 held.0, held.1),
-  λ (ready, at). (are d b).1 ((all d).1 ready, at),
-)
+-- what is below the garbage round goes
+pub frozen_above : (s : State) (lacking : Pairs) (fresh : List Digest) (all kept : FinMap digest_cmp Block) → AreFrozenBut s lacking fresh all → kept ≡ from_round (λ (b : Block). b.round) s.floor all → AreFrozenBut s lacking fresh kept
+frozen_above s lacking fresh all kept was is = record {
+  only = λ d b high at. was.only d b high (was_there (λ (x : Block). x.round) s.floor all d b (ap (λ (m : FinMap digest_cmp Block). get m d) (sym is) ∙ at)).0;
+  each = λ d b high held. elim (was.each d b high held) [
+    | inl there ↦ inl (ap (λ (m : FinMap digest_cmp Block). get m d) is ∙ is_kept (λ (x : Block). x.round) s.floor all d b there high)
+    | inr among ↦ inr among
+  ];
+}
 
 -- one generation more
 pub frozen_over : (s : State) (lacking : Pairs) (fresh : List Digest) (older newer blocks : FinMap digest_cmp Block) → AreFrozenBut s lacking fresh older → ((d : Digest) → Contains fresh d → IsReady s lacking d) → AreOf s fresh newer

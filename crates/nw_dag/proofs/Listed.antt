@@ -1,8 +1,6 @@
 -- What is complete, listed once.
-use Rattle.std.proofs.Common.{◌≡◌, ℕ, zero, suc, ◌+◌, ◌<◌, ◌≤◌, List, [], ◌∷◌, ◌++◌, length, get_or, take, Result, Ok, Err, is_ok, cond, is_some, refl, ap, sym, ◌∙◌, subst, arith, inl, inr, append_assoc, append-nil, length-append}
+use Rattle.std.proofs.Common.{◌≡◌, ℕ, zero, suc, ◌+◌, ◌<◌, ◌≤◌, List, [], ◌∷◌, ◌++◌, length, get_or, Result, Ok, Err, is_ok, cond, is_some, refl, ap, sym, ◌∙◌, subst, arith, inl, inr, append_assoc, append-nil, length-append}
 use Rattle.std.specs.Prelude.{Contains, IsOk, All}
-use Rattle.std.specs.List.{IsDistinct}
-use Rattle.std.specs.Ordering.{eq_by_cmp}
 use Rattle.std.specs.Cmp.{eq_by_cmp_equiv}
 use Rattle.std.specs.FinMap.{entries, keys, len, len-entries, contains_key-keys}
 use Rattle.std.proofs.lemmas.List.{length-map, length_push}
@@ -12,7 +10,7 @@ use Rattle.std.proofs.lemmas.Map.Views.{Contains-from_any}
 use Rattle.nw_digest.specs.declared.digest.Digest.{Digest}
 use Rattle.nw_codec.specs.declared.block.Block.{Block}
 use Rattle.nw_waiting.specs.Pairs.{Pairs}
-use Rattle.nw_model.specs.State.{State, digest_cmp}
+use Rattle.nw_model.specs.State.{State}
 use Rattle.nw_model.proofs.Kept.{same_digest}
 use Rattle.nw_model.proofs.Maps.{digests_total}
 use Rattle.nw_model.proofs.Listed.{contains_cases, contains_first, contains_none}

@@ -1,5 +1,5 @@
 -- A store in which nothing is.
-use Rattle.std.proofs.Common.{◌≡◌, ℕ, true, false, [], Some, None, sym, ◌∙◌, arith}
+use Rattle.std.proofs.Common.{◌≡◌, true, false, [], Some, None, sym, ◌∙◌, arith}
 use Rattle.std.specs.FinMap.{get-empty, len-empty}
 use Rattle.std.specs.FinSet.{empty, contains-empty}
 use Rattle.std.proofs.lemmas.List.Elements.{All-nil}

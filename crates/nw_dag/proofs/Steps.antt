@@ -12,7 +12,7 @@ use Rattle.nw_waiting.specs.Pairs.{Pairs, Lacks, AreHolders, without_wanted}
 use Rattle.nw_model.specs.State.{State}
 use Rattle.nw_model.proofs.Listed.{contains_cases, contains_first, contains_none}
 use Rattle.nw_held.specs.Standing.{Stands, named_as}
-use Rattle.nw_dag.specs.Lacking.{IsReady, AreUnmet, AreUnmetBut, AreLacking}
+use Rattle.nw_dag.specs.Lacking.{IsReady, AreUnmet, AreUnmetBut}
 use Rattle.nw_dag.specs.Changes.{Adds, Promotes}
 use Rattle.nw_dag.specs.Frozen.{Grows}
 use Rattle.nw_dag.specs.Settled.{AreListed, IsTally, IsSettling, IsCascading, IsSettled, IsSettledBut}

@@ -1,7 +1,7 @@
 //! The complete blocks that are frozen, of which views are made.
 ghost use Rattle.std.specs.Prelude.{◌≡◌, IfOk, OnOk, OnErr, Contains};
 ghost use Rattle.std.specs.FinMap as map;
-ghost use Rattle.nw_model.specs.State.{digest_cmp};
+ghost use Rattle.nw_model.specs.Step.{from_round};
 ghost use Rattle.nw_model.specs.View.{IsClosed};
 ghost use Rattle.nw_dag.specs.Lacking.{IsReady};
 ghost use Rattle.nw_dag.specs.Frozen.{AreFrozen, AreFrozenBut, AreOf};
@@ -9,7 +9,7 @@ ghost use Rattle.nw_dag.specs.Frozen.{AreFrozen, AreFrozenBut, AreOf};
 use crate::waits::Waits;
 use nw_codec::Block;
 use nw_digest::{Digest, NoMemory, Round, Shared};
-use nw_generation::{Generation, Generations, View, freeze};
+use nw_generation::{Generation, Generations, View, freeze, put};
 use nw_held::Held;
 use nw_trie::Trie;
 use std::alloc::Global;
@@ -34,7 +34,7 @@ impl Frozen {
     }
 
     /// Freezes the blocks that became complete since the last view, as one more generation, or none where none did. Where
-    /// there are as many as there may be, all that is complete is frozen anew as one first. Want of memory changes nothing.
+    /// there are as many as there may be, all that is frozen becomes one generation first. Want of memory changes nothing.
     pub(crate) fn add(&mut self, alloc: Global, held: &Held, waits: &Waits) -> Result<(), NoMemory>
         requires frozen { AreFrozenBut held.now.state waits.now.lacking waits.now.roll.fresh.items self.old.generations.blocks }
         requires fresh { (d : Digest) → Contains waits.now.roll.fresh.items d → IsReady held.now.state waits.now.lacking d }
@@ -46,7 +46,7 @@ impl Frozen {
         }
         let fresh = freeze_held(alloc, held, waits.fresh())?;
         if self.generations.parts() == MOST_PARTS {
-            let mut generations = joined(alloc, held, waits)?;
+            let mut generations = alone(alloc, self.not_below(alloc, held.floor())?)?;
             generations.push(fresh)?;
             self.generations = generations;
         } else {
@@ -57,11 +57,29 @@ impl Frozen {
 
     /// Freezes the complete blocks anew, as one generation in the place of all. Want of memory changes nothing.
     pub(crate) fn join(&mut self, alloc: Global, held: &Held, waits: &Waits) -> Result<(), NoMemory>
+        requires frozen { AreFrozenBut held.now.state waits.now.lacking waits.now.roll.fresh.items self.old.generations.blocks }
+        requires fresh { (d : Digest) → Contains waits.now.roll.fresh.items d → IsReady held.now.state waits.now.lacking d }
         ensures all { OnOk result (AreFrozen held.now.state waits.now.lacking self.new.generations.blocks) }
         ensures unchanged { OnErr result (self.new ≡ self.old) }
     {
-        self.generations = joined(alloc, held, waits)?;
+        let newest = freeze_held(alloc, held, waits.fresh())?;
+        let mut trie = self.not_below(alloc, held.floor())?;
+        newest.lay_over(&mut trie)?;
+        self.generations = alone(alloc, trie)?;
         Ok(())
+    }
+
+    /// What is frozen and not below the round. It costs what is frozen, and looks at nothing that is held.
+    fn not_below(
+        &self,
+        alloc: Global,
+        round: Round,
+    ) -> Result<Trie<Shared<Block>, Global>, NoMemory>
+        ensures { IfOk result (λ trie. map.from_entries trie ≡ from_round (λ (b : Block). b.round) round self.now.generations.blocks) }
+    {
+        let mut trie = self.generations.joined(alloc)?;
+        trie.retain_rounds(round);
+        Ok(trie)
     }
 
     /// A view of what is frozen.
@@ -73,15 +91,13 @@ impl Frozen {
     }
 }
 
-/// One generation alone, of all complete blocks. They are taken in the order of the tries, so that each look-up and each
-/// insert keeps close to the one before.
-fn joined(alloc: Global, held: &Held, waits: &Waits) -> Result<Generations<Global>, NoMemory>
-    ensures blocks { IfOk result (λ generations. AreFrozen held.now.state waits.now.lacking generations.blocks) }
+/// One generation alone, of these blocks.
+fn alone(alloc: Global, trie: Trie<Shared<Block>, Global>) -> Result<Generations<Global>, NoMemory>
+    ensures blocks { IfOk result (λ generations. generations.blocks ≡ map.from_entries trie) }
     ensures parts { IfOk result (λ generations. generations.parts ≡ 1) }
 {
-    let all = freeze_held(alloc, held, &waits.complete(held)?)?;
     let mut generations = Generations::new(alloc);
-    generations.replace(alloc, all)?;
+    generations.replace(alloc, generation_of(alloc, trie)?)?;
     Ok(generations)
 }
 
@@ -94,6 +110,16 @@ fn freeze_held(
     ensures { IfOk result (AreOf held.now.state digests.now) }
 {
     let trie = held_blocks(alloc, held, digests)?;
+    generation_of(alloc, trie)
+}
+
+/// The generation of these blocks.
+fn generation_of(
+    alloc: Global,
+    trie: Trie<Shared<Block>, Global>,
+) -> Result<Generation<Global>, NoMemory>
+    ensures { IfOk result (λ generation. generation ≡ map.from_entries trie) }
+{
     match freeze(alloc, trie) {
         Ok(generation) => Ok(generation),
         Err((refused, _trie)) => Err(refused),
@@ -115,18 +141,4 @@ fn held_blocks(
         }
     }
     Ok(trie)
-}
-
-/// Puts the block under the digest.
-fn put(
-    trie: &mut Trie<Shared<Block>, Global>,
-    digest: Digest,
-    block: Shared<Block>,
-) -> Result<(), NoMemory>
-    ensures { OnOk result (map.from_entries trie.new ≡ map.insert (map.from_entries {R = digest_cmp} trie.old) digest block) }
-{
-    match trie.insert(digest, block) {
-        Ok(_before) => Ok(()),
-        Err((refused, _block)) => Err(refused),
-    }
 }

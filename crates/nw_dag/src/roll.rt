@@ -104,7 +104,7 @@ impl Roll {
         self.pending -= blocks;
     }
 
-    /// Lists an pending block, which is complete now.
+    /// Lists a pending block, which is complete now.
     pub(crate) fn add(&mut self, digest: Digest)
         requires { 0 < self.old.pending }
         ensures fresh { self.new.fresh.items ≡ self.old.fresh.items ++ digest ∷ [] }

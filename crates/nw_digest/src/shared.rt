@@ -1,7 +1,7 @@
 //! A value with several owners.
 ghost use Rattle.std.specs.Prelude.{◌≡◌, IfOk};
 
-use crate::NoMemory;
+use crate::{InRound, NoMemory, Round};
 use std::alloc::{AllocError, Global};
 use std::marker::Model;
 use std::sync::Arc;
@@ -67,4 +67,12 @@ impl<T: PartialEq + Drop> PartialEq for Shared<T> {
 
 impl<T: Eq + Drop> Eq for Shared<T> {
     ghost laws = { T.Eq.laws };
+}
+
+impl<T: InRound + Drop> InRound for Shared<T> {
+    ghost round_of = { T.round_of };
+
+    fn round(&self) -> Round {
+        self.get().round()
+    }
 }

@@ -58,5 +58,6 @@ fn round_of<T: InRound>(item: &T) -> u64 {
 fn what_is_in_a_round_tells_it(rt: HostRuntime) -> Result<(), Fail> {
     let item = Numbered(Round::new(7).ok_or("out of range")?);
     assert_eq!(rt; round_of(&item), 7);
+    assert_eq!(rt; round_of(&Shared::new(rt.alloc(), item)?), 7);
     Ok(())
 }

@@ -1,3 +1,4 @@
 pub mod Unions
+pub mod Laying
 pub mod Samples
 pub mod Sent

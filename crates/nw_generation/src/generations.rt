@@ -5,7 +5,9 @@ ghost use Rattle.nw_model.specs.View.{IsClosed};
 ghost use Rattle.nw_generation.specs.Seen.{IsOver};
 
 use crate::{Generation, View};
-use nw_digest::{NoMemory, Round};
+use nw_codec::Block;
+use nw_digest::{NoMemory, Round, Shared};
+use nw_trie::Trie;
 use std::alloc::{Allocator, Global};
 use std::marker::Model;
 
@@ -69,6 +71,17 @@ impl<A: Allocator> Generations<A> {
         list.push(generation)?;
         self.list = list;
         Ok(())
+    }
+
+    /// What they hold together, as a trie of its own, which shares the blocks.
+    pub fn joined(&self, alloc: Global) -> Result<Trie<Shared<Block>, Global>, NoMemory>
+        ensures { IfOk result (λ trie. map.from_entries trie ≡ self.now.blocks) }
+    {
+        let mut trie = Trie::new_in(alloc);
+        for generation in self.list.as_slice() {
+            generation.lay_over(&mut trie)?;
+        }
+        Ok(trie)
     }
 
     /// A view of what they hold together. It shares them.

@@ -10,7 +10,7 @@ mod generation;
 mod generations;
 mod view;
 
-pub use generation::{Generation, freeze};
+pub use generation::{Generation, freeze, put};
 pub use generations::Generations;
 pub use view::View;
 

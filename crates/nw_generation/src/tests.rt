@@ -86,6 +86,30 @@ fn of_two_blocks_under_a_digest_the_later_one_is_seen(rt: HostRuntime) -> Result
     Ok(())
 }
 
+/// Both older generations and the newer one, as one trie.
+fn joined(alloc: Global) -> Result<Blocks, Fail> {
+    let mut generations = Generations::new(alloc);
+    generations.push(frozen(alloc, older(alloc, b"earlier")?)?)?;
+    generations.push(frozen(alloc, older(alloc, b"later")?)?)?;
+    generations.push(frozen(alloc, newer(alloc)?)?)?;
+    Ok(generations.joined(alloc)?)
+}
+
+#[test]
+fn joined_generations_are_one_trie_in_which_the_later_block_counts(
+    rt: HostRuntime,
+) -> Result<(), Fail> {
+    let trie = joined(rt.alloc())?;
+    assert_eq!(rt; trie.len(), 4);
+    assert!(rt; trie.get(&name(1, 0)).is_some());
+    let block = trie.get(&name(0, 1)).ok_or("both have the block")?.get();
+    assert_eq!(rt; block.transactions.as_slice().len(), 1);
+    for transaction in block.transactions.as_slice() {
+        assert_eq!(rt; transaction.as_slice(), b"later".as_slice());
+    }
+    Ok(())
+}
+
 #[test]
 fn a_view_outlives_its_generations(rt: HostRuntime) -> Result<(), Fail> {
     let generation = frozen(rt.alloc(), older(rt.alloc(), b"first")?)?;

@@ -4,5 +4,4 @@ pub mod Shelves
 pub mod Filtered
 pub mod HeldRaised
 pub mod Sent
-pub mod Listings
 pub mod Counted

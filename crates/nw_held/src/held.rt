@@ -135,19 +135,6 @@ impl Held {
         self.block(digest).is_some() && self.certificate(digest).is_some()
     }
 
-    /// The digests of the blocks that stand, in their order. It is refused for want of memory alone.
-    pub fn standing(&self) -> Result<Vec<Digest>, NoMemory>
-        ensures { IfOk result (λ found. (d : Digest) → Contains found.items d ↔ Stands self.now.state d) }
-    {
-        let mut found = Vec::new(self.alloc);
-        for (digest, _block) in self.blocks.iter() {
-            if self.certificate(digest).is_some() {
-                found.push(*digest)?;
-            }
-        }
-        Ok(found)
-    }
-
     /// Whether what is wanted stands, of that round and author. A block of another round or author does not count.
     pub fn is_met(&self, wanted: &Wanted) -> bool
         ensures { IsTrue result ↔ IsMet self.now.state wanted.now }

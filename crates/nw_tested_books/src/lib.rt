@@ -1,4 +1,4 @@
-//! Tests of books and of runs: what answers carry, whose turn it is, late walks, compactions, reopened books, and moves in order.
+//! Tests of books: what answers carry, whose turn it is, late walks, compactions, and reopened books.
 //!
 //! Its contract: it has tests alone, and nothing stands on it.
 #![tactic(auto)]

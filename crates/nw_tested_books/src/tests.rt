@@ -1,6 +1,5 @@
 use nw_book::{Agreement, Book, BookError, Command, Done, NoStep, Ticket};
-use nw_committee::Committee;
-use nw_digest::{Digest, Shared};
+use nw_digest::Digest;
 use nw_history::{Front, Limits};
 use nw_model::{Call, Reply, WriteReply};
 use nw_sample_checked::{block, certificate, committee};
@@ -15,7 +14,6 @@ mod chunks;
 mod committees;
 mod compacted;
 mod reopened;
-mod runs;
 mod turns;
 
 /// The limits of a book that takes 16 blocks over four rounds.

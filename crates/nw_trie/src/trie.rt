@@ -159,6 +159,7 @@ impl<V: Drop, A: Allocator> Trie<V, A> {
         V: InRound,
         ensures kept { self.new ≡ filter (λ entry. nat_le floor (V.round_of entry.1)) self.old }
         ensures dropped { length self.new + result ≡ length self.old }
+        ensures ordered { IsStrictlySortedBy digest_cmp (keys_of self.old) }
     {
         let dropped = self.tree.retain_rounds(floor);
         self.len -= dropped;

@@ -40,6 +40,7 @@ impl Dag {
     pub fn compact(&mut self, alloc: Global) -> Result<(), NoMemory>
         ensures { self.new ≡ self.old }
     {
+        self.waits.drop_stale(&self.held);
         self.frozen.join(alloc, &self.held, &self.waits)?;
         self.waits.clear_fresh();
         Ok(())

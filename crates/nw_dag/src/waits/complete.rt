@@ -1,9 +1,9 @@
-//! The complete blocks, for views of them.
-ghost use Rattle.std.specs.Prelude.{◌≡◌, ◌↔◌, IfOk, [], Contains};
+//! The blocks that became complete, for views of them.
+ghost use Rattle.std.specs.Prelude.{◌≡◌, ◌↔◌, [], Contains};
 ghost use Rattle.nw_dag.specs.Lacking.{IsReady};
 
 use super::Waits;
-use nw_digest::{Digest, NoMemory};
+use nw_digest::Digest;
 use nw_held::Held;
 
 impl Waits {
@@ -32,14 +32,5 @@ impl Waits {
         ensures pending { self.new.roll.pending ≡ self.old.roll.pending }
     {
         self.roll.clear();
-    }
-
-    /// All complete blocks, in their order.
-    pub(crate) fn complete(&self, held: &Held) -> Result<Vec<Digest>, NoMemory>
-        ensures { IfOk result (λ found. (d : Digest) → Contains found.items d ↔ IsReady held.now.state self.now.lacking d) }
-    {
-        let mut found = held.standing()?;
-        found.retain(|digest| self.lacks_nothing(*digest));
-        Ok(found)
     }
 }

@@ -3,6 +3,7 @@ ghost use Rattle.std.specs.Prelude.{◌≡◌, ◌+◌, ◌<◌, ◌^◌, length
 ghost use Rattle.std.specs.Map.{lookup, remove_entry};
 ghost use Rattle.std.specs.BTreeMap.{is_at};
 ghost use Rattle.nw_trie.specs.Bits.{digest_cmp};
+ghost use Rattle.nw_trie.specs.Entries.{AreEntries};
 ghost use Rattle.nw_trie.specs.Tree.{IsNearlyTree, IsTree, entries_of};
 
 use super::{Entry, Link, Sides, Tree};
@@ -46,12 +47,14 @@ impl<V: Drop, A: Allocator> Tree<V, A> {
     }
 
     /// Drops what is of a lower round, and gives the count of it.
+    #[tactic(auto, using(crate::proofs::Splits::tree_entries))]
     pub(crate) fn retain_rounds(&mut self, floor: Round) -> usize
     where
         V: InRound,
         requires { length self.old < 2 ^ 64 }
         ensures kept { self.new ≡ filter (λ e. nat_le floor (V.round_of e.1)) self.old }
         ensures counted { length self.new + result ≡ length self.old }
+        ensures entries { AreEntries self.old }
     {
         match &mut self.link {
             Link::Empty => 0,

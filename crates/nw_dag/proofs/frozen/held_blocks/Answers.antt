@@ -22,7 +22,7 @@ loop-digest-preserved c =
     let more : take (i + 1) xs ≡ take i xs ++ d ∷ [] = take_more xs i none c.loop-digest-test.true in
     subst (λ ys. AreOf s ys (from_entries {R = digest_cmp} c.match-block.trie)) (sym more) (elim c.match-block.branch [
       | in-Some+in_ok-try_clone+in_ok-put w ↦ held_more s (take i xs) (from_entries {R = digest_cmp} c.loop-digest.trie) (from_entries c.match-block.trie) d w.in-Some.block.now c.loop-digest.invariant
-          (sym w.in-Some.ensures.value) (ap (λ (es : List (Digest × Block)). from_entries es) w.trie-is ∙ w.in_ok-put.ensures ∙ ap (insert (from_entries {R = digest_cmp} c.loop-digest.trie) d) w.in_ok-try_clone.ensures)
+          (sym w.in-Some.ensures.value) (ap (λ (es : List (Digest × Block)). from_entries es) w.trie-is ∙ w.in_ok-put.ensures.put ∙ ap (insert (from_entries {R = digest_cmp} c.loop-digest.trie) d) w.in_ok-try_clone.ensures)
       | in_default w ↦ held_same s (take i xs) (from_entries {R = digest_cmp} c.loop-digest.trie) (from_entries c.match-block.trie) d c.loop-digest.invariant
           (sym w.in_default.ensures.value) (ap (λ (es : List (Digest × Block)). from_entries es) w.trie-is)
     ])

@@ -1,7 +1,6 @@
-use Rattle.std.proofs.Common.{◌+◌, ◌≡◌, ◌≤◌, ap, sym, subst, arith}
+use Rattle.std.proofs.Common.{ap, sym, subst, arith}
 use Rattle.std.specs.FinMap.{len}
 use Rattle.nw_model.specs.State.{State}
-use Rattle.nw_model.specs.Step.{raised}
 use Rattle.nw_dag.specs.Collection.{LostCount}
 use Rattle.nw_dag.specs.Frozen.{AreFrozenBut}
 use Rattle.nw_dag.proofs.Refrozen.{frozen_raised}

@@ -1,14 +1,13 @@
-use Rattle.std.proofs.Common.{◌≡◌, ◌+◌, ◌<◌, None, Some, ap, refl, sym, ◌∙◌, subst}
-use Rattle.std.specs.Prelude.{Contains, length}
+use Rattle.std.proofs.Common.{◌≡◌, ◌+◌, None, ap, refl, sym, ◌∙◌, subst}
+use Rattle.std.specs.Prelude.{Contains}
 use Rattle.std.specs.FinMap.{get}
 use Rattle.nw_digest.specs.declared.digest.Digest.{Digest}
 use Rattle.nw_waiting.specs.Pairs.{Pairs}
 use Rattle.nw_model.specs.State.{State}
 use Rattle.nw_model.specs.Step.{with_block}
-use Rattle.nw_dag.specs.Lacking.{IsReady}
 use Rattle.nw_dag.specs.declared.roll.Roll.{Roll}
 use Rattle.nw_dag.specs.Changes.{AreSameBut}
-use Rattle.nw_dag.specs.Frozen.{AreFrozenBut, Grows}
+use Rattle.nw_dag.specs.Frozen.{AreFrozenBut}
 use Rattle.nw_dag.proofs.Freezing.{frozen_arrived, frozen_fewer}
 use Rattle.nw_held.proofs.Puts.{absent}
 use Rattle.nw_dag.proofs.Written.{block_arrives, forgotten, get_other, nothing_unmet, nothing_lacking, since_written, written}

@@ -1,4 +1,4 @@
-use Rattle.std.proofs.Common.{◌≡◌, ◌+◌, List, [], ◌∷◌, ◌++◌, get_or, length, take, refl, sym, ap, subst, arith, length-append}
+use Rattle.std.proofs.Common.{◌≡◌, ◌+◌, List, [], ◌∷◌, ◌++◌, get_or, take, refl, sym, subst, arith}
 use Rattle.std.proofs.lemmas.List.{take_all, take_more, length_push}
 use Rattle.nw_digest.specs.declared.digest.Digest.{Digest}
 use Rattle.nw_dag.specs.Changes.{Adds}

@@ -1,15 +1,26 @@
-//! Runs of moves: what they answer, and where they stop.
-use super::*;
-use nw_digest::Round;
-use nw_model::{CertifyReply, CollectReply};
+//! Runs of moves in a book of one member.
+use nw_book::{Book, Command, NoStep};
+use nw_digest::{Digest, Round};
+use nw_history::Limits;
+use nw_model::{CertifyReply, CollectReply, Reply, WriteReply};
 use nw_run::{Answer, Cause, Move, Run, Stop, run};
+use nw_sample_checked::{block, certificate, committee};
+use nw_sig::DemoScheme;
+use std::alloc::Global;
+use std::test::Fail;
 
 /// A move of a run.
 type Step = Move<DemoScheme>;
 
-/// What these moves give, in a book of one member and one session with room for so many events.
+/// What these moves give, in a book of one session with room for so many events, which takes 16 blocks over four rounds.
 fn played(alloc: Global, events: u32, moves: &[Step]) -> Result<Run<DemoScheme>, Fail> {
-    let mut book = book_of_one(alloc, limits(events, 1))?;
+    let limits = Limits {
+        blocks: 16,
+        events,
+        window: 4,
+        sessions: 1,
+    };
+    let mut book = Book::new(alloc, committee(alloc, 1)?, limits)?;
     Ok(run(&mut book, alloc, moves))
 }
 

@@ -1,0 +1,15 @@
+use Rattle.std.proofs.Common.{subst}
+use Rattle.std.specs.FinMap.{from_entries}
+use Rattle.nw_generation.proofs.Laying.{IsLaying, all_left, one_laid}
+use Rattle.nw_generation.proofs.generation.Generation.lay_over.Goals as goal
+
+pub loop-digest-init : goal.loop-digest-init
+loop-digest-init g c =
+    rw (← c.self.view_is, c.into_iter-digest-iterator.ensures.into_iter_gives, c.iter-digest-items.ensures.all, c.deref.ensures)
+    (all_left c.self.inside.trie.value (from_entries c.args.trie.now) (rw c.deref.ensures at c.iter-digest-items.ensures.ordered))
+
+pub loop-digest-preserved : goal.loop-digest-preserved
+loop-digest-preserved g c =
+    rw (c.in_ok-put.ensures.put, c.in_ok-try_clone.ensures)
+    (one_laid c.args.self.now (from_entries c.args.trie.now) (from_entries c.loop-digest.trie) c.in-Some.digest.now c.in-Some.block.now c.next.new.self
+    (subst (λ left. IsLaying c.args.self.now (from_entries c.args.trie.now) left (from_entries c.loop-digest.trie)) c.in-Some.ensures.steps c.loop-digest.invariant))
