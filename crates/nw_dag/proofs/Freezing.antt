@@ -77,10 +77,6 @@ frozen_all s lacking fresh blocks are = record {
   each = λ d b kept held. inl ((are d b kept).1 held);
 }
 
--- nothing is listed
-pub frozen_whole : (s : State) (lacking : Pairs) (fresh : List Digest) (blocks : FinMap digest_cmp Block) → AreFrozenBut s lacking fresh blocks → fresh ≡ [] → AreFrozen s lacking blocks
-frozen_whole s lacking fresh blocks was none d b kept = (λ at. was.only d b kept at, λ held. elim (was.each d b kept held) [ inl at ↦ at | inr among ↦ absurd (contains_none d (subst (λ xs. Contains xs d) none among)) ])
-
 -- what is below the garbage round goes
 pub frozen_above : (s : State) (lacking : Pairs) (fresh : List Digest) (all kept : FinMap digest_cmp Block) → AreFrozenBut s lacking fresh all → kept ≡ from_round (λ (b : Block). b.round) s.floor all → AreFrozenBut s lacking fresh kept
 frozen_above s lacking fresh all kept was is = record {
