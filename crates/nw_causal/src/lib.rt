@@ -11,6 +11,3 @@ mod walks;
 
 pub use agreement::{Agreement, agree};
 pub use walks::walk;
-
-#[cfg(test)]
-mod tests;

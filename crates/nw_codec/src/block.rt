@@ -73,21 +73,3 @@ fn size_of_all(transactions: &[Sequence<u8>]) -> usize
     }
     size
 }
-
-#[cfg(test)]
-mod tests {
-    use super::*;
-    use std::test::Fail;
-
-    #[test]
-    fn a_block_is_in_its_round(rt: HostRuntime) -> Result<(), Fail> {
-        let block = Block {
-            author: 0,
-            round: Round::new(7).ok_or("out of range")?,
-            parents: Sequence::new(Vec::new(rt.alloc())),
-            transactions: Sequence::new(Vec::new(rt.alloc())),
-        };
-        assert_eq!(rt; block.round().get(), 7);
-        Ok(())
-    }
-}

@@ -64,6 +64,3 @@ pub fn decode_message(alloc: Global, text: &[u8]) -> Result<Message, DecodeError
     check_text(text)?;
     Ok(message_of(alloc, text)?)
 }
-
-#[cfg(test)]
-mod tests;

@@ -156,6 +156,3 @@ pub fn encode_message(alloc: Global, sent: &Message) -> Result<Vec<u8>, EncodeEr
         Message::Vote(vote) => Ok(encode_vote_message(alloc, vote)?),
     }
 }
-
-#[cfg(test)]
-mod tests;

@@ -14,6 +14,3 @@ pub use committee::Committee;
 pub use error::CommitteeFault;
 pub use laws::{equal_members_have_the_classic_quorum, quorums_intersect};
 pub use member::{Key, Member};
-
-#[cfg(test)]
-mod tests;

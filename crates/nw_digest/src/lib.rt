@@ -17,6 +17,3 @@ pub use memory::NoMemory;
 pub use round::Round;
 pub use sequence::Sequence;
 pub use shared::Shared;
-
-#[cfg(test)]
-mod tests;

@@ -1,4 +1,3 @@
 pub mod Unions
 pub mod Laying
-pub mod Samples
 pub mod Sent

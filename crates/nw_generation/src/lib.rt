@@ -13,6 +13,3 @@ mod view;
 pub use generation::{Generation, freeze, put};
 pub use generations::Generations;
 pub use view::View;
-
-#[cfg(test)]
-mod tests;

@@ -10,6 +10,3 @@ mod log;
 mod rule;
 
 pub use log::{Claim, Keeper, Opened, Place};
-
-#[cfg(test)]
-mod tests;

@@ -14,6 +14,3 @@ pub use fault::LineFault;
 pub use line::{BlockLine, CommitteeLine, LimitsLine, Line, Request, parse_line};
 pub use lists::list;
 pub use word::{Name, member, number, transaction, weight};
-
-#[cfg(test)]
-mod tests;

@@ -11,6 +11,3 @@ mod signed;
 pub use demo::{DemoScheme, DemoSigner};
 pub use scheme::{Scheme, Signer};
 pub use signed::{block_text, vote_text};
-
-#[cfg(test)]
-mod tests;

@@ -1,0 +1,59 @@
+//! Blocks and what they are named by.
+ghost use Rattle.std.specs.Prelude.{◌≡◌, ◌+◌, ◌*◌, ◌<◌, IfOk};
+ghost use Rattle.sample_blocks.specs.Sample.{NameBases, name_of};
+
+use nw_codec::{Block, Ref};
+use nw_digest::{Digest, NoMemory, Round, Sequence, Shared};
+use std::alloc::Global;
+
+/// The digest of the block of this round and author.
+pub fn name(round: u8, author: u8) -> Digest
+    requires { 16 * round + author < 256 }
+    ensures { result ≡ name_of (round, author) }
+{
+    Digest([16 * round + author; 32])
+}
+
+/// The round of this number.
+pub fn round(number: u8) -> Round
+    ensures { result ≡ number }
+{
+    match Round::new(u64::from(number)) {
+        Some(round) => round,
+        None => unreachable!(),
+    }
+}
+
+/// The block of the round and author, with one transaction.
+pub fn block(
+    alloc: Global,
+    slot: (Round, u16),
+    parents: Vec<Ref>,
+    text: &[u8],
+) -> Result<Shared<Block>, NoMemory>
+    ensures { IfOk result (λ b. (b.round ≡ slot.0) × (b.author ≡ slot.1) × (b.parents ≡ parents.items)) }
+{
+    let mut transactions = Vec::new(alloc);
+    transactions.push(Sequence::new(text.to_vec(alloc)?))?;
+    let block = Block {
+        author: slot.1,
+        round: slot.0,
+        parents: Sequence::new(parents),
+        transactions: Sequence::new(transactions),
+    };
+    Ok(Shared::new(alloc, block)?)
+}
+
+/// References to the blocks of round 0 of three authors.
+pub fn references(alloc: Global) -> Result<Vec<Ref>, NoMemory>
+    ensures { IfOk result (λ refs. NameBases 3 refs.items) }
+{
+    let mut refs = Vec::new(alloc);
+    for author in 0..3u8 {
+        refs.push(Ref {
+            author: author as u16,
+            digest: name(0, author),
+        })?;
+    }
+    Ok(refs)
+}

@@ -1,0 +1,7 @@
+mod bodies;
+mod committees;
+mod digests;
+mod lines;
+mod signatures;
+mod texts;
+mod votes;
