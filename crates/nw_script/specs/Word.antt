@@ -7,18 +7,16 @@ use Rattle.std.specs.List.{AllPass}
 abbrev pub is_word_byte : ℕ → Bool
 is_word_byte b = is_ascii_lowercase b || is_ascii_digit b
 
--- 1 to 16 letters and digits, a letter first
-pub record IsName (word : List ℕ) : Type 0 where
+-- 1 to so many letters and digits
+pub record IsWord (most : ℕ) (word : List ℕ) : Type 0 where
   pub not_empty : 1 ≤ length word
-  pub short : length word ≤ 16
-  pub letter_first : is_ascii_lowercase (slice_index word 0) ≡ true
+  pub short : length word ≤ most
   pub letters_and_digits : AllPass is_word_byte word
 
--- 1 to 64 letters and digits
-pub record IsWord (word : List ℕ) : Type 0 where
-  pub not_empty : 1 ≤ length word
-  pub short : length word ≤ 64
-  pub letters_and_digits : AllPass is_word_byte word
+-- 1 to 16 letters and digits, a letter first
+pub record IsName (word : List ℕ) : Type 0 where
+  pub short_word : IsWord 16 word
+  pub letter_first : is_ascii_lowercase (slice_index word 0) ≡ true
 
 -- neither a plus sign nor a zero before other digits comes first
 pub record IsPlain (word : List ℕ) : Type 0 where

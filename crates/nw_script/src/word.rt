@@ -31,21 +31,22 @@ impl fmt::Display for Name<'_> {
 fn is_name(word: &[u8]) -> bool
     ensures { IsTrue result ↔ IsName word.now }
 {
-    !word.is_empty() && word.len() <= 16 && word[0].is_ascii_lowercase() && are_word_bytes(word)
+    is_word(word, 16) && word[0].is_ascii_lowercase()
 }
 
 /// The transaction that the word is, 1 to 64 bytes of `a` to `z` and `0` to `9`, or `None` where it is not one.
 pub fn transaction(word: &str) -> Option<&str>
-    ensures found { IsSome result ↔ IsWord word.now }
+    ensures found { IsSome result ↔ IsWord 64 word.now }
     ensures value { IfSome result (λ bytes. bytes.now ≡ word.now) }
 {
-    is_transaction(word.as_bytes()).then_some(word)
+    is_word(word.as_bytes(), 64).then_some(word)
 }
 
-fn is_transaction(word: &[u8]) -> bool
-    ensures { IsTrue result ↔ IsWord word.now }
+// Whether the word is so many letters and digits at most.
+fn is_word(word: &[u8], most: usize) -> bool
+    ensures { IsTrue result ↔ IsWord most word.now }
 {
-    !word.is_empty() && word.len() <= 64 && are_word_bytes(word)
+    !word.is_empty() && word.len() <= most && are_word_bytes(word)
 }
 
 fn are_word_bytes(bytes: &[u8]) -> bool
