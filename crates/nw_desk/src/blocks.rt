@@ -3,7 +3,7 @@
 use crate::desk::Desk;
 use crate::fault::LineFault;
 use crate::members;
-use crate::print::{Answer, Refusal};
+use crate::print::Answer;
 use nw_check::{Checked, CheckedBlock, check_message};
 use nw_codec::{Block, encode_block, encode_body};
 use nw_committee::Committee;
@@ -26,7 +26,7 @@ impl<'a> Desk<'a> {
             transactions: copied(alloc, &line.transactions)?,
         };
         match self.names.bind(alloc, name, block)? {
-            None => Ok(Answer::refused(name, Refusal::OverLimit)),
+            None => Ok(Answer::over_limit(name)),
             Some(body) => Ok(Answer::Bound { name, body }),
         }
     }
@@ -60,7 +60,7 @@ impl<'a> Desk<'a> {
         let text = encode_block(alloc, &bound.block, &signature)?;
         match check_message(alloc, committee, &text)? {
             Checked::Block(block) => Ok(Ok(block)),
-            Checked::BadBlock(fault) => Ok(Err(Answer::refused(name, Refusal::Block(fault)))),
+            Checked::BadBlock(fault) => Ok(Err(Answer::BadBlock { name, fault })),
             _ => Err(LineFault::Bad),
         }
     }

@@ -47,7 +47,10 @@ impl<'a> Desk<'a> {
         ticket: Ticket<DemoScheme>,
     ) -> Result<Answer<'a>, LineFault> {
         self.tickets.insert(name, ticket)?;
-        Ok(Answer::Ready(name))
+        Ok(Answer::Told {
+            name,
+            words: "ready",
+        })
     }
 
     /// Walks the ticket of the name.

@@ -17,4 +17,4 @@ mod votes;
 pub use desk::Desk;
 pub use fault::LineFault;
 pub use members::committee;
-pub use print::{Answer, Certified, Gathered, Refusal, Written};
+pub use print::Answer;

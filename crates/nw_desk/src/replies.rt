@@ -2,10 +2,11 @@
 
 use crate::desk::Desk;
 use crate::fault::LineFault;
-use crate::print::{Answer, Certified, Written};
+use crate::print::Answer;
 use nw_book::Ticket;
 use nw_codec::{Seal, encode_body};
-use nw_model::{CertifyReply, Reply, Wanted, WriteReply};
+use nw_digest::Digest;
+use nw_model::{CausalReply, CertifyReply, CollectReply, Reply, Wanted, WriteReply};
 use nw_script::Name;
 use nw_sig::DemoScheme;
 use std::alloc::Global;
@@ -25,15 +26,21 @@ impl<'a> Desk<'a> {
                 let signers = signers(alloc, certificate.get().votes.as_slice())?;
                 Ok(Answer::Signers { name, signers })
             }
-            Reply::Certificate(None) => Ok(Answer::NoCertificate(name)),
+            Reply::Certificate(None) => Ok(Answer::Told {
+                name,
+                words: "none",
+            }),
             Reply::Read(Some(block)) => {
                 let body = encode_body(alloc, block.get())?.len();
                 Ok(Answer::Found { name, body })
             }
-            Reply::Read(None) => Ok(Answer::Unknown(name)),
-            Reply::Causal(reply) => Ok(Answer::NotReady {
+            Reply::Read(None) => Ok(Answer::Told {
                 name,
-                reply: *reply,
+                words: "unknown",
+            }),
+            Reply::Causal(reply) => Ok(Answer::Told {
+                name,
+                words: word_of(*reply),
             }),
             Reply::Ready | Reply::List(_) => Err(LineFault::Bad),
             Reply::Collect(_) | Reply::Missing(_) | Reply::Status(_) => Err(LineFault::Bad),
@@ -43,7 +50,8 @@ impl<'a> Desk<'a> {
     /// The answer that tells the reply to a call that names no block.
     pub fn stated(&self, alloc: Global, reply: &Reply) -> Result<Answer<'a>, LineFault> {
         match reply {
-            Reply::Collect(reply) => Ok(Answer::Collected(*reply)),
+            Reply::Collect(CollectReply::Raised { dropped }) => Ok(Answer::Raised(*dropped)),
+            Reply::Collect(CollectReply::NotHigher(floor)) => Ok(Answer::NotHigher(*floor)),
             Reply::Missing(wanted) => Ok(Answer::Missing {
                 wanted: wanted.as_slice().to_vec(alloc)?,
                 names: self.first_names(alloc, wanted.as_slice())?,
@@ -62,32 +70,44 @@ impl<'a> Desk<'a> {
     }
 
     fn written(&self, name: Name<'a>, reply: WriteReply) -> Result<Answer<'a>, LineFault> {
-        let reply = match reply {
-            WriteReply::Collected(floor) => Written::Collected(floor),
-            WriteReply::TooFar => Written::TooFar,
-            WriteReply::Held => Written::Held,
-            WriteReply::Clash => Written::Clash,
-            WriteReply::Misfit => Written::Misfit,
-            WriteReply::Equivocates(digest) => {
-                Written::Equivocates(self.names.first_name(&digest)?)
+        let words = match reply {
+            WriteReply::Collected(floor) => return Ok(Answer::Below { name, floor }),
+            WriteReply::Equivocates(first) => {
+                return self.told_of(name, "equivocates", first);
             }
-            WriteReply::Full => Written::Full,
-            WriteReply::Stored { vote } => Written::Stored { vote },
+            WriteReply::TooFar => "too far",
+            WriteReply::Held => "held",
+            WriteReply::Clash => "clash",
+            WriteReply::Misfit => "misfit",
+            WriteReply::Full => "full",
+            WriteReply::Stored { vote: true } => "stored vote",
+            WriteReply::Stored { vote: false } => "stored",
         };
-        Ok(Answer::Written { name, reply })
+        Ok(Answer::Told { name, words })
     }
 
     fn certified(&self, name: Name<'a>, reply: CertifyReply) -> Result<Answer<'a>, LineFault> {
-        let reply = match reply {
-            CertifyReply::Collected(floor) => Certified::Collected(floor),
-            CertifyReply::TooFar => Certified::TooFar,
-            CertifyReply::Already => Certified::Already,
-            CertifyReply::Misfit => Certified::Misfit,
-            CertifyReply::Conflict(digest) => Certified::Conflict(self.names.first_name(&digest)?),
-            CertifyReply::Full => Certified::Full,
-            CertifyReply::Certified => Certified::Certified,
+        let words = match reply {
+            CertifyReply::Collected(floor) => return Ok(Answer::Below { name, floor }),
+            CertifyReply::Conflict(other) => return self.told_of(name, "conflict", other),
+            CertifyReply::TooFar => "too far",
+            CertifyReply::Already => "already",
+            CertifyReply::Misfit => "misfit",
+            CertifyReply::Full => "full",
+            CertifyReply::Certified => "certified",
         };
-        Ok(Answer::Certified { name, reply })
+        Ok(Answer::Told { name, words })
+    }
+
+    // The words, with the first name that was bound to the block of this digest.
+    fn told_of(
+        &self,
+        name: Name<'a>,
+        words: &'static str,
+        digest: Digest,
+    ) -> Result<Answer<'a>, LineFault> {
+        let other = self.names.first_name(&digest)?;
+        Ok(Answer::ToldOf { name, words, other })
     }
 
     /// The names of the ticket's list.
@@ -112,4 +132,12 @@ fn signers(alloc: Global, votes: &[Seal]) -> Result<Vec<u16>, LineFault> {
         signers.push(seal.signer)?;
     }
     Ok(signers)
+}
+
+fn word_of(reply: CausalReply) -> &'static str {
+    match reply {
+        CausalReply::Unknown => "unknown",
+        CausalReply::Uncertified => "uncertified",
+        CausalReply::Incomplete => "incomplete",
+    }
 }

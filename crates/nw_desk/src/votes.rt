@@ -4,7 +4,7 @@ use crate::desk::Desk;
 use crate::fault::LineFault;
 use crate::members;
 use crate::names::Bound;
-use crate::print::{Answer, Gathered, Refusal};
+use crate::print::Answer;
 use nw_check::{
     Checked, CheckedCert, Counted, Gather, GatherFault, StartFault, check_message, valid,
 };
@@ -30,13 +30,13 @@ impl<'a> Desk<'a> {
         let text = match encode_message(alloc, &Message::Certificate(certificate)) {
             Ok(text) => text,
             Err(EncodeError::OverLimit) => {
-                return Ok(Err(Answer::refused(name, Refusal::OverLimit)));
+                return Ok(Err(Answer::over_limit(name)));
             }
             Err(EncodeError::NoMemory) => return Err(LineFault::NoMemory),
         };
         match check_message(alloc, committee, &text)? {
             Checked::Cert(certificate) => Ok(Ok(certificate)),
-            Checked::BadCert(fault) => Ok(Err(Answer::refused(name, Refusal::Cert(fault)))),
+            Checked::BadCert(fault) => Ok(Err(Answer::BadCert { name, fault })),
             _ => Err(LineFault::Bad),
         }
     }
@@ -51,8 +51,12 @@ impl<'a> Desk<'a> {
     ) -> Result<Answer<'a>, LineFault> {
         let bound = self.bound(name)?;
         let certificate = members::certificate(alloc, signers, bound.digest, &bound.block)?;
-        let valid = valid::<DemoScheme>(committee, bound.digest, &certificate);
-        Ok(Answer::Valid { name, valid })
+        let words = if valid::<DemoScheme>(committee, bound.digest, &certificate) {
+            "valid yes"
+        } else {
+            "valid no"
+        };
+        Ok(Answer::Told { name, words })
     }
 
     /// Gathers the signers' votes for the block in this order.
@@ -73,7 +77,12 @@ impl<'a> Desk<'a> {
             block.author,
         ) {
             Ok(gather) => gather,
-            Err(StartFault::Author) => return Ok(Answer::refused(name, Refusal::Author)),
+            Err(StartFault::Author) => {
+                return Ok(Answer::Told {
+                    name,
+                    words: "refused author",
+                });
+            }
             Err(StartFault::NoMemory) => return Err(LineFault::NoMemory),
         };
         let mut votes = Vec::with_capacity(alloc, signers.len())?;
@@ -89,13 +98,13 @@ fn gathered(
     gather: &mut Gather<DemoScheme>,
     signer: u16,
     bound: &Bound<'_>,
-) -> Result<Gathered, LineFault> {
+) -> Result<&'static str, LineFault> {
     match gather.add(&members::vote(signer, bound.digest, &bound.block)) {
-        Ok(Counted::Counted) => Ok(Gathered::Counted),
-        Ok(Counted::Quorum) => Ok(Gathered::Quorum),
-        Err(GatherFault::Repeated) => Ok(Gathered::Repeated),
-        Err(GatherFault::Signer) => Ok(Gathered::Signer),
-        Err(GatherFault::Signature) => Ok(Gathered::Signature),
+        Ok(Counted::Counted) => Ok("counted"),
+        Ok(Counted::Quorum) => Ok("quorum"),
+        Err(GatherFault::Repeated) => Ok("repeated"),
+        Err(GatherFault::Signer) => Ok("signer"),
+        Err(GatherFault::Signature) => Ok("signature"),
         Err(GatherFault::OtherBlock) => Err(LineFault::Bad),
         Err(GatherFault::NoMemory) => Err(LineFault::NoMemory),
     }

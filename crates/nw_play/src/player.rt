@@ -8,6 +8,9 @@ use nw_store::Home;
 use std::alloc::Global;
 use std::sync::Wait;
 
+// The answer to a call for which the history has no room.
+const HISTORY_FULL: Answer<'static> = Answer::Words("refused history full");
+
 /// A store that a script asks, and what the names of the script stand for.
 #[derive(Drop)]
 pub struct Player<'c, 'd, 'a, L: Home> {
@@ -67,7 +70,7 @@ impl<'c, 'd, 'a, L: Home> Player<'c, 'd, 'a, L> {
             Request::Session(id) => self.select(rt, alloc, id),
             Request::Compact => {
                 self.calls.compact(rt, alloc)?;
-                Ok(Answer::Compacted)
+                Ok(Answer::Words("compacted"))
             }
         }
     }
@@ -81,7 +84,7 @@ impl<'c, 'd, 'a, L: Home> Player<'c, 'd, 'a, L> {
     ) -> Result<Answer<'a>, LineFault> {
         match self.calls.step(rt, alloc, command)? {
             Some(reply) => self.desk.stated(alloc, &reply),
-            None => Ok(Answer::HistoryFull),
+            None => Ok(HISTORY_FULL),
         }
     }
 
@@ -95,7 +98,7 @@ impl<'c, 'd, 'a, L: Home> Player<'c, 'd, 'a, L> {
     ) -> Result<Answer<'a>, LineFault> {
         match self.calls.step(rt, alloc, command)? {
             Some(reply) => self.desk.told(alloc, name, &reply),
-            None => Ok(Answer::HistoryFull),
+            None => Ok(HISTORY_FULL),
         }
     }
 
@@ -110,7 +113,7 @@ impl<'c, 'd, 'a, L: Home> Player<'c, 'd, 'a, L> {
         match self.calls.open(rt, alloc, digest)? {
             Opened::Ready(ticket) => self.desk.listed(alloc, name, &ticket),
             Opened::Refused(reply) => self.desk.told(alloc, name, &reply),
-            Opened::HistoryFull => Ok(Answer::HistoryFull),
+            Opened::HistoryFull => Ok(HISTORY_FULL),
         }
     }
 
@@ -129,7 +132,7 @@ impl<'c, 'd, 'a, L: Home> Player<'c, 'd, 'a, L> {
         match self.calls.open(rt, alloc, digest)? {
             Opened::Ready(opened) => self.desk.keep(ticket, opened),
             Opened::Refused(reply) => self.desk.told(alloc, ticket, &reply),
-            Opened::HistoryFull => Ok(Answer::HistoryFull),
+            Opened::HistoryFull => Ok(HISTORY_FULL),
         }
     }
 
@@ -138,7 +141,7 @@ impl<'c, 'd, 'a, L: Home> Player<'c, 'd, 'a, L> {
         Ok(if self.calls.select(rt, alloc, id)? {
             Answer::Session(id)
         } else {
-            Answer::TooMany
+            Answer::Words("refused too many")
         })
     }
 }

@@ -169,7 +169,7 @@ fn reopened<L: Home, W: Write>(
     match settled.reopen(alloc) {
         Ok(book) => {
             let start = Start::behind(book);
-            print(out, &Answer::Reopened).map(|_| Some(start))
+            print(out, &Answer::Words("reopened")).map(|_| Some(start))
         }
         Err(_refused) => Err(PlayFault::NoMemory),
     }
