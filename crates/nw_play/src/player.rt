@@ -2,6 +2,7 @@
 use crate::calls::{Calls, Opened};
 use nw_book::Command;
 use nw_desk::{Answer, Desk, LineFault};
+use nw_model::Reply;
 use nw_script::{Name, Request};
 use nw_sig::DemoScheme;
 use nw_store::Home;
@@ -96,10 +97,8 @@ impl<'c, 'd, 'a, L: Home> Player<'c, 'd, 'a, L> {
         name: Name<'a>,
         command: &Command<DemoScheme>,
     ) -> Result<Answer<'a>, LineFault> {
-        match self.calls.step(rt, alloc, command)? {
-            Some(reply) => self.desk.told(alloc, name, &reply),
-            None => Ok(HISTORY_FULL),
-        }
+        let reply = self.calls.step(rt, alloc, command)?;
+        told(self.desk, alloc, name, reply.as_ref())
     }
 
     // Reads the block's digest with its causal history, and walks it.
@@ -143,5 +142,18 @@ impl<'c, 'd, 'a, L: Home> Player<'c, 'd, 'a, L> {
         } else {
             Answer::Words("refused too many")
         })
+    }
+}
+
+// The answer that tells the reply to a call on the name, or that the history has no room for it.
+fn told<'a>(
+    desk: &Desk<'a>,
+    alloc: Global,
+    name: Name<'a>,
+    reply: Option<&Reply>,
+) -> Result<Answer<'a>, LineFault> {
+    match reply {
+        Some(reply) => desk.told(alloc, name, reply),
+        None => Ok(HISTORY_FULL),
     }
 }

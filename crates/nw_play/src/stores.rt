@@ -235,12 +235,17 @@ fn calls_of_each<L: Home>(
 ) -> Result<Vec<usize>, PlayFault> {
     let mut calls = Vec::new(alloc);
     for session in 0..=u16::MAX {
-        match settled.journal(session) {
-            Some(journal) => calls.push(journal.len())?,
-            None => break,
-        }
+        let Some(count) = calls_of(settled, session) else {
+            return Ok(calls);
+        };
+        calls.push(count)?;
     }
     Ok(calls)
+}
+
+// How many calls the session made, or `None` where no session has this id.
+fn calls_of<L: Home>(settled: &Settled<DemoScheme, L>, session: u16) -> Option<usize> {
+    settled.journal(session).map(|journal| journal.len())
 }
 
 fn print<W: Write>(out: &mut W, answer: &Answer<'_>) -> Result<(), PlayFault> {

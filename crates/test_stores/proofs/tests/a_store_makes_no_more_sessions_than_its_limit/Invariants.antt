@@ -1,6 +1,6 @@
 use Rattle.nw_store.specs.Held.{first_origin}
 use Rattle.nw_store.specs.Kept.{parts_of_a_ledger}
-use Rattle.nw_tested_stores.proofs.tests.a_store_makes_no_more_sessions_than_its_limit.Given as goal
+use Rattle.test_stores.proofs.tests.a_store_makes_no_more_sessions_than_its_limit.Given as goal
 
 -- the ledger that was opened
 abbrev pub ghosts-second_is_refused-L-Ledger : goal.ghosts-second_is_refused-L-Ledger

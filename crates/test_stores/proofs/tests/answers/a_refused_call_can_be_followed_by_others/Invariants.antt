@@ -1,6 +1,6 @@
 use Rattle.nw_store.specs.Held.{origin_of}
 use Rattle.nw_store.specs.Kept.{parts_of_a_ledger}
-use Rattle.nw_tested_stores.proofs.tests.answers.a_refused_call_can_be_followed_by_others.Given as goal
+use Rattle.test_stores.proofs.tests.answers.a_refused_call_can_be_followed_by_others.Given as goal
 
 -- the ledger that was opened
 abbrev pub ghosts-refused-L-Ledger : goal.ghosts-refused-L-Ledger

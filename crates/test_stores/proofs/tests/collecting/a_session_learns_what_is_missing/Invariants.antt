@@ -1,6 +1,6 @@
 use Rattle.nw_store.specs.Held.{origin_of}
 use Rattle.nw_store.specs.Kept.{parts_of_a_ledger}
-use Rattle.nw_tested_stores.proofs.tests.collecting.a_session_learns_what_is_missing.Given as goal
+use Rattle.test_stores.proofs.tests.collecting.a_session_learns_what_is_missing.Given as goal
 
 -- the ledger that was opened
 abbrev pub ghosts-learned-L-Ledger : goal.ghosts-learned-L-Ledger

@@ -1,6 +1,6 @@
 use Rattle.nw_store.specs.Held.{origin_of}
 use Rattle.nw_store.specs.Kept.{parts_of_a_ledger}
-use Rattle.nw_tested_stores.proofs.tests.collecting.a_ticket_is_walked_after_its_block_was_collected.Given as goal
+use Rattle.test_stores.proofs.tests.collecting.a_ticket_is_walked_after_its_block_was_collected.Given as goal
 
 -- the ledger that was opened
 abbrev pub ghosts-collected-L-Ledger : goal.ghosts-collected-L-Ledger

@@ -1,6 +1,6 @@
 use Rattle.nw_store.specs.Held.{origin_of}
 use Rattle.nw_store.specs.Kept.{parts_of_a_ledger}
-use Rattle.nw_tested_stores.proofs.tests.crowds.fourteen_threads_walk_beside_a_writer_and_a_collector.Given as goal
+use Rattle.test_stores.proofs.tests.crowds.fourteen_threads_walk_beside_a_writer_and_a_collector.Given as goal
 
 -- the ledger that was opened
 abbrev pub ghosts-worked-L-Ledger : goal.ghosts-worked-L-Ledger

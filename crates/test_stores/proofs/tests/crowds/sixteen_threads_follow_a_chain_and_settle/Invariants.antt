@@ -1,6 +1,6 @@
 use Rattle.nw_store.specs.Held.{origin_of}
 use Rattle.nw_store.specs.Kept.{parts_of_a_ledger}
-use Rattle.nw_tested_stores.proofs.tests.crowds.sixteen_threads_follow_a_chain_and_settle.Given as goal
+use Rattle.test_stores.proofs.tests.crowds.sixteen_threads_follow_a_chain_and_settle.Given as goal
 
 -- the ledger that was opened
 abbrev pub ghosts-worked-L-Ledger : goal.ghosts-worked-L-Ledger

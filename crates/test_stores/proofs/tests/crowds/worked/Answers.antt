@@ -6,10 +6,10 @@ use denote.Param.Send.{IsSync, sendable, param_sync, arg_sync}
 use denote.Param.SendFields.{declared_sync}
 use Rattle.std.proofs.Crossing.{crosses}
 use Rattle.nw_store.proofs.Sent.{session_send, store_sync}
-use Rattle.nw_tested_stores.proofs.tests.chains.Link.TheSendSync as link
-use Rattle.nw_tested_stores.proofs.tests.crowds.Pace.TheSendSync as pace
-use Rattle.nw_tested_stores.proofs.tests.crowds.worked.Goals as goal
-use Rattle.nw_tested_stores.proofs.tests.crowds.worked.Lts as lts
+use Rattle.test_stores.proofs.tests.chains.Link.TheSendSync as link
+use Rattle.test_stores.proofs.tests.crowds.Pace.TheSendSync as pace
+use Rattle.test_stores.proofs.tests.crowds.worked.Goals as goal
+use Rattle.test_stores.proofs.tests.crowds.worked.Lts as lts
 
 pub for_each_mut-requires-send-T : goal.for_each_mut-requires-send-T
 for_each_mut-requires-send-T g c κs within = search (sendable, crosses, session_send) depth 40

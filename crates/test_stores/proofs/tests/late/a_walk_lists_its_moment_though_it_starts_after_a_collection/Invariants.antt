@@ -1,6 +1,6 @@
 use Rattle.nw_store.specs.Held.{origin_of}
 use Rattle.nw_store.specs.Kept.{parts_of_a_ledger}
-use Rattle.nw_tested_stores.proofs.tests.late.a_walk_lists_its_moment_though_it_starts_after_a_collection.Given as goal
+use Rattle.test_stores.proofs.tests.late.a_walk_lists_its_moment_though_it_starts_after_a_collection.Given as goal
 
 -- the ledger that was opened
 abbrev pub ghosts-outcome-L-Ledger : goal.ghosts-outcome-L-Ledger

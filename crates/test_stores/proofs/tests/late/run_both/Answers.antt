@@ -6,9 +6,9 @@ use denote.Param.Send.{IsSend, sendable, param_send, arg_send}
 use denote.Param.SendFields.{declared_send}
 use Rattle.std.proofs.Crossing.{crosses}
 use Rattle.nw_store.proofs.Sent.{session_send, store_sync}
-use Rattle.nw_tested_stores.proofs.tests.late.Late.TheSendSync as late
-use Rattle.nw_tested_stores.proofs.tests.late.run_both.Goals as goal
-use Rattle.nw_tested_stores.proofs.tests.late.run_both.Lts as lts
+use Rattle.test_stores.proofs.tests.late.Late.TheSendSync as late
+use Rattle.test_stores.proofs.tests.late.run_both.Goals as goal
+use Rattle.test_stores.proofs.tests.late.run_both.Lts as lts
 
 pub join-reader-requires-send-A : goal.join-reader-requires-send-A
 join-reader-requires-send-A g c κs within = search (sendable, crosses, session_send) depth 40

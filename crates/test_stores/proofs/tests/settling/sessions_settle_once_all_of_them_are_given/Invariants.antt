@@ -1,6 +1,6 @@
 use Rattle.nw_store.specs.Held.{origin_of}
 use Rattle.nw_store.specs.Kept.{parts_of_a_ledger}
-use Rattle.nw_tested_stores.proofs.tests.settling.sessions_settle_once_all_of_them_are_given.Given as goal
+use Rattle.test_stores.proofs.tests.settling.sessions_settle_once_all_of_them_are_given.Given as goal
 
 -- the ledger that was opened
 abbrev pub ghosts-settles_late-L-Ledger : goal.ghosts-settles_late-L-Ledger

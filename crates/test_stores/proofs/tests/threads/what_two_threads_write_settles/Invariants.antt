@@ -1,6 +1,6 @@
 use Rattle.nw_store.specs.Held.{origin_of}
 use Rattle.nw_store.specs.Kept.{parts_of_a_ledger}
-use Rattle.nw_tested_stores.proofs.tests.threads.what_two_threads_write_settles.Given as goal
+use Rattle.test_stores.proofs.tests.threads.what_two_threads_write_settles.Given as goal
 
 -- the ledger that was opened
 abbrev pub ghosts-written_by_two-L-Ledger : goal.ghosts-written_by_two-L-Ledger

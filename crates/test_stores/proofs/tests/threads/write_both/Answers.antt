@@ -7,8 +7,8 @@ use denote.Param.SendFields.{declared_send}
 use Rattle.std.proofs.Crossing.{crosses}
 use Rattle.nw_check.proofs.checked.CheckedBlock.TheSendSync as checked
 use Rattle.nw_store.proofs.Sent.{session_send, store_sync}
-use Rattle.nw_tested_stores.proofs.tests.threads.write_both.Goals as goal
-use Rattle.nw_tested_stores.proofs.tests.threads.write_both.Lts as lts
+use Rattle.test_stores.proofs.tests.threads.write_both.Goals as goal
+use Rattle.test_stores.proofs.tests.threads.write_both.Lts as lts
 
 pub join-first-requires-send-A : goal.join-first-requires-send-A
 join-first-requires-send-A g c κs within = search (sendable, crosses, session_send) depth 40
