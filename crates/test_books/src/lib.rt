@@ -1,4 +1,5 @@
-//! Tests of books: what answers carry, whose turn it is, late walks, compactions, and reopened books.
+//! Tests of books and of runs of moves in them: what answers are, whose turn it is, how fronts and views share what they hold, late
+//! walks, and reopened books.
 //!
 //! Its contract: it has tests alone, and nothing stands on it.
 #![tactic(auto)]

@@ -1,110 +1,113 @@
-use nw_book::{Agreement, Book, BookError, Command, Done, NoStep, Ticket};
-use nw_digest::Digest;
+use nw_book::{Book, Command, Done, NoStep, Ticket};
+use nw_digest::{Digest, Round};
 use nw_history::{Front, Limits};
-use nw_model::{Call, Reply, WriteReply};
-use sample_checked::{block, certificate, committee};
+use nw_run::{Move, run};
 use nw_sig::DemoScheme;
+use sample_checked::{block, certificate, committee};
 use std::alloc::Global;
 use std::test::Fail;
 
-mod agreements;
-mod answers;
-mod causal;
-mod chunks;
-mod committees;
 mod compacted;
+mod fronts;
 mod reopened;
+mod runs;
 mod turns;
 
-/// The limits of a book that takes 16 blocks over four rounds.
-fn limits(events: u32, sessions: u32) -> Limits {
-    Limits {
-        blocks: 16,
-        events,
-        window: 4,
-        sessions,
-    }
-}
+/// A book with room for 16 blocks over four rounds, and for as many events of one session.
+const LIMITS: Limits = Limits {
+    blocks: 16,
+    events: 16,
+    window: 4,
+    sessions: 1,
+};
 
-/// A book of one member. What can end early is lent it, and has no book of its own: proofs of that are much faster.
+/// A book of one member.
 fn book_of_one(alloc: Global, limits: Limits) -> Result<Book<DemoScheme>, Fail> {
     Ok(Book::new(alloc, committee(alloc, 1)?, limits)?)
 }
 
-/// Takes a step of session 0.
+/// What is planned of a chain of blocks of one author, one of each round.
+enum Plan {
+    /// The next block is written, certified and opened.
+    Block,
+    /// The rounds below this one are collected.
+    Collect(u64),
+    /// A ticket is walked.
+    Walk(u32),
+}
+
+/// A block of the chain and its child.
+const TWO: [Plan; 2] = [Plan::Block, Plan::Block];
+
+/// The moves of the plan, and the digests of the blocks.
+fn planned(alloc: Global, plan: &[Plan]) -> Result<(Vec<Move<DemoScheme>>, Vec<Digest>), Fail> {
+    let mut moves = Vec::new(alloc);
+    let mut digests = Vec::new(alloc);
+    for part in plan {
+        match part {
+            Plan::Block => add_block(&mut moves, &mut digests, alloc)?,
+            Plan::Collect(number) => moves.push(Move::Call {
+                session: 0,
+                command: Command::Collect(Round::new(*number).ok_or("a round has 48 bits")?),
+            })?,
+            Plan::Walk(ticket) => moves.push(Move::Walk { ticket: *ticket })?,
+        }
+    }
+    Ok((moves, digests))
+}
+
+/// Adds the moves of the block over the last one.
+fn add_block(
+    moves: &mut Vec<Move<DemoScheme>>,
+    digests: &mut Vec<Digest>,
+    alloc: Global,
+) -> Result<(), Fail> {
+    let one = committee(alloc, 1)?;
+    let round = digests.len() as u64;
+    let parents = digests.chunks(1).last().unwrap_or(&[]);
+    let block = block(alloc, &one, 0, round, parents)?;
+    let digest = block.digest();
+    let certificate = certificate(alloc, &one, 0, round, digest)?;
+    for command in [Command::Write(block), Command::Certify(certificate)] {
+        moves.push(Move::Call {
+            session: 0,
+            command,
+        })?;
+    }
+    moves.push(Move::Open { session: 0, digest })?;
+    Ok(digests.push(digest)?)
+}
+
+/// Whether all moves are made.
+fn are_made(book: &mut Book<DemoScheme>, alloc: Global, moves: &[Move<DemoScheme>]) -> bool {
+    run(book, alloc, moves).stop.is_none()
+}
+
+/// Takes the next step of session 0.
 fn ask(
     book: &mut Book<DemoScheme>,
     alloc: Global,
-    number: u32,
     command: &Command<DemoScheme>,
-) -> Result<Done<DemoScheme>, Fail> {
-    Ok(book.step(alloc, 0, number, command)?)
+) -> Result<Done<DemoScheme>, NoStep> {
+    let number = book.next_number(0)?;
+    book.step(alloc, 0, number, command)
 }
 
-/// Writes the block of the round with these parents, as this call of session 0; gives its digest.
-fn write(
-    book: &mut Book<DemoScheme>,
-    alloc: Global,
-    number: u32,
-    round: u64,
-    parents: &[Digest],
-) -> Result<Digest, Fail> {
-    let block = block(alloc, &committee(alloc, 1)?, 0, round, parents)?;
-    let digest = block.digest();
-    ask(book, alloc, number, &Command::Write(block))?;
-    Ok(digest)
+/// A ticket for the digest, where it is complete.
+fn open(book: &mut Book<DemoScheme>, alloc: Global, digest: Digest) -> Option<Ticket<DemoScheme>> {
+    let number = book.next_number(0).ok()?;
+    book.open(alloc, 0, number, digest).ok()?.ok()
 }
 
-/// Certifies the digest of the round, as this call of session 0.
-fn certify(
+/// A ticket for the digest after the moves.
+fn opened(
     book: &mut Book<DemoScheme>,
     alloc: Global,
-    number: u32,
-    round: u64,
+    moves: &[Move<DemoScheme>],
     digest: Digest,
-) -> Result<(), Fail> {
-    let certificate = certificate(alloc, &committee(alloc, 1)?, 0, round, digest)?;
-    ask(book, alloc, number, &Command::Certify(certificate))?;
-    Ok(())
-}
-
-/// Reads what no block has, as this call of session 0.
-fn read(
-    book: &mut Book<DemoScheme>,
-    alloc: Global,
-    number: u32,
-) -> Result<Front<DemoScheme>, Fail> {
-    Ok(ask(book, alloc, number, &Command::Read(Digest([0; 32])))?.front)
-}
-
-/// Writes and certifies a block of round 0, as the first two calls of session 0; gives its digest.
-fn add_a_block(book: &mut Book<DemoScheme>, alloc: Global) -> Result<Digest, Fail> {
-    let digest = write(book, alloc, 1, 0, &[])?;
-    certify(book, alloc, 2, 0, digest)?;
-    Ok(digest)
-}
-
-/// Opens a causal read that has a list, as this call of session 0.
-fn open(
-    book: &mut Book<DemoScheme>,
-    alloc: Global,
-    number: u32,
-    digest: Digest,
-) -> Result<Ticket<DemoScheme>, Fail> {
-    match book.open(alloc, 0, number, digest)? {
-        Ok(ticket) => Ok(ticket),
-        Err(_) => Err(Fail::from("the read was not opened")),
+) -> Option<Ticket<DemoScheme>> {
+    match are_made(book, alloc, moves) {
+        true => open(book, alloc, digest),
+        false => None,
     }
-}
-
-/// Writes, certifies and opens a child of a block of round 0, as these calls of session 0.
-fn open_child(
-    book: &mut Book<DemoScheme>,
-    alloc: Global,
-    calls: [u32; 3],
-    parent: Digest,
-) -> Result<Ticket<DemoScheme>, Fail> {
-    let child = write(book, alloc, calls[0], 1, &[parent])?;
-    certify(book, alloc, calls[1], 1, child)?;
-    open(book, alloc, calls[2], child)
 }

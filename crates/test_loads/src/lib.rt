@@ -1,4 +1,4 @@
-//! Tests of loads: what each node reports, which numbers are refused, and that a client walks beside the link without the lock.
+//! Tests of loads: what each node reports, which words are refused, and that a client walks beside the link without the lock.
 //!
 //! Its contract: it has tests alone, and nothing stands on it.
 #![tactic(auto)]

@@ -1,125 +1,108 @@
-//! Tickets of books that are compacted.
+//! Views of books that are compacted.
 use super::*;
-use nw_digest::Round;
 
-/// What a book does between two tickets for a child, and what of the second's view is looked at.
+/// How many parts a ticket's view has, how many blocks the ticket lists, and whether the view has the parent.
+type Seen = (usize, usize, bool);
+
+/// What a book does between two tickets for a child, and what is seen of the second after that.
 struct Case {
     shows: &'static str,
-    collects: bool,
+    between: &'static [Plan],
     compacts: bool,
-    /// How many parts the view has, and whether it has the child's parent.
-    seen: (usize, bool),
+    later: Seen,
 }
 
-const CASES: [Case; 3] = [
+/// What is seen of the first, whatever the book does.
+const BEFORE: Seen = (2, 2, true);
+
+const CASES: [Case; 4] = [
     Case {
-        shows: "each ticket whose book has more complete blocks has one more part",
-        collects: false,
+        shows: "a view of two blocks, of which each was opened when it was new, has two parts",
+        between: &[],
         compacts: false,
-        seen: (2, true),
+        later: (2, 2, true),
+    },
+    Case {
+        shows: "after a collection it still has both",
+        between: &[Plan::Collect(1)],
+        compacts: false,
+        later: (2, 1, true),
     },
     Case {
         shows: "after compact there is one part",
-        collects: false,
+        between: &[],
         compacts: true,
-        seen: (1, true),
+        later: (1, 2, true),
     },
     Case {
         shows: "after compact it has no collected block",
-        collects: true,
+        between: &[Plan::Collect(1)],
         compacts: true,
-        seen: (1, false),
+        later: (1, 1, false),
     },
 ];
 
-/// Adds a block and its child, and opens both: the ticket for the child, and the digest of the block.
-fn open_twice(
-    book: &mut Book<DemoScheme>,
-    alloc: Global,
-) -> Result<(Ticket<DemoScheme>, Digest), Fail> {
-    let parent = add_a_block(book, alloc)?;
-    drop(open(book, alloc, 3, parent)?);
-    Ok((open_child(book, alloc, [4, 5, 6], parent)?, parent))
+/// What is seen of the ticket.
+fn seen(alloc: Global, ticket: &Ticket<DemoScheme>, parent: &Digest) -> Seen {
+    let listed = match ticket.walk(alloc) {
+        Ok(blocks) => blocks.len(),
+        Err(_) => 0,
+    };
+    (
+        ticket.view().parts(),
+        listed,
+        ticket.view().get(parent).is_some(),
+    )
 }
 
-/// Collects what is below round 1, and compacts, where it should.
-fn tidy(
+/// What is seen of the tickets of before and of later, once the book made the moves of two blocks and then those between.
+fn seen_of(
     book: &mut Book<DemoScheme>,
     alloc: Global,
-    collects: bool,
+    moves: [&[Move<DemoScheme>]; 2],
     compacts: bool,
-) -> Result<(), Fail> {
-    if collects {
-        let to = Round::new(1).ok_or("a round has 48 bits")?;
-        ask(book, alloc, 7, &Command::Collect(to))?;
+    blocks: [Digest; 2],
+) -> Option<[Seen; 2]> {
+    let before = opened(book, alloc, moves[0], blocks[1])?;
+    if compacts && !are_compacted(book, alloc, moves[1]) {
+        return None;
     }
-    if compacts {
-        book.compact(alloc)?;
-    }
-    Ok(())
+    let later = opened(
+        book,
+        alloc,
+        if compacts { &[] } else { moves[1] },
+        blocks[1],
+    )?;
+    Some([
+        seen(alloc, &before, &blocks[0]),
+        seen(alloc, &later, &blocks[0]),
+    ])
 }
 
-/// A later ticket for the child.
-fn open_later(
-    book: &mut Book<DemoScheme>,
-    alloc: Global,
-    case: &Case,
-    child: Digest,
-) -> Result<Ticket<DemoScheme>, Fail> {
-    tidy(book, alloc, case.collects, case.compacts)?;
-    let number = book.next_number(0)?;
-    open(book, alloc, number, child)
+/// Whether the moves are made, and the book is compacted.
+fn are_compacted(book: &mut Book<DemoScheme>, alloc: Global, moves: &[Move<DemoScheme>]) -> bool {
+    are_made(book, alloc, moves) && book.compact(alloc).is_ok()
 }
 
-/// What is seen of the view of a later ticket, while the one of before stands.
-fn seen_in(book: &mut Book<DemoScheme>, alloc: Global, case: &Case) -> Result<(usize, bool), Fail> {
-    let (ticket, parent) = open_twice(book, alloc)?;
-    match open_later(book, alloc, case, ticket.digest()) {
-        Ok(later) => Ok((later.view().parts(), later.view().get(&parent).is_some())),
-        Err(refused) => Err(refused),
+/// What is seen of those of a new book.
+fn seen_anew(alloc: Global, case: &Case) -> Result<Option<[Seen; 2]>, Fail> {
+    let (moves, digests) = planned(alloc, &TWO)?;
+    let (between, _) = planned(alloc, case.between)?;
+    let mut book = book_of_one(alloc, LIMITS)?;
+    match digests.as_slice() {
+        [parent, child] => {
+            let moves = [moves.as_slice(), between.as_slice()];
+            Ok(seen_of(&mut book, alloc, moves, case.compacts, [*parent, *child]))
+        }
+        _ => Ok(None),
     }
-}
-
-/// That of a new book.
-fn seen_later(alloc: Global, case: &Case) -> Result<(usize, bool), Fail> {
-    seen_in(&mut book_of_one(alloc, limits(16, 1))?, alloc, case)
 }
 
 #[test]
 fn views_after_compact_have_one_part(rt: HostRuntime) -> Result<(), Fail> {
     for case in &CASES {
-        assert!(rt;
-            seen_later(rt.alloc(), case)? == case.seen,
-            "{}",
-            case.shows
-        );
+        let wanted = Some([BEFORE, case.later]);
+        assert!(rt; seen_anew(rt.alloc(), case)? == wanted, "{}", case.shows);
     }
-    Ok(())
-}
-
-/// A ticket of before the book was collected and compacted.
-fn open_before(book: &mut Book<DemoScheme>, alloc: Global) -> Result<Ticket<DemoScheme>, Fail> {
-    let (ticket, _parent) = open_twice(book, alloc)?;
-    match tidy(book, alloc, true, true) {
-        Ok(()) => Ok(ticket),
-        Err(refused) => Err(refused),
-    }
-}
-
-/// That of a new book.
-fn ticket_of_before(alloc: Global) -> Result<Ticket<DemoScheme>, Fail> {
-    open_before(&mut book_of_one(alloc, limits(16, 1))?, alloc)
-}
-
-/// How many parts the view of such a ticket has, and how many blocks it lists.
-fn seen_of_before(alloc: Global) -> Result<(usize, usize), Fail> {
-    let ticket = ticket_of_before(alloc)?;
-    let listed = ticket.walk(alloc)?.len();
-    Ok((ticket.view().parts(), listed))
-}
-
-#[test]
-fn a_ticket_of_before_walks_its_list_after_compact(rt: HostRuntime) -> Result<(), Fail> {
-    assert!(rt; seen_of_before(rt.alloc())? == (2, 2));
     Ok(())
 }

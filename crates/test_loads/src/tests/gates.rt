@@ -1,8 +1,9 @@
 //! Loads under gates that hold threads.
-use super::*;
 use nw_intake::{Gate, Point};
+use nw_load::{LoadFault, NodeReport, load};
 use std::sync::atomic::AtomicBool;
 use std::sync::atomic::Ordering::SeqCst;
+use std::test::Fail;
 use std::thread::yield_now;
 
 /// A gate that passes the second write once the first walk was reached, and the first walk once the second write was done. It
@@ -11,16 +12,6 @@ use std::thread::yield_now;
 struct Interlocked {
     walk_reached: AtomicBool,
     write_done: AtomicBool,
-}
-
-impl Interlocked {
-    /// Nothing was reached.
-    fn new() -> Interlocked {
-        Interlocked {
-            walk_reached: AtomicBool::new(false),
-            write_done: AtomicBool::new(false),
-        }
-    }
 }
 
 impl Gate for Interlocked {
@@ -47,72 +38,52 @@ impl Gate for Interlocked {
     }
 }
 
-/// A gate that never passes a start.
-#[derive(Clone, Copy, Drop)]
-struct Wall;
-
-impl Gate for Wall {
-    ghost says = { λ _ _ _. Unit {0} };
-
-    fn reach(&self, _point: Point) {}
-
-    fn may_pass(&self, _point: Point) -> bool {
-        false
-    }
-}
-
-/// A gate that never passes a walk.
-#[derive(Clone, Copy, Drop)]
-struct NoWalk;
-
-impl Gate for NoWalk {
-    ghost says = { λ _ _ _. Unit {0} };
-
-    fn reach(&self, _point: Point) {}
-
-    fn may_pass(&self, point: Point) -> bool {
-        !matches!(point, Point::WalkStart { .. })
-    }
-}
-
-/// A gate that never passes a write of the last node of four.
-#[derive(Clone, Copy, Drop)]
-struct NoWriteOfTheLast;
-
-impl Gate for NoWriteOfTheLast {
-    ghost says = { λ _ _ _. Unit {0} };
-
-    fn reach(&self, _point: Point) {}
-
-    fn may_pass(&self, point: Point) -> bool {
-        !matches!(point, Point::WriteStart { node: 3, .. })
-    }
-}
-
 #[test]
 fn a_walk_waits_for_a_write_that_waits_for_the_walk(rt: HostRuntime) -> Result<(), Fail> {
-    let reports = load(&rt, rt.alloc(), 1, 2, &Interlocked::new());
+    let gate = Interlocked {
+        walk_reached: AtomicBool::new(false),
+        write_done: AtomicBool::new(false),
+    };
+    let reports = load(&rt, rt.alloc(), 1, 2, &gate);
     let wanted = vec![in rt.alloc(); NodeReport { events: 6, last: 2 }; 1]?;
     assert_eq!(rt; reports, Ok(wanted));
     Ok(())
 }
 
-#[test]
-fn no_start_passes_a_gate_that_is_shut(rt: HostRuntime) {
-    for nodes in [1, 4] {
-        let refused = load(&rt, rt.alloc(), nodes, 2, &Wall);
-        assert_eq!(rt; refused, Err(LoadFault::GateShut), "{nodes}");
+/// A gate that never passes some starts.
+#[derive(Clone, Copy, Debug, Drop)]
+enum Shut {
+    /// It passes none.
+    Wall,
+    /// It passes no walk, so that each client ends early.
+    Walks,
+    /// It passes no write of the last node of four, so that its link ends early.
+    WritesOfTheLast,
+}
+
+impl Gate for Shut {
+    ghost says = { λ _ _ _. Unit {0} };
+
+    fn reach(&self, _point: Point) {}
+
+    fn may_pass(&self, point: Point) -> bool {
+        match self {
+            Shut::Wall => false,
+            Shut::Walks => !matches!(point, Point::WalkStart { .. }),
+            Shut::WritesOfTheLast => !matches!(point, Point::WriteStart { node: 3, .. }),
+        }
     }
 }
 
 #[test]
-fn a_client_that_ends_early_ends_the_load(rt: HostRuntime) {
-    let refused = load(&rt, rt.alloc(), 4, 3, &NoWalk);
-    assert_eq!(rt; refused, Err(LoadFault::GateShut));
-}
-
-#[test]
-fn a_link_that_ends_early_ends_the_load(rt: HostRuntime) {
-    let refused = load(&rt, rt.alloc(), 4, 3, &NoWriteOfTheLast);
-    assert_eq!(rt; refused, Err(LoadFault::GateShut));
+fn a_thread_that_ends_early_ends_the_load(rt: HostRuntime) {
+    for (gate, nodes) in [
+        (Shut::Wall, 1),
+        (Shut::Wall, 4),
+        (Shut::Walks, 4),
+        (Shut::WritesOfTheLast, 4),
+    ] {
+        let refused = load(&rt, rt.alloc(), nodes, 3, &gate);
+        assert_eq!(rt; refused, Err(LoadFault::GateShut), "{gate:?} {nodes}");
+    }
 }

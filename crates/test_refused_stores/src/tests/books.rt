@@ -1,15 +1,11 @@
-//! Books: runs of moves, and tickets whose lists are compared.
-use super::desk::{Desk, FOUR, TWO};
+//! Books: runs of moves, and calls that take no memory.
+use super::desk::{Asked, Desk, FOUR, Row, TWO, word};
 use super::*;
-use nw_book::{Agreement, Book, BookError, Command, NoStep, Ticket};
-use nw_check::{BlockFault, CertFault};
-use nw_committee::Committee;
-use nw_digest::Shared;
-use nw_history::Limits;
-use nw_run::{Answer, Cause, Move, Run, Stop, run};
+use nw_history::Front;
+use nw_run::{Answer, Cause, Run, Stop, run};
 
 /// The limits of a book of one session.
-pub(super) const LIMITS: Limits = Limits {
+const LIMITS: Limits = Limits {
     blocks: 16,
     events: 16,
     window: 4,
@@ -17,7 +13,7 @@ pub(super) const LIMITS: Limits = Limits {
 };
 
 /// A book of the committee.
-pub(super) fn new_book(
+fn new_book(
     alloc: Global,
     committee: &Shared<Committee>,
     limits: Limits,
@@ -25,173 +21,152 @@ pub(super) fn new_book(
     Book::new(alloc, committee.try_clone()?, limits)
 }
 
-/// The command that writes the block at the place.
-pub(super) fn write(
-    alloc: Global,
-    desk: &Desk,
-    place: usize,
-) -> Result<Command<DemoScheme>, BlockFault> {
-    Ok(Command::Write(again!(BlockFault::NoMemory, desk.block(alloc, place))?))
-}
-
-/// The command that certifies it.
-fn certify(alloc: Global, desk: &Desk, place: usize) -> Result<Command<DemoScheme>, CertFault> {
-    Ok(Command::Certify(again!(CertFault::NoMemory, desk.certificate(alloc, place))?))
-}
-
 /// A block is written, certified and opened, its round is collected, and the ticket is walked, and then one that the run has not.
-fn late_moves(alloc: Global, desk: &Desk) -> Result<Vec<Move<DemoScheme>>, Fail> {
-    let mut moves = again!(AllocError, Vec::with_capacity(alloc, 6))?;
-    let collect = Command::Collect(Round::new(1).ok_or("a round has 48 bits")?);
-    for command in [write(alloc, desk, 0)?, certify(alloc, desk, 0)?] {
-        moves.push(Move::Call {
-            session: 0,
-            command,
-        })?;
-    }
-    moves.push(Move::Open {
-        session: 0,
-        digest: desk.digest(0),
-    })?;
-    moves.push(Move::Call {
-        session: 0,
-        command: collect,
-    })?;
-    for ticket in [0, 5] {
-        moves.push(Move::Walk { ticket })?;
-    }
-    Ok(moves)
-}
-
-/// An answer in words, where it is one of those that the example waits for.
-fn words(desk: &Desk, answer: &Answer<DemoScheme>) -> &'static str {
-    match answer {
-        Answer::Opened => "opened",
-        Answer::Walked(blocks) if desk.are(blocks.as_slice(), &[0]) => "the first alone",
-        Answer::Walked(_) => "another list",
-        Answer::Done(done) => desk.words(&done.reply),
-    }
-}
-
-/// What those moves are answered.
-const LATE: [&str; 5] = [
-    "stored vote",
-    "certified",
-    "opened",
-    "raised 1",
-    "the first alone",
+const LATE: [Row; 6] = [
+    (Asked::Write(0), "stored vote", 0),
+    (Asked::Certify(0), "certified", 0),
+    (Asked::Open(0), "opened", 0),
+    (Asked::Collect(1), "raised", 1),
+    (Asked::Walk(0), "listed", 1),
+    (Asked::Walk(5), "no ticket", 0),
 ];
 
 /// Whether the run has the first answers of the example, and the history has their events and no other.
-fn is_begun(desk: &Desk, run: &Run<DemoScheme>, events: usize) -> bool {
+fn is_begun(run: &Run<DemoScheme>, events: usize) -> bool {
     let answers = run.answers.as_slice();
-    answers.len() <= LATE.len()
-        && answers
-            .iter()
-            .zip(&LATE)
-            .all(|(answer, wanted)| words(desk, answer) == *wanted)
-        && events == answers.len().min(4)
+    for (answer, (_, wanted, number)) in answers.iter().zip(&LATE) {
+        let told = match answer {
+            Answer::Opened => ("opened", 0),
+            Answer::Walked(blocks) => ("listed", blocks.as_slice().len() as u64),
+            Answer::Done(done) => word(&done.reply),
+        };
+        if told != (*wanted, *number) {
+            return false;
+        }
+    }
+    events == answers.len().min(4)
+}
+
+/// Makes the moves on the book: where the run stops, and whether it was begun as the example.
+fn made(
+    book: &mut Book<DemoScheme>,
+    alloc: Global,
+    moves: &[Move<DemoScheme>],
+) -> (Option<Stop>, bool) {
+    let run = run(book, alloc, moves);
+    (run.stop, is_begun(&run, book.history().len()))
 }
 
 /// Whether the stop is want of memory.
 fn is_refused(stop: Option<Stop>) -> bool {
-    matches!(
-        stop,
-        Some(Stop {
-            cause: Cause::NoMemory | Cause::NoStep(NoStep::NoMemory),
-            ..
-        })
-    )
-}
-
-/// Makes the moves on a new book: where the run stops, and whether it was begun as the example.
-fn made(
-    alloc: Global,
-    desk: &Desk,
-    moves: &[Move<DemoScheme>],
-) -> Result<(Option<Stop>, bool), Fail> {
-    let mut book = again!(
-        BookError::NoMemory,
-        new_book(alloc, &desk.committee, LIMITS)
-    )?;
-    let run = run(&mut book, alloc, moves);
-    let begun = is_begun(desk, &run, book.history().len());
-    Ok((run.stop, begun))
+    match stop {
+        Some(stop) => matches!(
+            stop.cause,
+            Cause::NoMemory | Cause::NoStep(NoStep::NoMemory)
+        ),
+        None => false,
+    }
 }
 
 #[test]
 fn a_run_of_moves_is_made_or_begun(rt: HostRuntime) -> Result<(), Fail> {
-    let desk = Desk::new(rt.alloc(), &[0], &TWO)?;
-    let moves = late_moves(rt.alloc(), &desk)?;
-    let (mut stop, mut begun) = made(rt.alloc(), &desk, &moves)?;
+    let alloc = rt.alloc();
+    let desk = Desk::new(alloc, &[0], &TWO)?;
+    let moves = desk.moves(alloc, &LATE)?;
+    let book = again!(
+        BookError::NoMemory,
+        new_book(alloc, &desk.committee, LIMITS)
+    );
+    let (mut stop, mut begun) = made(&mut book.expect(&rt, "a book"), alloc, &moves);
     if is_refused(stop) {
         assert!(rt; begun);
-        (stop, begun) = made(rt.alloc(), &desk, &moves)?;
+        let book = new_book(alloc, &desk.committee, LIMITS);
+        (stop, begun) = made(&mut book.expect(&rt, "a book"), alloc, &moves);
     }
     let cause = Cause::NoTicket;
     assert!(rt; begun && stop == Some(Stop { at: 5, cause }));
     Ok(())
 }
 
-/// Takes the next step of session 0.
-fn step(
+/// The limits of a book with room for two events.
+const FEW: Limits = Limits {
+    events: 2,
+    ..LIMITS
+};
+
+/// The front of a call of session 0.
+fn front(
     book: &mut Book<DemoScheme>,
     alloc: Global,
     command: &Command<DemoScheme>,
-) -> Result<(), NoStep> {
+) -> Result<Front<DemoScheme>, NoStep> {
     let number = book.next_number(0)?;
-    again!(NoStep::NoMemory, book.step(alloc, 0, number, command))?;
-    Ok(())
+    Ok(again!(NoStep::NoMemory, book.step(alloc, 0, number, command))?.front)
 }
 
-/// A ticket for the block over three, which are handed in first.
-fn ticket_of(
+/// Why steps out of turn, with a block of another committee, and in a full book are not taken.
+fn refusals(
     book: &mut Book<DemoScheme>,
     alloc: Global,
-    desk: &Desk,
-) -> Result<Ticket<DemoScheme>, Fail> {
-    for place in 0..4 {
-        step(book, alloc, &write(alloc, desk, place)?)?;
-        step(book, alloc, &certify(alloc, desk, place)?)?;
-    }
-    again!(NoMemory, book.compact(alloc))?;
-    let number = book.next_number(0)?;
-    match again!(
-        NoStep::NoMemory,
-        book.open(alloc, 0, number, desk.digest(3))
-    )? {
-        Ok(ticket) => Ok(ticket),
-        Err(_) => Err(Fail::from("the block is complete")),
-    }
+    stranger: &Command<DemoScheme>,
+) -> [Option<NoStep>; 5] {
+    let digest = Digest([0; 32]);
+    [
+        book.step(alloc, 0, 9, &Command::Status).err(),
+        book.step(alloc, 0, 3, stranger).err(),
+        book.step(alloc, 0, 3, &Command::Status).err(),
+        book.open(alloc, 3, 1, digest).err(),
+        book.open(alloc, 0, 3, digest).err(),
+    ]
 }
 
-/// That of a new book.
-pub(super) fn ticket(alloc: Global, desk: &Desk) -> Result<Ticket<DemoScheme>, Fail> {
-    let mut book = again!(
-        BookError::NoMemory,
-        new_book(alloc, &desk.committee, LIMITS)
-    )?;
-    ticket_of(&mut book, alloc, desk)
+/// Whether the fronts of the first and the second call are told, and the history.
+fn are_told(one: &Front<DemoScheme>, two: &Front<DemoScheme>, book: &Book<DemoScheme>) -> bool {
+    let history = book.history();
+    one.is_prefix_of(two)
+        && !two.is_prefix_of(one)
+        && one.event(1).is_none()
+        && one.base().is_none()
+        && (one.len(), two.len(), two.parts()) == (1, 2, 2)
+        && history.event(1).is_some()
+        && history.len() == 2
+        && one.committee().get() == history.committee().get()
+        && (one.limits(), history.limits()) == (FEW, FEW)
 }
 
-/// Whether the lists of two tickets for one digest are equal.
-fn agree(
-    alloc: Global,
-    one: &Ticket<DemoScheme>,
-    other: &Ticket<DemoScheme>,
-) -> Result<bool, Fail> {
-    if one.digest() != other.digest() || one.view().floor() != other.view().floor() {
-        return Err(Fail::from("the tickets are for one digest and one floor"));
-    }
-    let agreement = again!(NoMemory, one.agree(alloc, other))?;
-    Ok(matches!(agreement, Agreement::Same))
+/// Why no book is made with a window of 0.
+fn refusal(alloc: Global, committee: Shared<Committee>) -> Option<BookError> {
+    let limits = Limits {
+        window: 0,
+        ..LIMITS
+    };
+    Book::<DemoScheme>::new(alloc, committee, limits).err()
 }
 
 #[test]
-fn tickets_of_two_books_agree(rt: HostRuntime) -> Result<(), Fail> {
-    let desk = Desk::new(rt.alloc(), &[0, 1, 2, 3], &FOUR)?;
-    let one = ticket(rt.alloc(), &desk)?;
-    let other = ticket(rt.alloc(), &desk)?;
-    assert!(rt; agree(rt.alloc(), &one, &other)?);
+fn refusals_fronts_and_histories_take_no_memory(rt: HostRuntime) -> Result<(), Fail> {
+    let alloc = rt.alloc();
+    let desk = Desk::new(alloc, &[0, 1, 2, 3], &FOUR)?;
+    let own = desk.command(alloc, &Asked::Write(0))?;
+    let stranger = Desk::new(alloc, &[0], &TWO)?.command(alloc, &Asked::Write(0))?;
+    let committee = desk.committee.try_clone()?;
+    let book = again!(BookError::NoMemory, new_book(alloc, &desk.committee, FEW));
+    let mut book = book.expect(&rt, "a book");
+    let one = front(&mut book, alloc, &own).expect(&rt, "a front");
+    let two = front(&mut book, alloc, &Command::Status).expect(&rt, "a front");
+    refuse_all(alloc);
+    let refusals = refusals(&mut book, alloc, &stranger);
+    let told = are_told(&one, &two, &book);
+    let refusal = refusal(alloc, committee);
+    refuse_none(alloc);
+    let wanted = [
+        NoStep::OutOfTurn,
+        NoStep::OtherCommittee,
+        NoStep::HistoryFull,
+        NoStep::OutOfTurn,
+        NoStep::HistoryFull,
+    ];
+    assert_eq!(rt; refusals, wanted.map(Some));
+    assert!(rt; told && refusal == Some(BookError::BadLimits));
     Ok(())
 }

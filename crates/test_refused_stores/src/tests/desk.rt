@@ -1,9 +1,7 @@
-//! The blocks of an example, and what a store is asked about them.
+//! The blocks of an example, and the moves that are made with them.
 use super::*;
 use nw_check::{BlockFault, CertFault, CheckedBlock, CheckedCert};
-use nw_codec::{Block, Ref};
-use nw_committee::Committee;
-use nw_digest::Shared;
+use nw_codec::Ref;
 use nw_model::{CausalReply, CertifyReply, CollectReply, Reply, WriteReply};
 use sample_checked::refused::{Slot, checked_block, checked_certificate, committee};
 
@@ -42,6 +40,24 @@ pub(super) const CHAIN: [Sketch; 17] = [
     (16, 0, b'x', &[15]),
 ];
 
+/// What is asked, of blocks by their places in the example.
+#[derive(Clone, Copy)]
+pub(super) enum Asked {
+    Write(usize),
+    Certify(usize),
+    Certificate(usize),
+    Read(usize),
+    Open(usize),
+    /// The ticket of this number is walked.
+    Walk(u32),
+    Collect(u64),
+    Missing,
+    Status,
+}
+
+/// What is asked, and what is answered, in a word and a number.
+pub(super) type Row = (Asked, &'static str, u64);
+
 /// The blocks of an example, with their digests, under its committee.
 #[derive(Drop)]
 pub(super) struct Desk {
@@ -73,48 +89,35 @@ impl Desk {
         self.digests.get(place).copied().unwrap_or(Digest([0; 32]))
     }
 
-    pub(super) fn slot(&self, place: usize) -> Slot {
+    fn slot(&self, place: usize) -> Slot {
         match self.sketches.get(place) {
             None => (Round::ZERO, 0),
             Some((number, author, _, _)) => (Round::new(*number).unwrap_or(Round::ZERO), *author),
         }
     }
 
-    /// References to the parents of the block at the place.
-    fn references(&self, alloc: Global, place: usize) -> Result<Vec<Ref>, NoMemory> {
+    /// References to the blocks at these places.
+    fn references(&self, alloc: Global, places: &[usize]) -> Result<Vec<Ref>, NoMemory> {
         let mut references = Vec::new(alloc);
-        if let Some((_, _, _, parents)) = self.sketches.get(place) {
-            for parent in *parents {
-                references.push(Ref {
-                    author: self.slot(*parent).1,
-                    digest: self.digest(*parent),
-                })?;
-            }
+        for place in places {
+            references.push(Ref {
+                author: self.slot(*place).1,
+                digest: self.digest(*place),
+            })?;
         }
         Ok(references)
     }
 
     /// The block at the place, signed and checked.
-    pub(super) fn block(
-        &self,
-        alloc: Global,
-        place: usize,
-    ) -> Result<CheckedBlock<DemoScheme>, BlockFault> {
-        let text = self.sketches.get(place).map_or(b'x', |sketch| sketch.2);
-        let references = self.references(alloc, place)?;
-        let (round, author) = self.slot(place);
-        checked_block(
-            alloc,
-            &self.committee,
-            (round, author),
-            &references,
-            text,
-            author,
-        )
+    fn block(&self, alloc: Global, place: usize) -> Result<CheckedBlock<DemoScheme>, BlockFault> {
+        let (_, _, text, parents) = self.sketches.get(place).unwrap_or(&TWO[0]);
+        let references = self.references(alloc, parents)?;
+        let slot = self.slot(place);
+        checked_block(alloc, &self.committee, slot, &references, *text, slot.1)
     }
 
     /// The certificate of the block at the place, with the votes of a quorum of members of weight 1.
-    pub(super) fn certificate(
+    fn certificate(
         &self,
         alloc: Global,
         place: usize,
@@ -123,43 +126,67 @@ impl Desk {
             1 => &[0],
             _ => &[0, 1, 2],
         };
-        checked_certificate(
-            alloc,
-            &self.committee,
-            self.digest(place),
-            self.slot(place),
-            signers,
-        )
+        let (digest, slot) = (self.digest(place), self.slot(place));
+        checked_certificate(alloc, &self.committee, digest, slot, signers)
     }
 
-    /// Whether these are the blocks at these places, in order.
-    pub(super) fn are(&self, blocks: &[Shared<Block>], places: &[usize]) -> bool {
-        blocks.len() == places.len()
-            && blocks.iter().zip(places).all(|(block, place)| {
-                let block = block.get();
-                (block.round, block.author) == self.slot(*place)
-            })
-    }
-
-    /// The reply in words, where it is one of those that the examples wait for.
-    pub(super) fn words(&self, reply: &Reply) -> &'static str {
-        match reply {
-            Reply::Write(WriteReply::Stored { vote: true }) => "stored vote",
-            Reply::Write(WriteReply::Held) => "held",
-            Reply::Write(WriteReply::Equivocates(first)) if *first == self.digest(0) => {
-                "equivocates the first"
+    /// What is asked of a book, where it is no causal read.
+    pub(super) fn command(
+        &self,
+        alloc: Global,
+        asked: &Asked,
+    ) -> Result<Command<DemoScheme>, Fail> {
+        Ok(match asked {
+            Asked::Write(place) => {
+                Command::Write(again!(BlockFault::NoMemory, self.block(alloc, *place))?)
             }
-            Reply::Write(WriteReply::Collected(floor)) if floor.get() == 1 => "collected 1",
-            Reply::Certify(CertifyReply::Certified) => "certified",
-            Reply::Certify(CertifyReply::Already) => "already",
-            Reply::Certificate(Some(_)) => "kept",
-            Reply::Read(Some(_)) => "found",
-            Reply::Read(None) | Reply::Causal(CausalReply::Unknown) => "unknown",
-            Reply::Causal(CausalReply::Incomplete) => "incomplete",
-            Reply::Collect(CollectReply::Raised { dropped: 1 }) => "raised 1",
-            Reply::Collect(CollectReply::Raised { dropped: 4 }) => "raised 4",
-            Reply::Missing(_) => "missing",
-            _ => "another reply",
+            Asked::Certify(place) => {
+                Command::Certify(again!(CertFault::NoMemory, self.certificate(alloc, *place))?)
+            }
+            Asked::Certificate(place) => Command::Certificate(self.digest(*place)),
+            Asked::Read(place) => Command::Read(self.digest(*place)),
+            Asked::Collect(number) => Command::Collect(Round::new(*number).unwrap_or(Round::ZERO)),
+            Asked::Missing => Command::Missing(5),
+            _ => Command::Status,
+        })
+    }
+
+    /// The moves of session 0 that ask all this.
+    pub(super) fn moves(&self, alloc: Global, rows: &[Row]) -> Result<Vec<Move<DemoScheme>>, Fail> {
+        let mut moves = again!(AllocError, Vec::with_capacity(alloc, rows.len()))?;
+        for (asked, _, _) in rows {
+            moves.push(match asked {
+                Asked::Walk(ticket) => Move::Walk { ticket: *ticket },
+                Asked::Open(place) => Move::Open {
+                    session: 0,
+                    digest: self.digest(*place),
+                },
+                _ => Move::Call {
+                    session: 0,
+                    command: self.command(alloc, asked)?,
+                },
+            })?;
         }
+        Ok(moves)
+    }
+}
+
+/// A reply in a word and a number.
+pub(super) fn word(reply: &Reply) -> (&'static str, u64) {
+    match reply {
+        Reply::Write(WriteReply::Stored { vote: true }) => ("stored vote", 0),
+        Reply::Write(WriteReply::Held) => ("held", 0),
+        Reply::Write(WriteReply::Equivocates(_)) => ("equivocates", 0),
+        Reply::Write(WriteReply::Collected(floor)) => ("collected", floor.get()),
+        Reply::Certify(CertifyReply::Certified) => ("certified", 0),
+        Reply::Certify(CertifyReply::Already) => ("already", 0),
+        Reply::Certificate(Some(_)) => ("kept", 0),
+        Reply::Read(Some(_)) => ("found", 0),
+        Reply::Read(None) | Reply::Causal(CausalReply::Unknown) => ("unknown", 0),
+        Reply::Causal(CausalReply::Incomplete) => ("incomplete", 0),
+        Reply::Collect(CollectReply::Raised { dropped }) => ("raised", *dropped),
+        Reply::Missing(wanted) => ("missing", wanted.as_slice().len() as u64),
+        Reply::Status(counts) => ("complete", counts.complete),
+        _ => ("another reply", 0),
     }
 }
