@@ -64,16 +64,3 @@ closed_both n older newer floor few bases next = record {
     parent r b round is =
         let base = bases.held r.author is.0 in
         (base.0, both older newer r.digest ∙ of_later (get newer r.digest) (get older r.digest) base.0 (lacks r is.0 is.1) (ap (get older) is.1 ∙ base.1), base.2, omega arith)
-
--- blocks of round 0 alone, where the later generation has others than the older one
-pub closed_over : (n : ℕ) (older newer : FinMap digest_cmp Block) (floor : ℕ) → AreBases n older → AreBases n newer → IsClosed (seen_of (older ∷ newer ∷ []) floor).frozen
-closed_over n older newer floor bases later = record {
-  parents = λ d b at above. let first = round_0 d b at in absurd (omega arith);
-  apart = λ d e b c at there kept slots. named d b at ∙ ap (λ (s : Slot). name_of s) slots ∙ sym (named e c there);
-}
-  where
-    named : AreNamed (union (older ∷ newer ∷ []))
-    named d b at = elim (held_by older newer d b at) [ inl here ↦ later.named d b here | inr there ↦ bases.named d b there ]
-
-    round_0 : (d : Digest) (b : Block) → get (union (older ∷ newer ∷ [])) d ≡ Some b → b.round ≡ 0
-    round_0 d b at = elim (held_by older newer d b at) [ inl here ↦ later.first d b here | inr there ↦ bases.first d b there ]

@@ -1,5 +1,26 @@
 //! Worked examples, and random calls beside ordered maps and sets.
+use nw_digest::{Digest, NoMemory, Round};
+use rand_core::utils::NextWord;
+use rand_pcg::Pcg32;
+use std::alloc::{Allocator, Global};
+use std::process::Abort;
+use std::test::Fail;
+
 mod chunks;
+mod log;
 mod rounds;
 mod trie;
 mod waiting;
+
+/// A digest that begins and ends with these bytes.
+fn digest(first: u8, last: u8) -> Digest {
+    let mut bytes = [0; 32];
+    bytes[0] = first;
+    bytes[31] = last;
+    Digest(bytes)
+}
+
+/// The round of this number, which is below 2^48.
+fn round(number: u64) -> Result<Round, NoMemory> {
+    Round::new(number).ok_or(NoMemory)
+}

@@ -1,10 +1,11 @@
-use nw_digest::{Digest, NoMemory, Round};
+use nw_codec::Block;
+use nw_digest::{Digest, NoMemory, Round, Shared};
+use sample_blocks::{name, round};
 use sample_checked::{again, refuse_all, refuse_none};
-use std::alloc::{AllocError, Global};
-use std::test::Fail;
+use std::alloc::Global;
 
 mod dags;
-mod free;
+mod plains;
 mod tables;
 mod views;
 
@@ -14,4 +15,15 @@ fn digest(first: u8, last: u8) -> Digest {
     bytes[0] = first;
     bytes[31] = last;
     Digest(bytes)
+}
+
+/// Whether the blocks have these rounds and authors, in order.
+fn have_slots(blocks: &[Shared<Block>], slots: &[(u64, u16)]) -> bool {
+    for (block, slot) in blocks.iter().zip(slots) {
+        let block = block.get();
+        if (block.round.get(), block.author) != *slot {
+            return false;
+        }
+    }
+    blocks.len() == slots.len()
 }

@@ -1,5 +1,5 @@
-//! Tests of tables: in which order blocks become complete, what collections leave, what views of a chain share, and what copies of a
-//! plain store's calls say.
+//! Tests of tables: what small stores are answered, that a `Dag` answers as a `Plain`, what views share, what walks list and
+//! whether they agree, and how a store goes on from a base.
 //!
 //! Its contract: it has tests alone, and nothing stands on it.
 #![tactic(auto)]

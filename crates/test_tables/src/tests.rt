@@ -1,24 +1,50 @@
+use nw_causal::walk;
 use nw_codec::{Block, Certificate, Ref};
-use nw_digest::{Digest, Round, Sequence, Shared};
+use nw_dag::Dag;
+use nw_digest::{Digest, NoMemory, Round, Sequence, Shared};
+use nw_generation::View;
 use std::alloc::Global;
-use std::test::Fail;
 
-const A: Digest = Digest([1; 32]);
-
-const B: Digest = Digest([2; 32]);
-
-const C: Digest = Digest([3; 32]);
-
-mod collections;
-mod diamonds;
-mod plains;
+mod bases;
+mod both;
+mod examples;
+mod floods;
+mod frozen;
+mod grids;
+mod orders;
+mod random;
 mod views;
+mod words;
 
 /// A round and an author.
 type Slot = (u64, u16);
 
-fn round(number: u64) -> Result<Round, Fail> {
-    Ok(Round::new(number).ok_or("a round has 48 bits")?)
+/// A block by its round, its author, and which of that author's blocks of the round it is.
+type Name = (u64, u16, u8);
+
+/// The round of this number, which has 48 bits.
+fn round(number: u64) -> Result<Round, NoMemory> {
+    Round::new(number).ok_or(NoMemory)
+}
+
+/// The digest that stands for the block of that name. Digests are not in the order of the rounds.
+fn digest_of(name: Name) -> Digest {
+    let mut bytes = [name.2; 32];
+    bytes[..2].copy_from_slice(&name.1.to_be_bytes());
+    bytes[24..].copy_from_slice(&name.0.to_be_bytes());
+    Digest(bytes)
+}
+
+/// References to blocks, with this author or else their own.
+fn references(alloc: Global, names: &[Name], author: Option<u16>) -> Result<Vec<Ref>, NoMemory> {
+    let mut references = Vec::new(alloc);
+    for name in names {
+        references.push(Ref {
+            author: author.unwrap_or(name.1),
+            digest: digest_of(*name),
+        })?;
+    }
+    Ok(references)
 }
 
 /// The block of the slot with these parents and this one transaction.
@@ -27,7 +53,7 @@ fn block_of(
     slot: Slot,
     parents: Vec<Ref>,
     text: &[u8],
-) -> Result<Shared<Block>, Fail> {
+) -> Result<Shared<Block>, NoMemory> {
     let mut transactions = Vec::new(alloc);
     transactions.push(Sequence::new(text.to_vec(alloc)?))?;
     let block = Block {
@@ -36,16 +62,55 @@ fn block_of(
         parents: Sequence::new(parents),
         transactions: Sequence::new(transactions),
     };
-    Ok(Shared::new(alloc, block)?)
+    Shared::new(alloc, block)
 }
 
 /// A certificate of the digest for the slot.
-fn certificate(alloc: Global, digest: Digest, slot: Slot) -> Result<Shared<Certificate>, Fail> {
+fn certificate(alloc: Global, digest: Digest, slot: Slot) -> Result<Shared<Certificate>, NoMemory> {
     let certificate = Certificate {
         digest,
         round: round(slot.0)?,
         author: slot.1,
         votes: Sequence::new(Vec::new(alloc)),
     };
-    Ok(Shared::new(alloc, certificate)?)
+    Shared::new(alloc, certificate)
+}
+
+/// Writes the block of that name over these.
+fn write(dag: &mut Dag, alloc: Global, name: Name, parents: &[Name]) -> Result<(), NoMemory> {
+    let references = references(alloc, parents, None)?;
+    let block = block_of(alloc, (name.0, name.1), references, b"")?;
+    dag.write(digest_of(name), &block)?;
+    Ok(())
+}
+
+/// Certifies the block of that name.
+fn certify(dag: &mut Dag, alloc: Global, name: Name) -> Result<(), NoMemory> {
+    let certificate = certificate(alloc, digest_of(name), (name.0, name.1))?;
+    dag.certify(&certificate)?;
+    Ok(())
+}
+
+/// The walk of a view from a block, which it has not below its floor.
+fn walked(
+    alloc: Global,
+    view: &View<Global>,
+    digest: Digest,
+) -> Result<Vec<Shared<Block>>, NoMemory> {
+    let start = view.get(&digest).ok_or(NoMemory)?.get();
+    if start.round.get() < view.floor().get() {
+        return Err(NoMemory);
+    }
+    walk(alloc, view, digest)
+}
+
+/// Whether the blocks have these slots, in order.
+fn have_slots(blocks: &[Shared<Block>], slots: &[Slot]) -> bool {
+    for (block, slot) in blocks.iter().zip(slots) {
+        let block = block.get();
+        if (block.round.get(), block.author) != *slot {
+            return false;
+        }
+    }
+    blocks.len() == slots.len()
 }

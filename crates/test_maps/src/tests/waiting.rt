@@ -1,80 +1,143 @@
-use nw_digest::{Digest, Round};
+//! What holders wait for.
+use super::*;
 use nw_waiting::{Waiting, Wanted};
-use std::alloc::{Allocator, Global};
-use std::test::Fail;
-
-mod random;
-
-// A digest that begins with this byte.
-fn digest(first: u8) -> Digest {
-    let mut bytes = [0; 32];
-    bytes[0] = first;
-    Digest(bytes)
-}
+use std::collections::BTreeSet;
 
 fn wanted(author: u16, first: u8) -> Wanted {
     Wanted {
         round: Round::ZERO,
         author,
-        digest: digest(first),
+        digest: digest(first, 0),
     }
 }
 
-#[test]
-fn what_is_wanted_is_satisfied_or_given_up(rt: HostRuntime) -> Result<(), Fail> {
+/// Two holders wait for what the first of them is satisfied of, and then gives up.
+fn two_holders_wait<A: Allocator + Copy + Drop>(
+    rt: &impl Abort,
+    alloc: Global,
+    waiting: &mut Waiting<A>,
+) -> Result<(), NoMemory> {
     let (one, two) = (wanted(0, 1), wanted(1, 2));
-    let (early, late) = (digest(8), digest(9));
-    let mut waiting = Waiting::new_in(rt.alloc());
+    let (early, late) = (digest(8, 0), digest(9, 0));
     waiting.want(one, early)?;
     waiting.want(two, early)?;
     waiting.want(one, late)?;
-    assert_eq!(rt; waiting.count(), 2);
-    assert_eq!(rt; waiting.lacks(early), 2);
-    assert_eq!(rt;
-        waiting.first_wanted(rt.alloc(), 1)?.as_slice(),
-        [one].as_slice()
-    );
-    assert_eq!(rt; waiting.satisfy(&one).as_slice(), [early, late].as_slice());
-    assert_eq!(rt; waiting.lacks(early), 1);
-    assert_eq!(rt; waiting.lacks(late), 0);
+    assert_eq!(rt; (waiting.count(), waiting.lacks(early)), (2, 2));
+    let first = waiting.first_wanted(alloc, 1)?;
+    assert_eq!(rt; first.as_slice(), [one].as_slice());
+    let holders = waiting.satisfy(&one);
+    assert_eq!(rt; holders.as_slice(), [early, late].as_slice());
+    assert_eq!(rt; (waiting.lacks(early), waiting.lacks(late)), (1, 0));
     waiting.unwant(early);
     assert_eq!(rt; waiting.count(), 0);
-    assert!(rt; waiting.first_wanted(rt.alloc(), 5)?.is_empty());
-    Ok(())
-}
-
-// How much two holders lack after one gives up, in the memory of any allocator.
-fn given_up<A: Allocator + Copy + Drop>(
-    list_alloc: Global,
-    alloc: A,
-) -> Result<(usize, usize, Vec<Wanted>), nw_digest::NoMemory> {
-    let mut waiting = Waiting::new_in(alloc);
-    waiting.want(wanted(2, 1), digest(8))?;
-    waiting.want(wanted(1, 3), digest(8))?;
-    waiting.want(wanted(1, 2), digest(9))?;
-    waiting.want(wanted(1, 2), digest(9))?;
-    waiting.unwant(digest(8));
-    let first = waiting.first_wanted(list_alloc, 2)?;
-    Ok((waiting.lacks(digest(8)), waiting.lacks(digest(9)), first))
-}
-
-#[test]
-fn a_holder_that_gives_up_lacks_nothing(rt: HostRuntime) -> Result<(), Fail> {
-    let (first, second, rest) = given_up(rt.alloc(), &rt.alloc())?;
-    assert_eq!(rt; first, 0);
-    assert_eq!(rt; second, 1);
-    assert_eq!(rt; rest.as_slice(), [wanted(1, 2)].as_slice());
+    assert!(rt; waiting.first_wanted(alloc, 5)?.is_empty());
     Ok(())
 }
 
 #[test]
-fn the_first_wanted_are_ascending(rt: HostRuntime) -> Result<(), Fail> {
-    let mut waiting = Waiting::new_in(rt.alloc());
-    for (author, first) in [(7, 1), (3, 9), (3, 2)] {
-        waiting.want(wanted(author, first), digest(0))?;
+fn what_is_wanted_is_satisfied_or_given_up(rt: HostRuntime) {
+    let alloc = rt.alloc();
+    let ended = two_holders_wait(&rt, alloc, &mut Waiting::new_in(&alloc));
+    assert!(rt; ended.is_ok());
+}
+
+/// What is wanted, with who lacks it.
+type Pairs = BTreeSet<(Wanted, Digest)>;
+
+/// What is wanted in the pairs, ascending and each once.
+fn wanted_in(alloc: Global, pairs: &Pairs) -> Result<Vec<Wanted>, NoMemory> {
+    let mut wanted = BTreeSet::new(alloc);
+    for pair in pairs {
+        wanted.insert(pair.0)?;
     }
-    let first = waiting.first_wanted(rt.alloc(), 2)?;
-    assert_eq!(rt; first.as_slice(), [wanted(3, 2), wanted(3, 9)].as_slice());
-    assert!(rt; waiting.satisfy(&wanted(0, 0)).is_empty());
-    Ok(())
+    Ok(wanted.into_iter().collect(alloc)?)
+}
+
+/// Satisfies it in both, and gives whether its holders are the same.
+fn satisfy_in_both(
+    alloc: Global,
+    waiting: &mut Waiting<Global>,
+    pairs: &mut Pairs,
+    wanted: Wanted,
+) -> Result<bool, NoMemory> {
+    let mut expected = Vec::new(alloc);
+    for pair in pairs.iter() {
+        if pair.0 == wanted {
+            expected.push(pair.1)?;
+        }
+    }
+    let mut holders = waiting.satisfy(&wanted);
+    holders.sort()?;
+    pairs.retain(|pair| pair.0 != wanted);
+    Ok(holders.as_slice() == expected.as_slice())
+}
+
+/// Whether the first ones that are wanted are the same, and as many are wanted and lacked by the holder.
+fn are_same(
+    alloc: Global,
+    waiting: &Waiting<Global>,
+    pairs: &Pairs,
+    holder: Digest,
+    most: u16,
+) -> Result<bool, NoMemory> {
+    let mut lacked = 0usize;
+    for pair in pairs {
+        if pair.1 == holder {
+            lacked = lacked.saturating_add(1);
+        }
+    }
+    let mut expected = wanted_in(alloc, pairs)?;
+    let count = expected.len();
+    expected.truncate(usize::from(most));
+    Ok(
+        waiting.first_wanted(alloc, most)?.as_slice() == expected.as_slice()
+            && waiting.count() == count
+            && waiting.lacks(holder) == lacked,
+    )
+}
+
+/// What is wanted, one of 64, and a holder, one of 8.
+fn drawn(word: u32) -> Result<(Wanted, Digest), NoMemory> {
+    let wanted = Wanted {
+        round: round(u64::from(word % 8))?,
+        author: (word / 8 % 2) as u16,
+        digest: digest((word / 16 % 4) as u8, 0),
+    };
+    Ok((wanted, digest((word / 64 % 8) as u8, 0)))
+}
+
+/// Takes the step that the word names, and gives whether the answers are equal.
+fn step(
+    alloc: Global,
+    waiting: &mut Waiting<Global>,
+    pairs: &mut Pairs,
+    word: u32,
+) -> Result<bool, NoMemory> {
+    let (wanted, holder) = drawn(word)?;
+    let mut answered = true;
+    match word / 512 % 64 {
+        0 => {
+            waiting.unwant(holder);
+            pairs.retain(|pair| pair.1 != holder);
+        }
+        1..9 => answered = satisfy_in_both(alloc, waiting, pairs, wanted)?,
+        _ => {
+            waiting.want(wanted, holder)?;
+            pairs.insert((wanted, holder))?;
+        }
+    }
+    let most = (word / 32_768 % 32) as u16;
+    Ok(answered && are_same(alloc, waiting, pairs, holder, most)?)
+}
+
+#[test]
+fn random_steps_of_holders_answer_as_an_ordered_set(rt: HostRuntime) {
+    let mut waiting = Waiting::new_in(rt.alloc());
+    let mut pairs = BTreeSet::new(rt.alloc());
+    let mut random = Pcg32::new(1, 1);
+    for _ in 0..4_000 {
+        let word = random.next_word();
+        let same = step(rt.alloc(), &mut waiting, &mut pairs, word);
+        assert!(rt; matches!(same, Ok(true)));
+    }
 }

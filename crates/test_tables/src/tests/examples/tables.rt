@@ -1,0 +1,53 @@
+//! The examples. Blocks are named by their round (K, L, M, N and U for 0 to 4, Z for the last) and author; an `X` stands behind the
+//! other block of that slot.
+use super::*;
+
+mod parents;
+mod replies;
+
+/// The largest round.
+const LAST: u64 = (1 << 48) - 1;
+
+const K0: Name = (0, 0, 0);
+
+const K0X: Name = (0, 0, 1);
+
+const K1: Name = (0, 1, 0);
+
+const K2: Name = (0, 2, 0);
+
+const L0: Name = (1, 0, 0);
+
+const L0X: Name = (1, 0, 1);
+
+const L1: Name = (1, 1, 0);
+
+const M0: Name = (2, 0, 0);
+
+const M1: Name = (2, 1, 0);
+
+const N0: Name = (3, 0, 0);
+
+const N1: Name = (3, 1, 0);
+
+const U0: Name = (4, 0, 0);
+
+const Z0: Name = (LAST, 0, 0);
+
+pub(super) const EXAMPLES: [Example; 15] = [
+    replies::EQUIVOCATION,
+    replies::ONE_DIGEST,
+    replies::FAR,
+    replies::FULL,
+    replies::LIMITS,
+    replies::WINDOW,
+    replies::FIRST,
+    parents::WAITS,
+    parents::MISSING,
+    parents::ABSENT,
+    parents::COLLECTED,
+    parents::SKIPPED,
+    parents::UNCERTIFIED,
+    parents::MISNAMED,
+    parents::KEPT,
+];

@@ -1,0 +1,43 @@
+//! Blocks and certificates beyond the window.
+use super::*;
+use nw_model::{CertifyReply, Counts, WriteReply};
+
+/// What is kept of a block of round 0 with its certificate, and of a block of round 3 that lacks its parent.
+const KEPT: Counts = Counts {
+    floor: Round::ZERO,
+    blocks: 2,
+    certificates: 1,
+    complete: 1,
+    wanted: 1,
+};
+
+/// Whether one of a thousand blocks of round 4 and one of a thousand certificates of round 5 are too far.
+fn are_too_far(dag: &mut Dag, alloc: Global, number: u16) -> Result<bool, NoMemory> {
+    let parents = references(alloc, &[(3, number, 1)], None)?;
+    let block = block_of(alloc, (4, 0), parents, b"")?;
+    let certificate = certificate(alloc, digest_of((5, number, 1)), (5, 0))?;
+    Ok(
+        dag.write(digest_of((4, number, 1)), &block)? == WriteReply::TooFar
+            && dag.certify(&certificate)? == CertifyReply::TooFar,
+    )
+}
+
+/// Floods tables of a window of four rounds. How much of it is too far.
+fn flooded(dag: &mut Dag, alloc: Global) -> Result<u16, NoMemory> {
+    write(dag, alloc, (0, 0, 0), &[])?;
+    certify(dag, alloc, (0, 0, 0))?;
+    write(dag, alloc, (3, 0, 0), &[(2, 0, 0)])?;
+    for number in 0..1000 {
+        if dag.status() != KEPT || !are_too_far(dag, alloc, number)? {
+            return Ok(number);
+        }
+    }
+    Ok(1000)
+}
+
+#[test]
+fn a_flood_beyond_the_window_changes_nothing(rt: HostRuntime) {
+    let dag = &mut Dag::new(rt.alloc(), 64, 4);
+    assert!(rt; matches!(flooded(dag, rt.alloc()), Ok(1000)));
+    assert!(rt; dag.status() == KEPT);
+}
