@@ -44,23 +44,3 @@ fn status(outcome: Result<(), PlayFault>) -> u8 {
         Err(PlayFault::Differs { .. }) => 3,
     }
 }
-
-#[cfg(test)]
-mod tests {
-    use super::*;
-
-    #[test]
-    fn each_outcome_has_its_status(rt: HostRuntime) {
-        assert_eq!(rt; status(Ok(())), 0);
-        for fault in [
-            PlayFault::Read,
-            PlayFault::Write,
-            PlayFault::TooLong,
-            PlayFault::NoMemory,
-        ] {
-            assert_eq!(rt; status(Err(fault)), 1, "{fault}");
-        }
-        assert_eq!(rt; status(Err(PlayFault::BadLine { line: 3 })), 2);
-        assert_eq!(rt; status(Err(PlayFault::Differs { session: 1 })), 3);
-    }
-}
