@@ -15,8 +15,8 @@ join-first-requires-send-A g c κs within = search (sendable, crosses, session_s
 
 pub join-first-requires-send-F : goal.join-first-requires-send-F
 join-first-requires-send-F g c κs within =
-    let names = lts.name-45 g.row.L g.row.R g.L.laws g.R.laws g.L.Home g.L.Home-dict g.L.Place g.L.Place-dict g.L.Ledger g.L.Ledger-dict g.R.Threads g.R.Threads-dict g.R.Wait g.R.Wait-dict in
-    let captured = lts.of-42 g.row.L g.row.R g.L.laws g.R.laws g.L.Home g.L.Home-dict g.L.Place g.L.Place-dict g.L.Ledger g.L.Ledger-dict g.R.Threads g.R.Threads-dict g.R.Wait g.R.Wait-dict
+    let names = lts.name-59 g.row.L g.row.R g.L.laws g.R.laws g.L.Home g.L.Home-dict g.L.Place g.L.Place-dict g.L.Ledger g.L.Ledger-dict g.R.Threads g.R.Threads-dict g.R.Wait g.R.Wait-dict in
+    let captured = lts.of-44 g.row.L g.row.R g.L.laws g.R.laws g.L.Home g.L.Home-dict g.L.Place g.L.Place-dict g.L.Ledger g.L.Ledger-dict g.R.Threads g.R.Threads-dict g.R.Wait g.R.Wait-dict
     (record { mir = named 6; lft = κs.1.1.1.1.1.1.0 }) (record { mir = named 7; lft = κs.1.1.1.1.1.1.1.0 }) (record { mir = named 8; lft = κs.1.1.1.1.1.1.1.1.0 }) in
     let closure = type_at names captured in
     let fields : IsSend (row closure) = declared_send closure (
