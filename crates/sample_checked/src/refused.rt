@@ -1,12 +1,11 @@
 //! A committee whose members sign by the demonstration scheme, and blocks, votes and certificates under it.
-ghost use Rattle.std.specs.Prelude.{IfSome};
-ghost use Rattle.nw_codec.specs.Fits.{Fits};
-
+use crate::signing::seal;
+pub use crate::signing::signature;
 use nw_check::{BlockFault, CertFault, CheckedBlock, CheckedCert, check_block, check_cert};
-use nw_codec::{Block, Certificate, Ref, Seal, Signature, Vote, block_digest};
+use nw_codec::{Block, Certificate, Ref, Vote};
 use nw_committee::{Committee, Key};
 use nw_digest::{Digest, NoMemory, Round, Sequence, Shared};
-use nw_sig::{DemoScheme, DemoSigner, Signer, block_text, vote_text};
+use nw_sig::DemoScheme;
 use std::alloc::Global;
 
 /// A round and an author.
@@ -32,12 +31,6 @@ pub fn committee(alloc: Global, numbers: &[u8]) -> Result<Shared<Committee>, NoM
     }
 }
 
-/// The member's signature; where there is no such member, that of a key of bytes 0.
-fn sign(committee: &Committee, member: u16, text: &[u8]) -> Signature {
-    let key = committee.key(member).copied().unwrap_or(Key([0; 32]));
-    DemoSigner::new(key).sign(text)
-}
-
 /// The vote of this signer for the digest of the slot.
 pub fn vote(committee: &Committee, digest: Digest, slot: Slot, signer: u16) -> Vote {
     let (round, author) = slot;
@@ -46,7 +39,7 @@ pub fn vote(committee: &Committee, digest: Digest, slot: Slot, signer: u16) -> V
         round,
         author,
         signer,
-        signature: sign(committee, signer, &vote_text(&digest, round, author)),
+        signature: seal(committee, digest, round, author, signer).signature,
     }
 }
 
@@ -61,10 +54,7 @@ pub fn certificate(
     let (round, author) = slot;
     let mut votes = Vec::new(alloc);
     for signer in signers {
-        votes.push(Seal {
-            signer: *signer,
-            signature: vote(committee, digest, (round, author), *signer).signature,
-        })?;
+        votes.push(seal(committee, digest, round, author, *signer))?;
     }
     Ok(Certificate {
         digest,
@@ -99,16 +89,6 @@ pub fn unsigned(alloc: Global, slot: Slot, parents: &[Ref], text: u8) -> Result<
         parents: Sequence::new(parents.to_vec(alloc)?),
         transactions: Sequence::new(transactions),
     })
-}
-
-/// The member's signature of the block, where it fits.
-pub fn signature(committee: &Committee, block: &Block, signer: u16) -> Option<Signature>
-    ensures { IfSome result (λ _. Fits block.now) }
-{
-    if !block.fits() {
-        return None;
-    }
-    Some(sign(committee, signer, &block_text(&block_digest(block))))
 }
 
 /// Such a block that the member signs, checked.

@@ -1,11 +1,12 @@
 //! Committees whose members sign by the demonstration scheme, and their checked blocks and certificates.
 ghost use Rattle.std.specs.Prelude.{◌≡◌, IfOk, length};
 
+use crate::signing::{seal, signature};
 use nw_check::{CheckedBlock, CheckedCert, check_block, check_cert};
-use nw_codec::{Block, Certificate, Ref, Seal, Signature, block_digest};
+use nw_codec::{Block, Certificate, Ref};
 use nw_committee::{Committee, Key};
 use nw_digest::{Digest, Round, Sequence, Shared};
-use nw_sig::{DemoScheme, DemoSigner, Signer, block_text, vote_text};
+use nw_sig::DemoScheme;
 use std::alloc::Global;
 use std::test::Fail;
 
@@ -13,10 +14,6 @@ fn key(member: u16) -> Key {
     let mut bytes = [0; 32];
     bytes[30..].copy_from_slice(&member.to_be_bytes());
     Key(bytes)
-}
-
-fn sign(member: u16, text: &[u8]) -> Signature {
-    DemoSigner::new(key(member)).sign(text)
 }
 
 fn round_of(number: u64) -> Result<Round, Fail>
@@ -87,10 +84,9 @@ fn checked(
         parents: Sequence::new(references),
         transactions: Sequence::new(transactions),
     };
-    if !block.fits() {
+    let Some(signature) = signature(committee.get(), &block, author) else {
         return Err(Fail::from("the block breaks a limit"));
-    }
-    let signature = sign(author, &block_text(&block_digest(&block)));
+    };
     Ok(check_block(alloc, committee, block, signature)?)
 }
 
@@ -105,13 +101,9 @@ pub fn certificate(
     ensures { IfOk result (λ c. (c.committee ≡ committee.now) × (c.certificate.digest ≡ digest) × (c.certificate.author ≡ author) × (c.certificate.round ≡ round)) }
 {
     let round = round_of(round)?;
-    let text = vote_text(&digest, round, author);
     let mut votes = Vec::new(alloc);
     for signer in 0..u16::try_from(committee.get().size())? {
-        votes.push(Seal {
-            signer,
-            signature: sign(signer, &text),
-        })?;
+        votes.push(seal(committee.get(), digest, round, author, signer))?;
     }
     let certificate = Certificate {
         digest,

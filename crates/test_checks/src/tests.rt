@@ -1,3 +1,58 @@
-//! Checks of one message, and of many by several threads.
-mod checks;
-mod parallel;
+use nw_check::{BlockFault, CertFault, Checked, check_message};
+use nw_codec::DecodeError;
+use nw_committee::{Committee, Key, Member};
+use nw_digest::{NoMemory, Round, Shared};
+use nw_sig::DemoScheme;
+use sample_checked::refused::Slot;
+use std::alloc::Global;
+use std::test::Fail;
+
+mod altered;
+mod blocks;
+mod lengths;
+mod texts;
+mod threads;
+mod votes;
+
+/// Of what votes and certificates are.
+const SLOT: Slot = (Round::ZERO, 0);
+
+/// What a text is found to be.
+#[derive(Clone, Copy, PartialEq)]
+enum Found {
+    Block,
+    Cert,
+    Vote,
+    BadText(DecodeError),
+    BadBlock(BlockFault),
+    BadCert(CertFault),
+}
+
+/// What the check found.
+fn found_in(checked: &Checked<DemoScheme>) -> Found {
+    match checked {
+        Checked::Block(_) => Found::Block,
+        Checked::Cert(_) => Found::Cert,
+        Checked::Vote(_) => Found::Vote,
+        Checked::BadText(fault) => Found::BadText(*fault),
+        Checked::BadBlock(fault) => Found::BadBlock(*fault),
+        Checked::BadCert(fault) => Found::BadCert(*fault),
+    }
+}
+
+/// What the text is found to be under the committee.
+fn judge(alloc: Global, committee: &Shared<Committee>, text: &[u8]) -> Result<Found, NoMemory> {
+    Ok(found_in(&check_message(alloc, committee, text)?))
+}
+
+/// The committee of members with these weights.
+fn members(alloc: Global, weights: &[u32]) -> Result<Shared<Committee>, Fail> {
+    let mut members = Vec::new(alloc);
+    for (number, weight) in (0u8..).zip(weights) {
+        members.push(Member {
+            key: Key([number; 32]),
+            weight: *weight,
+        })?;
+    }
+    Ok(Shared::new(alloc, Committee::weighted(members)?)?)
+}

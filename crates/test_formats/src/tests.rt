@@ -1,7 +1,6 @@
-mod bodies;
 mod committees;
 mod digests;
+mod limits;
 mod lines;
+mod messages;
 mod signatures;
-mod texts;
-mod votes;

@@ -1,6 +1,7 @@
-//! Tests of scripts: what each worked one prints, which lines are bad, and how readers and writers may fail.
+//! Tests of plays that a script can't tell: how readers and writers may fail, how long a script may be, and want of memory.
 //!
-//! Its contract: it has tests alone, and nothing stands on it. `.ci/refusals` plays its worked scripts too, on the program.
+//! Its contract: it has tests alone, and nothing stands on it. Worked scripts and what they print lie beside the program, in
+//! `crates/nw/scripts`, and `.ci/scripts` plays them.
 #![tactic(auto)]
 
 #[cfg(test)]

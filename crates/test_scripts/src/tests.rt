@@ -1,83 +1,144 @@
-use bad_lines::{BAD, NEVER_BEGUN};
-use collections::COLLECTED;
 use nw_play::{PlayFault, play};
-use one_member::PLAYED;
-use sessions::SETTLED;
-use std::alloc::Global;
-use std::sync::Wait;
+use std::io::{self, Read, Write};
 use std::test::Fail;
 
-mod bad_lines;
-mod collections;
-mod committees;
-mod one_member;
-mod readers;
-mod sessions;
+/// A script, and what it prints.
+const SCRIPT: &[u8] = b"committee v1 1\nblock a 0 0 - x\nwrite a\nread a\n";
 
-/// A script, and what it prints to its end.
-struct Case {
-    shows: &'static str,
-    script: &'static str,
-    prints: &'static str,
+const PRINTS: &[u8] = b"block a 18\na stored vote\na found 18\n";
+
+/// A reader that gives one byte at a time, fails after so many, and counts how often it is asked.
+#[derive(Drop)]
+struct Drip<'a> {
+    rest: &'a [u8],
+    left: usize,
+    asked: usize,
 }
 
-// What a play of the bytes answers, and what it prints.
-fn played(
-    rt: &impl Wait,
-    alloc: Global,
-    script: &[u8],
-) -> Result<(Result<(), PlayFault>, Vec<u8>), Fail> {
-    let mut printed = Vec::new(alloc);
-    let outcome = play(rt, alloc, script, &mut printed);
-    Ok((outcome, printed))
-}
-
-#[test]
-fn scripts_print_their_answers(rt: HostRuntime) -> Result<(), Fail> {
-    for case in PLAYED.iter().chain(&SETTLED).chain(&COLLECTED) {
-        let (outcome, printed) = played(&rt, rt.alloc(), case.script.as_bytes())?;
-        let shows = case.shows;
-        assert_eq!(rt; outcome, Ok(()), "{shows}");
-        assert_eq!(rt; printed.as_slice(), case.prints.as_bytes(), "{shows}");
+impl Read for Drip<'_> {
+    fn read(&mut self, buf: &mut [u8]) -> io::Result<usize> {
+        self.asked = self.asked.saturating_add(1);
+        if self.left == 0 {
+            return Err(io::Error::other("dry"));
+        }
+        self.left -= 1;
+        match self.rest.split_first() {
+            Some((byte, rest)) if !buf.is_empty() => {
+                buf[0] = *byte;
+                self.rest = rest;
+                Ok(1)
+            }
+            _ => Ok(0),
+        }
     }
-    Ok(())
 }
 
+/// A writer that takes no memory, takes so many lines and then fails, and counts how often it failed.
+#[derive(Drop)]
+struct Page {
+    bytes: [u8; 64],
+    used: usize,
+    lines: usize,
+    failed: usize,
+}
+
+impl Write for Page {
+    fn write(&mut self, buf: &[u8]) -> io::Result<usize> {
+        if self.lines == 0 {
+            self.failed = self.failed.saturating_add(1);
+            return Err(io::Error::other("full"));
+        }
+        let Some(room) = self.bytes.get_mut(self.used..) else {
+            return Ok(0);
+        };
+        let mut count = buf.len().min(room.len());
+        if let Some(end) = buf[..count].iter().position(|byte| *byte == b'\n') {
+            count = end + 1;
+            self.lines -= 1;
+        }
+        room[..count].copy_from_slice(&buf[..count]);
+        self.used += count;
+        Ok(count)
+    }
+
+    fn flush(&mut self) -> io::Result<()> {
+        Ok(())
+    }
+}
+
+/// A page that takes so many lines.
+fn empty_page(lines: usize) -> Page {
+    Page {
+        bytes: [0; 64],
+        used: 0,
+        lines,
+        failed: 0,
+    }
+}
+
+/// What a reader gives before it fails, how many lines a writer takes, the outcome, how often the one is asked, how many bytes of
+/// what the script prints are written, and how often the other failed.
+type Case = (usize, usize, Result<(), PlayFault>, usize, usize, usize);
+
 #[test]
-fn each_kind_of_bad_line_ends_the_play(rt: HostRuntime) -> Result<(), Fail> {
-    for (shows, line) in &BAD {
-        let script = format!(in rt.alloc(); "committee v1 1\nblock a 0 0 - -\n{line}\nread a\n")?;
-        let (outcome, printed) = played(&rt, rt.alloc(), script.as_bytes())?;
-        assert_eq!(rt; outcome, Err(PlayFault::BadLine { line: 3 }), "{shows}");
-        assert_eq!(rt;
-            printed.as_slice(),
-            b"block a 13\nline 3 bad\n".as_slice(),
+fn readers_and_writers_fail(rt: HostRuntime) {
+    let cases: [(&str, Case); 3] = [
+        ("one byte at a time", (99, 9, Ok(()), 47, 36, 0)),
+        ("after 10 bytes", (10, 9, Err(PlayFault::Read), 11, 0, 0)),
+        (
+            "at its second line",
+            (99, 1, Err(PlayFault::Write), 47, 11, 1),
+        ),
+    ];
+    for (shows, (left, lines, outcome, asked, used, failed)) in cases {
+        let mut reader = Drip {
+            rest: SCRIPT,
+            left,
+            asked: 0,
+        };
+        let mut page = empty_page(lines);
+        let played = play(&rt, rt.alloc(), &mut reader, &mut page);
+        assert_eq!(rt; (played, reader.asked), (outcome, asked), "{shows}");
+        assert_eq!(rt; (page.used, page.failed), (used, failed), "{shows}");
+        assert!(rt;
+            page.bytes.starts_with(PRINTS.get(..used).unwrap_or(&[])),
             "{shows}"
         );
     }
-    Ok(())
-}
-
-#[test]
-fn a_script_begins_with_its_committee_and_its_limits(rt: HostRuntime) -> Result<(), Fail> {
-    for (shows, script, line) in &NEVER_BEGUN {
-        let (outcome, printed) = played(&rt, rt.alloc(), script.as_bytes())?;
-        let prints = format!(in rt.alloc(); "line {line} bad\n")?;
-        assert_eq!(rt; outcome, Err(PlayFault::BadLine { line: *line }), "{shows}");
-        assert_eq!(rt; printed.as_slice(), prints.as_bytes(), "{shows}");
-    }
-    Ok(())
 }
 
 #[test]
 fn the_longest_script_is_played_and_a_longer_one_is_not(rt: HostRuntime) -> Result<(), Fail> {
-    let mut script = vec![in rt.alloc(); b'\n'; 1_048_576]?;
-    let (outcome, printed) = played(&rt, rt.alloc(), script.as_slice())?;
-    assert_eq!(rt; outcome, Err(PlayFault::BadLine { line: 1_048_577 }));
-    assert_eq!(rt; printed.as_slice(), b"line 1048577 bad\n".as_slice());
-    script.push(b'\n')?;
-    let (outcome, printed) = played(&rt, rt.alloc(), script.as_slice())?;
-    assert_eq!(rt; outcome, Err(PlayFault::TooLong));
-    assert!(rt; printed.is_empty());
+    let script = vec![in rt.alloc(); b'\n'; 2_000_000]?;
+    let longest = PlayFault::BadLine { line: 1_048_577 };
+    let cases: [(usize, PlayFault, &[u8]); 3] = [
+        (1_048_576, longest, b"line 1048577 bad\n"),
+        (1_048_577, PlayFault::TooLong, b""),
+        (2_000_000, PlayFault::TooLong, b""),
+    ];
+    for (length, fault, prints) in cases {
+        let mut reader = Drip {
+            rest: script.get(..length).ok_or("the script is shorter")?,
+            left: usize::MAX,
+            asked: 0,
+        };
+        let mut page = empty_page(9);
+        let played = play(&rt, rt.alloc(), &mut reader, &mut page);
+        assert_eq!(rt; (played, reader.asked), (Err(fault), 1_048_577), "{length}");
+        assert_eq!(rt; page.bytes.get(..page.used), Some(prints), "{length}");
+    }
     Ok(())
+}
+
+// Shows most where memory is refused, as by `rt try --test --fail-alloc N`.
+#[test]
+fn a_play_without_memory_prints_a_front(rt: HostRuntime) {
+    let mut page = empty_page(9);
+    let played = play(&rt, rt.alloc(), SCRIPT, &mut page);
+    let printed = page.bytes.get(..page.used).unwrap_or(&[]);
+    assert!(rt; PRINTS.starts_with(printed));
+    match played {
+        Ok(()) => assert_eq!(rt; printed, PRINTS),
+        Err(fault) => assert_eq!(rt; fault, PlayFault::NoMemory),
+    }
 }

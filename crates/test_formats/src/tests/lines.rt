@@ -1,5 +1,5 @@
-use super::*;
-use std::alloc::Global;
+//! Lines of a script, as they are read.
+use nw_script::{LineFault, parse_line};
 use std::test::Fail;
 
 // Lines, and what they say as `{:?}` prints it.
@@ -113,15 +113,12 @@ const BAD: [(&str, &str); 30] = [
     ("a byte over 127", "read \u{e9}"),
 ];
 
-fn parsed<'a>(alloc: Global, line: &'a str) -> Result<Line<'a>, LineFault> {
-    parse_line(alloc, line.as_bytes())
-}
-
 #[test]
 fn each_kind_of_line_is_read(rt: HostRuntime) -> Result<(), Fail> {
     for (line, says) in &LINES {
-        let read = format!(in rt.alloc(); "{:?}", parsed(rt.alloc(), line)?)?;
-        assert_eq!(rt; read.as_str(), *says, "{line}");
+        let read = parse_line(rt.alloc(), line.as_bytes())?;
+        let read = format!(in rt.alloc(); "{read:?}")?;
+        assert!(rt; read.as_str() == *says, "{line}");
     }
     Ok(())
 }
@@ -129,32 +126,7 @@ fn each_kind_of_line_is_read(rt: HostRuntime) -> Result<(), Fail> {
 #[test]
 fn a_line_of_no_kind_is_bad(rt: HostRuntime) {
     for (shows, line) in &BAD {
-        match parsed(rt.alloc(), line) {
-            Err(LineFault::Bad) => {}
-            _ => panic!(rt; "{shows}"),
-        }
+        let fault = parse_line(rt.alloc(), line.as_bytes()).err();
+        assert!(rt; fault == Some(LineFault::Bad), "{shows}");
     }
-}
-
-#[test]
-fn words_are_names_transactions_and_numbers(rt: HostRuntime) -> Result<(), Fail> {
-    let name = Name::new("b12").ok_or(LineFault::Bad)?;
-    assert_eq!(rt; format!(in rt.alloc(); "{name}")?.as_str(), "b12");
-    assert!(rt; Name::new("1b").is_none());
-    assert_eq!(rt; transaction("1b").map(|word| word.len()), Some(2));
-    assert_eq!(rt; number("18446744073709551615"), Some(u64::MAX));
-    assert_eq!(rt; member("65536"), None);
-    assert_eq!(rt; weight("4294967295"), Some(u32::MAX));
-    Ok(())
-}
-
-#[test]
-fn a_list_has_the_elements_between_its_commas(rt: HostRuntime) -> Result<(), Fail> {
-    assert_eq!(rt;
-        list(rt.alloc(), "7,2", weight)?.as_slice(),
-        [7, 2].as_slice()
-    );
-    assert!(rt; list(rt.alloc(), "-", weight)?.is_empty());
-    assert_eq!(rt; list(rt.alloc(), "", weight).err(), Some(LineFault::Bad));
-    Ok(())
 }

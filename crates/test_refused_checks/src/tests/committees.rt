@@ -12,17 +12,22 @@ fn quorum(alloc: Global, numbers: &[u8]) -> Result<u32, CommitteeFault> {
     Ok(made.quorum())
 }
 
+/// The fault of such a committee, which is made while all memory is refused.
+fn fault_of(alloc: Global, numbers: &[u8]) -> Result<Option<CommitteeFault>, NoMemory> {
+    let keys = again!(NoMemory, keys(alloc, numbers))?;
+    refuse_all(alloc);
+    let fault = Committee::new(alloc, keys).err();
+    refuse_none(alloc);
+    Ok(fault)
+}
+
 #[test]
-fn committees_have_a_size_and_distinct_keys(rt: HostRuntime) -> Result<(), Fail> {
-    let cases: [(&[u8], Result<u32, CommitteeFault>); 3] = [
-        (&[0, 1, 2], Err(CommitteeFault::BadSize)),
-        (&[0, 1, 2, 1], Err(CommitteeFault::RepeatedKey)),
-        (&[0, 1, 2, 3], Ok(3)),
-    ];
-    for (numbers, wanted) in cases {
-        let found = again!(CommitteeFault::NoMemory, quorum(rt.alloc(), numbers));
-        assert_eq!(rt; found, wanted);
-    }
+fn faults_of_committees_take_no_memory(rt: HostRuntime) -> Result<(), Fail> {
+    let four = again!(CommitteeFault::NoMemory, quorum(rt.alloc(), &[0, 1, 2, 3]))?;
+    let size = fault_of(rt.alloc(), &[0, 1, 2])?;
+    let repeated = fault_of(rt.alloc(), &[0, 1, 2, 1])?;
+    let wanted = [CommitteeFault::BadSize, CommitteeFault::RepeatedKey];
+    assert!(rt; four == 3 && [size, repeated] == wanted.map(Some));
     Ok(())
 }
 

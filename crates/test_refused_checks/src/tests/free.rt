@@ -1,13 +1,17 @@
 //! Faults of texts, blocks and certificates, which are found while all memory is refused.
+use super::texts::text_of;
 use super::*;
-use nw_check::{BlockFault, CertFault, check_block, check_cert, valid};
-use nw_codec::{Certificate, DecodeError, Ref, decode_message, encode_body};
-use nw_committee::Key;
-use nw_digest::Shared;
-use nw_sig::{DemoScheme, DemoSigner, Signer};
+use nw_check::{BlockFault, CertFault, Checked, check_block, check_cert, check_message, valid};
+use nw_codec::{
+    Block, Certificate, DecodeError, EncodeError, Ref, Signature, decode_message, encode_body,
+    encode_message,
+};
+use nw_sig::DemoScheme;
+use sample_checked::refused::vote;
+use std::alloc::AllocError;
 
-/// References to what is voted for, of these authors.
-fn references(alloc: Global, authors: &[u16]) -> Result<Vec<Ref>, NoMemory> {
+/// A block of the slot over what is voted for, of these authors.
+fn block_over(alloc: Global, slot: Slot, authors: &[u16]) -> Result<Block, NoMemory> {
     let mut references = Vec::new(alloc);
     for author in authors {
         references.push(Ref {
@@ -15,16 +19,7 @@ fn references(alloc: Global, authors: &[u16]) -> Result<Vec<Ref>, NoMemory> {
             digest: VOTED,
         })?;
     }
-    Ok(references)
-}
-
-/// A block of round 1 of member 0 over two.
-fn over_two(alloc: Global, four: &Committee) -> Result<Message, Fail> {
-    let parents = again!(NoMemory, references(alloc, &[0, 1]))?;
-    let first = Round::new(1).ok_or("a round has 48 bits")?;
-    let block = again!(NoMemory, unsigned(alloc, (first, 0), &parents, b'x'))?;
-    let signature = signature(four, &block, 0).ok_or("the block breaks a limit")?;
-    Ok(Message::Block { block, signature })
+    unsigned(alloc, slot, &references, b'x')
 }
 
 /// The fault of the text with another byte at the place.
@@ -33,7 +28,7 @@ fn altered(
     text: &[u8],
     place: usize,
     byte: u8,
-) -> Result<Option<DecodeError>, Fail> {
+) -> Result<Option<DecodeError>, AllocError> {
     let mut text = again!(AllocError, text.to_vec(alloc))?;
     if let Some(old) = text.get_mut(place) {
         *old = byte;
@@ -62,25 +57,10 @@ const OF_CERTIFICATES: [(usize, u8, DecodeError); 2] = [
     (110, 0, DecodeError::VoteOrder),
 ];
 
-#[test]
-fn faults_of_texts_take_no_memory(rt: HostRuntime) -> Result<(), Fail> {
-    let alloc = rt.alloc();
-    let four = again!(NoMemory, committee(alloc, &[0, 1, 2, 3]))?;
-    let block = text_of(alloc, &over_two(alloc, four.get())?)?;
-    for (place, byte, fault) in OF_BLOCKS {
-        assert_eq!(rt; altered(alloc, &block, place, byte)?, Some(fault));
-    }
-    let three = text_of(alloc, &certificate_message(alloc, four.get(), &[0, 1, 2])?)?;
-    for (place, byte, fault) in OF_CERTIFICATES {
-        assert_eq!(rt; altered(alloc, &three, place, byte)?, Some(fault));
-    }
-    Ok(())
-}
-
-/// A text of 17 transactions of 65,536 bytes.
+/// A text of 17 transactions of 65,536 bytes, but for the tag.
 fn long_text(alloc: Global) -> Result<Vec<u8>, AllocError> {
     let mut text = vec![in alloc; 0u8; 14 + 17 * 65_540]?;
-    for (place, byte) in [(0, 1), (1, 1), (13, 17)] {
+    for (place, byte) in [(1, 1), (13, 17)] {
         if let Some(old) = text.get_mut(place) {
             *old = byte;
         }
@@ -93,18 +73,26 @@ fn long_text(alloc: Global) -> Result<Vec<u8>, AllocError> {
     Ok(text)
 }
 
-/// The fault of that text.
-fn fault_of_long(alloc: Global) -> Result<Option<DecodeError>, AllocError> {
-    let text = again!(AllocError, long_text(alloc))?;
-    refuse_all(alloc);
-    let fault = decode_message(alloc, &text).err();
-    refuse_none(alloc);
-    Ok(fault)
-}
-
 #[test]
-fn that_a_body_is_too_long_takes_no_memory(rt: HostRuntime) -> Result<(), Fail> {
-    assert_eq!(rt; fault_of_long(rt.alloc())?, Some(DecodeError::BodyTooLong));
+fn faults_of_texts_take_no_memory(rt: HostRuntime) -> Result<(), Fail> {
+    let alloc = rt.alloc();
+    let four = four(alloc)?;
+    let first = Round::new(1).ok_or("a round has 48 bits")?;
+    let block = again!(NoMemory, block_over(alloc, (first, 0), &[0, 1]))?;
+    let signature = Signature([0; 64]);
+    let block = text_of(alloc, &Message::Block { block, signature })?;
+    for (place, byte, fault) in OF_BLOCKS {
+        assert_eq!(rt; altered(alloc, &block, place, byte)?, Some(fault));
+    }
+    let three = text_of(alloc, &certificate_message(alloc, four.get(), &[0, 1, 2])?)?;
+    for (place, byte, fault) in OF_CERTIFICATES {
+        assert_eq!(rt; altered(alloc, &three, place, byte)?, Some(fault));
+    }
+    let long = again!(AllocError, long_text(alloc))?;
+    assert_eq!(rt;
+        altered(alloc, &long, 0, 1)?,
+        Some(DecodeError::BodyTooLong)
+    );
     Ok(())
 }
 
@@ -112,25 +100,22 @@ fn that_a_body_is_too_long_takes_no_memory(rt: HostRuntime) -> Result<(), Fail> 
 fn over_limit(
     alloc: Global,
     four: &Committee,
-) -> Result<([Option<EncodeError>; 3], [bool; 2]), Fail> {
-    let parents = again!(NoMemory, references(alloc, &[1, 0]))?;
-    let block = again!(NoMemory, unsigned(alloc, SLOT, &parents, b'x'))?;
+) -> Result<([Option<EncodeError>; 3], [bool; 2]), NoMemory> {
+    let block = again!(NoMemory, block_over(alloc, SLOT, &[1, 0]))?;
     let votes = again!(NoMemory, certificate(alloc, four, VOTED, SLOT, &[0, 2, 2]))?;
     refuse_all(alloc);
     let fits = [block.fits(), votes.fits()];
     let body = encode_body(alloc, &block).err();
-    let message = Message::Certificate(votes);
-    let votes = encode_message(alloc, &message).err();
-    let signature = DemoSigner::new(Key([0; 32])).sign(b"");
-    let message = Message::Block { block, signature };
-    let block = encode_message(alloc, &message).err();
+    let votes = encode_message(alloc, &Message::Certificate(votes)).err();
+    let signature = Signature([0; 64]);
+    let block = encode_message(alloc, &Message::Block { block, signature }).err();
     refuse_none(alloc);
     Ok(([body, votes, block], fits))
 }
 
 #[test]
 fn that_a_value_does_not_fit_takes_no_memory(rt: HostRuntime) -> Result<(), Fail> {
-    let four = again!(NoMemory, committee(rt.alloc(), &[0, 1, 2, 3]))?;
+    let four = four(rt.alloc())?;
     let found = over_limit(rt.alloc(), four.get())?;
     assert!(rt; found == ([Some(EncodeError::OverLimit); 3], [false; 2]));
     Ok(())
@@ -140,14 +125,11 @@ fn that_a_value_does_not_fit_takes_no_memory(rt: HostRuntime) -> Result<(), Fail
 fn fault_of_block(
     alloc: Global,
     four: &Shared<Committee>,
-    author: u16,
-    round: u64,
+    slot: Slot,
     parents: &[u16],
     signer: u16,
 ) -> Result<Option<BlockFault>, Fail> {
-    let parents = again!(NoMemory, references(alloc, parents))?;
-    let round = Round::new(round).ok_or("a round has 48 bits")?;
-    let block = again!(NoMemory, unsigned(alloc, (round, author), &parents, b'x'))?;
+    let block = again!(NoMemory, block_over(alloc, slot, parents))?;
     let signature = signature(four.get(), &block, signer).ok_or("the block breaks a limit")?;
     refuse_all(alloc);
     let fault = check_block::<DemoScheme>(alloc, four, block, signature).err();
@@ -155,39 +137,38 @@ fn fault_of_block(
     Ok(fault)
 }
 
-/// Authors, rounds, authors of parents and signers of blocks, and the first rule that each breaks.
-const BLOCKS: [(u16, u64, &[u16], u16, BlockFault); 5] = [
-    (9, 0, &[], 0, BlockFault::Author),
-    (0, 0, &[9], 0, BlockFault::ParentAuthor),
-    (0, 0, &[1], 0, BlockFault::GenesisParents),
-    (0, 1, &[0, 1], 0, BlockFault::FewParents),
-    (0, 0, &[], 1, BlockFault::Signature),
-];
-
 #[test]
 fn faults_of_blocks_take_no_memory(rt: HostRuntime) -> Result<(), Fail> {
-    let four = again!(NoMemory, committee(rt.alloc(), &[0, 1, 2, 3]))?;
-    for (author, round, parents, signer, fault) in BLOCKS {
-        let found = fault_of_block(rt.alloc(), &four, author, round, parents, signer)?;
+    let four = four(rt.alloc())?;
+    let first = Round::new(1).ok_or("a round has 48 bits")?;
+    let cases: [(Slot, &[u16], u16, BlockFault); 5] = [
+        ((Round::ZERO, 9), &[], 0, BlockFault::Author),
+        ((Round::ZERO, 0), &[9], 0, BlockFault::ParentAuthor),
+        ((Round::ZERO, 0), &[1], 0, BlockFault::GenesisParents),
+        ((first, 0), &[0, 1], 0, BlockFault::FewParents),
+        ((Round::ZERO, 0), &[], 1, BlockFault::Signature),
+    ];
+    for (slot, parents, signer, fault) in cases {
+        let found = fault_of_block(rt.alloc(), &four, slot, parents, signer)?;
         assert_eq!(rt; found, Some(fault));
     }
     Ok(())
 }
 
-/// Why the certificate of these signers for this author is not taken, where it says that it is of this round.
+/// Why the certificate of these signers for this author is not taken, where it says that it is of this round, and whether it is
+/// valid.
 fn fault_of_certificate(
     alloc: Global,
     four: &Shared<Committee>,
     author: u16,
     signers: &[u16],
-    round: u64,
+    round: Round,
 ) -> Result<(Option<CertFault>, bool), Fail> {
     let slot = (Round::ZERO, author);
     let votes = again!(
         NoMemory,
         certificate(alloc, four.get(), VOTED, slot, signers)
     )?;
-    let round = Round::new(round).ok_or("a round has 48 bits")?;
     let votes = Certificate { round, ..votes };
     if !votes.fits() {
         return Err(Fail::from("the certificate breaks a limit"));
@@ -199,20 +180,37 @@ fn fault_of_certificate(
     Ok((fault, is_valid))
 }
 
-/// Authors, signers and rounds of certificates, and the first rule that each breaks.
-const CERTIFICATES: [(u16, &[u16], u64, CertFault); 4] = [
-    (9, &[0, 1, 2], 0, CertFault::Author),
-    (0, &[0, 1, 9], 0, CertFault::Signer),
-    (0, &[0, 1], 0, CertFault::FewVotes),
-    (0, &[0, 1, 2], 1, CertFault::Signature { signer: 0 }),
-];
-
 #[test]
 fn faults_of_certificates_take_no_memory(rt: HostRuntime) -> Result<(), Fail> {
-    let four = again!(NoMemory, committee(rt.alloc(), &[0, 1, 2, 3]))?;
-    for (author, signers, round, fault) in CERTIFICATES {
+    let four = four(rt.alloc())?;
+    let first = Round::new(1).ok_or("a round has 48 bits")?;
+    let cases: [(u16, &[u16], Round, CertFault); 4] = [
+        (9, &[0, 1, 2], Round::ZERO, CertFault::Author),
+        (0, &[0, 1, 9], Round::ZERO, CertFault::Signer),
+        (0, &[0, 1], Round::ZERO, CertFault::FewVotes),
+        (0, &[0, 1, 2], first, CertFault::Signature { signer: 0 }),
+    ];
+    for (author, signers, round, fault) in cases {
         let found = fault_of_certificate(rt.alloc(), &four, author, signers, round)?;
         assert_eq!(rt; found, (Some(fault), false));
     }
+    Ok(())
+}
+
+/// Whether a text of one byte is short, and a vote's text a vote.
+fn are_found(alloc: Global, four: &Shared<Committee>) -> Result<bool, Fail> {
+    let text = text_of(alloc, &Message::Vote(vote(four.get(), VOTED, SLOT, 9)))?;
+    refuse_all(alloc);
+    let short = check_message::<DemoScheme>(alloc, four, b"\x01");
+    let found = check_message::<DemoScheme>(alloc, four, &text);
+    refuse_none(alloc);
+    let is_short = matches!(short?, Checked::BadText(DecodeError::Short));
+    Ok(is_short && matches!(found?, Checked::Vote(_)))
+}
+
+#[test]
+fn votes_and_bad_texts_take_no_memory(rt: HostRuntime) -> Result<(), Fail> {
+    let four = four(rt.alloc())?;
+    assert!(rt; are_found(rt.alloc(), &four)?);
     Ok(())
 }

@@ -1,10 +1,11 @@
-//! Messages that are checked by two workers.
-use super::checks::word;
+//! Messages that are checked by workers.
+use super::texts::{text_of, word};
 use super::*;
 use nw_check::Checked;
-use nw_digest::Shared;
-use nw_intake::{FreeGate, IntakeFault, check_all};
+use nw_intake::{FreeGate, Gate, IntakeFault, Point, check_all};
 use nw_sig::DemoScheme;
+use sample_checked::refused::vote;
+use std::alloc::AllocError;
 use std::sync::Wait;
 use std::thread::Threads;
 
@@ -45,9 +46,25 @@ fn find_both<R: Threads + Wait + Sync>(
     }
 }
 
+/// Whether no workers are refused, and a free gate lets a start pass, while all memory is refused.
+fn refuses_none_at_work<R: Threads + Wait + Sync>(
+    rt: &R,
+    alloc: Global,
+    four: &Shared<Committee>,
+) -> bool {
+    let texts = Vec::new(alloc);
+    refuse_all(alloc);
+    FreeGate.reach(Point::CheckStart(0));
+    let passes = FreeGate.may_pass(Point::CheckStart(0));
+    let refused = check_all::<DemoScheme, FreeGate, R>(rt, alloc, four, texts, 0, &FreeGate);
+    refuse_none(alloc);
+    passes && refused.err() == Some(IntakeFault::BadWorkers)
+}
+
 #[test]
 fn two_workers_check_two_messages(rt: HostRuntime) -> Result<(), Fail> {
-    let four = again!(NoMemory, committee(rt.alloc(), &[0, 1, 2, 3]))?;
+    let four = four(rt.alloc())?;
     assert!(rt; find_both(&rt, rt.alloc(), &four)?);
+    assert!(rt; refuses_none_at_work(&rt, rt.alloc(), &four));
     Ok(())
 }

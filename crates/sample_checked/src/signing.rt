@@ -1,0 +1,30 @@
+//! What members sign.
+ghost use Rattle.std.specs.Prelude.{IfSome};
+ghost use Rattle.nw_codec.specs.Fits.{Fits};
+
+use nw_codec::{Block, Seal, Signature, block_digest};
+use nw_committee::{Committee, Key};
+use nw_digest::{Digest, Round};
+use nw_sig::{DemoSigner, Signer, block_text, vote_text};
+
+/// The member's signature; where there is no such member, that of a key of bytes 0.
+fn sign(committee: &Committee, member: u16, text: &[u8]) -> Signature {
+    let key = committee.key(member).copied().unwrap_or(Key([0; 32]));
+    DemoSigner::new(key).sign(text)
+}
+
+/// The member's signature of the block, where it fits.
+pub fn signature(committee: &Committee, block: &Block, signer: u16) -> Option<Signature>
+    ensures { IfSome result (λ _. Fits block.now) }
+{
+    if !block.fits() {
+        return None;
+    }
+    Some(sign(committee, signer, &block_text(&block_digest(block))))
+}
+
+/// The member's vote for the digest of the round and author, as a certificate has it.
+pub fn seal(committee: &Committee, digest: Digest, round: Round, author: u16, signer: u16) -> Seal {
+    let signature = sign(committee, signer, &vote_text(&digest, round, author));
+    Seal { signer, signature }
+}

@@ -1,0 +1,132 @@
+//! Messages that are checked by threads, and the gates that hold them.
+use super::texts::{block, certificate, vote};
+use super::*;
+use nw_intake::{FreeGate, Gate, GateShut, IntakeFault, Point, check_all, pass_start};
+use std::sync::Wait;
+use std::sync::atomic::AtomicU64;
+use std::sync::atomic::Ordering::SeqCst;
+use std::thread::{Threads, yield_now};
+
+/// A gate whose starts pass once two checks were about to start, and which counts how often it is asked.
+#[derive(Drop)]
+struct Meeting {
+    reached: AtomicU64,
+    asked: AtomicU64,
+}
+
+impl Meeting {
+    /// Nobody has come.
+    fn new() -> Meeting {
+        Meeting {
+            reached: AtomicU64::new(0),
+            asked: AtomicU64::new(0),
+        }
+    }
+}
+
+impl Gate for Meeting {
+    ghost says = { λ _ _ _. Unit {0} };
+
+    fn reach(&self, point: Point) {
+        if matches!(point, Point::CheckStart(_)) {
+            self.reached.fetch_add(1, SeqCst);
+        }
+    }
+
+    fn may_pass(&self, _point: Point) -> bool {
+        self.asked.fetch_add(1, SeqCst);
+        let met = self.reached.load(SeqCst) >= 2;
+        if !met {
+            yield_now();
+        }
+        met
+    }
+}
+
+#[test]
+fn a_shut_gate_is_asked_a_million_times(rt: HostRuntime) {
+    let gate = Meeting::new();
+    let passed = pass_start(&gate, Point::WalkStart { node: 1, number: 2 });
+    assert_eq!(rt;
+        (passed, gate.asked.load(SeqCst)),
+        (Err(GateShut), 1_000_000)
+    );
+}
+
+/// A good block, a good certificate, a vote, bad bytes, and a block with a signature of another member.
+fn five_texts(alloc: Global, four: &Committee) -> Result<Vec<Vec<u8>>, Fail> {
+    let mut texts = Vec::new(alloc);
+    texts.push(block(alloc, four, 0)?)?;
+    texts.push(certificate(alloc, four)?)?;
+    texts.push(vote(alloc, four)?)?;
+    texts.push(b"\x01".to_vec(alloc)?)?;
+    texts.push(block(alloc, four, 1)?)?;
+    Ok(texts)
+}
+
+/// What these texts are.
+const FIVE: [Found; 5] = [
+    Found::Block,
+    Found::Cert,
+    Found::Vote,
+    Found::BadText(DecodeError::Short),
+    Found::BadBlock(BlockFault::Signature),
+];
+
+/// Whether so many workers find the first texts of these to be what they are, as each check alone does, or the fault.
+fn checked_by<G: Gate + Sync, R: Threads + Wait + Sync>(
+    rt: &R,
+    alloc: Global,
+    count: usize,
+    workers: usize,
+    gate: &G,
+) -> Result<Result<bool, IntakeFault>, Fail> {
+    let four = members(alloc, &[1; 4])?;
+    let mut texts = five_texts(alloc, four.get())?;
+    texts.truncate(count);
+    let mut alone = Vec::new(alloc);
+    for text in &texts {
+        alone.push(judge(alloc, &four, text)?)?;
+    }
+    if texts.len() > 5 {
+        return Err(Fail::from("there are five texts"));
+    }
+    match check_all(rt, alloc, &four, texts, workers, gate) {
+        Ok(answers) => {
+            let together: Vec<Found> = answers.iter().map(found_in).collect(alloc)?;
+            Ok(Ok(together == alone && FIVE.starts_with(&together)))
+        }
+        Err(fault) => Ok(Err(fault)),
+    }
+}
+
+#[test]
+fn two_messages_are_checked_at_once(rt: HostRuntime) -> Result<(), Fail> {
+    let together = checked_by(&rt, rt.alloc(), 2, 2, &Meeting::new())?;
+    assert_eq!(rt; together, Ok(true));
+    Ok(())
+}
+
+#[test]
+fn one_worker_does_not_pass_a_gate_that_waits_for_two(rt: HostRuntime) -> Result<(), Fail> {
+    let refused = checked_by(&rt, rt.alloc(), 2, 1, &Meeting::new())?;
+    assert_eq!(rt; refused, Err(IntakeFault::GateShut));
+    Ok(())
+}
+
+#[test]
+fn any_number_of_workers_gives_the_same_answers(rt: HostRuntime) -> Result<(), Fail> {
+    let cases = [
+        (1, Ok(true)),
+        (2, Ok(true)),
+        (3, Ok(true)),
+        (16, Ok(true)),
+        (0, Err(IntakeFault::BadWorkers)),
+        (17, Err(IntakeFault::BadWorkers)),
+    ];
+    for (workers, wanted) in cases {
+        let found = checked_by(&rt, rt.alloc(), 5, workers, &FreeGate)?;
+        assert_eq!(rt; found, wanted, "{workers}");
+    }
+    Ok(())
+}

@@ -1,0 +1,100 @@
+//! Blocks and bodies of the largest size, and larger ones.
+use nw_codec::{Block, DecodeError, EncodeError, Ref, decode_message, encode_body};
+use nw_digest::{Digest, Round, Sequence};
+use std::alloc::{AllocError, Global};
+use std::test::Fail;
+
+/// A block of author 0 and round 0 over so many, with transactions of these lengths.
+fn block(alloc: Global, parents: u16, lengths: &[usize]) -> Result<Block, AllocError> {
+    let mut refs = Vec::new(alloc);
+    for author in 0..parents {
+        refs.push(Ref {
+            author,
+            digest: Digest([7; 32]),
+        })?;
+    }
+    let mut transactions = Vec::new(alloc);
+    for length in lengths {
+        transactions.push(Sequence::new(vec![in alloc; b'x'; *length]?))?;
+    }
+    Ok(Block {
+        author: 0,
+        round: Round::ZERO,
+        parents: Sequence::new(refs),
+        transactions: Sequence::new(transactions),
+    })
+}
+
+/// How many bytes the body of such a block has, and whether the block fits.
+fn sized(
+    alloc: Global,
+    parents: u16,
+    lengths: &[usize],
+) -> Result<(Result<usize, EncodeError>, bool), AllocError> {
+    let block = block(alloc, parents, lengths)?;
+    let size = encode_body(alloc, &block).map(|body| body.len());
+    Ok((size, block.fits()))
+}
+
+/// The lengths of the transactions of the largest body, without parents.
+const LARGEST: [usize; 16] = [
+    65_536, 65_536, 65_536, 65_536, 65_536, 65_536, 65_536, 65_536, //
+    65_536, 65_536, 65_536, 65_536, 65_536, 65_536, 65_536, 65_459,
+];
+
+#[test]
+fn blocks_fit_up_to_their_limits(rt: HostRuntime) -> Result<(), Fail> {
+    let mut larger = LARGEST;
+    larger[15] = 65_460;
+    let cases: [(&str, u16, &[usize], Result<usize, EncodeError>); 8] = [
+        ("100 parents", 100, &[], Ok(3_413)),
+        ("101 parents", 101, &[], Err(EncodeError::OverLimit)),
+        ("1,024 transactions", 0, &[0; 1_024], Ok(4_109)),
+        (
+            "1,025 transactions",
+            0,
+            &[0; 1_025],
+            Err(EncodeError::OverLimit),
+        ),
+        ("a transaction of 65,536 bytes", 0, &[65_536], Ok(65_553)),
+        (
+            "one of 65,537 bytes",
+            0,
+            &[65_537],
+            Err(EncodeError::OverLimit),
+        ),
+        ("a body of 1,048,576 bytes", 0, &LARGEST, Ok(1_048_576)),
+        (
+            "a body of one byte more",
+            0,
+            &larger,
+            Err(EncodeError::OverLimit),
+        ),
+    ];
+    for (shows, parents, lengths, size) in cases {
+        let wanted = (size, size.is_ok());
+        assert!(rt; sized(rt.alloc(), parents, lengths)? == wanted, "{shows}");
+    }
+    Ok(())
+}
+
+/// The message, written out byte by byte, of a block of author 0 and round 0 without parents, with 15 transactions of 65,536
+/// bytes and one of `last` bytes.
+fn message(alloc: Global, last: u32) -> Result<Vec<u8>, AllocError> {
+    let mut text = [1, 1, 0, 0, 0, 0, 0, 0, 0, 0, 0, 0, 0, 16].to_vec(alloc)?;
+    for number in 1..=16 {
+        let length = if number < 16 { 65_536 } else { last };
+        text.extend_from_slice(&length.to_be_bytes())?;
+        text.resize(text.len() + length as usize, b'x')?;
+    }
+    text.extend_from_slice(&[4; 64])?;
+    Ok(text)
+}
+
+#[test]
+fn the_largest_body_is_read_and_one_byte_more_is_not(rt: HostRuntime) -> Result<(), Fail> {
+    let largest = decode_message(rt.alloc(), &message(rt.alloc(), 65_459)?).err();
+    let larger = decode_message(rt.alloc(), &message(rt.alloc(), 65_460)?).err();
+    assert!(rt; [largest, larger] == [None, Some(DecodeError::BodyTooLong)]);
+    Ok(())
+}
