@@ -15,8 +15,8 @@ join-reader-requires-send-A g c κs within = search (sendable, crosses, session_
 
 pub join-reader-requires-send-F : goal.join-reader-requires-send-F
 join-reader-requires-send-F g c κs within =
-    let names = lts.name-48 g.row.L g.row.R g.L.laws g.R.laws g.L.Home g.L.Home-dict g.L.Place g.L.Place-dict g.L.Ledger g.L.Ledger-dict g.R.Threads g.R.Threads-dict g.R.Wait g.R.Wait-dict in
-    let captured = lts.of-46 g.row.L g.row.R g.L.laws g.R.laws g.L.Home g.L.Home-dict g.L.Place g.L.Place-dict g.L.Ledger g.L.Ledger-dict g.R.Threads g.R.Threads-dict g.R.Wait g.R.Wait-dict
+    let names = lts.name-60 g.row.L g.row.R g.L.laws g.R.laws g.L.Home g.L.Home-dict g.L.Place g.L.Place-dict g.L.Ledger g.L.Ledger-dict g.R.Threads g.R.Threads-dict g.R.Wait g.R.Wait-dict in
+    let captured = lts.of-50 g.row.L g.row.R g.L.laws g.R.laws g.L.Home g.L.Home-dict g.L.Place g.L.Place-dict g.L.Ledger g.L.Ledger-dict g.R.Threads g.R.Threads-dict g.R.Wait g.R.Wait-dict
     (record { mir = named 6; lft = κs.1.1.1.1.1.1.0 }) (record { mir = named 7; lft = κs.1.1.1.1.1.1.1.0 }) (record { mir = named 8; lft = κs.1.1.1.1.1.1.1.1.0 })
     (record { mir = named 9; lft = κs.1.1.1.1.1.1.1.1.1.0 }) (record { mir = named 10; lft = κs.1.1.1.1.1.1.1.1.1.1.0 }) in
     let closure = type_at names captured in
