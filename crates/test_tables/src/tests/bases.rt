@@ -24,6 +24,14 @@ fn base(alloc: Global, text: &[u8]) -> Result<Base, NoMemory> {
     }
 }
 
+/// What the reply says of a write.
+fn told(reply: &Reply) -> Option<WriteReply> {
+    match reply {
+        Reply::Write(reply) => Some(*reply),
+        _ => None,
+    }
+}
+
 /// The reply to another block of the slot, under this digest.
 fn written(
     plain: &mut Plain,
@@ -31,10 +39,8 @@ fn written(
     digest: Digest,
 ) -> Result<Option<WriteReply>, NoMemory> {
     let block = block_of(alloc, (0, 0), Vec::new(alloc), b"y")?;
-    Ok(match plain.call(&Call::Write(digest, block))? {
-        Reply::Write(reply) => Some(reply),
-        _ => None,
-    })
+    let reply = plain.call(&Call::Write(digest, block))?;
+    Ok(told(&reply))
 }
 
 /// Whether other blocks of the slot are refused under both digests.

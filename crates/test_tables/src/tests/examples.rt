@@ -183,11 +183,16 @@ fn are_answered(both: &mut Both, alloc: Global, example: &Example) -> Result<boo
     Ok(true)
 }
 
+/// Whether new stores do.
+fn is_played(alloc: Global, example: &Example) -> bool {
+    let mut both = Both::new(alloc, example.room, 4);
+    let answered = are_answered(&mut both, alloc, example);
+    matches!(answered, Ok(true))
+}
+
 #[test]
 fn small_stores_answer_as_the_table_of_steps_says(rt: HostRuntime) {
     for example in &tables::EXAMPLES {
-        let both = &mut Both::new(rt.alloc(), example.room, 4);
-        let answered = are_answered(both, rt.alloc(), example);
-        assert!(rt; matches!(answered, Ok(true)), "{}", example.shows);
+        assert!(rt; is_played(rt.alloc(), example), "{}", example.shows);
     }
 }

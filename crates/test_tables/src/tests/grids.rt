@@ -59,12 +59,17 @@ fn lists_all(both: &mut Both, alloc: Global, authors: u16, last: Name) -> Result
     }
 }
 
+/// Whether new stores list the whole grid below the block of that name.
+fn are_listed(alloc: Global, authors: u16, last: Name) -> bool {
+    let mut both = Both::new(alloc, 1_000, 4_096);
+    let listed = lists_all(&mut both, alloc, authors, last);
+    matches!(listed, Ok(true))
+}
+
 // Two diamonds and a chain. A walk that took a block again for each reference to it would go over 4^39 paths.
 #[test]
 fn a_diamond_and_a_chain_of_1000_blocks_list_each_block_once(rt: HostRuntime) {
     for (authors, last) in [(4, (3, 2, 0)), (4, (39, 2, 0)), (1, (999, 0, 0))] {
-        let both = &mut Both::new(rt.alloc(), 1_000, 4_096);
-        let listed = lists_all(both, rt.alloc(), authors, last);
-        assert!(rt; matches!(listed, Ok(true)), "{authors} authors");
+        assert!(rt; are_listed(rt.alloc(), authors, last), "{authors} authors");
     }
 }

@@ -80,12 +80,18 @@ fn completes(dag: &mut Dag, alloc: Global, order: &[u16; 4], pace: Pace) -> Resu
     Ok(dag.is_complete(&digest_of(CHILD)))
 }
 
+/// Whether it is so in a new store.
+fn is_completed(alloc: Global, order: &[u16; 4], pace: Pace) -> bool {
+    let mut dag = Dag::new(alloc, 4, 2);
+    let completed = completes(&mut dag, alloc, order, pace);
+    matches!(completed, Ok(true))
+}
+
 #[test]
 fn a_child_is_complete_once_its_parents_are_in_every_order(rt: HostRuntime) {
     for order in &ORDERS {
         for pace in [Pace::BlockFirst, Pace::CertificateFirst, Pace::BlocksFirst] {
-            let dag = &mut Dag::new(rt.alloc(), 4, 2);
-            assert!(rt; matches!(completes(dag, rt.alloc(), order, pace), Ok(true)));
+            assert!(rt; is_completed(rt.alloc(), order, pace));
         }
     }
 }
