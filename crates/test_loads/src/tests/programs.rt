@@ -2,36 +2,118 @@
 use nw_load::run;
 use std::alloc::Global;
 use std::io::{self, Write};
+use std::sync::Wait;
 use std::test::Fail;
+use std::thread::Threads;
 
 /// A program's words, what it prints, and its status.
-type Row = (&'static str, &'static str, u8);
+struct Row {
+    words: &'static str,
+    prints: &'static str,
+    status: u8,
+}
 
 const ROWS: [Row; 20] = [
-    ("load 1 1", "node 0 events 3 last 1\n", 0),
-    ("load 1 2", "node 0 events 6 last 2\n", 0),
-    (
-        "load 4 3",
-        "node 0 events 27 last 9\nnode 1 events 27 last 9\nnode 2 events 27 last 9\nnode 3 events 27 last 9\n",
-        0,
-    ),
-    ("load 0 1", "load refused nodes\n", 3),
-    ("load 2 1", "load refused nodes\n", 3),
-    ("load 3 1", "load refused nodes\n", 3),
-    ("load 17 1", "load refused nodes\n", 3),
-    ("load 19 1", "load refused nodes\n", 3),
-    ("load 4294967295 1", "load refused nodes\n", 3),
-    ("load 2 33", "load refused nodes\n", 3),
-    ("load 1 0", "load refused rounds\n", 3),
-    ("load 1 33", "load refused rounds\n", 3),
-    ("load 1 4294967295", "load refused rounds\n", 3),
-    ("load x 1", "", 2),
-    ("load 1", "", 2),
-    ("load 1 1 1", "", 2),
-    ("load 01 1", "", 2),
-    ("load 1 4294967296", "", 2),
-    ("load +1 1", "", 2),
-    ("play 1 1", "", 2),
+    Row {
+        words: "load 1 1",
+        prints: "node 0 events 3 last 1\n",
+        status: 0,
+    },
+    Row {
+        words: "load 1 2",
+        prints: "node 0 events 6 last 2\n",
+        status: 0,
+    },
+    Row {
+        words: "load 4 3",
+        prints: "node 0 events 27 last 9\nnode 1 events 27 last 9\nnode 2 events 27 last 9\nnode 3 events 27 last 9\n",
+        status: 0,
+    },
+    Row {
+        words: "load 0 1",
+        prints: "load refused nodes\n",
+        status: 3,
+    },
+    Row {
+        words: "load 2 1",
+        prints: "load refused nodes\n",
+        status: 3,
+    },
+    Row {
+        words: "load 3 1",
+        prints: "load refused nodes\n",
+        status: 3,
+    },
+    Row {
+        words: "load 17 1",
+        prints: "load refused nodes\n",
+        status: 3,
+    },
+    Row {
+        words: "load 19 1",
+        prints: "load refused nodes\n",
+        status: 3,
+    },
+    Row {
+        words: "load 4294967295 1",
+        prints: "load refused nodes\n",
+        status: 3,
+    },
+    Row {
+        words: "load 2 33",
+        prints: "load refused nodes\n",
+        status: 3,
+    },
+    Row {
+        words: "load 1 0",
+        prints: "load refused rounds\n",
+        status: 3,
+    },
+    Row {
+        words: "load 1 33",
+        prints: "load refused rounds\n",
+        status: 3,
+    },
+    Row {
+        words: "load 1 4294967295",
+        prints: "load refused rounds\n",
+        status: 3,
+    },
+    Row {
+        words: "load x 1",
+        prints: "",
+        status: 2,
+    },
+    Row {
+        words: "load 1",
+        prints: "",
+        status: 2,
+    },
+    Row {
+        words: "load 1 1 1",
+        prints: "",
+        status: 2,
+    },
+    Row {
+        words: "load 01 1",
+        prints: "",
+        status: 2,
+    },
+    Row {
+        words: "load 1 4294967296",
+        prints: "",
+        status: 2,
+    },
+    Row {
+        words: "load +1 1",
+        prints: "",
+        status: 2,
+    },
+    Row {
+        words: "play 1 1",
+        prints: "",
+        status: 2,
+    },
 ];
 
 /// The words of the line.
@@ -43,16 +125,27 @@ fn words_of(alloc: Global, line: &str) -> Result<Vec<String>, Fail> {
     Ok(words)
 }
 
+/// What the program prints, and its status.
+fn printed<R: Threads + Wait + Sync>(
+    rt: &R,
+    alloc: Global,
+    line: &str,
+) -> Result<(Vec<u8>, u8), Fail> {
+    let words = words_of(alloc, line)?;
+    let mut out = Vec::new(alloc);
+    let status = run(rt, alloc, &words, &mut out);
+    Ok((out, status))
+}
+
 #[test]
 fn words_are_answered_by_a_report_a_refusal_or_nothing(rt: HostRuntime) -> Result<(), Fail> {
-    for (line, prints, status) in ROWS {
-        let words = words_of(rt.alloc(), line)?;
-        let mut out = Vec::new(rt.alloc());
-        let ended = run(&rt, rt.alloc(), &words, &mut out);
+    for row in &ROWS {
+        let (out, status) = printed(&rt, rt.alloc(), row.words)?;
         assert_eq!(rt;
-            (out.as_slice(), ended),
-            (prints.as_bytes(), status),
-            "{line}"
+            (out.as_slice(), status),
+            (row.prints.as_bytes(), row.status),
+            "{}",
+            row.words
         );
     }
     Ok(())

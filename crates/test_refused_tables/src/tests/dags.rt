@@ -89,15 +89,8 @@ fn needs_no_parents(dag: &mut Dag, alloc: Global) -> Result<bool, NoMemory> {
     )
 }
 
-#[test]
-fn a_block_of_the_garbage_round_needs_no_parents(rt: HostRuntime) {
-    let dag = &mut Dag::new(rt.alloc(), 64, 64);
-    assert_eq!(rt; needs_no_parents(dag, rt.alloc()), Ok(true));
-    refuse_all(rt.alloc());
-    let counts = dag.status();
-    let is_complete = dag.is_complete(&digest(2, 0));
-    let opening = Dag::new(rt.alloc(), 64, 64).status();
-    refuse_none(rt.alloc());
+/// Whether the store counts one complete block of its garbage round, and a new store has none.
+fn has_one(dag: &Dag, alloc: Global) -> bool {
     let expected = Counts {
         floor: round(1),
         blocks: 1,
@@ -105,7 +98,19 @@ fn a_block_of_the_garbage_round_needs_no_parents(rt: HostRuntime) {
         complete: 1,
         wanted: 0,
     };
-    assert!(rt; counts == expected && is_complete && opening.blocks == 0);
+    dag.status() == expected
+        && dag.is_complete(&digest(2, 0))
+        && Dag::new(alloc, 64, 64).status().blocks == 0
+}
+
+#[test]
+fn a_block_of_the_garbage_round_needs_no_parents(rt: HostRuntime) {
+    let dag = &mut Dag::new(rt.alloc(), 64, 64);
+    assert_eq!(rt; needs_no_parents(dag, rt.alloc()), Ok(true));
+    refuse_all(rt.alloc());
+    let has_one = has_one(dag, rt.alloc());
+    refuse_none(rt.alloc());
+    assert!(rt; has_one);
 }
 
 /// Adds the next block of a chain of one author. The number of parts of the view for it.

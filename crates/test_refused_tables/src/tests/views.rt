@@ -36,15 +36,26 @@ fn lower_rounds_are_dropped_without_memory(rt: HostRuntime) {
     assert_eq!(rt; (kept, dropped, trie.len()), (0, 3, 0));
 }
 
-/// Whether the view of two generations with this floor lists these from the later one's block on.
-fn lists(alloc: Global, floor: u8, slots: &[(u64, u16)]) -> Result<bool, NoMemory> {
-    let view = again!(NoMemory, view_of_both(alloc, b"x", round(floor)))?;
-    let start = view.get(&name(1, 0)).ok_or(NoMemory)?.get();
+/// Whether the walk of the digest, which the view has not below its floor, lists these.
+fn walks(
+    alloc: Global,
+    view: &View<Global>,
+    digest: Digest,
+    slots: &[(u64, u16)],
+) -> Result<bool, NoMemory> {
+    let start = view.get(&digest).ok_or(NoMemory)?.get();
     if start.round.get() < view.floor().get() {
         return Err(NoMemory);
     }
-    let blocks = again!(NoMemory, walk(alloc, &view, name(1, 0)))?;
-    Ok(view.parts() == 2 && have_slots(&blocks, slots))
+    let blocks = again!(NoMemory, walk(alloc, view, digest))?;
+    Ok(have_slots(&blocks, slots))
+}
+
+/// Whether the view of two generations with this floor lists these from the later one's block on.
+fn lists(alloc: Global, floor: u8, slots: &[(u64, u16)]) -> Result<bool, NoMemory> {
+    let view = again!(NoMemory, view_of_both(alloc, b"x", round(floor)))?;
+    let listed = walks(alloc, &view, name(1, 0), slots)?;
+    Ok(listed && view.parts() == 2)
 }
 
 #[test]
