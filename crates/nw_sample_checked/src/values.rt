@@ -1,0 +1,126 @@
+//! Committees whose members sign by the demonstration scheme, and their checked blocks and certificates.
+ghost use Rattle.std.specs.Prelude.{◌≡◌, IfOk, length};
+
+use nw_check::{CheckedBlock, CheckedCert, check_block, check_cert};
+use nw_codec::{Block, Certificate, Ref, Seal, Signature, block_digest};
+use nw_committee::{Committee, Key};
+use nw_digest::{Digest, Round, Sequence, Shared};
+use nw_sig::{DemoScheme, DemoSigner, Signer, block_text, vote_text};
+use std::alloc::Global;
+use std::test::Fail;
+
+fn key(member: u16) -> Key {
+    let mut bytes = [0; 32];
+    bytes[30..].copy_from_slice(&member.to_be_bytes());
+    Key(bytes)
+}
+
+fn sign(member: u16, text: &[u8]) -> Signature {
+    DemoSigner::new(key(member)).sign(text)
+}
+
+fn round_of(number: u64) -> Result<Round, Fail>
+    ensures { IfOk result (λ round. round ≡ number) }
+{
+    Ok(Round::new(number).ok_or("a round has 48 bits")?)
+}
+
+/// A committee of so many members of weight 1: 1, 4, 7, ..
+pub fn committee(alloc: Global, members: u16) -> Result<Shared<Committee>, Fail>
+    ensures { IfOk result (λ committee. length committee ≡ members) }
+{
+    let mut keys = Vec::new(alloc);
+    for member in 0..members {
+        keys.push(key(member))?;
+    }
+    Ok(Shared::new(alloc, Committee::new(alloc, keys)?)?)
+}
+
+/// A block of the author without transactions, whose parents are blocks of authors 0, 1, 2, .. with these digests.
+pub fn block(
+    alloc: Global,
+    committee: &Shared<Committee>,
+    author: u16,
+    round: u64,
+    parents: &[Digest],
+) -> Result<CheckedBlock<DemoScheme>, Fail>
+    ensures { IfOk result (λ b. (b.committee ≡ committee.now) × (b.block.author ≡ author) × (b.block.round ≡ round)) }
+{
+    let transactions = Vec::new(alloc);
+    checked(alloc, committee, author, round, parents, transactions)
+}
+
+/// A block of round 0 of member 0 that has this one transaction.
+pub fn block_with(
+    alloc: Global,
+    committee: &Shared<Committee>,
+    transaction: &[u8],
+) -> Result<CheckedBlock<DemoScheme>, Fail>
+    ensures { IfOk result (λ b. (b.committee ≡ committee.now) × (b.block.author ≡ 0) × (b.block.round ≡ 0)) }
+{
+    let mut transactions = Vec::new(alloc);
+    transactions.push(Sequence::new(transaction.to_vec(alloc)?))?;
+    checked(alloc, committee, 0, 0, &[], transactions)
+}
+
+/// The block of the author and round, signed.
+fn checked(
+    alloc: Global,
+    committee: &Shared<Committee>,
+    author: u16,
+    round: u64,
+    parents: &[Digest],
+    transactions: Vec<Sequence<u8>>,
+) -> Result<CheckedBlock<DemoScheme>, Fail>
+    ensures { IfOk result (λ b. (b.committee ≡ committee.now) × (b.block.author ≡ author) × (b.block.round ≡ round)) }
+{
+    let mut references = Vec::new(alloc);
+    for (author, digest) in (0u16..).zip(parents) {
+        references.push(Ref {
+            author,
+            digest: *digest,
+        })?;
+    }
+    let block = Block {
+        author,
+        round: round_of(round)?,
+        parents: Sequence::new(references),
+        transactions: Sequence::new(transactions),
+    };
+    if !block.fits() {
+        return Err(Fail::from("the block breaks a limit"));
+    }
+    let signature = sign(author, &block_text(&block_digest(&block)));
+    Ok(check_block(alloc, committee, block, signature)?)
+}
+
+/// A certificate of the digest for the author in the round, with the votes of all members.
+pub fn certificate(
+    alloc: Global,
+    committee: &Shared<Committee>,
+    author: u16,
+    round: u64,
+    digest: Digest,
+) -> Result<CheckedCert<DemoScheme>, Fail>
+    ensures { IfOk result (λ c. (c.committee ≡ committee.now) × (c.certificate.digest ≡ digest) × (c.certificate.author ≡ author) × (c.certificate.round ≡ round)) }
+{
+    let round = round_of(round)?;
+    let text = vote_text(&digest, round, author);
+    let mut votes = Vec::new(alloc);
+    for signer in 0..u16::try_from(committee.get().size())? {
+        votes.push(Seal {
+            signer,
+            signature: sign(signer, &text),
+        })?;
+    }
+    let certificate = Certificate {
+        digest,
+        round,
+        author,
+        votes: Sequence::new(votes),
+    };
+    if !certificate.fits() {
+        return Err(Fail::from("the certificate breaks a limit"));
+    }
+    Ok(check_cert(alloc, committee, certificate)?)
+}
