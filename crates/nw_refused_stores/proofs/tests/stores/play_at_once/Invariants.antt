@@ -1,6 +1,6 @@
 use Rattle.nw_store.specs.Held.{first_origin}
 use Rattle.nw_store.specs.Kept.{parts_of_a_ledger}
-use Rattle.test_refused_stores.proofs.tests.stores.play_at_once.Given as goal
+use Rattle.nw_refused_stores.proofs.tests.stores.play_at_once.Given as goal
 
 -- the ledger that was opened
 abbrev pub ghosts-play_new-L-Ledger : goal.ghosts-play_new-L-Ledger
