@@ -12,7 +12,8 @@ use Rattle.std.proofs.lemmas.Map.Views.{IfSome-lookup_from_All, All-values_from_
 use Rattle.nw_digest.specs.declared.digest.Digest.{Digest}
 use Rattle.nw_codec.specs.declared.block.Ref.{Ref}
 use Rattle.nw_codec.specs.declared.block.Block.{Block}
-use Rattle.nw_model.specs.State.{Slot, block_slot, digest_cmp, slot_cmp}
+use Rattle.nw_digest.specs.Order.{digest_cmp, Slot, slot_cmp}
+use Rattle.nw_model.specs.State.{block_slot}
 use Rattle.nw_model.specs.View.{Frozen, HasParent, IsClosed, IsThere, IsParentIn, IsPathIn, IsAncestorIn, IsWalk}
 use Rattle.nw_model.specs.Search.{Reaches}
 use Rattle.nw_model.proofs.Maps.{get_lookup, slots_total}

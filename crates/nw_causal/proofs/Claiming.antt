@@ -7,7 +7,7 @@ use Rattle.std.proofs.lemmas.List.Elements.{All-contains, Contains-push, Contain
 use Rattle.nw_digest.specs.declared.digest.Digest.{Digest}
 use Rattle.nw_codec.specs.declared.block.Ref.{Ref}
 use Rattle.nw_codec.specs.declared.block.Block.{Block}
-use Rattle.nw_model.specs.State.{Slot, slot_cmp}
+use Rattle.nw_digest.specs.Order.{Slot, slot_cmp}
 use Rattle.nw_model.specs.View.{Frozen, HasParent, IsClosed}
 use Rattle.nw_model.specs.Search.{AreUnder, IsFound, IsNamed, IsUnder, Finds}
 use Rattle.nw_model.proofs.Kept.{after_slot, at_slot, still_slot}

@@ -3,7 +3,7 @@ use Rattle.std.specs.Prelude.{◌≡◌, ◌⊎◌, ℕ, List, Some, Contains}
 use Rattle.std.specs.FinMap.{FinMap, get}
 use Rattle.nw_digest.specs.declared.digest.Digest.{Digest}
 use Rattle.nw_codec.specs.declared.block.Ref.{Ref}
-use Rattle.nw_model.specs.State.{Slot, slot_cmp}
+use Rattle.nw_digest.specs.Order.{Slot, slot_cmp}
 use Rattle.nw_model.specs.Search.{IsNamed}
 
 -- one of the references to blocks of the round names e, and its slot is this one

@@ -8,7 +8,8 @@ use Rattle.std.proofs.lemmas.List.Elements.{Contains-append_cases, Contains-appe
 use Rattle.nw_digest.specs.declared.digest.Digest.{Digest}
 use Rattle.nw_codec.specs.declared.block.Block.{Block}
 use Rattle.nw_waiting.specs.Pairs.{Pairs}
-use Rattle.nw_model.specs.State.{State, digest_cmp, opening}
+use Rattle.nw_digest.specs.Order.{digest_cmp}
+use Rattle.nw_model.specs.State.{State, opening}
 use Rattle.nw_model.specs.Paths.{IsStanding}
 use Rattle.nw_model.specs.Step.{from_round}
 use Rattle.nw_model.specs.Sound.{IsSound}

@@ -13,7 +13,7 @@ use Rattle.std.proofs.lemmas.Map.Keys.{IsDistinct-head, IsDistinct-tail, IsDisti
 use Rattle.std.proofs.lemmas.Map.Made.{length-le_from_is_member}
 use Rattle.std.proofs.lemmas.Map.Views.{Contains-from_any, list_any-from_Contains}
 use Rattle.nw_digest.specs.declared.digest.Digest.{Digest}
-use Rattle.nw_model.specs.State.{digest_cmp}
+use Rattle.nw_digest.specs.Order.{digest_cmp}
 use Rattle.nw_model.proofs.Kept.{same_digest}
 use Rattle.nw_model.proofs.Listed.{contains_cases, contains_first, contains_later, contains_none}
 use Rattle.nw_model.proofs.Maps.{digests_total}

@@ -8,7 +8,8 @@ use Rattle.std.proofs.lemmas.Cmp.{on_total, then_total, nat_cmp_total}
 use Rattle.std.proofs.lemmas.Map.Lookups.{exact_unsigned, exact_pairs}
 use Rattle.nw_digest.specs.declared.digest.Digest.{Digest}
 use Rattle.nw_waiting.specs.declared.wanted.Wanted.{Wanted}
-use Rattle.nw_waiting.specs.Pairs.{Pair, Pairs, Lacks, digest_cmp, pair_cmp, wanted_cmp, without_holder, without_wanted}
+use Rattle.nw_digest.specs.Order.{digest_cmp}
+use Rattle.nw_waiting.specs.Pairs.{Pair, Pairs, Lacks, pair_cmp, wanted_cmp, without_holder, without_wanted}
 use Rattle.nw_model.proofs.Kept.{tie}
 use Rattle.nw_model.proofs.Maps.{digests_total, digests_apart}
 

@@ -14,7 +14,7 @@ use Rattle.std.proofs.lemmas.Map.Keys.{IsDistinct-head, IsDistinct-tail}
 use Rattle.std.proofs.lemmas.Map.Views.{Contains-keys_from_lookup, IsSome-lookup_from_Contains}
 use Rattle.nw_digest.specs.declared.digest.Digest.{Digest}
 use Rattle.nw_trie.proofs.Inserts.{sorted_insert}
-use Rattle.nw_model.specs.State.{digest_cmp}
+use Rattle.nw_digest.specs.Order.{digest_cmp}
 use Rattle.nw_model.specs.Missing.{HasCount}
 use Rattle.nw_model.proofs.Kept.{same_digest}
 use Rattle.nw_model.proofs.Listed.{contains_cases, contains_first, contains_later}

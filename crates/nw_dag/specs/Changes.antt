@@ -7,7 +7,8 @@ use Rattle.nw_digest.specs.declared.digest.Digest.{Digest}
 use Rattle.nw_codec.specs.declared.block.Block.{Block}
 use Rattle.nw_waiting.specs.Pairs.{Pairs, Lacks, without_wanted}
 use Rattle.nw_waiting.specs.declared.wanted.Wanted.{Wanted}
-use Rattle.nw_model.specs.State.{State, digest_cmp}
+use Rattle.nw_digest.specs.Order.{digest_cmp}
+use Rattle.nw_model.specs.State.{State}
 use Rattle.nw_held.specs.Standing.{named_as}
 use Rattle.nw_dag.specs.Lacking.{IsReady}
 

@@ -5,7 +5,8 @@ use Rattle.std.specs.Ordering.{eq_by_cmp}
 use Rattle.std.specs.FinMap.{len}
 use Rattle.nw_digest.specs.declared.digest.Digest.{Digest}
 use Rattle.nw_waiting.specs.Pairs.{Pairs}
-use Rattle.nw_model.specs.State.{State, digest_cmp}
+use Rattle.nw_digest.specs.Order.{digest_cmp}
+use Rattle.nw_model.specs.State.{State}
 use Rattle.nw_dag.specs.Lacking.{AreUnmet, AreUnmetBut, AreLacking, IsReady}
 
 -- each of the digests is ready, and stands there once

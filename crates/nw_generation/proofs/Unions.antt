@@ -7,7 +7,7 @@ use Rattle.std.specs.FinMap.{FinMap, entries, get, get-empty, get-entries, get-f
 use Rattle.std.specs.FinMap.Entries.{find}
 use Rattle.nw_digest.specs.declared.digest.Digest.{Digest}
 use Rattle.nw_codec.specs.declared.block.Block.{Block}
-use Rattle.nw_model.specs.State.{digest_cmp}
+use Rattle.nw_digest.specs.Order.{digest_cmp}
 use Rattle.nw_model.proofs.Maps.{digests_total, digests_apart}
 use Rattle.nw_generation.specs.Seen.{latest_first, union}
 

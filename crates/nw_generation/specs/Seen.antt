@@ -6,7 +6,8 @@ use Rattle.std.specs.FinMap as map
 use Rattle.std.specs.FinMap.{FinMap, entries, from_entries, get}
 use Rattle.nw_digest.specs.declared.digest.Digest.{Digest}
 use Rattle.nw_codec.specs.declared.block.Block.{Block}
-use Rattle.nw_model.specs.State.{digest_cmp, coded_digest, coded_block}
+use Rattle.nw_digest.specs.Order.{digest_cmp}
+use Rattle.nw_model.specs.State.{coded_digest, coded_block}
 use Rattle.nw_model.specs.View.{Frozen, IsClosed, coded_frozen}
 
 -- the entries of all generations, which are given the oldest first: those of the latest generation come first

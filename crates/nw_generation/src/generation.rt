@@ -2,7 +2,7 @@
 ghost use Rattle.std.specs.Prelude.{◌≡◌, IfOk, IfErr, OnOk, OnErr};
 ghost use Rattle.std.specs.Option.{option_copied};
 ghost use Rattle.std.specs.FinMap as map;
-ghost use Rattle.nw_model.specs.State.{digest_cmp};
+ghost use Rattle.nw_digest.specs.Order.{digest_cmp};
 ghost use Rattle.nw_generation.specs.Seen.{IsOver};
 
 use nw_codec::Block;
@@ -21,7 +21,8 @@ pub struct Generation<A: Allocator> {
 impl<A: Allocator> Model for Generation<A> {
     ghost use Rattle.std.specs.FinMap as map;
     ghost use Rattle.nw_codec.specs.declared.block.Block.{Block};
-    ghost use Rattle.nw_model.specs.State.{digest_cmp, coded_digest, coded_block};
+    ghost use Rattle.nw_digest.specs.Order.{digest_cmp};
+    ghost use Rattle.nw_model.specs.State.{coded_digest, coded_block};
 
     ghost Value = { map.FinMap digest_cmp Block };
 

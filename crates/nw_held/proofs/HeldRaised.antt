@@ -8,7 +8,8 @@ use Rattle.nw_digest.specs.declared.digest.Digest.{Digest}
 use Rattle.nw_codec.specs.declared.block.Block.{Block}
 use Rattle.nw_codec.specs.declared.certificate.Certificate.{Certificate}
 use Rattle.nw_rounds.specs.Slots.{Tables, AreDigestsBetween}
-use Rattle.nw_model.specs.State.{State, block_slot, certificate_slot, digest_cmp}
+use Rattle.nw_digest.specs.Order.{digest_cmp}
+use Rattle.nw_model.specs.State.{State, block_slot, certificate_slot}
 use Rattle.nw_model.specs.Step.{raised, from_round}
 use Rattle.nw_model.specs.Sound.{IsKept}
 use Rattle.nw_model.proofs.Maps.{get_lookup, digests_total}

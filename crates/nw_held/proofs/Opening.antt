@@ -5,7 +5,7 @@ use Rattle.std.specs.FinMap.{get, from_entries, get-empty}
 use Rattle.nw_digest.specs.declared.digest.Digest.{Digest}
 use Rattle.nw_codec.specs.declared.block.Block.{Block}
 use Rattle.nw_rounds.specs.Slots.{no_digests}
-use Rattle.nw_model.specs.State.{digest_cmp}
+use Rattle.nw_digest.specs.Order.{digest_cmp}
 use Rattle.nw_held.specs.Held.{IsNamed}
 
 none_some : {X : Type 0} (x : X) → None ≡ Some x → ⊥

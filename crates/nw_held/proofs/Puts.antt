@@ -13,7 +13,8 @@ use Rattle.nw_codec.specs.declared.block.Block.{Block}
 use Rattle.nw_codec.specs.declared.certificate.Certificate.{Certificate}
 use Rattle.nw_rounds.specs.Slots.{Tables}
 use Rattle.nw_trie.proofs.Inserts.{sorted_insert}
-use Rattle.nw_model.specs.State.{State, Slot, block_slot, certificate_slot, digest_cmp, slot_cmp}
+use Rattle.nw_digest.specs.Order.{digest_cmp, Slot, slot_cmp}
+use Rattle.nw_model.specs.State.{State, block_slot, certificate_slot}
 use Rattle.nw_model.specs.Step.{is_elsewhere, is_digest, rival, with_block, with_certificate, certified_digest}
 use Rattle.nw_model.specs.Sound.{IsKept}
 use Rattle.nw_model.proofs.Kept.{kept_written, index_with_certificate, sound_with_certificate, index_answers, after_insert, at_insert, tie}

@@ -7,7 +7,8 @@ use Rattle.nw_digest.specs.declared.digest.Digest.{Digest}
 use Rattle.nw_codec.specs.declared.block.Block.{Block}
 use Rattle.nw_codec.specs.declared.certificate.Certificate.{Certificate}
 use Rattle.nw_rounds.specs.Slots.{Tables}
-use Rattle.nw_model.specs.State.{State, block_slot, digest_cmp}
+use Rattle.nw_digest.specs.Order.{digest_cmp}
+use Rattle.nw_model.specs.State.{State, block_slot}
 use Rattle.nw_model.specs.Sound.{IsKept}
 
 -- the state that these entries and slots are

@@ -4,7 +4,7 @@ use Rattle.std.specs.List.Sorted.{IsStrictlySortedBy}
 use Rattle.std.specs.Map.{keys_of, lookup}
 use Rattle.std.specs.BTreeMap.{is_at}
 use Rattle.nw_digest.specs.declared.digest.Digest.{Digest}
-use Rattle.nw_model.specs.State.{digest_cmp}
+use Rattle.nw_digest.specs.Order.{digest_cmp}
 
 module _ {V : Type 0} (round_of : V → ℕ) (round : ℕ) where
   -- a value is found, of a round below this one

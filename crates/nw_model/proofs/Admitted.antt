@@ -8,7 +8,8 @@ use Rattle.nw_codec.specs.declared.block.Block.{Block}
 use Rattle.nw_codec.specs.declared.certificate.Certificate.{Certificate}
 use Rattle.nw_committee.specs.declared.member.Member.{Member}
 use Rattle.nw_sig.specs.Signed.{Meaning}
-use Rattle.nw_model.specs.State.{State, digest_cmp, opening}
+use Rattle.nw_digest.specs.Order.{digest_cmp}
+use Rattle.nw_model.specs.State.{State, opening}
 use Rattle.nw_model.specs.Checks.{digest_of, IsWellFormed}
 use Rattle.nw_model.specs.Step.{Bounds, after, after_write, after_certify, after_collect, write_reply, certify_reply, collect_reply}
 use Rattle.nw_model.specs.History.{Terms, IsAdmitted, IsBase, IsLegal, replay}

@@ -5,7 +5,8 @@ use Rattle.std.specs.FinMap.{FinMap, get, insert}
 use Rattle.std.proofs.lemmas.List.Elements.{All-contains, Contains-get_or, Contains-push, Contains-push_cases}
 use Rattle.nw_digest.specs.declared.digest.Digest.{Digest}
 use Rattle.nw_codec.specs.declared.block.Block.{Block}
-use Rattle.nw_model.specs.State.{Slot, block_slot, slot_cmp}
+use Rattle.nw_digest.specs.Order.{Slot, slot_cmp}
+use Rattle.nw_model.specs.State.{block_slot}
 use Rattle.nw_model.specs.View.{Frozen, HasParent, IsClosed, IsThere, IsParentIn, IsPathIn, IsAncestorIn}
 use Rattle.nw_model.specs.Search.{IsUnder, AreUnder, AreAbove, IsFound, IsParentOfAny, Finds, Reaches}
 use Rattle.nw_model.proofs.Complete.{one_block}

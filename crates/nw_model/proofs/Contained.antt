@@ -12,7 +12,8 @@ use Rattle.std.proofs.lemmas.List.Elements.{All-contains_itself, All-from_recurs
 use Rattle.nw_digest.specs.declared.digest.Digest.{Digest}
 use Rattle.nw_codec.specs.declared.block.Ref.{Ref}
 use Rattle.nw_codec.specs.declared.block.Block.{Block}
-use Rattle.nw_model.specs.State.{State, digest_cmp}
+use Rattle.nw_digest.specs.Order.{digest_cmp}
+use Rattle.nw_model.specs.State.{State}
 use Rattle.nw_model.specs.Paths.{block_cmp, IsStanding, IsSatisfied, IsParent, IsPath, IsAncestor, IsComplete, IsCausalList}
 use Rattle.nw_model.specs.Laws.{CausalListsContainThoseOfTheirBlocks}
 use Rattle.nw_model.proofs.Maps.{digests_total}

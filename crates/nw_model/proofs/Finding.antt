@@ -7,7 +7,8 @@ use Rattle.std.proofs.lemmas.List.Elements.{Contains-push, Contains-push_cases, 
 use Rattle.nw_digest.specs.declared.digest.Digest.{Digest}
 use Rattle.nw_codec.specs.declared.block.Ref.{Ref}
 use Rattle.nw_codec.specs.declared.block.Block.{Block}
-use Rattle.nw_model.specs.State.{block_slot, slot_cmp}
+use Rattle.nw_digest.specs.Order.{slot_cmp}
+use Rattle.nw_model.specs.State.{block_slot}
 use Rattle.nw_model.specs.View.{Frozen, IsClosed, IsThere, IsParentIn}
 use Rattle.nw_model.specs.Search.{IsUnder, AreUnder, IsFound, IsNamed, IsParentOfAny, Finds}
 use Rattle.nw_model.proofs.Complete.{one_block}

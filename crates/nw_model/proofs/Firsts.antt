@@ -5,7 +5,8 @@ use Rattle.std.specs.Ordering.{eq_by_cmp}
 use Rattle.std.specs.FinMap.{get, insert, get-insert, len}
 use Rattle.nw_digest.specs.declared.digest.Digest.{Digest}
 use Rattle.nw_codec.specs.declared.block.Block.{Block}
-use Rattle.nw_model.specs.State.{State, Slot, block_slot, slot_cmp}
+use Rattle.nw_digest.specs.Order.{Slot, slot_cmp}
+use Rattle.nw_model.specs.State.{State, block_slot}
 use Rattle.nw_model.specs.Step.{Bounds, IsReply, after, after_write, after_certify, after_collect, raised, write_reply, certify_reply, collect_reply, rival}
 use Rattle.nw_model.specs.History.{AreReplies}
 use Rattle.nw_model.specs.Laws.{IsVote, LegalHistoriesVoteOnce, FirstsOfABaseGetNoVote}

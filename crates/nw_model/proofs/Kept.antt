@@ -11,7 +11,8 @@ use Rattle.std.specs.FinMap.{FinMap, empty, get, insert, keys, contains_key-keys
 use Rattle.nw_digest.specs.declared.digest.Digest.{Digest}
 use Rattle.nw_codec.specs.declared.block.Block.{Block}
 use Rattle.nw_codec.specs.declared.certificate.Certificate.{Certificate}
-use Rattle.nw_model.specs.State.{State, Slot, block_slot, certificate_slot, digest_cmp, slot_cmp}
+use Rattle.nw_digest.specs.Order.{digest_cmp, Slot, slot_cmp}
+use Rattle.nw_model.specs.State.{State, block_slot, certificate_slot}
 use Rattle.nw_model.specs.Step.{is_slot, is_elsewhere, is_certified_for, certified_digest, with_block, with_certificate}
 use Rattle.nw_model.specs.Sound.{IsSound, IsIndex, IsKept}
 use Rattle.nw_model.proofs.Maps.{digests_total, digests_apart, slots_total, slots_apart}

@@ -11,7 +11,8 @@ use Rattle.std.proofs.lemmas.List.Elements.{All-from_recursion, All-contains}
 use Rattle.std.proofs.lemmas.Map.Keys.{sorted_head, sorted_tail}
 use Rattle.nw_digest.specs.declared.digest.Digest.{Digest}
 use Rattle.nw_codec.specs.declared.block.Block.{Block}
-use Rattle.nw_model.specs.State.{block_slot, digest_cmp}
+use Rattle.nw_digest.specs.Order.{digest_cmp}
+use Rattle.nw_model.specs.State.{block_slot}
 use Rattle.nw_model.specs.Paths.{block_cmp, Lists}
 use Rattle.nw_model.proofs.Maps.{slots_total}
 

@@ -14,7 +14,7 @@ use Rattle.std.proofs.lemmas.Cmp.{on_total, then_total, nat_cmp_total}
 use Rattle.std.proofs.lemmas.Map.Keys.{sorted_head, sorted_tail}
 use Rattle.std.proofs.lemmas.Map.Lookups.{exact_bytes, exact_unsigned, exact_pairs}
 use Rattle.nw_digest.specs.declared.digest.Digest.{Digest}
-use Rattle.nw_model.specs.State.{Slot, digest_cmp, slot_cmp}
+use Rattle.nw_digest.specs.Order.{digest_cmp, Slot, slot_cmp}
 
 pub digests_total : IsTotalOrder digest_cmp
 digests_total = on_total (λ d. d.0) nat_list_cmp_total

@@ -12,7 +12,8 @@ use Rattle.std.proofs.lemmas.Map.Keys.{IsDistinct-from_sorted}
 use Rattle.nw_digest.specs.declared.digest.Digest.{Digest}
 use Rattle.nw_codec.specs.declared.block.Block.{Block}
 use Rattle.nw_codec.specs.declared.certificate.Certificate.{Certificate}
-use Rattle.nw_model.specs.State.{State, Slot, digest_cmp, slot_cmp}
+use Rattle.nw_digest.specs.Order.{digest_cmp, Slot, slot_cmp}
+use Rattle.nw_model.specs.State.{State}
 use Rattle.nw_model.specs.Step.{from_round, raised}
 use Rattle.nw_model.specs.Sound.{IsSound, IsKept}
 use Rattle.nw_model.proofs.Maps.{digests_total, digests_apart, slots_total, slots_apart, get_lookup}

@@ -15,7 +15,8 @@ use Rattle.nw_codec.specs.declared.block.Block.{Block}
 use Rattle.nw_codec.specs.declared.certificate.Seal.{Seal}
 use Rattle.nw_codec.specs.declared.certificate.Certificate.{Certificate}
 use Rattle.nw_codec.specs.Same.{same_bytes, same_ref, same_block}
-use Rattle.nw_model.specs.State.{State, Slot, opening, digest_cmp, slot_cmp}
+use Rattle.nw_digest.specs.Order.{digest_cmp, Slot, slot_cmp}
+use Rattle.nw_model.specs.State.{State, opening}
 use Rattle.nw_model.proofs.Maps.{get_lookup}
 
 -- a test that decides one sentence decides another that holds exactly where it does

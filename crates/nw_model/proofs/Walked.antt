@@ -16,7 +16,8 @@ use Rattle.std.proofs.lemmas.Map.Entries.{lookup_from_place, place_from_lookup, 
 use Rattle.std.proofs.lemmas.Option.{slice_get-get_or, get_or_from_slice_get, slice_get_cases}
 use Rattle.nw_digest.specs.declared.digest.Digest.{Digest}
 use Rattle.nw_codec.specs.declared.block.Block.{Block}
-use Rattle.nw_model.specs.State.{Slot, block_slot, slot_cmp}
+use Rattle.nw_digest.specs.Order.{Slot, slot_cmp}
+use Rattle.nw_model.specs.State.{block_slot}
 use Rattle.nw_model.specs.Paths.{block_cmp}
 use Rattle.nw_model.specs.View.{Frozen, IsWalk}
 use Rattle.nw_model.specs.Search.{IsUnder, Reaches}

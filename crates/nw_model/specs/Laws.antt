@@ -5,7 +5,8 @@ use Rattle.nw_codec.specs.declared.block.Block.{Block}
 use Rattle.nw_committee.specs.Committee.{ReachesQuorum}
 use Rattle.nw_sig.specs.Signed.{Meaning}
 use Rattle.std.specs.FinMap.{get}
-use Rattle.nw_model.specs.State.{State, Slot, block_slot}
+use Rattle.nw_digest.specs.Order.{Slot}
+use Rattle.nw_model.specs.State.{State, block_slot}
 use Rattle.nw_model.specs.Checks.{digest_of}
 use Rattle.nw_model.specs.Paths.{IsAncestor, IsComplete, IsCausalList}
 use Rattle.nw_model.specs.View.{Frozen, IsAncestorIn, Shows}

@@ -8,7 +8,8 @@ use Rattle.nw_codec.specs.declared.block.Ref.{Ref}
 use Rattle.nw_codec.specs.declared.block.Block.{Block}
 use Rattle.nw_waiting.specs.Pairs.{wanted_cmp}
 use Rattle.nw_waiting.specs.declared.wanted.Wanted.{Wanted}
-use Rattle.nw_model.specs.State.{State, digest_cmp}
+use Rattle.nw_digest.specs.Order.{digest_cmp}
+use Rattle.nw_model.specs.State.{State}
 use Rattle.nw_model.specs.Paths.{IsSatisfied, IsComplete}
 use Rattle.nw_model.specs.declared.reply.Counts.{Counts}
 

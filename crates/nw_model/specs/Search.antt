@@ -4,7 +4,8 @@ use Rattle.std.specs.FinMap.{FinMap, get}
 use Rattle.nw_digest.specs.declared.digest.Digest.{Digest}
 use Rattle.nw_codec.specs.declared.block.Ref.{Ref}
 use Rattle.nw_codec.specs.declared.block.Block.{Block}
-use Rattle.nw_model.specs.State.{Slot, block_slot, slot_cmp}
+use Rattle.nw_digest.specs.Order.{Slot, slot_cmp}
+use Rattle.nw_model.specs.State.{block_slot}
 use Rattle.nw_model.specs.View.{Frozen, IsThere, IsParentIn, IsAncestorIn}
 
 -- the block under e is there, and takes the slot

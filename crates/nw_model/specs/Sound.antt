@@ -4,7 +4,8 @@ use Rattle.std.specs.FinMap.{FinMap, get}
 use Rattle.nw_digest.specs.declared.digest.Digest.{Digest}
 use Rattle.nw_codec.specs.declared.block.Block.{Block}
 use Rattle.nw_codec.specs.declared.certificate.Certificate.{Certificate}
-use Rattle.nw_model.specs.State.{State, Slot, block_slot, certificate_slot, digest_cmp, slot_cmp}
+use Rattle.nw_digest.specs.Order.{digest_cmp, Slot, slot_cmp}
+use Rattle.nw_model.specs.State.{State, block_slot, certificate_slot}
 
 -- a certificate stands under its own digest, a block and the certificate under one digest have one slot, at most one digest is certified for a slot, and nothing of a round below the garbage round is kept
 pub record IsSound (s : State) : Type 0 where

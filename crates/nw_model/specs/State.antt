@@ -1,28 +1,14 @@
 -- What the store holds.
 use Rattle.std.specs.Prelude.{ℕ, List, refl}
 use Rattle.std.specs.Coded.{Coded, code_by, coded×, coded_ℕ, coded_list}
-use Rattle.std.specs.declared.cmp.Ordering.{Ordering}
-use Rattle.std.specs.Ordering.{nat_cmp, ordering_then}
-use Rattle.std.specs.Cmp.Lexicographic.{slice_cmp}
 use Rattle.std.specs.FinMap as map
 use Rattle.std.specs.FinMap.{FinMap, empty}
+use Rattle.nw_digest.specs.Order.{digest_cmp, Slot, slot_cmp}
 use Rattle.nw_digest.specs.declared.digest.Digest.{Digest}
 use Rattle.nw_codec.specs.declared.block.Ref.{Ref}
 use Rattle.nw_codec.specs.declared.block.Block.{Block}
 use Rattle.nw_codec.specs.declared.certificate.Seal.{Seal}
 use Rattle.nw_codec.specs.declared.certificate.Certificate.{Certificate}
-
--- digests in the order of their bytes
-abbrev pub digest_cmp : Digest → Digest → Ordering
-digest_cmp a b = slice_cmp nat_cmp a.0 b.0
-
--- a round and an author
-abbrev pub Slot : Type 0
-Slot = ℕ × ℕ
-
--- slots by round, and then by author
-abbrev pub slot_cmp : Slot → Slot → Ordering
-slot_cmp a b = ordering_then (nat_cmp a.0 b.0) (nat_cmp a.1 b.1)
 
 -- the blocks that are held, the certificates, the first digest of each slot, and the garbage round, below which nothing is kept
 pub record State : Type 0 where

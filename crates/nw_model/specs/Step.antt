@@ -7,7 +7,8 @@ use Rattle.nw_digest.specs.declared.digest.Digest.{Digest}
 use Rattle.nw_codec.specs.Same.{same_block, same_bytes}
 use Rattle.nw_codec.specs.declared.block.Block.{Block}
 use Rattle.nw_codec.specs.declared.certificate.Certificate.{Certificate}
-use Rattle.nw_model.specs.State.{State, Slot, block_slot, certificate_slot, digest_cmp, coded_state}
+use Rattle.nw_digest.specs.Order.{digest_cmp, Slot}
+use Rattle.nw_model.specs.State.{State, block_slot, certificate_slot, coded_state}
 use Rattle.nw_model.specs.Paths.{IsComplete, IsCausalList}
 use Rattle.nw_model.specs.Missing.{AreFirstWanted, AreCounts}
 use Rattle.nw_model.specs.declared.call.Call.{Call}

@@ -7,7 +7,8 @@ use Rattle.std.specs.FinMap.{from_entries}
 use Rattle.nw_digest.specs.declared.digest.Digest.{Digest}
 use Rattle.nw_codec.specs.declared.block.Block.{Block}
 use Rattle.nw_codec.specs.declared.certificate.Certificate.{Certificate}
-use Rattle.nw_model.specs.State.{State, Slot, digest_cmp, slot_cmp}
+use Rattle.nw_digest.specs.Order.{digest_cmp, Slot, slot_cmp}
+use Rattle.nw_model.specs.State.{State}
 use Rattle.nw_model.specs.Step.{raised}
 use Rattle.nw_model.specs.Sound.{IsKept}
 use Rattle.nw_model.proofs.Raised.{filtered_round, filtered_slots, kept_raised, slots_from}

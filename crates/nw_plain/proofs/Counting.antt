@@ -9,7 +9,8 @@ use Rattle.std.proofs.lemmas.List.{length-map}
 use Rattle.std.proofs.lemmas.Map.Views.{IsSome-lookup_from_Contains, Contains-keys_from_lookup}
 use Rattle.nw_digest.specs.declared.digest.Digest.{Digest}
 use Rattle.nw_codec.specs.declared.block.Block.{Block}
-use Rattle.nw_model.specs.State.{State, digest_cmp}
+use Rattle.nw_digest.specs.Order.{digest_cmp}
+use Rattle.nw_model.specs.State.{State}
 use Rattle.nw_model.specs.Paths.{IsComplete}
 use Rattle.nw_model.specs.View.{AreComplete}
 use Rattle.nw_model.specs.Missing.{HasCount}

@@ -10,7 +10,7 @@ use Rattle.std.specs.FinMap.{from_entries, len}
 use Rattle.std.proofs.lemmas.List.Filters.{length-filter_both}
 use Rattle.std.proofs.lemmas.Map.Keys.{sorted_head, sorted_tail}
 use Rattle.nw_digest.specs.declared.digest.Digest.{Digest}
-use Rattle.nw_model.specs.State.{digest_cmp}
+use Rattle.nw_digest.specs.Order.{digest_cmp}
 use Rattle.nw_model.specs.Step.{from_round}
 use Rattle.nw_model.proofs.Maps.{digests_total, len_sorted}
 use Rattle.nw_model.proofs.Raised.{filtered_round}

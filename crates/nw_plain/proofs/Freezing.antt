@@ -12,7 +12,8 @@ use Rattle.std.proofs.lemmas.Map.Keys.{sorted_head, sorted_tail}
 use Rattle.nw_digest.specs.declared.digest.Digest.{Digest}
 use Rattle.nw_codec.specs.declared.block.Block.{Block}
 use Rattle.nw_codec.specs.declared.certificate.Certificate.{Certificate}
-use Rattle.nw_model.specs.State.{State, Slot, block_slot, certificate_slot, digest_cmp, slot_cmp}
+use Rattle.nw_digest.specs.Order.{digest_cmp, Slot, slot_cmp}
+use Rattle.nw_model.specs.State.{State, block_slot, certificate_slot}
 use Rattle.nw_model.specs.Paths.{IsStanding, IsComplete}
 use Rattle.nw_model.specs.Sound.{IsSound, IsIndex}
 use Rattle.nw_model.specs.View.{IsCompletedBy, AddsIfComplete, AreComplete}

@@ -21,7 +21,8 @@ use Rattle.nw_codec.specs.declared.block.Block.{Block}
 use Rattle.nw_waiting.specs.Pairs.{wanted_cmp}
 use Rattle.nw_waiting.specs.declared.wanted.Wanted.{Wanted}
 use Rattle.nw_waiting.proofs.Relation.{one_wanted}
-use Rattle.nw_model.specs.State.{State, digest_cmp}
+use Rattle.nw_digest.specs.Order.{digest_cmp}
+use Rattle.nw_model.specs.State.{State}
 use Rattle.nw_model.specs.Paths.{IsSatisfied}
 use Rattle.nw_model.specs.Missing.{IsNamedBy, IsWanted, Wants, AreExactly}
 use Rattle.nw_model.proofs.Maps.{digests_total, get_lookup}

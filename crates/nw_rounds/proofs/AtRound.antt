@@ -24,7 +24,8 @@ use lib.Dec.{leb, ltb}
 use Rattle.nw_digest.specs.declared.digest.Digest.{Digest}
 use Rattle.nw_rounds.specs.declared.table.Table.{Table}
 use Rattle.nw_rounds.specs.declared.table.Table.TheVariants.{First, Certified}
-use Rattle.nw_rounds.specs.Slots.{AreDigestsAt, AreDigestsBetween, StandsAt, Tables, digest_cmp}
+use Rattle.nw_digest.specs.Order.{digest_cmp}
+use Rattle.nw_rounds.specs.Slots.{AreDigestsAt, AreDigestsBetween, StandsAt, Tables}
 use Rattle.nw_rounds.specs.Places.{BeginsBelow, Place, place_cmp, table_cmp, tables_of}
 use Rattle.nw_rounds.proofs.SlotLemmas.{digests_apart, digests_total, places_apart, places_total}
 use Rattle.nw_rounds.proofs.TwoTables.{get_in, tie}

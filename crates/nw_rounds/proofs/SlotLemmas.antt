@@ -9,7 +9,7 @@ use Rattle.std.proofs.lemmas.Map.Lookups.{exact_bytes, exact_unsigned, exact_pai
 use Rattle.nw_digest.specs.declared.digest.Digest.{Digest}
 use Rattle.nw_rounds.specs.declared.table.Table.{Table}
 use Rattle.nw_rounds.specs.declared.table.Table.TheVariants.{First, Certified}
-use Rattle.nw_rounds.specs.Slots.{Slot, digest_cmp, slot_cmp}
+use Rattle.nw_digest.specs.Order.{digest_cmp, Slot, slot_cmp}
 use Rattle.nw_rounds.specs.Places.{Place, place_cmp, table_cmp}
 
 pub digests_total : IsTotalOrder digest_cmp

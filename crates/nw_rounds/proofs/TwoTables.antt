@@ -12,7 +12,7 @@ use Rattle.std.proofs.lemmas.Map.Entries.{lookup-filter-keys}
 use Rattle.nw_digest.specs.declared.digest.Digest.{Digest}
 use Rattle.nw_rounds.specs.declared.table.Table.{Table}
 use Rattle.nw_rounds.specs.declared.table.Table.TheVariants.{First, Certified}
-use Rattle.nw_rounds.specs.Slots.{Slot, slot_cmp}
+use Rattle.nw_digest.specs.Order.{Slot, slot_cmp}
 use Rattle.nw_rounds.specs.Places.{Place, in_table, is_table, place_cmp, table_cmp}
 use Rattle.nw_rounds.proofs.SlotLemmas.{slots_apart, slots_total}
 

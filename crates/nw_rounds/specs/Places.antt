@@ -7,7 +7,8 @@ use Rattle.nw_digest.specs.declared.digest.Digest.{Digest}
 use Rattle.nw_rounds.specs.declared.table.Table.{Table}
 use Rattle.nw_rounds.specs.declared.table.Table.TheVariants.{First, Certified}
 use Rattle.nw_rounds.specs.contracts.table.TableOrd.TheImpl.{ghosts}
-use Rattle.nw_rounds.specs.Slots.{Slot, Tables, slot_cmp}
+use Rattle.nw_digest.specs.Order.{Slot, slot_cmp}
+use Rattle.nw_rounds.specs.Slots.{Tables}
 
 -- a slot, in one of the two tables
 abbrev pub Place : Type 0

@@ -1,25 +1,11 @@
 -- Two maps from slots to digests.
 use Rattle.std.specs.Prelude.{◌≡◌, ◌↔◌, ◌⊎◌, ℕ, ◌<◌, ◌≤◌, List, Some, Contains, refl}
 use Rattle.std.specs.Coded.{Coded, code_by, coded×, coded_ℕ, coded_list}
-use Rattle.std.specs.declared.cmp.Ordering.{Ordering}
-use Rattle.std.specs.Ordering.{nat_cmp, ordering_then}
-use Rattle.std.specs.Cmp.Lexicographic.{slice_cmp}
 use Rattle.std.specs.List.Sorted.{IsStrictlySortedBy}
 use Rattle.std.specs.FinMap as map
 use Rattle.std.specs.FinMap.{FinMap, empty, get}
+use Rattle.nw_digest.specs.Order.{digest_cmp, slot_cmp}
 use Rattle.nw_digest.specs.declared.digest.Digest.{Digest}
-
--- digests in the order of their bytes
-abbrev pub digest_cmp : Digest → Digest → Ordering
-digest_cmp a b = slice_cmp nat_cmp a.0 b.0
-
--- a round and an author
-abbrev pub Slot : Type 0
-Slot = ℕ × ℕ
-
--- slots by round, and then by author
-abbrev pub slot_cmp : Slot → Slot → Ordering
-slot_cmp a b = ordering_then (nat_cmp a.0 b.0) (nat_cmp a.1 b.1)
 
 -- the first digest of each slot, and the digest that is certified for it
 pub record Tables : Type 0 where

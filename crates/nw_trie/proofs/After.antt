@@ -9,7 +9,8 @@ use Rattle.std.specs.Map.Iter.{deref_pair}
 use Rattle.std.specs.Ordering.{is_eq, ordering_reverse}
 use denote.Bor.{Bor}
 use Rattle.nw_digest.specs.declared.digest.Digest.{Digest}
-use Rattle.nw_trie.specs.Bits.{bit_of, digest_cmp}
+use Rattle.nw_digest.specs.Order.{digest_cmp}
+use Rattle.nw_trie.specs.Bits.{bit_of}
 use Rattle.nw_trie.specs.Entries.{AreEntries, EachKey, HasKey}
 use Rattle.nw_trie.specs.After.{IsLeft, after, first_entry, left_of}
 use Rattle.nw_trie.proofs.Sides.{AtFork, not_left}

@@ -13,7 +13,8 @@ use Rattle.nw_digest.specs.declared.digest.Digest.{Digest}
 use Rattle.nw_trie.specs.declared.tree.Link.{Link}
 use Rattle.nw_trie.specs.declared.tree.Link.TheVariants.{Empty, Leaf, Fork}
 use Rattle.nw_trie.specs.declared.tree.Sides.{Sides}
-use Rattle.nw_trie.specs.Bits.{AgreeBelow, AgreeButLast, bit_of, digest_cmp}
+use Rattle.nw_digest.specs.Order.{digest_cmp}
+use Rattle.nw_trie.specs.Bits.{AgreeBelow, AgreeButLast, bit_of}
 use Rattle.nw_trie.specs.Entries.{EachKey, HasKey, IsFork}
 use Rattle.nw_trie.specs.Tree.{side_of}
 use Rattle.nw_trie.proofs.Keys.{each_left, each_right, each_more, each_pair, some_of_each}

@@ -2,14 +2,7 @@
 use Rattle.std.specs.Prelude.{◌≡◌, ℕ, ◌+◌, ◌-◌, ◌/◌, ◌%◌, ◌^◌, ◌<◌, Bool, ◌==◌, List}
 use Rattle.std.proofs.Common.{get_or}
 use Rattle.std.specs.List.{AllByRecursion}
-use Rattle.std.specs.declared.cmp.Ordering.{Ordering}
-use Rattle.std.specs.Ordering.{nat_cmp}
-use Rattle.std.specs.Cmp.Lexicographic.{slice_cmp}
 use Rattle.nw_digest.specs.declared.digest.Digest.{Digest}
-
--- digests in the order of their bytes
-abbrev pub digest_cmp : Digest → Digest → Ordering
-digest_cmp a b = slice_cmp nat_cmp a.0 b.0
 
 -- each is a byte
 abbrev pub AreBytes : List ℕ → Type 0

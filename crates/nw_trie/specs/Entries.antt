@@ -4,7 +4,8 @@ use Rattle.std.specs.List.{AllByRecursion}
 use Rattle.std.specs.List.Sorted.{IsStrictlySortedBy}
 use Rattle.std.specs.Map.{keys_of}
 use Rattle.nw_digest.specs.declared.digest.Digest.{Digest}
-use Rattle.nw_trie.specs.Bits.{AgreeBelow, AreBytes, bit_of, digest_cmp}
+use Rattle.nw_digest.specs.Order.{digest_cmp}
+use Rattle.nw_trie.specs.Bits.{AgreeBelow, AreBytes, bit_of}
 
 -- each digest has P
 abbrev pub EachKey : {V : Type 0} → (Digest → Type 0) → List (Digest × V) → Type 0

@@ -5,7 +5,7 @@ ghost use Rattle.std.specs.Map.{keys_of, lookup, remove_entry};
 ghost use Rattle.std.specs.BTreeMap.{insert_entry, is_at};
 ghost use Rattle.std.specs.List.Sorted.{IsStrictlySortedBy};
 ghost use Rattle.std.specs.Borrow.{sem, follows_if};
-ghost use Rattle.nw_trie.specs.Bits.{digest_cmp};
+ghost use Rattle.nw_digest.specs.Order.{digest_cmp};
 ghost use Rattle.nw_trie.specs.contracts.trie.Trie.{the_row};
 
 use crate::iter::Iter;

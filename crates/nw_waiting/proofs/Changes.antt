@@ -11,7 +11,8 @@ use Rattle.nw_digest.specs.declared.digest.Digest.{Digest}
 use Rattle.nw_waiting.specs.declared.wanted.Wanted.{Wanted}
 use Rattle.nw_waiting.specs.Index.{AreOneRelation, pairs_in}
 use Rattle.nw_waiting.specs.Lists.{AreFilled, list_of}
-use Rattle.nw_waiting.specs.Pairs.{AreHolders, AreLacked, AreWanted, Pairs, digest_cmp, wanted_cmp, without_holder, without_wanted}
+use Rattle.nw_digest.specs.Order.{digest_cmp}
+use Rattle.nw_waiting.specs.Pairs.{AreHolders, AreLacked, AreWanted, Pairs, wanted_cmp, without_holder, without_wanted}
 use Rattle.nw_waiting.proofs.Members.{member_added, member_removed, once_added, once_removed}
 use Rattle.nw_waiting.proofs.Orders.{digests_total, wanted_total}
 use Rattle.nw_waiting.proofs.Relation.{are_holders, are_lacked, are_wanted, contains_added, contains_in, contains_without_holder, contains_without_wanted, filled_taken, is_pair, member_taken, nobody, once_taken, one_digest, one_wanted, same_added, same_satisfied, same_unwanted, taken_back, view_is}

@@ -10,7 +10,8 @@ use Rattle.std.proofs.lemmas.Cmp.{on_total, then_total, nat_cmp_total}
 use Rattle.std.proofs.lemmas.Map.Lookups.{exact_bytes, exact_unsigned, exact_pairs}
 use Rattle.nw_digest.specs.declared.digest.Digest.{Digest}
 use Rattle.nw_waiting.specs.declared.wanted.Wanted.{Wanted}
-use Rattle.nw_waiting.specs.Pairs.{Pair, digest_cmp, pair_cmp, wanted_cmp}
+use Rattle.nw_digest.specs.Order.{digest_cmp}
+use Rattle.nw_waiting.specs.Pairs.{Pair, pair_cmp, wanted_cmp}
 
 pub digests_total : IsTotalOrder digest_cmp
 digests_total = on_total (λ d. d.0) nat_list_cmp_total

@@ -18,7 +18,8 @@ use Rattle.nw_digest.specs.declared.digest.Digest.{Digest}
 use Rattle.nw_waiting.specs.declared.wanted.Wanted.{Wanted}
 use Rattle.nw_waiting.specs.Index.{pairs_in}
 use Rattle.nw_waiting.specs.Lists.{AreFilled, list_of}
-use Rattle.nw_waiting.specs.Pairs.{AreHolders, AreLacked, AreWanted, Lacks, Pair, Pairs, digest_cmp, pair_cmp, wanted_cmp, without_holder, without_wanted}
+use Rattle.nw_digest.specs.Order.{digest_cmp}
+use Rattle.nw_waiting.specs.Pairs.{AreHolders, AreLacked, AreWanted, Lacks, Pair, Pairs, pair_cmp, wanted_cmp, without_holder, without_wanted}
 use Rattle.nw_waiting.proofs.Orders.{digests_apart, digests_total, pair_tied, pairs_apart, pairs_total, tie, wanted_apart, wanted_total}
 
 left : (a b : Bool) → (a && b) ≡ true → a ≡ true

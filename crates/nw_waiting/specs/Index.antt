@@ -8,7 +8,8 @@ use Rattle.std.specs.Ordering.{eq_by_cmp}
 use Rattle.nw_digest.specs.declared.digest.Digest.{Digest}
 use Rattle.nw_waiting.specs.declared.wanted.Wanted.{Wanted}
 use Rattle.nw_waiting.specs.Lists.{AreFilled, list_of}
-use Rattle.nw_waiting.specs.Pairs.{Pair, digest_cmp, wanted_cmp}
+use Rattle.nw_digest.specs.Order.{digest_cmp}
+use Rattle.nw_waiting.specs.Pairs.{Pair, wanted_cmp}
 
 -- the pairs of the lists of holders
 abbrev pub pairs_in : {L : Type 0} → (L → List Digest) → List (Wanted × L) → List Pair

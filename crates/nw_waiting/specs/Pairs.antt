@@ -3,16 +3,12 @@ use Rattle.std.specs.Prelude.{◌≡◌, ◌↔◌, ℕ, List, Contains, IsTrue,
 use Rattle.std.specs.Coded.{Coded, code_by, coded×, coded_ℕ, coded_list}
 use Rattle.std.specs.declared.cmp.Ordering.{Ordering}
 use Rattle.std.specs.Ordering.{nat_cmp, ordering_then, eq_by_cmp}
-use Rattle.std.specs.Cmp.Lexicographic.{slice_cmp}
 use Rattle.std.specs.List.{IsDistinct}
 use Rattle.std.specs.List.Sorted.{IsStrictlySortedBy}
 use Rattle.std.specs.FinSet.{FinSet, contains, retain}
+use Rattle.nw_digest.specs.Order.{digest_cmp}
 use Rattle.nw_digest.specs.declared.digest.Digest.{Digest}
 use Rattle.nw_waiting.specs.declared.wanted.Wanted.{Wanted}
-
--- digests in the order of their bytes
-abbrev pub digest_cmp : Digest → Digest → Ordering
-digest_cmp a b = slice_cmp nat_cmp a.0 b.0
 
 -- what is wanted by round, then by author, and then by digest
 abbrev pub wanted_cmp : Wanted → Wanted → Ordering

@@ -5,7 +5,8 @@ use Rattle.std.specs.Ordering.{eq_by_cmp}
 use Rattle.std.proofs.lemmas.List.{get_or-replicate}
 use Rattle.nw_digest.specs.declared.digest.Digest.{Digest}
 use Rattle.nw_codec.specs.declared.block.Block.{Block}
-use Rattle.nw_model.specs.State.{Slot, block_slot, digest_cmp}
+use Rattle.nw_digest.specs.Order.{digest_cmp, Slot}
+use Rattle.nw_model.specs.State.{block_slot}
 use Rattle.nw_model.proofs.Finding.{none_some}
 use Rattle.nw_model.proofs.Kept.{after_insert, at_insert, same_digest}
 use Rattle.nw_model.proofs.Maps.{digests_total}

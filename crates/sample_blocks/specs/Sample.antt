@@ -4,7 +4,8 @@ use Rattle.std.specs.FinMap.{FinMap, get}
 use Rattle.nw_digest.specs.declared.digest.Digest.{Digest}
 use Rattle.nw_codec.specs.declared.block.Ref.{Ref}
 use Rattle.nw_codec.specs.declared.block.Block.{Block}
-use Rattle.nw_model.specs.State.{Slot, block_slot, digest_cmp}
+use Rattle.nw_digest.specs.Order.{digest_cmp, Slot}
+use Rattle.nw_model.specs.State.{block_slot}
 
 -- the digest of the block that takes the slot
 unfoldable pub name_of : Slot → Digest

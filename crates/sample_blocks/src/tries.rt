@@ -2,7 +2,7 @@
 ghost use Rattle.std.specs.Prelude.{◌≡◌, IfOk, OnOk};
 ghost use Rattle.std.specs.FinMap as map;
 ghost use Rattle.std.specs.BTreeMap.{insert_entry};
-ghost use Rattle.nw_model.specs.State.{digest_cmp};
+ghost use Rattle.nw_digest.specs.Order.{digest_cmp};
 ghost use Rattle.sample_blocks.specs.Sample.{AreBases, AreNext};
 
 use crate::{block, name, references, round};

@@ -2,7 +2,7 @@
 ghost use Rattle.std.specs.Prelude.{◌≡◌, ◌+◌, ◌<◌, ◌≤◌, [], ◌∷◌, drop, length};
 ghost use Rattle.std.specs.List.{IsDistinct};
 ghost use Rattle.std.specs.Ordering.{eq_by_cmp};
-ghost use Rattle.nw_model.specs.State.{digest_cmp};
+ghost use Rattle.nw_digest.specs.Order.{digest_cmp};
 ghost use Rattle.nw_held.specs.Standing.{Stands};
 ghost use Rattle.nw_dag.specs.Lacking.{IsReady, AreUnmet, AreUnmetBut};
 ghost use Rattle.nw_dag.specs.Changes.{Adds, Promotes};

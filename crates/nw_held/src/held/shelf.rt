@@ -3,7 +3,7 @@ ghost use Rattle.std.specs.Prelude.{◌≡◌, ◌↔◌, ℕ, IsTrue, [], ◌�
 ghost use Rattle.std.specs.List.Sorted.{IsStrictlySortedBy};
 ghost use Rattle.std.specs.Map.{keys_of, lookup};
 ghost use Rattle.std.specs.BTreeMap.{is_at};
-ghost use Rattle.nw_model.specs.State.{digest_cmp};
+ghost use Rattle.nw_digest.specs.Order.{digest_cmp};
 ghost use Rattle.nw_held.specs.Shelf.{DropsBelow, IsBelow};
 
 use nw_digest::{Digest, InRound, Round};

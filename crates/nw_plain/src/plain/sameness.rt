@@ -1,7 +1,8 @@
 //! Whether two stores are the same.
 ghost use Rattle.std.specs.Prelude.{◌≡◌, ◌↔◌, IsTrue};
 ghost use Rattle.std.specs.FinMap as map;
-ghost use Rattle.nw_model.specs.State.{digest_cmp, slot_cmp, opening};
+ghost use Rattle.nw_digest.specs.Order.{digest_cmp, slot_cmp};
+ghost use Rattle.nw_model.specs.State.{opening};
 
 use super::Plain;
 use nw_codec::{Block, Certificate};

@@ -2,7 +2,7 @@ use Rattle.std.proofs.Common.{◌≡◌, true, false, List, [], get_or, sym, ◌
 use Rattle.std.specs.Option.{is_some}
 use Rattle.std.specs.FinMap.{get}
 use Rattle.nw_codec.specs.declared.block.Ref.{Ref}
-use Rattle.nw_model.specs.State.{Slot}
+use Rattle.nw_digest.specs.Order.{Slot}
 use Rattle.nw_model.specs.View.{Frozen}
 use Rattle.nw_causal.specs.Looked.{found_in}
 use Rattle.nw_causal.proofs.Claiming.{again_on}

@@ -1,7 +1,7 @@
 use Rattle.std.proofs.Common.{List, ◌∙◌}
 use Rattle.std.specs.Map.{values_of}
 use Rattle.std.proofs.lemmas.Map.Iter.{iter_end}
-use Rattle.nw_model.specs.State.{Slot}
+use Rattle.nw_digest.specs.Order.{Slot}
 use Rattle.nw_causal.specs.declared.ancestor.Ancestor.{Ancestor}
 use Rattle.nw_causal.proofs.Looking.{walk_of}
 use Rattle.nw_causal.proofs.walks.walk.Goals as goal

@@ -3,7 +3,8 @@ use Rattle.std.proofs.lemmas.List.{take_all, take_more}
 use Rattle.std.specs.FinMap.{from_entries, insert}
 use Rattle.nw_codec.specs.declared.block.Block.{Block}
 use Rattle.nw_digest.specs.declared.digest.Digest.{Digest}
-use Rattle.nw_model.specs.State.{State, digest_cmp}
+use Rattle.nw_digest.specs.Order.{digest_cmp}
+use Rattle.nw_model.specs.State.{State}
 use Rattle.nw_dag.specs.Frozen.{AreOf}
 use Rattle.nw_dag.proofs.Freezing.{held_none, held_more, held_same}
 use Rattle.nw_dag.proofs.frozen.held_blocks.Goals.{in-Some+in_ok-try_clone+in_ok-put, in_default}

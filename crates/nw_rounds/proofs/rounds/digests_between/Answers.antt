@@ -4,7 +4,7 @@ use Rattle.std.specs.Map.{values_of}
 use Rattle.std.specs.Map.Iter.{deref_pair}
 use Rattle.std.specs.Ordering.{eq_by_cmp}
 use Rattle.std.proofs.lemmas.Map.Iter.{iter_end}
-use Rattle.nw_rounds.specs.Slots.{digest_cmp}
+use Rattle.nw_digest.specs.Order.{digest_cmp}
 use Rattle.nw_rounds.proofs.AtRound.{are_digests, begins_before, one_more, values_read, values_more}
 use Rattle.nw_rounds.proofs.rounds.digests_between.Goals as goal
 

@@ -3,7 +3,7 @@ use Rattle.std.specs.List.{list_any}
 use Rattle.std.specs.List.Sorted.{IsStrictlySortedBy}
 use Rattle.std.specs.Ordering.{eq_by_cmp}
 use Rattle.nw_digest.specs.declared.digest.Digest.{Digest}
-use Rattle.nw_rounds.specs.Slots.{digest_cmp}
+use Rattle.nw_digest.specs.Order.{digest_cmp}
 use Rattle.nw_rounds.proofs.rounds.digests_between.Given as goal
 
 -- the digests so far

@@ -3,7 +3,8 @@ use Rattle.std.specs.Map.{lookup}
 use Rattle.std.specs.BTreeMap.{is_at}
 use Rattle.std.specs.FinMap.{get}
 use Rattle.nw_codec.specs.declared.block.Block.{Block}
-use Rattle.nw_model.specs.State.{block_slot, slot_cmp}
+use Rattle.nw_digest.specs.Order.{slot_cmp}
+use Rattle.nw_model.specs.State.{block_slot}
 use Rattle.nw_model.proofs.Maps.{get_lookup, put_entries, slots_total, slots_apart}
 use Rattle.nw_model.proofs.Finding.{none_some, there_is}
 use Rattle.nw_model.proofs.Ancestors.{explores_first, explores_above, explores_on, reaches_floor, reaches_early, none_left}

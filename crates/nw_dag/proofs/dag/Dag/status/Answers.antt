@@ -1,6 +1,7 @@
 use Rattle.std.proofs.Common.{◌≡◌, ◌-◌, length, subst, arith}
 use Rattle.std.proofs.lemmas.List.Elements.{All-contains}
-use Rattle.nw_model.specs.State.{State, digest_cmp}
+use Rattle.nw_digest.specs.Order.{digest_cmp}
+use Rattle.nw_model.specs.State.{State}
 use Rattle.nw_model.specs.Paths.{IsComplete}
 use Rattle.nw_model.specs.Missing.{IsWanted, HasCount}
 use Rattle.nw_waiting.specs.Pairs.{wanted_cmp}

@@ -1,7 +1,7 @@
 use Rattle.std.proofs.Common.{ℕ, ap, ◌∙◌}
 use Rattle.std.specs.FinMap.{from_entries}
 use Rattle.nw_codec.specs.declared.block.Block.{Block}
-use Rattle.nw_model.specs.State.{digest_cmp}
+use Rattle.nw_digest.specs.Order.{digest_cmp}
 use Rattle.nw_model.specs.Step.{from_round}
 use Rattle.nw_dag.proofs.Freezing.{frozen_above, frozen_over}
 use Rattle.nw_dag.proofs.frozen.Frozen.join.Goals as goal

@@ -2,7 +2,7 @@ use Rattle.std.proofs.Common.{◌≡◌, ◌+◌, [], ◌∷◌, ◌++◌, List,
 use Rattle.std.proofs.lemmas.List.{take_more}
 use Rattle.std.specs.FinMap.{FinMap, from_entries}
 use Rattle.nw_codec.specs.declared.block.Block.{Block}
-use Rattle.nw_model.specs.State.{digest_cmp}
+use Rattle.nw_digest.specs.Order.{digest_cmp}
 use Rattle.nw_generation.specs.Seen.{IsOver, union}
 use Rattle.nw_generation.proofs.Laying.{union_more}
 use Rattle.nw_generation.proofs.generations.Generations.joined.Goals as goal

@@ -3,7 +3,8 @@ use Rattle.std.specs.FinMap.{get, insert}
 use Rattle.std.specs.Map.{lookup, remove_entry}
 use Rattle.std.specs.BTreeMap.{is_at}
 use Rattle.nw_codec.specs.declared.block.Block.{Block}
-use Rattle.nw_model.specs.State.{Slot, block_slot, digest_cmp}
+use Rattle.nw_digest.specs.Order.{digest_cmp, Slot}
+use Rattle.nw_model.specs.State.{block_slot}
 use Rattle.nw_model.proofs.Kept.{at_slot}
 use Rattle.nw_held.specs.Held.{state_of}
 use Rattle.nw_model.proofs.Maps.{get_lookup, digests_total}

@@ -3,7 +3,8 @@ use Rattle.std.specs.FinMap.{get, insert}
 use Rattle.std.specs.Map.{lookup, remove_entry}
 use Rattle.std.specs.BTreeMap.{is_at, insert_entry}
 use Rattle.nw_codec.specs.declared.certificate.Certificate.{Certificate}
-use Rattle.nw_model.specs.State.{State, certificate_slot, digest_cmp}
+use Rattle.nw_digest.specs.Order.{digest_cmp}
+use Rattle.nw_model.specs.State.{State, certificate_slot}
 use Rattle.nw_model.specs.Step.{certified_digest}
 use Rattle.nw_model.proofs.Maps.{get_lookup, digests_total}
 use Rattle.nw_model.proofs.Kept.{index_answers}

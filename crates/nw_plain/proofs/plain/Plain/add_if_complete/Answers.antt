@@ -1,7 +1,7 @@
 use Rattle.std.proofs.Common.{◌≡◌, Some, sym, ◌∙◌, ap, refl, inl, inr}
 use Rattle.std.specs.FinMap.{FinMap, get, insert, from_entries}
 use Rattle.nw_codec.specs.declared.block.Block.{Block}
-use Rattle.nw_model.specs.State.{digest_cmp}
+use Rattle.nw_digest.specs.Order.{digest_cmp}
 use Rattle.nw_model.specs.View.{IsCompletedBy}
 use Rattle.nw_model.proofs.Maps.{get_lookup, inserted, digests_total, digests_apart}
 use Rattle.nw_model.proofs.Complete.{completed_low, not_completed}

@@ -1,6 +1,7 @@
 use Rattle.std.proofs.Common.{sym, ◌∙◌, ap}
 use Rattle.std.specs.FinMap.{from_entries}
-use Rattle.nw_model.specs.State.{State, digest_cmp, slot_cmp}
+use Rattle.nw_digest.specs.Order.{digest_cmp, slot_cmp}
+use Rattle.nw_model.specs.State.{State}
 use Rattle.nw_model.specs.Step.{certified_digest}
 use Rattle.nw_model.proofs.Maps.{get_lookup, slots_total}
 use Rattle.nw_model.proofs.Kept.{index_answers}

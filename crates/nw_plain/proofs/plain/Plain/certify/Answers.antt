@@ -6,7 +6,8 @@ use Rattle.std.proofs.lemmas.Result.{on_ok_weaker}
 use Rattle.std.specs.Prelude.{OnErr}
 use Rattle.nw_digest.specs.declared.digest.Digest.{Digest}
 use Rattle.nw_codec.specs.declared.certificate.Certificate.{Certificate}
-use Rattle.nw_model.specs.State.{State, Slot, certificate_slot, slot_cmp, digest_cmp}
+use Rattle.nw_digest.specs.Order.{digest_cmp, Slot, slot_cmp}
+use Rattle.nw_model.specs.State.{State, certificate_slot}
 use Rattle.nw_model.specs.Step.{certified_digest}
 use Rattle.nw_model.proofs.Maps.{get_lookup, put_entries, digests_total, digests_apart, slots_total, slots_apart}
 use Rattle.nw_plain.proofs.Held.{absent, held_certificate}

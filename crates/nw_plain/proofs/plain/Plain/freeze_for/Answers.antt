@@ -1,7 +1,8 @@
 use Rattle.std.proofs.Common.{Bor, ◌≡◌, true, Option, Some, None, IsSome, is_some, ap, sym, ◌∙◌}
 use Rattle.std.specs.Option.{option_copied}
 use Rattle.std.specs.FinMap.{from_entries}
-use Rattle.nw_model.specs.State.{State, digest_cmp}
+use Rattle.nw_digest.specs.Order.{digest_cmp}
+use Rattle.nw_model.specs.State.{State}
 use Rattle.nw_model.specs.Sound.{IsSound}
 use Rattle.nw_model.specs.View.{Frozen}
 use Rattle.nw_model.proofs.Maps.{get_lookup, digests_total}

@@ -3,7 +3,8 @@ use Rattle.std.specs.FinMap.{get, insert, from_entries}
 use Rattle.std.specs.Map.{lookup}
 use Rattle.std.specs.BTreeMap.{is_at}
 use Rattle.std.proofs.lemmas.Result.{on_ok_weaker, on_err_weaker}
-use Rattle.nw_model.specs.State.{State, Slot, block_slot, digest_cmp, slot_cmp}
+use Rattle.nw_digest.specs.Order.{digest_cmp, Slot, slot_cmp}
+use Rattle.nw_model.specs.State.{State, block_slot}
 use Rattle.nw_model.proofs.Maps.{get_lookup, put_entries, digests_total, digests_apart, slots_total, slots_apart}
 use Rattle.nw_plain.proofs.Held.{held_first, absent}
 use Rattle.nw_model.proofs.Kept.{kept_after_write}

@@ -2,7 +2,7 @@ use Rattle.std.proofs.Common.{◌∙◌, sym, ap, Some, None, cond}
 use Rattle.std.specs.Map.{lookup}
 use Rattle.std.specs.BTreeMap.{is_at}
 use Rattle.std.proofs.lemmas.Map.Text.{is_eq-slice_cmp}
-use Rattle.nw_trie.specs.Bits.{digest_cmp}
+use Rattle.nw_digest.specs.Order.{digest_cmp}
 use Rattle.nw_trie.proofs.Sides.{at_Fork, at_Leaf, lookup_left, lookup_right}
 use Rattle.nw_trie.proofs.tree.Tree.get.Goals as goal
 
