@@ -61,7 +61,7 @@ held_after : (accepts : Meaning) (t : Given) (v : Frozen) (d : Digest) (b : Bloc
 held_after accepts t v d b h there =
     let held = (h.shows.complete d b).0 there in
     let own = admitted_left accepts (terms_of t.front) t.front.base t.front.events h.ticket.legal d b held.0 in
-    ((held.0, held.1), sym own.0)
+    (record { held = held.0; kept = held.1; complete = held.2 }, sym own.0)
 
 -- ---- two tickets for one digest
 

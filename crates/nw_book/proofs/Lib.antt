@@ -4,3 +4,4 @@ pub mod Opened
 pub mod Agreed
 pub mod Sent
 pub mod Shared
+pub mod Runs

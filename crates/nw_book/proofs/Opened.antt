@@ -16,7 +16,8 @@ use Rattle.nw_model.specs.declared.reply.Reply.TheVariants as replies
 use Rattle.nw_model.proofs.Replayed.{legal_sound}
 use Rattle.nw_model.proofs.Views.{complete_there, walk_is_causal}
 use Rattle.nw_history.specs.Story.{Story, IsLegalStory, terms_of, bounds_of, state_of, with_event}
-use Rattle.nw_book.specs.Ticket.{Given, IsTicket, IsTicketWith, causal_event}
+use Rattle.nw_book.specs.Ticket.{Given, IsTicket, IsTicketWith}
+use Rattle.nw_book.specs.Turn.{event}
 use Rattle.nw_book.proofs.Longer.{replay_last}
 
 -- the last reply is the step's after the events before it
@@ -29,7 +30,7 @@ pub ticket_complete : (accepts : Meaning) (t : Given) → IsTicket accepts t →
 ticket_complete accepts t h =
     let b : Bounds = bounds_of t.front.limits in
     let es : List Event = h.last.0 in
-    let e : Event = causal_event h.last.1 h.last.2 t.digest replies.Ready in
+    let e : Event = event h.last.1 h.last.2 (calls.Causal t.digest) replies.Ready in
     let replies : AreReplies b t.front.base (es ++ e ∷ []) = subst (AreReplies b t.front.base) h.last.3 h.legal.replies in
     let whole : IsComplete (replay b t.front.base es) t.digest = reply_last b t.front.base es e replies in
     let same : replay b t.front.base es ≡ state_of t.front = sym (ap (replay b t.front.base) h.last.3 ∙ replay_last b t.front.base es e) in
@@ -54,10 +55,10 @@ ticket_walk accepts t v blocks h walk =
     (whole, walk_is_causal v (state_of t.front) t.digest blocks (story_sound accepts t.front h.ticket.legal) h.shows whole walk)
 
 -- the front that a causal read leaves, with a view of what is complete before it, makes a ticket
-pub opened : (accepts : Meaning) (old front : Story) (session number : ℕ) (d : Digest) (v : Frozen) → front ≡ with_event old (causal_event session number d replies.Ready) → IsLegalStory accepts front
+pub opened : (accepts : Meaning) (old front : Story) (session number : ℕ) (d : Digest) (v : Frozen) → front ≡ with_event old (event session number (calls.Causal d) replies.Ready) → IsLegalStory accepts front
     → Shows v (state_of old) → IsTicketWith accepts (record { digest = d; front = front }) v
 opened accepts old front session number d v is legal shows =
-    let e : Event = causal_event session number d replies.Ready in
+    let e : Event = event session number (calls.Causal d) replies.Ready in
     let same : state_of front ≡ state_of old = ap state_of is ∙ replay_last (bounds_of old.limits) old.base old.events e in
     record {
       ticket = record { legal = legal; last = (old.events, session, number, ap (λ (s : Story). s.events) is) };

@@ -1,5 +1,5 @@
 -- What a command asks.
-use Rattle.std.specs.Prelude.{◌≡◌, List}
+use Rattle.std.specs.Prelude.{Option, Some, None, List}
 use Rattle.nw_committee.specs.declared.member.Member.{Member}
 use Rattle.nw_model.specs.Checks.{digest_of}
 use Rattle.nw_model.specs.declared.call.Call.{Call}
@@ -7,11 +7,11 @@ use Rattle.nw_model.specs.declared.call.Call.TheVariants as call
 use Rattle.nw_book.specs.declared.command.Command.{Command}
 use Rattle.nw_book.specs.declared.command.Command.TheVariants as command
 
--- what is handed in was checked under this committee
-abbrev pub IsUnder : {S : Type 0} → List Member → Command S → Type 0
-IsUnder members (command.Write b) = b.committee ≡ members
-IsUnder members (command.Certify c) = c.committee ≡ members
-IsUnder members other = Unit {0}
+-- the committee under which what is handed in was checked
+abbrev pub committee_of : {S : Type 0} → Command S → Option (List Member)
+committee_of (command.Write b) = Some b.committee
+committee_of (command.Certify c) = Some c.committee
+committee_of other = None
 
 -- the call that a command asks: a block is written under its digest
 abbrev pub call_of : {S : Type 0} → Command S → Call

@@ -1,4 +1,5 @@
 pub mod Turn
 pub mod Ticket
 pub mod Command
-pub mod Takes
+pub mod Answer
+pub mod Run

@@ -1,46 +1,36 @@
--- Tickets for causal reads, and what opening one means.
+-- Tickets for causal reads, and what they give.
 use Rattle.std.specs.Prelude.{◌≡◌, ◌≤◌, ℕ, List, [], ◌∷◌, ◌++◌, Some}
 use Rattle.std.specs.FinMap.{get}
 use Rattle.nw_digest.specs.declared.digest.Digest.{Digest}
 use Rattle.nw_codec.specs.declared.block.Block.{Block}
 use Rattle.nw_sig.specs.Signed.{Meaning}
 use Rattle.nw_model.specs.Laws.{AreCollision}
+use Rattle.nw_model.specs.Paths.{IsComplete}
 use Rattle.nw_model.specs.Step.{IsReply}
 use Rattle.nw_model.specs.View.{Frozen, Shows}
 use Rattle.nw_model.specs.declared.call.Call.TheVariants as calls
 use Rattle.nw_model.specs.declared.event.Event.{Event}
-use Rattle.nw_model.specs.declared.reply.Reply.{Reply}
 use Rattle.nw_model.specs.declared.reply.Reply.TheVariants as replies
 use Rattle.nw_causal.specs.declared.agreement.Agreement.{Agreement}
 use Rattle.nw_causal.specs.declared.agreement.Agreement.TheVariants as agreements
-use Rattle.nw_history.specs.Story.{Story, IsLegalStory, bounds_of, state_of, with_event}
+use Rattle.nw_history.specs.Story.{Story, IsLegalStory, bounds_of, state_of}
+use Rattle.nw_book.specs.Turn.{event}
 
 -- a digest, and the history whose last event is the causal read of it
 pub record Given : Type 0 where
   pub digest : Digest
   pub front : Story
 
--- the event of a causal read
-abbrev pub causal_event : ℕ → ℕ → Digest → Reply → Event
-causal_event session number d reply = record { session = session; number = number; call = calls.Causal d; reply = reply }
-
 -- the front is a legal history, whose last event is a causal read of the digest, answered by Ready
 pub record IsTicket (accepts : Meaning) (t : Given) : Type 0 where
   pub legal : IsLegalStory accepts t.front
-  pub last : (earlier : List Event) × (session : ℕ) × (number : ℕ) × (t.front.events ≡ earlier ++ causal_event session number t.digest replies.Ready ∷ [])
+  pub last : (earlier : List Event) × (session : ℕ) × (number : ℕ)
+      × (t.front.events ≡ earlier ++ event session number (calls.Causal t.digest) replies.Ready ∷ [])
 
 -- a ticket, and a view of the blocks that are complete after its front
 pub record IsTicketWith (accepts : Meaning) (t : Given) (v : Frozen) : Type 0 where
   pub ticket : IsTicket accepts t
   pub shows : Shows v (state_of t.front)
-
--- the history is the one before and the read with the reply Ready, which is the step's; the ticket is for the digest at the new history, which is legal
-pub record Opens (accepts : Meaning) (old new : Story) (session number : ℕ) (digest : Digest) (given : Given) : Type 0 where
-  pub history : new ≡ with_event old (causal_event session number digest replies.Ready)
-  pub reply : IsReply (bounds_of old.limits) (state_of old) (calls.Causal digest) replies.Ready
-  pub digest_is : given.digest ≡ digest
-  pub front : given.front ≡ new
-  pub legal : IsLegalStory accepts new
 
 -- the list is the reply to the read that was opened
 abbrev pub IsListOf : Given → List Block → Type 0
@@ -50,9 +40,11 @@ IsListOf t blocks = IsReply (bounds_of t.front.limits) (state_of t.front) (calls
 abbrev pub HaveOneList : Given → Given → Type 0
 HaveOneList t u = (blocks : List Block) × IsListOf t blocks × IsListOf u blocks
 
--- the block is held under the digest after the front, and is not below the garbage round
-abbrev pub IsHeldAfter : Story → Digest → Block → Type 0
-IsHeldAfter front d b = (get (state_of front).blocks d ≡ Some b) × ((state_of front).floor ≤ b.round)
+-- the block is held under the digest after the front, is not below the garbage round, and is complete
+pub record IsHeldAfter (front : Story) (d : Digest) (b : Block) : Type 0 where
+  pub held : get (state_of front).blocks d ≡ Some b
+  pub kept : (state_of front).floor ≤ b.round
+  pub complete : IsComplete (state_of front) d
 
 -- b is held after the front of t and c after that of u, and they are two different blocks of the one digest under which both are held
 abbrev pub HaveCollision : Given → Given → Block → Block → Type 0

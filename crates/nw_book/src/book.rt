@@ -1,25 +1,24 @@
 //! Books: a history, and the tables that its calls leave.
-ghost use Rattle.std.specs.Prelude.{◌≡◌, ◌↔◌, [], IsTrue, IfOk, IfErr, OnOk, OnErr};
-ghost use Rattle.std.specs.Result.{IsErrOf, MatchResult};
+ghost use Rattle.std.specs.Prelude.{◌≡◌, ◌↔◌, [], None, IfOk, IfErr, OnOk, OnErr};
+ghost use Rattle.std.specs.Result.{IsErrOf};
 ghost use Rattle.nw_model.specs.State.{opening};
-ghost use Rattle.nw_model.specs.Step.{IsReply, IsShort};
-ghost use Rattle.nw_model.specs.declared.reply.Reply.TheVariants as replies;
-ghost use Rattle.nw_model.specs.declared.reply.WriteReply.TheVariants as writes;
-ghost use Rattle.nw_model.specs.View.{Shows};
+ghost use Rattle.nw_model.specs.declared.call.Call.TheVariants as Call;
 ghost use Rattle.nw_history.specs.Limits.{AreInRange};
-ghost use Rattle.nw_history.specs.Story.{IsLegalStory, bounds_of, state_of, with_event};
-ghost use Rattle.nw_book.specs.Turn.{IsInTurn, HasRoom, IsRefusal, next_number};
-ghost use Rattle.nw_book.specs.Ticket.{Opens, causal_event};
+ghost use Rattle.nw_history.specs.Story.{IsLegalStory};
+ghost use Rattle.nw_book.specs.Answer.{IsFor, Takes, front_of, reply_of};
+ghost use Rattle.nw_book.specs.Command.{call_of, committee_of};
+ghost use Rattle.nw_book.specs.Turn.{IsRefusal, MayStep};
 
 mod reopen;
+mod steps;
+mod turn;
 
 use crate::{BookError, Command, NoStep, Ticket};
 use nw_committee::Committee;
-use nw_dag::Dag;
+use nw_dag::{Dag, DagLimits};
 use nw_digest::{Digest, NoMemory, Shared};
-use nw_generation::View;
 use nw_history::{Front, History, Limits};
-use nw_model::{Call, CausalReply, Event, Reply, WriteReply};
+use nw_model::Reply;
 use nw_sig::Scheme;
 use std::alloc::Global;
 use std::marker::Model;
@@ -59,9 +58,6 @@ impl<S: Scheme> Model for Book<S> {
 }
 
 impl<S: Scheme> Book<S> {
-    ghost use Rattle.nw_book.specs.Command.{IsUnder, call_of};
-    ghost use Rattle.nw_book.specs.Takes.{Takes, Refuses};
-
     /// A book with an empty history. `BadLimits` exactly where a limit is outside its range, else `NoMemory` where memory
     /// is refused.
     pub fn new(
@@ -77,9 +73,13 @@ impl<S: Scheme> Book<S> {
         if !limits.are_in_range() {
             return Err(BookError::BadLimits);
         }
+        let tables = DagLimits {
+            blocks: limits.blocks,
+            window: limits.window,
+        };
         Ok(Book {
             history: History::new(alloc, committee, limits)?,
-            tables: Dag::new(alloc, limits.blocks, limits.window),
+            tables: Dag::new(alloc, tables),
             calls: vec![in alloc; 0u32; limits.sessions as usize]?,
         })
     }
@@ -105,31 +105,16 @@ impl<S: Scheme> Book<S> {
         number: u32,
         command: &Command<S>,
     ) -> Result<Done<S>, NoStep>
-        ensures taken { IfOk result (Takes S.accepts self.old self.new session number (call_of command.now)) }
-        ensures may { OnOk result (IsInTurn self.old session number × IsUnder self.old.committee command.now × HasRoom self.old) }
-        ensures out_of_turn { IsErrOf result NoStep.OutOfTurn ↔ (IsInTurn self.old session number → ⊥) }
-        ensures other_committee { IsErrOf result NoStep.OtherCommittee ↔ (IsInTurn self.old session number × (IsUnder self.old.committee command.now → ⊥)) }
-        ensures full { IsErrOf result NoStep.HistoryFull ↔ (IsInTurn self.old session number × IsUnder self.old.committee command.now × (HasRoom self.old → ⊥)) }
-        ensures no_memory { IsErrOf result NoStep.NoMemory → IsInTurn self.old session number × IsUnder self.old.committee command.now × HasRoom self.old }
+        ensures taken { IfOk result (λ done.
+            Takes S.accepts self.old self.new session number (call_of command.now) done.reply done.front) }
+        ensures may { OnOk result (MayStep self.old session number (committee_of command.now)) }
+        ensures refused { IfErr result (IsRefusal self.old session number (committee_of command.now)) }
         ensures unchanged { OnErr result (self.new ≡ self.old) }
     {
-        self.may_step(session, number, command)?;
+        self.may_step(session, number, command.committee())?;
         let call = command.call()?;
-        let reply = self.tables.reply(alloc, &call)?;
-        let call = with_held(&self.tables, call, &reply)?;
-        let event = Event {
-            session,
-            number,
-            call,
-            reply,
-        };
-        let event = Shared::new(alloc, event)?;
-        let front = self.history.front_with(alloc, &event)?;
-        let reply = self
-            .history
-            .record(alloc, &mut self.tables, event.get(), &front)?;
-        self.calls[usize::from(session)] += 1;
-        Ok(Done { reply, front })
+        let (done, _) = self.take_step(alloc, session, number, call)?;
+        Ok(done)
     }
 
     /// Takes the step of a session's causal read, its calls numbered from 1, and records it.
@@ -147,41 +132,16 @@ impl<S: Scheme> Book<S> {
         number: u32,
         digest: Digest,
     ) -> Result<Result<Ticket<S>, Done<S>>, NoStep>
-        ensures answered { IfOk result (λ answer. MatchResult answer (Opens S.accepts self.old self.new session number digest) (Refuses S.accepts self.old self.new session number digest)) }
-        ensures may { OnOk result (IsInTurn self.old session number × HasRoom self.old) }
-        ensures out_of_turn { IsErrOf result NoStep.OutOfTurn ↔ (IsInTurn self.old session number → ⊥) }
-        ensures own_committee { IsErrOf result NoStep.OtherCommittee → ⊥ }
-        ensures full { IsErrOf result NoStep.HistoryFull ↔ (IsInTurn self.old session number × (HasRoom self.old → ⊥)) }
-        ensures no_memory { IsErrOf result NoStep.NoMemory → IsInTurn self.old session number × HasRoom self.old }
+        ensures taken { IfOk result (λ answer. Takes S.accepts self.old self.new session number
+            (Call.Causal digest) (reply_of answer) (front_of answer)) }
+        ensures told { IfOk result (IsFor digest) }
+        ensures may { OnOk result (MayStep self.old session number None) }
+        ensures refused { IfErr result (IsRefusal self.old session number None) }
         ensures unchanged { OnErr result (self.new ≡ self.old) }
     {
-        self.may_open(session, number)?;
-        match self.freeze_for(alloc, digest)? {
-            Ok(view) => {
-                let front = self.record_causal(alloc, session, number, digest, Reply::Ready)?;
-                Ok(Ok(Ticket::new(digest, front, view)))
-            }
-            Err(refusal) => {
-                let reply = Reply::Causal(refusal);
-                let front = self.record_causal(alloc, session, number, digest, reply)?;
-                let reply = Reply::Causal(refusal);
-                Ok(Err(Done { reply, front }))
-            }
-        }
-    }
-
-    /// A view of what is complete after the history, where the block under the digest is; else why it is not given.
-    fn freeze_for(
-        &mut self,
-        alloc: Global,
-        digest: Digest,
-    ) -> Result<Result<View<Global>, CausalReply>, NoMemory>
-        ensures answer { IfOk result (λ frozen. MatchResult frozen
-            (λ view. IsReply (bounds_of self.old.limits) (state_of self.old) (Call.Causal digest) Reply.Ready × Shows view.frozen (state_of self.old))
-            (λ refusal. IsReply (bounds_of self.old.limits) (state_of self.old) (Call.Causal digest) (Reply.Causal refusal))) }
-        ensures same { self.new ≡ self.old }
-    {
-        self.tables.freeze_for(alloc, digest)
+        self.may_step(session, number, None)?;
+        let (answer, _) = self.take_open(alloc, session, number, digest)?;
+        Ok(answer)
     }
 
     /// Lets later tickets share one copy of what is complete, without what was collected. Nothing else changes: not the
@@ -192,126 +152,4 @@ impl<S: Scheme> Book<S> {
     {
         self.tables.compact(alloc)
     }
-
-    /// Records a causal read in its turn, which leaves the tables as they are. The front is the history with it.
-    fn record_causal(
-        &mut self,
-        alloc: Global,
-        session: u16,
-        number: u32,
-        digest: Digest,
-        reply: Reply,
-    ) -> Result<Front<S>, NoMemory>
-        requires turn { IsInTurn self.old session number }
-        requires room { HasRoom self.old }
-        requires reply { IsReply (bounds_of self.old.limits) (state_of self.old) (Call.Causal digest) reply }
-        requires short { IsShort reply }
-        ensures history { OnOk result (self.new ≡ with_event self.old (causal_event session number digest reply)) }
-        ensures front { IfOk result (λ front. front ≡ self.new) }
-        ensures legal { OnOk result (IsLegalStory S.accepts self.new) }
-        ensures unchanged { OnErr result (self.new ≡ self.old) }
-    {
-        let call = Call::Causal(digest);
-        let event = Event {
-            session,
-            number,
-            call,
-            reply,
-        };
-        let event = Shared::new(alloc, event)?;
-        let front = self.history.front_with(alloc, &event)?;
-        self.history.append(event.get(), &front)?;
-        let place = usize::from(session);
-        self.calls[place] += 1;
-        Ok(front)
-    }
-
-    /// The number of the session's next call. `OutOfTurn` exactly where the session is not below its limit, and so takes no
-    /// step, whatever it asks.
-    pub fn next_number(&self, session: u16) -> Result<u32, NoStep>
-        ensures number { IfOk result (λ number. number ≡ next_number self.now session) }
-        ensures turn { OnOk result (IsInTurn self.now session (next_number self.now session)) }
-        ensures refused { IfErr result (λ why. (why ≡ NoStep.OutOfTurn) × (IsInTurn self.now session (next_number self.now session) → ⊥)) }
-    {
-        match self.calls.get(usize::from(session)) {
-            None => Err(NoStep::OutOfTurn),
-            Some(calls) => Ok(*calls + 1),
-        }
-    }
-
-    /// Whether a call of the session with the number may take the step of the command: what [`Book::step`] tests first. Else
-    /// it is refused in the same order: `OutOfTurn`, `OtherCommittee`, `HistoryFull`. It takes no memory.
-    pub fn may_step(&self, session: u16, number: u32, command: &Command<S>) -> Result<(), NoStep>
-        ensures taken { OnOk result (IsInTurn self.now session number × IsUnder self.now.committee command.now × HasRoom self.now) }
-        ensures refused { IfErr result (IsRefusal self.now session number (IsUnder self.now.committee command.now)) }
-        ensures no_memory { IsErrOf result NoStep.NoMemory → ⊥ }
-    {
-        if !self.is_in_turn(session, number) {
-            return Err(NoStep::OutOfTurn);
-        }
-        if !command.is_under(self.history.committee().get()) {
-            return Err(NoStep::OtherCommittee);
-        }
-        if !self.has_room() {
-            return Err(NoStep::HistoryFull);
-        }
-        Ok(())
-    }
-
-    /// Whether a causal read of the session with the number may take a step: what [`Book::open`] tests first. Else it is
-    /// refused in the same order: `OutOfTurn`, `HistoryFull`. It takes no memory.
-    pub fn may_open(&self, session: u16, number: u32) -> Result<(), NoStep>
-        ensures taken { OnOk result (IsInTurn self.now session number × HasRoom self.now) }
-        ensures refused { IfErr result (IsRefusal self.now session number (Unit {0})) }
-        ensures no_memory { IsErrOf result NoStep.NoMemory → ⊥ }
-    {
-        if !self.is_in_turn(session, number) {
-            return Err(NoStep::OutOfTurn);
-        }
-        if !self.has_room() {
-            return Err(NoStep::HistoryFull);
-        }
-        Ok(())
-    }
-
-    /// Whether the session is below its limit and the number is one more than its events so far.
-    fn is_in_turn(&self, session: u16, number: u32) -> bool
-        ensures { IsTrue result ↔ IsInTurn self.now session number }
-    {
-        match self.calls.get(usize::from(session)) {
-            None => false,
-            Some(calls) => number.checked_sub(1) == Some(*calls),
-        }
-    }
-
-    /// Whether the history has fewer events than its limit.
-    fn has_room(&self) -> bool
-        ensures { IsTrue result ↔ HasRoom self.now }
-    {
-        self.history.len() < self.history.limits().events as usize
-    }
-}
-
-/// The call; where its block is held already, with the one that is held, so that a history keeps no second copy of it.
-fn with_held(tables: &Dag, call: Call, reply: &Reply) -> Result<Call, NoMemory>
-    requires reply { IsReply tables.now.bounds tables.now.state call reply.now }
-    ensures { IfOk result (λ shared. shared ≡ call) }
-{
-    let Call::Write(digest, _) = &call else {
-        return Ok(call);
-    };
-    if !is_held(reply) {
-        return Ok(call);
-    }
-    match tables.read(digest)? {
-        None => Ok(call),
-        Some(held) => Ok(Call::Write(*digest, held)),
-    }
-}
-
-/// Whether a write is answered that its block is held.
-fn is_held(reply: &Reply) -> bool
-    ensures { IsTrue result ↔ reply.now ≡ replies.Write writes.Held }
-{
-    matches!(reply, Reply::Write(WriteReply::Held))
 }

@@ -1,8 +1,10 @@
 //! What a session asks of a book.
-ghost use Rattle.std.specs.Prelude.{◌≡◌, ◌↔◌, List, IfOk, IsTrue};
+ghost use Rattle.std.specs.Prelude.{◌≡◌, List, IfOk};
+ghost use Rattle.std.specs.Option.{option_copied};
 ghost use Rattle.nw_committee.specs.declared.member.Member.{Member};
 ghost use Rattle.nw_model.specs.History.{IsAdmitted};
-ghost use Rattle.nw_book.specs.Command.{IsUnder, call_of};
+ghost use Rattle.nw_book.specs.Command.{call_of, committee_of};
+ghost use Rattle.nw_book.specs.Turn.{IsOf};
 
 use nw_check::{CheckedBlock, CheckedCert};
 use nw_committee::Committee;
@@ -31,9 +33,10 @@ pub enum Command<S: Scheme> {
 
 impl<S: Scheme> Command<S> {
     /// The call that is asked, in which a block stands under its digest.
-    pub(crate) fn call(&self) -> Result<Call, NoMemory>
+    pub fn call(&self) -> Result<Call, NoMemory>
         ensures call { IfOk result (λ call. call ≡ call_of self.now) }
-        ensures admitted { (members : List Member) → IsUnder members self.now → IsAdmitted S.accepts members (call_of self.now) }
+        ensures admitted { (members : List Member) → IsOf members (committee_of self.now)
+            → IsAdmitted S.accepts members (call_of self.now) }
     {
         match self {
             Command::Write(checked) => {
@@ -48,15 +51,15 @@ impl<S: Scheme> Command<S> {
         }
     }
 
-    /// Whether what is handed in was checked under this committee. (`eq` is called by its name, for its clause `same`.)
-    pub(crate) fn is_under(&self, committee: &Committee) -> bool
-        ensures { IsTrue result ↔ IsUnder committee.now self.now }
+    /// The committee under which what is handed in was checked, or `None` where nothing is.
+    pub fn committee(&self) -> Option<&Committee>
+        ensures { option_copied result ≡ committee_of self.now }
     {
         match self {
-            Command::Write(checked) => checked.committee().get().eq(committee),
-            Command::Certify(checked) => checked.committee().get().eq(committee),
-            Command::Certificate(_) | Command::Read(_) => true,
-            Command::Collect(_) | Command::Missing(_) | Command::Status => true,
+            Command::Write(checked) => Some(checked.committee().get()),
+            Command::Certify(checked) => Some(checked.committee().get()),
+            Command::Certificate(_) | Command::Read(_) => None,
+            Command::Collect(_) | Command::Missing(_) | Command::Status => None,
         }
     }
 }

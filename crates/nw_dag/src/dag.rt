@@ -2,9 +2,24 @@
 ghost use Rattle.std.specs.Prelude.{◌≡◌, ◌<◌, ◌≤◌, IfOk, OnOk, OnErr, IsNone, None, IsTrue, false, not, is_some, ◌↔◌};
 ghost use Rattle.std.specs.FinMap as map;
 ghost use Rattle.nw_model.specs.State.{opening, block_slot, certificate_slot};
+ghost use Rattle.nw_model.specs.declared.call.Call.TheVariants as Call;
 ghost use Rattle.nw_model.specs.Paths.{IsComplete};
 ghost use Rattle.nw_model.specs.Missing.{AreFirstWanted, AreCounts};
-ghost use Rattle.nw_model.specs.Step.{after, write_reply, certify_reply, collect_reply, certified_digest, is_elsewhere, raised, rival, with_block, with_certificate};
+ghost use Rattle.nw_model.specs.Step.{
+  after,
+  after_write,
+  after_certify,
+  after_collect,
+  write_reply,
+  certify_reply,
+  collect_reply,
+  certified_digest,
+  is_elsewhere,
+  raised,
+  rival,
+  with_block,
+  with_certificate,
+};
 ghost use Rattle.nw_held.specs.Standing.{IsMet};
 ghost use Rattle.nw_dag.specs.Lacking.{IsReady, IsNamedAmong};
 ghost use Rattle.nw_dag.specs.Changes.{AreSameBut, Wants};
@@ -17,10 +32,19 @@ use crate::waits::Waits;
 use nw_codec::{Block, Certificate};
 use nw_digest::{Digest, NoMemory, Round, Sequence, Shared};
 use nw_held::Held;
-use nw_model::{Call, CertifyReply, CollectReply, Counts, WriteReply};
+use nw_model::{CertifyReply, CollectReply, Counts, WriteReply};
 use nw_waiting::Wanted;
 use std::alloc::Global;
 use std::marker::Model;
+
+/// How much the tables take.
+#[derive(Clone, Copy, Debug, PartialEq, Eq)]
+pub struct DagLimits {
+    /// How many blocks are held at most, and as many certificates.
+    pub blocks: u32,
+    /// How many rounds are taken from the garbage round on.
+    pub window: u32,
+}
 
 /// The tables of a store. Contracts see its state, and the bounds under which it takes its steps.
 #[derive(Drop)]
@@ -45,13 +69,14 @@ impl Model for Dag {
 
 impl Dag {
     /// An empty store, with garbage round 0. It takes no memory.
-    ///
-    /// It keeps at most `blocks` blocks, and takes blocks of `window` rounds from the garbage round on.
-    pub fn new(alloc: Global, blocks: u32, window: u32) -> Dag
-        ensures { result ≡ record { bounds = record { blocks = blocks; window = window }; state = opening } }
+    pub fn new(alloc: Global, limits: DagLimits) -> Dag
+        ensures { result ≡ record {
+          bounds = record { blocks = limits.blocks; window = limits.window };
+          state = opening;
+        } }
     {
         Dag {
-            held: Held::new(alloc, blocks, window),
+            held: Held::new(alloc, limits.blocks, limits.window),
             waits: Waits::new(alloc),
             frozen: Frozen::new(alloc),
         }
@@ -65,10 +90,8 @@ impl Dag {
         ensures bounds { self.new.bounds ≡ self.old.bounds }
         ensures unchanged { OnErr result (self.new ≡ self.old) }
     {
-        let reply = self.held.write_reply(&digest, block.get());
-        if let WriteReply::Stored { vote } = reply {
-            self.store(digest, block.try_clone()?, vote)?;
-        }
+        let reply = self.write_reply(&digest, block.get());
+        self.take_write(digest, block, &reply)?;
         Ok(reply)
     }
 
@@ -79,10 +102,21 @@ impl Dag {
         ensures bounds { self.new.bounds ≡ self.old.bounds }
         ensures unchanged { OnErr result (self.new ≡ self.old) }
     {
-        let reply = self.held.certify_reply(certificate.get());
-        if matches!(&reply, CertifyReply::Certified) {
-            self.keep(certificate.try_clone()?)?;
-        }
+        let reply = self.certify_reply(certificate.get());
+        self.take_certify(certificate, &reply)?;
+        Ok(reply)
+    }
+
+    /// Takes the step of a collection, and answers its reply: where the round is higher than the garbage round, it is the
+    /// garbage round from now on, and what is of a round below it is dropped. Want of memory leaves the store as it was.
+    pub fn collect(&mut self, round: Round) -> Result<CollectReply, NoMemory>
+        ensures reply { IfOk result (λ r. r ≡ collect_reply self.old.state round) }
+        ensures state { OnOk result (self.new.state ≡ after self.old.bounds self.old.state (Call.Collect round)) }
+        ensures bounds { self.new.bounds ≡ self.old.bounds }
+        ensures unchanged { OnErr result (self.new ≡ self.old) }
+    {
+        let reply = self.collect_reply(round)?;
+        self.take_collect(round, &reply)?;
         Ok(reply)
     }
 
@@ -98,25 +132,6 @@ impl Dag {
         ensures { result ≡ certify_reply self.now.bounds self.now.state certificate.now }
     {
         self.held.certify_reply(certificate)
-    }
-
-    /// Takes the step of a collection, and answers its reply: where the round is higher than the garbage round, it is the
-    /// garbage round from now on, and what is of a round below it is dropped. Want of memory leaves the store as it was.
-    pub fn collect(&mut self, round: Round) -> Result<CollectReply, NoMemory>
-        ensures reply { IfOk result (λ r. r ≡ collect_reply self.old.state round) }
-        ensures state { OnOk result (self.new.state ≡ after self.old.bounds self.old.state (Call.Collect round)) }
-        ensures bounds { self.new.bounds ≡ self.old.bounds }
-        ensures unchanged { OnErr result (self.new ≡ self.old) }
-    {
-        let floor = self.held.floor();
-        if round <= floor {
-            return Ok(CollectReply::NotHigher(floor));
-        }
-        let before = self.held.blocks();
-        self.raise(round)?;
-        Ok(CollectReply::Raised {
-            dropped: (before - self.held.blocks()) as u64,
-        })
     }
 
     /// The reply that a collection would get now. It is refused for want of memory alone.
@@ -173,6 +188,58 @@ impl Dag {
             certificates: self.held.certificates() as u64,
             complete: (self.held.blocks() - self.waits.pending()) as u64,
             wanted: self.waits.unmet() as u64,
+        }
+    }
+
+    /// Takes the step of a write that gets this reply.
+    pub(crate) fn take_write(
+        &mut self,
+        digest: Digest,
+        block: &Shared<Block>,
+        reply: &WriteReply,
+    ) -> Result<(), NoMemory>
+        requires { reply.now ≡ write_reply self.old.bounds self.old.state digest block.now }
+        ensures state { OnOk result (self.new.state ≡ after_write self.old.state digest block.now reply.now) }
+        ensures bounds { self.new.bounds ≡ self.old.bounds }
+        ensures unchanged { OnErr result (self.new ≡ self.old) }
+    {
+        match reply {
+            WriteReply::Stored { vote } => self.store(digest, block.try_clone()?, *vote),
+            _ => Ok(()),
+        }
+    }
+
+    /// Takes the step of a certificate that gets this reply.
+    pub(crate) fn take_certify(
+        &mut self,
+        certificate: &Shared<Certificate>,
+        reply: &CertifyReply,
+    ) -> Result<(), NoMemory>
+        requires { reply.now ≡ certify_reply self.old.bounds self.old.state certificate.now }
+        ensures state { OnOk result (self.new.state ≡ after_certify self.old.state certificate.now reply.now) }
+        ensures bounds { self.new.bounds ≡ self.old.bounds }
+        ensures unchanged { OnErr result (self.new ≡ self.old) }
+    {
+        match reply {
+            CertifyReply::Certified => self.keep(certificate.try_clone()?),
+            _ => Ok(()),
+        }
+    }
+
+    /// Takes the step of a collection that gets this reply.
+    pub(crate) fn take_collect(
+        &mut self,
+        round: Round,
+        reply: &CollectReply,
+    ) -> Result<(), NoMemory>
+        requires { reply.now ≡ collect_reply self.old.state round }
+        ensures state { OnOk result (self.new.state ≡ after_collect self.old.state round reply.now) }
+        ensures bounds { self.new.bounds ≡ self.old.bounds }
+        ensures unchanged { OnErr result (self.new ≡ self.old) }
+    {
+        match reply {
+            CollectReply::Raised { .. } => self.raise(round),
+            CollectReply::NotHigher(_) => Ok(()),
         }
     }
 

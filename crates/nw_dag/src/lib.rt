@@ -9,4 +9,4 @@ mod frozen;
 mod roll;
 mod waits;
 
-pub use dag::Dag;
+pub use dag::{Dag, DagLimits};

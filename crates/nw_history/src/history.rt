@@ -1,8 +1,6 @@
 //! The history that grows.
-ghost use Rattle.std.specs.Prelude.{◌≡◌, ◌==◌, ◌^◌, ◌<◌, [], length, slice_get, IfOk, OnOk, OnErr};
+ghost use Rattle.std.specs.Prelude.{◌≡◌, ◌==◌, ◌^◌, ◌<◌, [], length, slice_get, IfOk};
 ghost use Rattle.std.specs.Option.{option_copied};
-ghost use Rattle.nw_model.specs.Step.{Tables, IsReply, after};
-ghost use Rattle.nw_model.specs.History.{IsBase};
 ghost use Rattle.nw_model.specs.State.{opening};
 ghost use Rattle.nw_history.specs.Story.{IsLegalStory, reopened, story_of, with_event};
 
@@ -10,9 +8,8 @@ use crate::start::Start;
 use crate::{Front, Limits};
 use nw_chunks::Chunks;
 use nw_committee::Committee;
-use nw_dag::Dag;
 use nw_digest::{NoMemory, Shared};
-use nw_model::{Event, Reply};
+use nw_model::Event;
 use nw_plain::{Base, Plain};
 use nw_sig::Scheme;
 use std::alloc::Global;
@@ -121,36 +118,10 @@ impl<S: Scheme> History<S> {
         self.front.with(alloc, event)
     }
 
-    /// Takes the step of the event's call in the tables, and records the event, whose front this is. The history's share of
-    /// the front is taken first: where memory is refused, history and tables stay as they were.
-    pub fn record(
-        &mut self,
-        alloc: Global,
-        tables: &mut Dag,
-        event: &Event,
-        front: &Front<S>,
-    ) -> Result<Reply, NoMemory>
-        requires front { front.now ≡ with_event self.old event.now }
-        ensures reply { IfOk result (λ reply. IsReply tables.old.bounds tables.old.state event.now.call reply) }
-        ensures tables { OnOk result (tables.new ≡ record tables.old { state = after tables.old.bounds tables.old.state event.now.call }) }
-        ensures history { OnOk result (self.new ≡ with_event self.old event.now) }
-        ensures unchanged { OnErr result (self.new ≡ self.old) }
-        ensures tables_unchanged { OnErr result (tables.new ≡ tables.old) }
+    /// Goes on as this front, which shares its events with all that came before.
+    pub fn go_on(&mut self, front: Front<S>)
+        ensures { self.new ≡ front }
     {
-        let front = front.try_clone()?;
-        let reply = tables.call(alloc, &event.call)?;
         self.front = front;
-        Ok(reply)
-    }
-
-    /// Records the event of a call that leaves the tables as they are, whose front this is. Where memory is refused, the
-    /// history stays as it was.
-    pub fn append(&mut self, event: &Event, front: &Front<S>) -> Result<(), NoMemory>
-        requires front { front.now ≡ with_event self.old event.now }
-        ensures history { OnOk result (self.new ≡ with_event self.old event.now) }
-        ensures unchanged { OnErr result (self.new ≡ self.old) }
-    {
-        self.front = front.try_clone()?;
-        Ok(())
     }
 }

@@ -2,8 +2,8 @@
 //!
 //! Its contract: a history is legal under its committee and limits, from its base on; what it recorded stays; a front
 //! shares its events with the history and with every other front of it, and tells exactly whether it is a beginning of
-//! another one. It stands on `nw_model` for what is legal, on `nw_plain` for bases, on `nw_dag` for the
-//! tables in which a step is taken, and on `nw_chunks` for lists that share.
+//! another one. It stands on `nw_model` for what is legal, on `nw_plain` for bases, and on `nw_chunks` for lists that
+//! share; it knows no tables.
 #![tactic(auto)]
 
 mod front;

@@ -8,7 +8,7 @@ use mathlib.Core.Logic.{◌⊎◌}
 use Rattle.nw_model.specs.declared.event.Event.{Event}
 use Rattle.nw_history.specs.Story.{Story, with_event}
 use Rattle.nw_history.specs.Prefix.{IsPrefixOf}
-use Rattle.nw_store.specs.Held.{Answer, AreBegun, AreAmong, AreComparable, IsAnswer, AreAnswers}
+use Rattle.nw_store.specs.Journal.{Answer, AreBegun, AreAmong, AreComparable, IsAnswer, AreAnswers}
 
 begins_itself : (xs : List Event) → IsPrefix xs xs
 begins_itself [] = ([], refl)

@@ -9,7 +9,7 @@ use mathlib.Core.List.{IsPrefix}
 use Rattle.nw_model.specs.declared.event.Event.{Event}
 use Rattle.nw_model.specs.History.{events_of, AreNumbered}
 use Rattle.nw_history.specs.Story.{Story}
-use Rattle.nw_store.specs.Held.{Answer, Held, Journal, AreBegun, AreAnswers}
+use Rattle.nw_store.specs.Journal.{Answer, Kept, Journal, AreBegun, AreAnswers}
 use Rattle.nw_store.specs.Settled.{events_in, AreInOrder, AreSettled, AreAllComparable}
 use Rattle.nw_store.proofs.Begun.{comparable}
 
@@ -259,8 +259,8 @@ joined h js numbered order all sum =
     }
 
 -- what is settled stays so, where nothing changes
-pub settled_still : (old new : Held) (js after : List Journal) → new ≡ old → after ≡ js → AreSettled old.history js → AreSettled new.history after
-settled_still old new js after same items is = subst (λ (h : Held). AreSettled h.history after) (sym same) (subst (λ (l : List Journal). AreSettled old.history l) (sym items) is)
+pub settled_still : (old new : Kept) (js after : List Journal) → new ≡ old → after ≡ js → AreSettled old.history js → AreSettled new.history after
+settled_still old new js after same items is = subst (λ (h : Kept). AreSettled h.history after) (sym same) (subst (λ (l : List Journal). AreSettled old.history l) (sym items) is)
 
 -- what is settled is comparable, since each front begins the one history
 pub all_comparable : (h : Story) (js : List Journal) → AreSettled h js → AreAllComparable js

@@ -9,7 +9,7 @@ use Rattle.nw_model.specs.declared.event.Event.{Event}
 use Rattle.nw_history.specs.Limits.{AreInRange}
 use Rattle.nw_history.specs.Story.{Story, Origin, IsLegalStory, with_event}
 use Rattle.nw_history.specs.Prefix.{IsPrefixOf}
-use Rattle.nw_store.specs.Held.{Answer, Journal, AreAmong, IsAnswer, AreAnswers, origin_of}
+use Rattle.nw_store.specs.Journal.{Answer, Journal, AreAmong, IsAnswer, AreAnswers, origin_of}
 use Rattle.nw_store.specs.Kept.{IsKept, IsSession}
 use Rattle.nw_store.proofs.Begun.{among_longer, told_more, answers_last}
 

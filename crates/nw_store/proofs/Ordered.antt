@@ -7,7 +7,7 @@ use Rattle.std.specs.List.Sorted.{IsPermutation, IsNonDecreasingBy}
 use Rattle.std.proofs.lemmas.Bool.Decides.{eqb_tells, leb_tells}
 use Rattle.std.proofs.lemmas.List.Sums.{sum_by-cons}
 use Rattle.std.proofs.lemmas.List.Sorted.{IsPermutation-map, length_permutation, sum_by-IsPermutation}
-use Rattle.nw_store.specs.Held.{Journal}
+use Rattle.nw_store.specs.Journal.{Journal}
 use Rattle.nw_store.specs.Settled.{AreInOrder, AreAll, IsStray, IsFirstStray, times, ids_of}
 
 abbrev one : ℕ → ℕ → ℕ

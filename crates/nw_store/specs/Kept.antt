@@ -4,14 +4,14 @@ use Rattle.nw_sig.specs.Signed.{Meaning}
 use Rattle.nw_history.specs.Limits.{AreInRange}
 use Rattle.nw_history.specs.Story.{Story, IsLegalStory}
 use Rattle.nw_history.specs.Prefix.{IsPrefixOf}
-use Rattle.nw_store.specs.Held.{Held, Journal, AreAmong, AreAnswers}
+use Rattle.nw_store.specs.Journal.{Kept, Journal, AreAmong, AreAnswers}
 
 -- how many parts a store's ledger has: one for each of 256 sessions, and one
 abbrev pub parts_of_a_ledger : ℕ
 parts_of_a_ledger = 257
 
 -- the history is legal, within limits that are in their ranges; no more sessions were made than they allow; each has one part of the ledger, and the spare parts count nothing; the ledger counts the events; and each front that was told is a beginning of the history
-pub record IsKept (accepts : Meaning) (held : Held) (total spare idle : ℕ) (told : List Story) : Type 0 where
+pub record IsKept (accepts : Meaning) (held : Kept) (total spare idle : ℕ) (told : List Story) : Type 0 where
   pub in_range : AreInRange held.history.limits
   pub legal : IsLegalStory accepts held.history
   pub few : held.made ≤ held.history.limits.sessions

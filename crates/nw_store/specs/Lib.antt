@@ -1,4 +1,4 @@
-pub mod Held
+pub mod Journal
 pub mod Kept
 pub mod Answered
 pub mod Settled

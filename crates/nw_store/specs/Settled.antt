@@ -6,7 +6,7 @@ use mathlib.Core.Logic.{◌⊎◌}
 use Rattle.nw_model.specs.History.{events_of}
 use Rattle.nw_model.specs.declared.event.Event.{Event}
 use Rattle.nw_history.specs.Story.{Story}
-use Rattle.nw_store.specs.Held.{Answer, Journal, AreBegun, AreComparable}
+use Rattle.nw_store.specs.Journal.{Answer, Journal, AreBegun, AreComparable}
 use Rattle.nw_store.specs.declared.error.SettleFault.{SettleFault}
 use Rattle.nw_store.specs.declared.error.SettleFault.TheVariants as faults
 
@@ -58,7 +58,7 @@ pub record Ledgers : Type 0 where
   pub history : Story
   pub journals : List Journal
 
--- why journals do not settle: there are fewer than sessions were made; else an id strays, and the least that does is named
+-- why journals do not settle: there are fewer than sessions were made; else an id strays, and the least that does is named, with no number of a call
 abbrev pub IsFault : ℕ → List Journal → SettleFault → Type 0
 IsFault made js (faults.Unfinished m given) = (m ≡ made) × (given ≡ length js) × (given < m)
-IsFault made js (faults.Differs session) = (made ≤ length js) × IsFirstStray made (ids_of js) session
+IsFault made js (faults.Differs session number) = (made ≤ length js) × IsFirstStray made (ids_of js) session × (number ≡ 0)

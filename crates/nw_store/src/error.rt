@@ -22,5 +22,8 @@ pub enum SettleFault {
     Differs {
         /// The least id that is given twice, or is given and was not made.
         session: u16,
+        /// Always 0: no call differs. Sessions of another store have another type, and a session's journal is always what
+        /// the history has of it.
+        number: u32,
     },
 }

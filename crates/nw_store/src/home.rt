@@ -14,7 +14,7 @@ pub trait Home: Place {
 }
 
 impl Home for Brand {
-    ghost use Rattle.nw_store.specs.Held.{no_origin};
+    ghost use Rattle.nw_store.specs.Journal.{no_origin};
 
     ghost origin = { no_origin };
 }

@@ -7,6 +7,7 @@
 //! stands on `nw_book` for steps, on `nw_log` for what is known across threads, and on std's ledger for what is counted.
 #![tactic(auto)]
 
+mod calls;
 mod error;
 mod home;
 mod locked;
@@ -14,10 +15,12 @@ mod session;
 mod settlement;
 mod store;
 
+pub use calls::{call_locked, open_locked};
 pub use error::{SettleFault, TooMany};
 pub use home::Home;
-pub use locked::{
-    Locked, call_locked, compact_locked, compare_locked, open_locked, renew_locked, session_locked,
+pub use locked::{Locked, compact_locked, compare_locked, renew_locked, session_locked};
+pub use nw_book::{
+    Agreement, Book, BookError, Command, Done, Front, History, Limits, NoStep, Ticket,
 };
 pub use session::{Entry, Session};
 pub use settlement::{Settled, Unsettled, settle, settle_locked};

@@ -1,21 +1,16 @@
 //! What the lock holds, and what is done while it is held.
 ghost use Rattle.std.specs.Prelude.{◌≡◌, ◌↔◌, ◌+◌, ◌<◌, ◌≤◌, ◌++◌, ◌∷◌, [], IsErr, IfOk, IfErr, OnOk, OnErr};
-ghost use Rattle.std.specs.Result.{MatchResult};
 ghost use mathlib.Core.List.{IsPrefix};
 ghost use Rattle.nw_history.specs.Limits.{AreInRange};
 ghost use Rattle.nw_history.specs.Story.{IsLegalStory, reopened};
-ghost use Rattle.nw_book.specs.Command.{IsUnder, call_of};
-ghost use Rattle.nw_book.specs.Turn.{IsInTurn, HasRoom, IsRefusal};
-ghost use Rattle.nw_store.specs.Held.{AreBegun, AreComparable, AreAnswers, next_number, origin_of};
+ghost use Rattle.nw_store.specs.Journal.{AreBegun, AreComparable, AreAnswers, origin_of};
 ghost use Rattle.nw_store.specs.Kept.{parts_of_a_ledger};
-ghost use Rattle.nw_store.specs.Answered.{IsAnswered, IsOpened, IsRefused, front_of};
 
-use crate::session::{Entry, Session};
+use crate::session::Session;
 use crate::store::Opening;
 use crate::{Home, TooMany};
-use nw_book::{Book, Command, Done, NoStep, Ticket};
-use nw_digest::{Digest, NoMemory};
-use nw_history::{Front, History};
+use nw_book::{Book, Front, History};
+use nw_digest::NoMemory;
 use nw_log::{Claim, Keeper};
 use nw_sig::Scheme;
 use std::alloc::Global;
@@ -40,7 +35,7 @@ pub(crate) struct Pass<S: Scheme, L: Home> {
 
 impl<S: Scheme, L: Home> Tally<S, L> {
     /// Tells of one more call of a session, whose answer has this front.
-    fn tell(&mut self, pass: &mut Pass<S, L>, front: &Front<S>)
+    pub(crate) fn tell(&mut self, pass: &mut Pass<S, L>, front: &Front<S>)
         requires { 0 < pass.old.mine.parts }
         ensures counted { self.new.calls.total ≡ self.old.calls.total + 1 }
         ensures told { self.new.keeper ≡ self.old.keeper ++ front.now ∷ [] }
@@ -55,7 +50,7 @@ impl<S: Scheme, L: Home> Tally<S, L> {
     }
 
     /// One more than the session's calls so far, which are no more than all calls.
-    fn next_number(&mut self, pass: &mut Pass<S, L>, calls: usize) -> u32
+    pub(crate) fn next_number(&mut self, pass: &mut Pass<S, L>, calls: usize) -> u32
         requires counted { pass.old.mine.amount ≡ calls }
         requires few { self.old.calls.total ≤ 65536 }
         ensures number { result ≡ calls + 1 }
@@ -83,10 +78,10 @@ impl<S: Scheme, L: Home> Model for Locked<S, L> {
     ghost use Rattle.std.specs.Prelude.{◌≡◌};
     ghost use Rattle.std.specs.Coded.{codes};
     ghost use Rattle.nw_model.specs.State.{coded_state};
-    ghost use Rattle.nw_store.specs.Held.{Held, origin_of};
+    ghost use Rattle.nw_store.specs.Journal.{Kept, origin_of};
     ghost use Rattle.nw_store.specs.Kept.{IsKept, parts_of_a_ledger};
 
-    ghost Value = { Held };
+    ghost Value = { Kept };
 
     ghost coded = { Prim.hlevel (codes, coded_state) };
 
@@ -178,71 +173,6 @@ pub fn session_locked<S: Scheme, L: Home>(
     })
 }
 
-/// Takes the step of the session's next call, while the guard is lent.
-///
-/// It is refused as the book refuses it: `OutOfTurn` exactly where it is not the turn of the session's next number, else
-/// `OtherCommittee` exactly where what is handed in was checked under another committee, else `HistoryFull` exactly where the
-/// history has as many events as its limit, else `NoMemory` where memory is refused, which is asked for after these tests. A
-/// refusal changes neither what the lock holds nor the session.
-pub fn call_locked<S: Scheme, L: Home>(
-    locked: &mut Locked<S, L>,
-    alloc: Global,
-    session: &mut Session<S, L>,
-    command: &Command<S>,
-) -> Result<Done<S>, NoStep>
-    ensures answered { IfOk result (IsAnswered S.accepts locked.old.history session.old session.new (call_of command.now)) }
-    ensures starts { origin_of locked.old.history ≡ L.origin }
-    ensures legal { IsLegalStory S.accepts locked.old.history }
-    ensures history { IfOk result (λ done. locked.new ≡ record { history = done.front; made = locked.old.made }) }
-    ensures may { OnOk result (IsInTurn locked.old.history session.old.id (next_number session.old) × IsUnder locked.old.history.committee command.now × HasRoom locked.old.history) }
-    ensures refused { IfErr result (IsRefusal locked.old.history session.old.id (next_number session.old) (IsUnder locked.old.history.committee command.now)) }
-    ensures unchanged { OnErr result (locked.new ≡ locked.old) }
-    ensures session { OnErr result (session.new ≡ session.old) }
-{
-    let number = locked
-        .tally
-        .next_number(&mut session.pass, session.journal.len());
-    locked.book.may_step(session.id, number, command)?;
-    session.journal.reserve(1)?;
-    let done = locked.book.step(alloc, session.id, number, command)?;
-    locked.tally.tell(&mut session.pass, &done.front);
-    session.journal.push_reserved(Entry::of(&done.front));
-    Ok(done)
-}
-
-/// Takes the step of a causal read as the session's next call, while the guard is lent: a ticket where there is a list, else an
-/// answer that says why there is none.
-///
-/// It is refused as the book refuses it: `OutOfTurn` exactly where it is not the turn of the session's next number, else
-/// `HistoryFull` exactly where the history has as many events as its limit, else `NoMemory` where memory is refused, which is
-/// asked for after these tests. A refusal changes neither what the lock holds nor the session.
-pub fn open_locked<S: Scheme, L: Home>(
-    locked: &mut Locked<S, L>,
-    alloc: Global,
-    session: &mut Session<S, L>,
-    digest: Digest,
-) -> Result<Result<Ticket<S>, Done<S>>, NoStep>
-    ensures answered { IfOk result (λ answer. MatchResult answer (IsOpened S.accepts locked.old.history session.old session.new digest) (IsRefused S.accepts locked.old.history session.old session.new digest)) }
-    ensures starts { origin_of locked.old.history ≡ L.origin }
-    ensures legal { IsLegalStory S.accepts locked.old.history }
-    ensures history { IfOk result (λ answer. locked.new ≡ record { history = front_of answer; made = locked.old.made }) }
-    ensures may { OnOk result (IsInTurn locked.old.history session.old.id (next_number session.old) × HasRoom locked.old.history) }
-    ensures refused { IfErr result (IsRefusal locked.old.history session.old.id (next_number session.old) (Unit {0})) }
-    ensures unchanged { OnErr result (locked.new ≡ locked.old) }
-    ensures session { OnErr result (session.new ≡ session.old) }
-{
-    let number = locked
-        .tally
-        .next_number(&mut session.pass, session.journal.len());
-    locked.book.may_open(session.id, number)?;
-    session.journal.reserve(1)?;
-    let answer = locked.book.open(alloc, session.id, number, digest)?;
-    let front = front_of(&answer);
-    locked.tally.tell(&mut session.pass, front);
-    session.journal.push_reserved(Entry::of(front));
-    Ok(answer)
-}
-
 /// Lets later tickets share one copy of what is complete, without what was collected, while the guard is lent. No history, no
 /// reply and no ticket of before changes. Want of memory changes nothing.
 pub fn compact_locked<S: Scheme, L: Home>(
@@ -252,16 +182,6 @@ pub fn compact_locked<S: Scheme, L: Home>(
     ensures same { locked.new ≡ locked.old }
 {
     locked.book.compact(alloc)
-}
-
-/// The front of an answer to a causal read.
-fn front_of<S: Scheme>(answer: &Result<Ticket<S>, Done<S>>) -> &Front<S>
-    ensures { result.now ≡ front_of answer.now }
-{
-    match answer {
-        Ok(ticket) => ticket.front(),
-        Err(done) => &done.front,
-    }
 }
 
 /// Each front of the session is a beginning of the history, whatever other sessions did since. Nothing is changed, and no event

@@ -1,60 +1,77 @@
 //! Sessions, and what they keep.
-ghost use Rattle.std.specs.Prelude.{◌≡◌, ◌+◌, ◌<◌, ◌^◌, ◌++◌, ◌∷◌, [], List, length};
+ghost use Rattle.std.specs.Prelude.{◌≡◌, ◌<◌, ◌++◌, ◌∷◌, [], List, length};
 ghost use Rattle.nw_model.specs.declared.event.Event.{Event};
 
 use crate::Home;
 use crate::locked::Pass;
-use nw_history::Front;
-use nw_model::Event;
+use nw_book::Front;
+use nw_model::{Call, Event, Reply};
 use nw_sig::Scheme;
 use std::marker::Model;
 use std::snapshot::Snapshot;
 
-/// What a session keeps of an answer, in four bytes: where its event stands in the history. Contracts see the event, and the
-/// front that was handed out.
+/// What a session keeps of an answer: the call, the reply that it got, and the front, which ends with both. Contracts see the
+/// event of the call, and the front.
 #[derive(Drop)]
 pub struct Entry<S: Scheme> {
-    place: u32,
+    front: Front<S>,
     event: Snapshot<Event>,
-    front: Snapshot<Front<S>>,
 }
 
 impl<S: Scheme> Model for Entry<S> {
-    ghost use Rattle.std.specs.Prelude.{◌≡◌, ◌+◌, length};
+    ghost use Rattle.std.specs.Prelude.{◌≡◌, ◌-◌, Some, length, slice_get};
     ghost use Rattle.std.specs.Coded.{codes};
     ghost use Rattle.nw_model.specs.State.{coded_state};
-    ghost use Rattle.nw_store.specs.Held.{Answer};
+    ghost use Rattle.nw_store.specs.Journal.{Answer};
 
     ghost Value = { Answer };
 
     ghost coded = { Prim.hlevel (codes, coded_state) };
 
-    ghost view = { λ e. record { event = e.event.value; front = e.front.value } };
+    ghost view = { λ e. record { event = e.event.value; front = e.front } };
 
-    ghost invariant = { λ e. e.place + 1 ≡ length e.front.value.events };
+    ghost invariant = { λ e.
+        slice_get e.front.events (length e.front.events - 1) ≡ Some e.event.value };
 }
 
 impl<S: Scheme> Entry<S> {
     /// The entry for the answer with this front, which ends with the call that was answered.
-    pub(crate) fn of(front: &Front<S>) -> Entry<S>
-        requires some { 0 < length front.now.events }
-        requires short { length front.now.events < 2 ^ 32 }
-        ensures front { result.front ≡ front.now }
-        ensures event { (earlier : List Event) (event : Event) → front.now.events ≡ earlier ++ event ∷ [] → result.event ≡ event }
+    pub(crate) fn of(front: Front<S>) -> Entry<S>
+        requires some { 0 < length front.events }
+        ensures front { result.front ≡ front }
+        ensures event { (earlier : List Event) (event : Event)
+            → front.events ≡ earlier ++ event ∷ [] → result.event ≡ event }
     {
-        let place = front.len() - 1;
-        Entry {
-            place: place as u32,
-            event: Snapshot::of(front.event(place).unwrap()),
-            front: Snapshot::of(front),
-        }
+        let event = Snapshot::of(front.event(front.len() - 1).unwrap());
+        Entry { front, event }
     }
 
-    /// Where the answer's event stands in the history, counted from 0: the front has one event more than this number.
-    pub fn place(&self) -> u32
-        ensures { result + 1 ≡ length self.now.front.events }
+    /// The session's call.
+    pub fn call(&self) -> &Call
+        ensures { result.now ≡ self.now.event.call }
     {
-        self.place
+        &self.event().call
+    }
+
+    /// The reply that the call got; of a causal read whose list could be walked `Ready`.
+    pub fn reply(&self) -> &Reply
+        ensures { result.now ≡ self.now.event.reply }
+    {
+        &self.event().reply
+    }
+
+    /// The history up to and with the call.
+    pub fn front(&self) -> &Front<S>
+        ensures { result.now ≡ self.now.front }
+    {
+        &self.front
+    }
+
+    /// The event of the call, which is the last of the front.
+    fn event(&self) -> &Event
+        ensures { result.now ≡ self.now.event }
+    {
+        self.front.event(self.front.len() - 1).unwrap()
     }
 }
 
@@ -71,7 +88,7 @@ pub struct Session<S: Scheme, L: Home> {
 impl<S: Scheme, L: Home> Model for Session<S, L> {
     ghost use Rattle.std.specs.Coded.{codes};
     ghost use Rattle.nw_model.specs.State.{coded_state};
-    ghost use Rattle.nw_store.specs.Held.{Journal};
+    ghost use Rattle.nw_store.specs.Journal.{Journal};
     ghost use Rattle.nw_store.specs.Kept.{IsSession};
 
     ghost Value = { Journal };

@@ -2,14 +2,13 @@
 ghost use Rattle.std.specs.Prelude.{ℕ, ◌≡◌, ◌↔◌, ◌+◌, ◌<◌, ◌^◌, ◌≤◌, IsOk, IsNone, IsTrue, OnOk, IfOk, IfErr, IfSome, IfNone, Some, All, length, slice_get, sum_by};
 ghost use Rattle.std.specs.List.Sorted.{IsPermutation, IsNonDecreasingBy};
 ghost use Rattle.nw_history.specs.Story.{IsLegalStory, reopened};
-ghost use Rattle.nw_store.specs.Held.{Journal, AreBegun, AreAnswers, origin_of};
+ghost use Rattle.nw_store.specs.Journal.{Journal, AreBegun, AreAnswers, origin_of};
 ghost use Rattle.nw_store.specs.Settled.{AreAll, AreAllComparable, AreInOrder, AreSettled, IsFault, IsFirstStray, IsStray, ids_of};
 
 use crate::locked::renew_locked;
 use crate::{Entry, Home, Locked, Session, SettleFault, Store};
-use nw_book::Book;
+use nw_book::{Book, History};
 use nw_digest::NoMemory;
-use nw_history::History;
 use nw_sig::Scheme;
 use std::alloc::Global;
 use std::marker::Model;
@@ -113,7 +112,7 @@ fn settle_in_place<S: Scheme, L: Home>(
         return Err(SettleFault::Unfinished { made, given });
     }
     if let Some(session) = put_in_order(sessions, made) {
-        return Err(SettleFault::Differs { session });
+        return Err(SettleFault::Differs { session, number: 0 });
     }
     join(locked, sessions);
     Ok(())

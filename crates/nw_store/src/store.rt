@@ -1,24 +1,37 @@
 //! Stores, which lock, call and let go.
-ghost use Rattle.std.specs.Prelude.{◌≡◌, ◌↔◌, ◌<◌, [], IsOk, IfOk, IfErr, OnOk, OnErr};
-ghost use Rattle.std.specs.Result.{IsErrOf, MatchResult};
+ghost use Rattle.std.specs.Prelude.{
+  ◌≡◌,
+  ◌↔◌,
+  ◌<◌,
+  [],
+  Some,
+  None,
+  IsOk,
+  IfOk,
+  IfErr,
+  OnOk,
+  OnErr,
+};
+ghost use Rattle.std.specs.Result.{IsErrOf};
 ghost use Rattle.nw_model.specs.Checks.{digest_of};
-ghost use Rattle.nw_model.specs.declared.call.Call.TheVariants as Call;
 ghost use Rattle.nw_history.specs.Limits.{AreInRange};
-ghost use Rattle.nw_book.specs.Command.{IsUnder, call_of};
-ghost use Rattle.nw_store.specs.Held.{first_origin, origin_of};
+ghost use Rattle.nw_book.specs.Answer.{IsFor, front_of, reply_of};
+ghost use Rattle.nw_book.specs.Command.{call_of, committee_of};
+ghost use Rattle.nw_store.specs.Journal.{first_origin, origin_of};
 ghost use Rattle.nw_store.specs.Kept.{parts_of_a_ledger};
-ghost use Rattle.nw_store.specs.Answered.{IsExplained, IsOpenedOnce, IsRefusedOnce, TakesNoStep};
+ghost use Rattle.nw_store.specs.Answered.{IsExplained, TakesNoStep};
 
-use crate::locked::{call_locked, compact_locked, open_locked, session_locked};
+use crate::calls::{call_locked, may_call, open_locked, take_call};
+use crate::locked::{compact_locked, session_locked};
 use crate::{Home, Locked, Session, TooMany};
-use nw_book::{Book, BookError, Command, Done, NoStep, Ticket};
+use nw_book::{Book, BookError, Command, Done, Front, Limits, NoStep, Ticket};
 use nw_check::{CheckedBlock, CheckedCert};
 use nw_committee::Committee;
 use nw_digest::{Digest, NoMemory, Round, Shared};
-use nw_history::{Front, Limits};
 use nw_log::Opened;
+use nw_model::Call;
 use nw_sig::Scheme;
-use std::alloc::{AllocError, Global};
+use std::alloc::Global;
 use std::marker::Model;
 use std::sync::ledger::Blank;
 use std::sync::{Mutex, Wait};
@@ -32,7 +45,7 @@ pub struct Opening<S: Scheme> {
 
 impl<S: Scheme> Model for Opening<S> {
     ghost use Rattle.std.specs.Prelude.{◌≡◌};
-    ghost use Rattle.nw_store.specs.Held.{Names};
+    ghost use Rattle.nw_store.specs.Journal.{Names};
     ghost use Rattle.nw_store.specs.Kept.{parts_of_a_ledger};
 
     ghost Value = { Names };
@@ -44,7 +57,7 @@ impl<S: Scheme> Model for Opening<S> {
 
 impl<S: Scheme> Opening<S> {
     /// An empty log and an empty ledger. It takes two blocks of a few bytes.
-    pub fn new(alloc: Global) -> Result<Opening<S>, AllocError> {
+    pub fn new(alloc: Global) -> Result<Opening<S>, NoMemory> {
         Ok(Opening {
             log: Opened::new(alloc)?,
             blank: Blank::new(257),
@@ -54,6 +67,10 @@ impl<S: Scheme> Opening<S> {
 
 /// A store that threads share: one lock round a book. `L` names it, so that no session of another store fits, and says with
 /// which committee and limits it was made, and on which base.
+///
+/// A call of a session is answered with a legal history that starts as the store was made and ends with the call, and that each
+/// earlier answer's of the session begins. A refusal leaves the session as it was, and names what stood in the way after some
+/// history of the store: the turn, else the committee, else the room, else memory.
 #[derive(Drop)]
 pub struct Store<S: Scheme, L: Home> {
     pub(crate) locked: Mutex<Locked<S, L>>,
@@ -104,56 +121,46 @@ impl<S: Scheme, L: Home> Store<S, L> {
         session_locked(&mut *self.locked.lock(rt), alloc)
     }
 
-    /// Makes the session's next call. The answer has a legal history that starts as the store was made and ends with the call,
-    /// and that each earlier answer's of the session begins.
-    ///
-    /// A refusal leaves the session as it was, and names what stood in the way after some history of the store: the turn, else
-    /// the committee, else the room, else memory.
-    pub fn call<R: Wait>(
-        &self,
-        rt: &R,
-        alloc: Global,
-        session: &mut Session<S, L>,
-        command: &Command<S>,
-    ) -> Result<Done<S>, NoStep>
-        ensures answered { IfOk result (IsExplained S.accepts L.origin session.old session.new (call_of command.now)) }
-        ensures own_committee { OnOk result (IsUnder L.origin.committee command.now) }
-        ensures no_step { IfErr result (TakesNoStep S.accepts L.origin session.old (IsUnder L.origin.committee command.now)) }
-        ensures unchanged { OnErr result (session.new ≡ session.old) }
-    {
-        call_locked(&mut *self.locked.lock(rt), alloc, session, command)
-    }
-
-    /// Stores the block under its digest: a call of the session.
+    /// Stores the block under its digest: a call of the session. The block is lent: a refused write can be made again.
     pub fn write<R: Wait>(
         &self,
         rt: &R,
         alloc: Global,
         session: &mut Session<S, L>,
-        block: CheckedBlock<S>,
+        block: &CheckedBlock<S>,
     ) -> Result<Done<S>, NoStep>
-        ensures answered { IfOk result (IsExplained S.accepts L.origin session.old session.new (Call.Write (digest_of block.block) block.block)) }
-        ensures own_committee { OnOk result (block.committee ≡ L.origin.committee) }
-        ensures no_step { IfErr result (TakesNoStep S.accepts L.origin session.old (block.committee ≡ L.origin.committee)) }
+        ensures answered { IfOk result (λ done. IsExplained S.accepts L.origin session.old session.new
+            (Call.Write (digest_of block.now.block) block.now.block) done.reply done.front) }
+        ensures own_committee { OnOk result (block.now.committee ≡ L.origin.committee) }
+        ensures no_step { IfErr result
+            (TakesNoStep S.accepts L.origin session.old (Some block.now.committee)) }
         ensures unchanged { OnErr result (session.new ≡ session.old) }
     {
-        self.call(rt, alloc, session, &Command::Write(block))
+        let mut locked = self.locked.lock(rt);
+        may_call(&mut *locked, session, Some(block.committee().get()))?;
+        let call = Call::Write(block.digest(), block.block().try_clone()?);
+        Ok(take_call(&mut *locked, alloc, session, call)?)
     }
 
-    /// Keeps the certificate: a call of the session.
+    /// Keeps the certificate: a call of the session. The certificate is lent: a refused call can be made again.
     pub fn certify<R: Wait>(
         &self,
         rt: &R,
         alloc: Global,
         session: &mut Session<S, L>,
-        certificate: CheckedCert<S>,
+        certificate: &CheckedCert<S>,
     ) -> Result<Done<S>, NoStep>
-        ensures answered { IfOk result (IsExplained S.accepts L.origin session.old session.new (Call.Certify certificate.certificate)) }
-        ensures own_committee { OnOk result (certificate.committee ≡ L.origin.committee) }
-        ensures no_step { IfErr result (TakesNoStep S.accepts L.origin session.old (certificate.committee ≡ L.origin.committee)) }
+        ensures answered { IfOk result (λ done. IsExplained S.accepts L.origin session.old session.new
+            (Call.Certify certificate.now.certificate) done.reply done.front) }
+        ensures own_committee { OnOk result (certificate.now.committee ≡ L.origin.committee) }
+        ensures no_step { IfErr result
+            (TakesNoStep S.accepts L.origin session.old (Some certificate.now.committee)) }
         ensures unchanged { OnErr result (session.new ≡ session.old) }
     {
-        self.call(rt, alloc, session, &Command::Certify(certificate))
+        let mut locked = self.locked.lock(rt);
+        may_call(&mut *locked, session, Some(certificate.committee().get()))?;
+        let call = Call::Certify(certificate.certificate().try_clone()?);
+        Ok(take_call(&mut *locked, alloc, session, call)?)
     }
 
     /// Reads the certificate that is kept for the digest: a call of the session.
@@ -164,8 +171,9 @@ impl<S: Scheme, L: Home> Store<S, L> {
         session: &mut Session<S, L>,
         digest: Digest,
     ) -> Result<Done<S>, NoStep>
-        ensures answered { IfOk result (IsExplained S.accepts L.origin session.old session.new (Call.Certificate digest)) }
-        ensures no_step { IfErr result (TakesNoStep S.accepts L.origin session.old (Unit {0})) }
+        ensures answered { IfOk result (λ done. IsExplained S.accepts L.origin session.old session.new
+            (Call.Certificate digest) done.reply done.front) }
+        ensures no_step { IfErr result (TakesNoStep S.accepts L.origin session.old None) }
         ensures unchanged { OnErr result (session.new ≡ session.old) }
     {
         self.call(rt, alloc, session, &Command::Certificate(digest))
@@ -179,8 +187,9 @@ impl<S: Scheme, L: Home> Store<S, L> {
         session: &mut Session<S, L>,
         digest: Digest,
     ) -> Result<Done<S>, NoStep>
-        ensures answered { IfOk result (IsExplained S.accepts L.origin session.old session.new (Call.Read digest)) }
-        ensures no_step { IfErr result (TakesNoStep S.accepts L.origin session.old (Unit {0})) }
+        ensures answered { IfOk result (λ done. IsExplained S.accepts L.origin session.old session.new
+            (Call.Read digest) done.reply done.front) }
+        ensures no_step { IfErr result (TakesNoStep S.accepts L.origin session.old None) }
         ensures unchanged { OnErr result (session.new ≡ session.old) }
     {
         self.call(rt, alloc, session, &Command::Read(digest))
@@ -195,8 +204,9 @@ impl<S: Scheme, L: Home> Store<S, L> {
         session: &mut Session<S, L>,
         round: Round,
     ) -> Result<Done<S>, NoStep>
-        ensures answered { IfOk result (IsExplained S.accepts L.origin session.old session.new (Call.Collect round)) }
-        ensures no_step { IfErr result (TakesNoStep S.accepts L.origin session.old (Unit {0})) }
+        ensures answered { IfOk result (λ done. IsExplained S.accepts L.origin session.old session.new
+            (Call.Collect round) done.reply done.front) }
+        ensures no_step { IfErr result (TakesNoStep S.accepts L.origin session.old None) }
         ensures unchanged { OnErr result (session.new ≡ session.old) }
     {
         self.call(rt, alloc, session, &Command::Collect(round))
@@ -210,8 +220,9 @@ impl<S: Scheme, L: Home> Store<S, L> {
         session: &mut Session<S, L>,
         most: u16,
     ) -> Result<Done<S>, NoStep>
-        ensures answered { IfOk result (IsExplained S.accepts L.origin session.old session.new (Call.Missing most)) }
-        ensures no_step { IfErr result (TakesNoStep S.accepts L.origin session.old (Unit {0})) }
+        ensures answered { IfOk result (λ done. IsExplained S.accepts L.origin session.old session.new
+            (Call.Missing most) done.reply done.front) }
+        ensures no_step { IfErr result (TakesNoStep S.accepts L.origin session.old None) }
         ensures unchanged { OnErr result (session.new ≡ session.old) }
     {
         self.call(rt, alloc, session, &Command::Missing(most))
@@ -224,8 +235,9 @@ impl<S: Scheme, L: Home> Store<S, L> {
         alloc: Global,
         session: &mut Session<S, L>,
     ) -> Result<Done<S>, NoStep>
-        ensures answered { IfOk result (IsExplained S.accepts L.origin session.old session.new Call.Status) }
-        ensures no_step { IfErr result (TakesNoStep S.accepts L.origin session.old (Unit {0})) }
+        ensures answered { IfOk result (λ done. IsExplained S.accepts L.origin session.old session.new
+            Call.Status done.reply done.front) }
+        ensures no_step { IfErr result (TakesNoStep S.accepts L.origin session.old None) }
         ensures unchanged { OnErr result (session.new ≡ session.old) }
     {
         self.call(rt, alloc, session, &Command::Status)
@@ -237,7 +249,8 @@ impl<S: Scheme, L: Home> Store<S, L> {
         compact_locked(&mut *self.locked.lock(rt), alloc)
     }
 
-    /// Opens a causal read of the digest: a call of the session. The ticket is walked later, without the lock.
+    /// Opens a causal read of the digest: a call of the session. The ticket is walked later, without the lock; where there is no
+    /// list, the answer says why.
     pub fn open_causal<R: Wait>(
         &self,
         rt: &R,
@@ -245,10 +258,29 @@ impl<S: Scheme, L: Home> Store<S, L> {
         session: &mut Session<S, L>,
         digest: Digest,
     ) -> Result<Result<Ticket<S>, Done<S>>, NoStep>
-        ensures answered { IfOk result (λ answer. MatchResult answer (IsOpenedOnce S.accepts L.origin session.old session.new digest) (IsRefusedOnce S.accepts L.origin session.old session.new digest)) }
-        ensures no_step { IfErr result (TakesNoStep S.accepts L.origin session.old (Unit {0})) }
+        ensures answered { IfOk result (λ answer. IsExplained S.accepts L.origin session.old session.new
+            (Call.Causal digest) (reply_of answer) (front_of answer)) }
+        ensures told { IfOk result (IsFor digest) }
+        ensures no_step { IfErr result (TakesNoStep S.accepts L.origin session.old None) }
         ensures unchanged { OnErr result (session.new ≡ session.old) }
     {
         open_locked(&mut *self.locked.lock(rt), alloc, session, digest)
+    }
+
+    /// Makes the session's next call, of a command that hands in nothing or what was checked.
+    fn call<R: Wait>(
+        &self,
+        rt: &R,
+        alloc: Global,
+        session: &mut Session<S, L>,
+        command: &Command<S>,
+    ) -> Result<Done<S>, NoStep>
+        ensures answered { IfOk result (λ done. IsExplained S.accepts L.origin session.old session.new
+            (call_of command.now) done.reply done.front) }
+        ensures no_step { IfErr result
+            (TakesNoStep S.accepts L.origin session.old (committee_of command.now)) }
+        ensures unchanged { OnErr result (session.new ≡ session.old) }
+    {
+        call_locked(&mut *self.locked.lock(rt), alloc, session, command)
     }
 }

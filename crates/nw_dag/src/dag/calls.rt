@@ -18,11 +18,30 @@ impl Dag {
         ensures bounds { self.new.bounds ≡ self.old.bounds }
         ensures unchanged { OnErr result (self.new ≡ self.old) }
     {
-        match call {
-            Call::Write(digest, block) => Ok(Reply::Write(self.write(*digest, block)?)),
-            Call::Certify(certificate) => Ok(Reply::Certify(self.certify(certificate)?)),
-            Call::Collect(round) => Ok(Reply::Collect(self.collect(*round)?)),
-            _ => self.reply(alloc, call),
+        let reply = self.reply(alloc, call)?;
+        self.take(call, &reply)?;
+        Ok(reply)
+    }
+
+    /// Takes the step of the call that gets this reply, which [`Dag::reply`] gives. It looks up nothing that the reply
+    /// tells.
+    ///
+    /// Want of memory leaves the store as it was.
+    pub fn take(&mut self, call: &Call, reply: &Reply) -> Result<(), NoMemory>
+        requires { IsReply self.old.bounds self.old.state call.now reply.now }
+        ensures state { OnOk result (self.new.state ≡ after self.old.bounds self.old.state call.now) }
+        ensures bounds { self.new.bounds ≡ self.old.bounds }
+        ensures unchanged { OnErr result (self.new ≡ self.old) }
+    {
+        match (call, reply) {
+            (Call::Write(digest, block), Reply::Write(reply)) => {
+                self.take_write(*digest, block, reply)
+            }
+            (Call::Certify(certificate), Reply::Certify(reply)) => {
+                self.take_certify(certificate, reply)
+            }
+            (Call::Collect(round), Reply::Collect(reply)) => self.take_collect(*round, reply),
+            _ => Ok(()),
         }
     }
 

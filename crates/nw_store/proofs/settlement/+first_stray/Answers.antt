@@ -3,7 +3,7 @@ use Rattle.std.specs.Prelude.{slice_get}
 use Rattle.std.specs.List.Sorted.{IsNonDecreasingBy}
 use Rattle.std.proofs.lemmas.List.Sorted.{IsNonDecreasingBy-drop}
 use Rattle.std.proofs.lemmas.Option.{IfSome_then}
-use Rattle.nw_store.specs.Held.{Journal}
+use Rattle.nw_store.specs.Journal.{Journal}
 use Rattle.nw_store.specs.Settled.{ids_of, IsFirstStray}
 use Rattle.nw_store.proofs.Ordered.{none_then, stray_here, stray_later, none_later}
 use Rattle.nw_store.proofs.settlement.+first_stray.Goals.{then-first-made-via-then-first-made, then-first-made-via-else-first-made+then-starts_at}

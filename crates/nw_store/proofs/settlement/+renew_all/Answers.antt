@@ -1,6 +1,6 @@
 use Rattle.std.proofs.Common.{All}
 use Rattle.std.proofs.lemmas.List.Elements.{All-cons}
-use Rattle.nw_store.specs.Held.{Journal, AreBegun, AreAnswers}
+use Rattle.nw_store.specs.Journal.{Journal, AreBegun, AreAnswers}
 use Rattle.nw_store.proofs.settlement.+renew_all.Goals as goal
 
 pub returns-in-Some-clause-begun : goal.returns-in-Some-clause-begun

@@ -1,5 +1,5 @@
 use Rattle.nw_book.specs.Command.{IsUnder}
-use Rattle.nw_store.specs.Held.{IsHistoryOf}
+use Rattle.nw_store.specs.Journal.{IsHistoryOf}
 use Rattle.nw_store.proofs.Answered.{explained, unanswered}
 use Rattle.nw_store.proofs.store.Store.call.Goals as goal
 

@@ -1,4 +1,4 @@
-use Rattle.nw_store.specs.Held.{IsHistoryOf}
+use Rattle.nw_store.specs.Journal.{IsHistoryOf}
 use Rattle.nw_store.proofs.Answered.{explained_either, unanswered}
 use Rattle.nw_store.proofs.store.Store.open_causal.Goals as goal
 

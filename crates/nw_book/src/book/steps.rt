@@ -1,0 +1,201 @@
+//! Steps of a book, each decided once and then taken.
+ghost use Rattle.std.specs.Prelude.{◌≡◌, ◌↔◌, IsTrue, IfOk, OnOk, OnErr};
+ghost use Rattle.std.specs.Result.{MatchResult};
+ghost use Rattle.nw_model.specs.History.{IsAdmitted};
+ghost use Rattle.nw_model.specs.Step.{IsReply, IsShort};
+ghost use Rattle.nw_model.specs.View.{Shows};
+ghost use Rattle.nw_model.specs.declared.reply.Reply.TheVariants as replies;
+ghost use Rattle.nw_model.specs.declared.reply.WriteReply.TheVariants as writes;
+ghost use Rattle.nw_history.specs.Story.{IsLegalStory, bounds_of, state_of, with_event};
+ghost use Rattle.nw_book.specs.Answer.{IsFor, Takes, front_of, reply_of};
+ghost use Rattle.nw_book.specs.Turn.{HasRoom, IsInTurn, event};
+
+use super::{Book, Done};
+use crate::Ticket;
+use nw_dag::Dag;
+use nw_digest::{Digest, NoMemory, Shared};
+use nw_generation::View;
+use nw_history::Front;
+use nw_model::{Call, CausalReply, CertifyReply, Event, Reply, WriteReply};
+use nw_sig::Scheme;
+use std::alloc::Global;
+
+impl<S: Scheme> Book<S> {
+    /// Takes the step of a call that may be taken, and answers it, with one more owner of the front for whoever keeps a
+    /// journal. It is refused for want of memory alone, and then changes nothing.
+    pub fn take_step(
+        &mut self,
+        alloc: Global,
+        session: u16,
+        number: u32,
+        call: Call,
+    ) -> Result<(Done<S>, Front<S>), NoMemory>
+        requires turn { IsInTurn self.old session number }
+        requires admitted { IsAdmitted S.accepts self.old.committee call }
+        requires room { HasRoom self.old }
+        ensures taken { IfOk result (λ taken.
+            Takes S.accepts self.old self.new session number call taken.0.reply taken.0.front) }
+        ensures kept { IfOk result (λ taken. taken.1 ≡ self.new) }
+        ensures unchanged { OnErr result (self.new ≡ self.old) }
+    {
+        let answer = self.reply(alloc, &call)?;
+        let call = with_held(&self.tables, call, &answer)?;
+        let call = with_kept(&self.tables, call, &answer)?;
+        let reply = answer.try_clone(alloc)?;
+        let event = Event {
+            session,
+            number,
+            call,
+            reply,
+        };
+        let (front, kept) = self.record(alloc, event)?;
+        let done = Done {
+            reply: answer,
+            front,
+        };
+        Ok((done, kept))
+    }
+
+    /// Takes the step of a causal read that may be taken, and answers it, with one more owner of the front for whoever keeps a
+    /// journal. It is refused for want of memory alone, and then changes nothing.
+    pub fn take_open(
+        &mut self,
+        alloc: Global,
+        session: u16,
+        number: u32,
+        digest: Digest,
+    ) -> Result<(Result<Ticket<S>, Done<S>>, Front<S>), NoMemory>
+        requires turn { IsInTurn self.old session number }
+        requires room { HasRoom self.old }
+        ensures taken { IfOk result (λ taken. Takes S.accepts self.old self.new session number
+            (Call.Causal digest) (reply_of taken.0) (front_of taken.0)) }
+        ensures told { IfOk result (λ taken. IsFor digest taken.0) }
+        ensures kept { IfOk result (λ taken. taken.1 ≡ self.new) }
+        ensures unchanged { OnErr result (self.new ≡ self.old) }
+    {
+        match self.freeze_for(alloc, digest)? {
+            Ok(view) => {
+                let event = read_event(session, number, digest, Reply::Ready);
+                let (front, kept) = self.record(alloc, event)?;
+                Ok((Ok(Ticket::new(digest, front, view)), kept))
+            }
+            Err(refusal) => {
+                let event = read_event(session, number, digest, Reply::Causal(refusal));
+                let (front, kept) = self.record(alloc, event)?;
+                let reply = Reply::Causal(refusal);
+                Ok((Err(Done { reply, front }), kept))
+            }
+        }
+    }
+
+    /// The reply that the call would get after the history: of a causal read that can be listed `Ready`.
+    fn reply(&self, alloc: Global, call: &Call) -> Result<Reply, NoMemory>
+        ensures reply { IfOk result (IsReply (bounds_of self.now.limits) (state_of self.now) call.now) }
+        ensures short { IfOk result IsShort }
+    {
+        self.tables.reply(alloc, call)
+    }
+
+    /// A view of what is complete after the history, where the block under the digest is; else why it is not given.
+    fn freeze_for(
+        &mut self,
+        alloc: Global,
+        digest: Digest,
+    ) -> Result<Result<View<Global>, CausalReply>, NoMemory>
+        ensures answer { IfOk result (λ frozen. MatchResult frozen
+            (λ view. IsReply (bounds_of self.old.limits) (state_of self.old) (Call.Causal digest) Reply.Ready × Shows view.frozen (state_of self.old))
+            (λ refusal. IsReply (bounds_of self.old.limits) (state_of self.old) (Call.Causal digest) (Reply.Causal refusal))) }
+        ensures same { self.new ≡ self.old }
+    {
+        self.tables.freeze_for(alloc, digest)
+    }
+
+    /// Records the event of a call in its turn, with the reply that is decided, and answers the front with it, for two owners.
+    /// All memory is taken first: the event, the front, and what the tables take.
+    fn record(&mut self, alloc: Global, event: Event) -> Result<(Front<S>, Front<S>), NoMemory>
+        requires turn { IsInTurn self.old event.session event.number }
+        requires room { HasRoom self.old }
+        requires admitted { IsAdmitted S.accepts self.old.committee event.call }
+        requires reply { IsReply (bounds_of self.old.limits) (state_of self.old) event.call event.reply }
+        requires short { IsShort event.reply }
+        ensures history { OnOk result (self.new ≡ with_event self.old event) }
+        ensures legal { OnOk result (IsLegalStory S.accepts self.new) }
+        ensures front { IfOk result (λ fronts. fronts.0 ≡ self.new) }
+        ensures kept { IfOk result (λ fronts. fronts.1 ≡ self.new) }
+        ensures unchanged { OnErr result (self.new ≡ self.old) }
+    {
+        let place = usize::from(event.session);
+        let event = Shared::new(alloc, event)?;
+        let front = self.history.front_with(alloc, &event)?;
+        let fronts = (front.try_clone()?, front.try_clone()?);
+        let event = event.get();
+        self.tables.take(&event.call, &event.reply)?;
+        self.history.go_on(front);
+        self.calls[place] += 1;
+        Ok(fronts)
+    }
+}
+
+/// The event of a causal read.
+fn read_event(session: u16, number: u32, digest: Digest, reply: Reply) -> Event
+    ensures { result ≡ event session number (Call.Causal digest) reply }
+{
+    Event {
+        session,
+        number,
+        call: Call::Causal(digest),
+        reply,
+    }
+}
+
+/// The call; where its block is held already, with the one that is held, so that a history keeps no second copy of it.
+fn with_held(tables: &Dag, call: Call, reply: &Reply) -> Result<Call, NoMemory>
+    requires reply { IsReply tables.now.bounds tables.now.state call reply.now }
+    ensures { IfOk result (λ shared. shared ≡ call) }
+{
+    let Call::Write(digest, _) = &call else {
+        return Ok(call);
+    };
+    if !is_held(reply) {
+        return Ok(call);
+    }
+    match tables.read(digest)? {
+        None => Ok(call),
+        Some(held) => Ok(Call::Write(*digest, held)),
+    }
+}
+
+/// Whether a write is answered that its block is held.
+fn is_held(reply: &Reply) -> bool
+    ensures { IsTrue result ↔ reply.now ≡ replies.Write writes.Held }
+{
+    matches!(reply, Reply::Write(WriteReply::Held))
+}
+
+/// The call; where an equal certificate is kept already, with the one that is kept, so that a history keeps no second copy of
+/// it.
+fn with_kept(tables: &Dag, call: Call, reply: &Reply) -> Result<Call, NoMemory>
+    ensures { IfOk result (λ shared. shared ≡ call) }
+{
+    let Call::Certify(certificate) = &call else {
+        return Ok(call);
+    };
+    if !matches!(reply, Reply::Certify(CertifyReply::Already)) {
+        return Ok(call);
+    }
+    match tables.certificate(&certificate.get().digest)? {
+        None => Ok(call),
+        Some(kept) => Ok(same_or(Call::Certify(kept), call)),
+    }
+}
+
+/// The first call where both are the same, else the second.
+fn same_or(first: Call, second: Call) -> Call
+    ensures { result ≡ second }
+{
+    if first.is_same(&second) {
+        first
+    } else {
+        second
+    }
+}

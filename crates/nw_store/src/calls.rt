@@ -1,0 +1,156 @@
+//! Calls of sessions, while the guard of the lock is lent.
+ghost use Rattle.std.specs.Prelude.{◌≡◌, None, IfOk, IfErr, OnOk, OnErr};
+ghost use Rattle.std.specs.Option.{option_copied};
+ghost use Rattle.nw_model.specs.History.{IsAdmitted};
+ghost use Rattle.nw_history.specs.Story.{IsLegalStory};
+ghost use Rattle.nw_book.specs.Answer.{IsFor, front_of, reply_of};
+ghost use Rattle.nw_book.specs.Command.{call_of, committee_of};
+ghost use Rattle.nw_book.specs.Turn.{HasRoom, IsInTurn, IsRefusal, MayStep};
+ghost use Rattle.nw_store.specs.Journal.{next_number, origin_of};
+ghost use Rattle.nw_store.specs.Answered.{IsAnswered};
+
+use crate::session::{Entry, Session};
+use crate::{Home, Locked};
+use nw_book::{Command, Done, NoStep, Ticket};
+use nw_committee::Committee;
+use nw_digest::{Digest, NoMemory};
+use nw_model::Call;
+use nw_sig::Scheme;
+use std::alloc::Global;
+
+/// Makes the session's next call, while the guard is lent.
+///
+/// It is refused as the book refuses it: `OutOfTurn` exactly where it is not the turn of the session's next number, else
+/// `OtherCommittee` exactly where what is handed in was checked under another committee, else `HistoryFull` exactly where the
+/// history has as many events as its limit, else `NoMemory` where memory is refused, which is asked for after these tests. A
+/// refusal changes neither what the lock holds nor the session.
+pub fn call_locked<S: Scheme, L: Home>(
+    locked: &mut Locked<S, L>,
+    alloc: Global,
+    session: &mut Session<S, L>,
+    command: &Command<S>,
+) -> Result<Done<S>, NoStep>
+    ensures answered { IfOk result (λ done. IsAnswered S.accepts locked.old.history session.old
+        session.new (call_of command.now) done.reply done.front) }
+    ensures starts { origin_of locked.old.history ≡ L.origin }
+    ensures legal { IsLegalStory S.accepts locked.old.history }
+    ensures history { IfOk result (λ done.
+        locked.new ≡ record { history = done.front; made = locked.old.made }) }
+    ensures may { OnOk result (MayStep locked.old.history session.old.id
+        (next_number session.old) (committee_of command.now)) }
+    ensures refused { IfErr result (IsRefusal locked.old.history session.old.id
+        (next_number session.old) (committee_of command.now)) }
+    ensures unchanged { OnErr result (locked.new ≡ locked.old) }
+    ensures session { OnErr result (session.new ≡ session.old) }
+{
+    may_call(locked, session, command.committee())?;
+    Ok(take_call(locked, alloc, session, command.call()?)?)
+}
+
+/// Opens a causal read as the session's next call, while the guard is lent: a ticket where there is a list, else an answer that
+/// says why there is none.
+///
+/// It is refused as the book refuses it: `OutOfTurn` exactly where it is not the turn of the session's next number, else
+/// `HistoryFull` exactly where the history has as many events as its limit, else `NoMemory` where memory is refused, which is
+/// asked for after these tests. A refusal changes neither what the lock holds nor the session.
+pub fn open_locked<S: Scheme, L: Home>(
+    locked: &mut Locked<S, L>,
+    alloc: Global,
+    session: &mut Session<S, L>,
+    digest: Digest,
+) -> Result<Result<Ticket<S>, Done<S>>, NoStep>
+    ensures answered { IfOk result (λ answer. IsAnswered S.accepts locked.old.history session.old
+        session.new (Call.Causal digest) (reply_of answer) (front_of answer)) }
+    ensures told { IfOk result (IsFor digest) }
+    ensures starts { origin_of locked.old.history ≡ L.origin }
+    ensures legal { IsLegalStory S.accepts locked.old.history }
+    ensures history { IfOk result (λ answer.
+        locked.new ≡ record { history = front_of answer; made = locked.old.made }) }
+    ensures may { OnOk result
+        (MayStep locked.old.history session.old.id (next_number session.old) None) }
+    ensures refused { IfErr result
+        (IsRefusal locked.old.history session.old.id (next_number session.old) None) }
+    ensures unchanged { OnErr result (locked.new ≡ locked.old) }
+    ensures session { OnErr result (session.new ≡ session.old) }
+{
+    may_call(locked, session, None)?;
+    Ok(take_open(locked, alloc, session, digest)?)
+}
+
+/// Whether the session may make its next call, where what it hands in was checked under that committee, if it hands in
+/// anything. It takes no memory, and changes nothing.
+pub(crate) fn may_call<S: Scheme, L: Home>(
+    locked: &mut Locked<S, L>,
+    session: &mut Session<S, L>,
+    under: Option<&Committee>,
+) -> Result<(), NoStep>
+    ensures starts { origin_of locked.old.history ≡ L.origin }
+    ensures legal { IsLegalStory S.accepts locked.old.history }
+    ensures may { OnOk result (MayStep locked.old.history session.old.id
+        (next_number session.old) (option_copied under)) }
+    ensures refused { IfErr result (IsRefusal locked.old.history session.old.id
+        (next_number session.old) (option_copied under)) }
+    ensures same { locked.new ≡ locked.old }
+    ensures session { session.new ≡ session.old }
+{
+    let number = locked
+        .tally
+        .next_number(&mut session.pass, session.journal.len());
+    locked.book.may_step(session.id, number, under)
+}
+
+/// Takes the step of a call that the session may make as its next. It is refused for want of memory alone, and then changes
+/// nothing.
+pub(crate) fn take_call<S: Scheme, L: Home>(
+    locked: &mut Locked<S, L>,
+    alloc: Global,
+    session: &mut Session<S, L>,
+    call: Call,
+) -> Result<Done<S>, NoMemory>
+    requires turn { IsInTurn locked.old.history session.old.id (next_number session.old) }
+    requires admitted { IsAdmitted S.accepts locked.old.history.committee call }
+    requires room { HasRoom locked.old.history }
+    ensures answered { IfOk result (λ done. IsAnswered S.accepts locked.old.history session.old
+        session.new call done.reply done.front) }
+    ensures history { IfOk result (λ done.
+        locked.new ≡ record { history = done.front; made = locked.old.made }) }
+    ensures unchanged { OnErr result (locked.new ≡ locked.old) }
+    ensures session { OnErr result (session.new ≡ session.old) }
+{
+    let number = locked
+        .tally
+        .next_number(&mut session.pass, session.journal.len());
+    session.journal.reserve(1)?;
+    let (done, kept) = locked.book.take_step(alloc, session.id, number, call)?;
+    locked.tally.tell(&mut session.pass, &kept);
+    session.journal.push_reserved(Entry::of(kept));
+    Ok(done)
+}
+
+/// Takes the step of a causal read that the session may make as its next call. It is refused for want of memory alone, and then
+/// changes nothing.
+fn take_open<S: Scheme, L: Home>(
+    locked: &mut Locked<S, L>,
+    alloc: Global,
+    session: &mut Session<S, L>,
+    digest: Digest,
+) -> Result<Result<Ticket<S>, Done<S>>, NoMemory>
+    requires turn { IsInTurn locked.old.history session.old.id (next_number session.old) }
+    requires room { HasRoom locked.old.history }
+    ensures answered { IfOk result (λ answer. IsAnswered S.accepts locked.old.history session.old
+        session.new (Call.Causal digest) (reply_of answer) (front_of answer)) }
+    ensures told { IfOk result (IsFor digest) }
+    ensures history { IfOk result (λ answer.
+        locked.new ≡ record { history = front_of answer; made = locked.old.made }) }
+    ensures unchanged { OnErr result (locked.new ≡ locked.old) }
+    ensures session { OnErr result (session.new ≡ session.old) }
+{
+    let number = locked
+        .tally
+        .next_number(&mut session.pass, session.journal.len());
+    session.journal.reserve(1)?;
+    let (answer, kept) = locked.book.take_open(alloc, session.id, number, digest)?;
+    locked.tally.tell(&mut session.pass, &kept);
+    session.journal.push_reserved(Entry::of(kept));
+    Ok(answer)
+}
