@@ -1,8 +1,9 @@
 -- The tables and the counts after one more event.
-use Rattle.std.proofs.Common.{◌≡◌, ◌≢◌, ℕ, ◌+◌, ◌<◌, Bool, true, false, cond, List, [], ◌∷◌, ◌++◌, length, set, get_or, ap, sym, ◌∙◌, length-append, length-set, get_or-set_same, get_or-set_other, arith, refl}
+use Rattle.std.proofs.Common.{◌≡◌, ◌≢◌, ℕ, ◌+◌, ◌<◌, ◌≤◌, Bool, true, false, cond, List, [], ◌∷◌, ◌++◌, length, set, get_or, ap, sym, ◌∙◌, length-append, length-set, get_or-set_same, get_or-set_other, arith, refl}
 use Rattle.std.specs.Prelude.{◌==◌}
 use Rattle.std.proofs.lemmas.Bool.{eqb-true, eqb-false}
 use Rattle.std.proofs.lemmas.Grind.{get_or_default_zero}
+use Rattle.std.proofs.lemmas.List.Sums.{length-filter, count_by-le-length}
 use Rattle.nw_sig.specs.Signed.{Meaning}
 use Rattle.nw_model.specs.Step.{Tables, after, IsReply, IsShort}
 use Rattle.nw_model.specs.History.{IsAdmitted, events_of}
@@ -58,6 +59,19 @@ stand_next accepts t u counts s n e session place count h legal below own here v
           ∙ ap (λ x. record (tables_of s) { state = x }) (sym (replay_last (bounds_of s.limits) s.base s.events e));
       counted = counts_next counts s e h.counted inside;
     })
+
+-- the number of a session's calls is small
+pub count_fits : (accepts : Meaning) (t : Tables) (counts : List ℕ) (s : Story) (session place count : ℕ) → StandFor accepts t counts s → session < s.limits.sessions
+    → place ≡ session → count ≡ get_or counts place count → count ≤ 65536
+count_fits accepts t counts s session place count h below here value =
+    let inside : session < length counts = omega (arith, h.counted.sessions, below) in
+    let number : count ≡ get_or counts session 0 = value ∙ ap (λ i. get_or counts i count) here ∙ get_or_default_zero counts session count inside in
+    let many : get_or counts session 0 ≡ length (events_of session s.events) = h.counted.each session inside in
+    let few = length-filter (λ (e : Event). e.session == session) s.events in
+    let fewer = count_by-le-length (λ (e : Event). e.session == session) s.events in
+    let short : length s.events ≤ s.limits.events = h.legal.short in
+    let bound : s.limits.events ≤ 65536 = h.in_range.events.bounded in
+    omega (arith, number, many, few, fewer, short, bound)
 
 -- a reply to a call after the history is one at tables that stand for it
 pub reply_at : (accepts : Meaning) (t : Tables) (counts : List ℕ) (s : Story) (asked : Call) (given : Reply) → StandFor accepts t counts s → IsReply (bounds_of s.limits) (state_of s) asked given

@@ -87,9 +87,9 @@ pub(crate) fn may_call<S: Scheme, L: Home>(
     ensures starts { origin_of locked.old.history ≡ L.origin }
     ensures legal { IsLegalStory S.accepts locked.old.history }
     ensures may { OnOk result (MayStep locked.old.history session.old.id
-        (next_number session.old) (option_copied under)) }
+        (next_number session.old) (option_copied under.entry)) }
     ensures refused { IfErr result (IsRefusal locked.old.history session.old.id
-        (next_number session.old) (option_copied under)) }
+        (next_number session.old) (option_copied under.entry)) }
     ensures same { locked.new ≡ locked.old }
     ensures session { session.new ≡ session.old }
 {

@@ -116,7 +116,8 @@ impl<S: Scheme> Book<S> {
         requires turn { IsInTurn self.old event.session event.number }
         requires room { HasRoom self.old }
         requires admitted { IsAdmitted S.accepts self.old.committee event.call }
-        requires reply { IsReply (bounds_of self.old.limits) (state_of self.old) event.call event.reply }
+        requires reply { IsReply (bounds_of self.old.limits) (state_of self.old)
+            event.call event.reply }
         requires short { IsShort event.reply }
         ensures history { OnOk result (self.new ≡ with_event self.old event) }
         ensures legal { OnOk result (IsLegalStory S.accepts self.new) }
@@ -124,15 +125,29 @@ impl<S: Scheme> Book<S> {
         ensures kept { IfOk result (λ fronts. fronts.1 ≡ self.new) }
         ensures unchanged { OnErr result (self.new ≡ self.old) }
     {
-        let place = usize::from(event.session);
         let event = Shared::new(alloc, event)?;
         let front = self.history.front_with(alloc, &event)?;
-        let fronts = (front.try_clone()?, front.try_clone()?);
-        let event = event.get();
+        let kept = front.try_clone()?;
+        self.enter(event.get(), &front)?;
+        Ok((front, kept))
+    }
+
+    /// Goes on as the front, whose last event this is: its call is taken in the tables. The history's share of the front is
+    /// taken first, and what the tables take is the last thing that can be refused.
+    fn enter(&mut self, event: &Event, front: &Front<S>) -> Result<(), NoMemory>
+        requires turn { IsInTurn self.old event.now.session event.now.number }
+        requires reply { IsReply (bounds_of self.old.limits) (state_of self.old)
+            event.now.call event.now.reply }
+        requires front { front.now ≡ with_event self.old event.now }
+        requires legal { IsLegalStory S.accepts (with_event self.old event.now) }
+        ensures history { OnOk result (self.new ≡ with_event self.old event.now) }
+        ensures unchanged { OnErr result (self.new ≡ self.old) }
+    {
+        let own = front.try_clone()?;
         self.tables.take(&event.call, &event.reply)?;
-        self.history.go_on(front);
-        self.calls[place] += 1;
-        Ok(fronts)
+        self.history.go_on(own);
+        self.calls[usize::from(event.session)] += 1;
+        Ok(())
     }
 }
 

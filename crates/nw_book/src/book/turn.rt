@@ -33,8 +33,8 @@ impl<S: Scheme> Book<S> {
         number: u32,
         under: Option<&Committee>,
     ) -> Result<(), NoStep>
-        ensures may { OnOk result (MayStep self.now session number (option_copied under)) }
-        ensures refused { IfErr result (IsRefusal self.now session number (option_copied under)) }
+        ensures may { OnOk result (MayStep self.now session number (option_copied under.entry)) }
+        ensures refused { IfErr result (IsRefusal self.now session number (option_copied under.entry)) }
         ensures no_memory { IsErrOf result NoStep.NoMemory → ⊥ }
     {
         if !self.is_in_turn(session, number) {

@@ -10,3 +10,6 @@ pub returns-in-Walk-clause-refused : goal.returns-in-Walk-clause-refused
 returns-in-Walk-clause-refused g c =
     let refused = rw c.deref.ensures.value at c.make_walk.ensures.refused in
     rw c.in-Walk.is (IfErr-weaker c.make_walk.result _ _ (λ cause h. h c.args.book.now) refused)
+
+pub returns-in_ok-make_call-in-Call-clause-made : goal.returns-in_ok-make_call-in-Call-clause-made
+returns-in_ok-make_call-in-Call-clause-made g c = rw c.in-Call.is (c.in_ok-make_call-in-Call.ensures.made c.args.tickets.now.items)
