@@ -1,55 +1,56 @@
 use Rattle.std.proofs.Common.{◌≡◌, ◌+◌, List, [], ◌∷◌, ◌++◌, length, refl, sym, ap, ◌∙◌, subst, arith}
-use Rattle.std.specs.Result.{MatchResult}
 use mathlib.Core.List.{IsPrefix}
 use Rattle.nw_model.specs.declared.event.Event.{Event}
 use Rattle.nw_history.specs.Story.{Story}
-use Rattle.nw_book.specs.Ticket.{causal_event}
+use Rattle.nw_model.specs.declared.call.Call.TheVariants as calls
+use Rattle.nw_book.specs.Answer.{front_of, reply_of}
+use Rattle.nw_book.specs.Turn.{event}
 use Rattle.nw_store.specs.Journal.{Kept, Journal, Answer}
-use Rattle.nw_store.specs.Answered.{IsOpened, IsRefused}
+use Rattle.nw_store.specs.Answered.{IsAnswered}
 use Rattle.nw_store.proofs.Begun.{begun_claimed}
 use Rattle.nw_store.proofs.Kept.{kept_more, starts_so, session_more, answer_is, told_last}
-use Rattle.nw_store.proofs.Answered.{records, reply_of, answered_either}
-use Rattle.nw_store.proofs.locked.open_locked.Goals as goal
+use Rattle.nw_store.proofs.Answered.{answered}
+use Rattle.nw_store.proofs.calls.take_open.Goals as goal
 
 pub invariant_of-locked-2 : goal.invariant_of-locked-2
 invariant_of-locked-2 g c =
-    let r = records g.S.Scheme.accepts _ _ _ _ _ c.in_ok-answer.answer c.in_ok-answer.ensures.answered in
+    let t = c.in_ok-answer.ensures.taken in
     let n = c.next_number-number.ensures in (
       c.locked.invariant.0,
-      kept_more g.S.Scheme.accepts _ _ _ _ _ _ _ _ _ _ _ c.locked.invariant.1 r.history r.legal (c.front_of-front.ensures ∙ r.ends)
-          (c.tell.ensures.counted ∙ ap (λ k. k + 1) n.total) (c.tell.ensures.told ∙ ap (λ (l : List Story). l ++ c.front_of-front.result.now ∷ []) n.keeper),
-      starts_so _ _ _ _ r.history c.locked.invariant.2,
+      kept_more g.S.Scheme.accepts _ _ _ _ _ _ _ _ _ _ _ c.locked.invariant.1 t.history t.legal c.in_ok-answer.ensures.kept
+          (c.tell.ensures.counted ∙ ap (λ k. k + 1) n.total) (c.tell.ensures.told ∙ ap (λ (l : List Story). l ++ c.in_ok-answer.kept ∷ []) n.keeper),
+      starts_so _ _ _ _ t.history c.locked.invariant.2,
     )
 
 pub invariant_of-session-2 : goal.invariant_of-session-2
 invariant_of-session-2 g c =
-    let r = records g.S.Scheme.accepts _ _ _ _ _ c.in_ok-answer.answer c.in_ok-answer.ensures.answered in
+    let t = c.in_ok-answer.ensures.taken in
     let n = c.next_number-number.ensures in
-    let e : Event = causal_event c.session.inside.id c.next_number-number.result c.args.digest (reply_of c.in_ok-answer.answer) in
-    let begins : IsPrefix c.session.inside.pass.claim c.tell.new.pass.claim = subst (λ l. IsPrefix c.session.inside.pass.claim l) (sym c.tell.ensures.claim) (subst (λ l. IsPrefix l c.tell.new.self.keeper) n.claim c.tell.ensures.begins) in
+    let e : Event = event c.session.inside.id c.next_number-number.result (calls.Causal c.args.digest) (reply_of c.in_ok-answer.answer) in
+    let begins : IsPrefix c.session.inside.pass.claim c.tell.new.pass.claim =
+    subst (λ l. IsPrefix c.session.inside.pass.claim l) (sym c.tell.ensures.claim) (subst (λ l. IsPrefix l c.tell.new.self.keeper) n.claim c.tell.ensures.begins) in
     let items : c.push_reserved.new.self.items ≡ c.session.inside.journal.items ++ c.of.result ∷ [] = c.push_reserved.ensures.items ∙ ap (λ (l : List Answer). l ++ c.of.result ∷ []) c.reserve.ensures.items in
     let number : c.next_number-number.result ≡ 1 + length c.session.inside.journal.items = (let m = n.number in let len = c.len.ensures in omega (arith, m, len)) in
-    let front = c.front_of-front.ensures ∙ (r.ends ∙ r.history) in
-    let event : c.of.result.event ≡ e = c.of.ensures.event c.locked.inside.book.events e (ap (λ (s : Story). s.events) front) in
+    let front = c.in_ok-answer.ensures.kept ∙ t.history in
+    let event_is : c.of.result.event ≡ e = c.of.ensures.event c.locked.inside.book.events e (ap (λ (s : Story). s.events) front) in
     session_more c.session.inside.id _ _ _ _ _ _ _ _ _ c.session.invariant (c.tell.ensures.parts ∙ n.parts) (c.tell.ensures.amount ∙ ap (λ k. k + 1) n.amount) begins
     (told_last _ _ _ _ _ c.tell.ensures.told c.tell.ensures.claim c.of.ensures.front) items
-    (answer_is c.session.inside.id _ c.locked.inside.book c.front_of-front.result.now e c.of.result front refl number c.of.ensures.front event)
+    (answer_is c.session.inside.id _ c.locked.inside.book c.in_ok-answer.kept e c.of.result front refl number c.of.ensures.front event_is)
 
 pub returns-clause-answered : goal.returns-clause-answered
 returns-clause-answered g c =
-    let answer = c.in_ok-answer.answer in
-    let r = records g.S.Scheme.accepts _ _ _ _ _ answer c.in_ok-answer.ensures.answered in
+    let t = c.in_ok-answer.ensures.taken in
     let n = c.next_number-number.ensures in
-    let e : Event = causal_event c.session.inside.id c.next_number-number.result c.args.digest (reply_of answer) in
+    let e : Event = event c.session.inside.id c.next_number-number.result (calls.Causal c.args.digest) (reply_of c.in_ok-answer.answer) in
     let after : Journal = record { id = c.session.inside.id; answers = c.push_reserved.new.self.items } in
     let items : c.push_reserved.new.self.items ≡ c.session.inside.journal.items ++ c.of.result ∷ [] = c.push_reserved.ensures.items ∙ ap (λ (l : List Answer). l ++ c.of.result ∷ []) c.reserve.ensures.items in
     let number : c.next_number-number.result ≡ length c.session.inside.journal.items + 1 = (let m = n.number in let len = c.len.ensures in omega (arith, m, len)) in
-    let front = c.front_of-front.ensures ∙ (r.ends ∙ r.history) in
-    let event : c.of.result.event ≡ e = c.of.ensures.event c.locked.inside.book.events e (ap (λ (s : Story). s.events) front) in
-    let kept = kept_more g.S.Scheme.accepts _ _ _ _ _ _ _ _ _ _ _ c.locked.invariant.1 r.history r.legal (c.front_of-front.ensures ∙ r.ends)
-    (c.tell.ensures.counted ∙ ap (λ k. k + 1) n.total) (c.tell.ensures.told ∙ ap (λ (l : List Story). l ++ c.front_of-front.result.now ∷ []) n.keeper) in
+    let event_is : c.of.result.event ≡ e = c.of.ensures.event c.locked.inside.book.events e (ap (λ (s : Story). s.events) (c.in_ok-answer.ensures.kept ∙ t.history)) in
+    let kept = kept_more g.S.Scheme.accepts _ _ _ _ _ _ _ _ _ _ _ c.locked.invariant.1 t.history t.legal c.in_ok-answer.ensures.kept
+    (c.tell.ensures.counted ∙ ap (λ k. k + 1) n.total) (c.tell.ensures.told ∙ ap (λ (l : List Story). l ++ c.in_ok-answer.kept ∷ []) n.keeper) in
     let begins : IsPrefix c.session.inside.pass.claim c.tell.new.self.keeper = subst (λ l. IsPrefix l c.tell.new.self.keeper) n.claim c.tell.ensures.begins in
-    let begun = begun_claimed c.open.new.self c.tell.new.self.keeper c.session.inside.pass.claim c.session.inside.journal.items kept.begun begins c.session.invariant.claimed in
-    let whole = answered_either g.S.Scheme.accepts c.locked.inside.book c.open.new.self c.session.inside.id c.next_number-number.result c.args.digest answer c.session.inside.journal.items c.push_reserved.new.self.items c.of.result c.in_ok-answer.ensures.answered number begun items (c.of.ensures.front ∙ c.front_of-front.ensures) event in
-    subst (λ (h : Kept). MatchResult answer (IsOpened g.S.Scheme.accepts h.history c.args.session.now after c.args.digest) (IsRefused g.S.Scheme.accepts h.history c.args.session.now after c.args.digest)) c.locked.view_is
-    (subst (λ (j : Journal). MatchResult answer (IsOpened g.S.Scheme.accepts c.locked.inside.book j after c.args.digest) (IsRefused g.S.Scheme.accepts c.locked.inside.book j after c.args.digest)) c.session.view_is whole)
+    let begun = begun_claimed c.take_open.new.self c.tell.new.self.keeper c.session.inside.pass.claim c.session.inside.journal.items kept.begun begins c.session.invariant.claimed in
+    let whole = answered g.S.Scheme.accepts c.locked.inside.book c.take_open.new.self c.session.inside.id c.next_number-number.result (calls.Causal c.args.digest) (reply_of c.in_ok-answer.answer) (front_of c.in_ok-answer.answer) c.session.inside.journal.items
+    c.push_reserved.new.self.items c.of.result t number begun items (c.of.ensures.front ∙ c.in_ok-answer.ensures.kept ∙ sym t.front_is) event_is in
+    subst (λ (h : Kept). IsAnswered g.S.Scheme.accepts h.history c.args.session.now after (calls.Causal c.args.digest) (reply_of c.in_ok-answer.answer) (front_of c.in_ok-answer.answer)) c.locked.view_is
+    (subst (λ (j : Journal). IsAnswered g.S.Scheme.accepts c.locked.inside.book j after (calls.Causal c.args.digest) (reply_of c.in_ok-answer.answer) (front_of c.in_ok-answer.answer)) c.session.view_is whole)

@@ -1,13 +1,14 @@
+use Rattle.nw_book.specs.Answer.{front_of, reply_of}
 use Rattle.nw_store.specs.Journal.{IsHistoryOf}
-use Rattle.nw_store.proofs.Answered.{explained_either, unanswered}
+use Rattle.nw_store.proofs.Answered.{explained, unanswered}
 use Rattle.nw_store.proofs.store.Store.open_causal.Goals as goal
 
 pub returns-clause-answered : goal.returns-clause-answered
 returns-clause-answered g c =
     let known : IsHistoryOf g.S.Scheme.accepts g.L.Home.origin _ = record { starts = c.open_locked.ensures.starts; legal = c.open_locked.ensures.legal } in
-    explained_either g.S.Scheme.accepts _ _ _ _ _ c.open_locked.result known c.open_locked.ensures.answered
+    explained g.S.Scheme.accepts _ _ _ _ _ reply_of front_of c.open_locked.result known c.open_locked.ensures.answered
 
 pub returns-clause-no_step : goal.returns-clause-no_step
 returns-clause-no_step g c =
     let known : IsHistoryOf g.S.Scheme.accepts g.L.Home.origin _ = record { starts = c.open_locked.ensures.starts; legal = c.open_locked.ensures.legal } in
-    unanswered g.S.Scheme.accepts _ _ _ (λ _. Unit {0}) c.open_locked.result known c.open_locked.ensures.refused
+    unanswered g.S.Scheme.accepts _ _ _ _ c.open_locked.result known c.open_locked.ensures.refused
