@@ -33,7 +33,8 @@ impl<A: Allocator> Model for Waiting<A> {
 
     ghost view = { λ w. set.from_list (pairs_in (λ v. v.items) w.holders.entries) };
 
-    ghost invariant = { λ w. AreOneRelation (λ v. v.items) (λ v. v.items) w.holders.entries w.lacked.entries };
+    ghost invariant = { λ w.
+        AreOneRelation (λ v. v.items) (λ v. v.items) w.holders.entries w.lacked.entries };
 }
 
 impl<A: Allocator + Copy> Waiting<A> {
