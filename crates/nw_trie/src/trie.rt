@@ -1,5 +1,7 @@
 //! Maps from digests to values.
-ghost use Rattle.std.specs.Prelude.{◌≡◌, ◌+◌, [], length, is_some, IsTrue, ◌↔◌, IfOk, IfErr, OnOk, OnErr, if◌then◌else◌, filter, nat_le};
+ghost use Rattle.std.specs.Prelude.{◌≡◌, ◌+◌, [], ◌↔◌};
+ghost use Rattle.std.specs.Prelude.{length, is_some, IsTrue, IfOk, IfErr, OnOk, OnErr};
+ghost use Rattle.std.specs.Prelude.{if◌then◌else◌, filter, nat_le};
 ghost use Rattle.std.specs.Option.{option_copied, option_copied_mut, ghost_name_of};
 ghost use Rattle.std.specs.Map.{keys_of, lookup, remove_entry};
 ghost use Rattle.std.specs.BTreeMap.{insert_entry, is_at};

@@ -2,7 +2,8 @@
 ghost use Rattle.std.specs.Prelude.{◌≡◌, IfOk, OnOk, OnErr, take};
 ghost use Rattle.std.specs.BTreeMap.{keys};
 ghost use Rattle.std.specs.FinSet as set;
-ghost use Rattle.nw_waiting.specs.Pairs.{AreFirst, AreHolders, LacksCount, WantedCount, without_holder, without_wanted};
+ghost use Rattle.nw_waiting.specs.Pairs.{AreFirst, AreHolders, LacksCount, WantedCount};
+ghost use Rattle.nw_waiting.specs.Pairs.{without_holder, without_wanted};
 
 use crate::Wanted;
 use crate::lists::{add, has, remove, remove_from_each};
