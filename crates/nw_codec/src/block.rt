@@ -55,17 +55,17 @@ fn is_ascending(parents: &[Ref]) -> bool
 
 /// Whether each transaction is within its limit.
 fn are_short(transactions: &[Sequence<u8>]) -> bool
-    ensures { IsTrue result ↔ All (λ t. length t ≤ 65536) transactions.now }
+    ensures { IsTrue result ↔ All (λ t. length t ≤ MAX_TRANSACTION) transactions.now }
 {
     transactions.iter().all(|transaction| transaction.as_slice().len() <= MAX_TRANSACTION)
 }
 
 /// How many bytes the transactions take in a body, each with its length before it.
 fn size_of_all(transactions: &[Sequence<u8>]) -> usize
-    requires few { length transactions.now ≤ 1024 }
-    requires short { All (λ t. length t ≤ 65536) transactions.now }
+    requires few { length transactions.now ≤ MAX_TRANSACTIONS }
+    requires short { All (λ t. length t ≤ MAX_TRANSACTION) transactions.now }
     ensures size { result ≡ transactions_size transactions.now }
-    ensures small { result ≤ 1024 * 65540 }
+    ensures small { result ≤ MAX_TRANSACTIONS * (4 + MAX_TRANSACTION) }
 {
     let mut size = 0;
     for transaction in transactions {
