@@ -36,7 +36,8 @@ fn drop_if_below<V: InRound + Drop>(entries: &mut Trie<V, Global>, digest: &Dige
 
 /// Whether there is a value of the digest, of a round below this one.
 fn is_below<V: InRound + Drop>(entries: &Trie<V, Global>, digest: &Digest, round: Round) -> bool
-    ensures { IsTrue result ↔ IsBelow V.round_of round (lookup (is_at (digest_cmp digest.now)) entries.now) }
+    ensures { IsTrue result
+        ↔ IsBelow V.round_of round (lookup (is_at (digest_cmp digest.now)) entries.now) }
 {
     match entries.get(digest) {
         None => false,
