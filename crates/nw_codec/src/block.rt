@@ -1,7 +1,7 @@
 //! Blocks of transactions, and references to blocks.
 ghost use Rattle.std.specs.Prelude.{◌≡◌, ◌↔◌, ◌+◌, ◌*◌, ◌<◌, ◌≤◌, IsTrue, All, length};
 ghost use Rattle.std.specs.List.Sorted.{IsStrictlyIncreasing};
-ghost use Rattle.nw_codec.specs.Fits.{Fits, authors, transactions_size, body_size};
+ghost use Rattle.nw_codec.specs.Fits.{Fits, authors, transactions_size};
 
 use crate::limits::{MAX_BODY, MAX_PARENTS, MAX_TRANSACTION, MAX_TRANSACTIONS};
 use nw_digest::{Digest, InRound, Round, Sequence};

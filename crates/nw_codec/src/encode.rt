@@ -1,11 +1,10 @@
 //! Values as bytes.
-ghost use Rattle.std.specs.Prelude.{◌≡◌, ◌↔◌, ◌++◌, ◌<◌, ◌≤◌, ◌^◌, [], ◌∷◌, ℕ};
+ghost use Rattle.std.specs.Prelude.{◌≡◌, ◌↔◌, ◌++◌, ◌<◌, ◌≤◌, ℕ};
 ghost use Rattle.std.specs.Prelude.{IfOk, OnOk, IsErrOf, All, List, length};
 ghost use Rattle.std.specs.List.{flat_map};
-ghost use Rattle.std.specs.Int.{to_be_bytes, w16};
+ghost use Rattle.std.specs.Int.{to_be_bytes};
 ghost use Rattle.sha2.specs.Sha256.{sha256};
 ghost use Rattle.nw_codec.specs.Grammar.{body, message, parent_bytes, transaction_bytes};
-ghost use Rattle.nw_codec.specs.Grammar.{round_bytes};
 ghost use Rattle.nw_codec.specs.Fits.{Fits, MessageFits};
 ghost use Rattle.nw_codec.specs.declared.limits.TheConstants.{MAX_TRANSACTION};
 

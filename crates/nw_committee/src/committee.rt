@@ -1,5 +1,5 @@
 //! Committees.
-ghost use Rattle.std.specs.Prelude.{◌≡◌, ◌↔◌, ◌<◌, ◌≤◌, ◌^◌};
+ghost use Rattle.std.specs.Prelude.{◌≡◌, ◌↔◌, ◌<◌, ◌^◌};
 ghost use Rattle.std.specs.Prelude.{length, slice_get, vec_len, All, IsTrue, IfOk, OnOk, IsErrOf};
 ghost use Rattle.std.specs.Option.{option_copied, option_map};
 ghost use Rattle.std.specs.List.Sorted.{IsStrictlyIncreasing};

@@ -1,6 +1,6 @@
 //! What a store holds.
 ghost use Rattle.std.specs.Prelude.{◌≡◌, ◌↔◌, ◌≤◌};
-ghost use Rattle.std.specs.Prelude.{OnOk, OnErr, IfOk, Contains, IsNone, None, IsTrue, false, not};
+ghost use Rattle.std.specs.Prelude.{OnOk, OnErr, IsNone, None, IsTrue, false, not};
 ghost use Rattle.std.specs.Prelude.{is_some};
 ghost use Rattle.std.specs.Option.{option_copied, option_map};
 ghost use Rattle.std.specs.FinMap as map;

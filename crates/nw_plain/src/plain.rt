@@ -1,18 +1,13 @@
 //! A slow store over ordered maps.
-ghost use Rattle.std.specs.Prelude.{◌≡◌, ◌≢◌, ◌↔◌, ◌≤◌, ℕ};
-ghost use Rattle.std.specs.Prelude.{IfOk, OnOk, OnErr, IsNone, None, IsTrue, true, false, All};
-ghost use Rattle.std.specs.Prelude.{if◌then◌else◌};
+ghost use Rattle.std.specs.Prelude.{◌≡◌, ◌≢◌, ◌≤◌};
+ghost use Rattle.std.specs.Prelude.{IfOk, OnOk, OnErr, IsNone, None, IsTrue, true, false};
 ghost use Rattle.std.specs.Option.{option_copied};
-ghost use Rattle.std.specs.Result.{MatchResult};
 ghost use Rattle.std.specs.BTreeMap.{get, insert_entry, IsUnchanged};
 ghost use Rattle.std.specs.FinMap as map;
-ghost use Rattle.nw_digest.specs.Order.{digest_cmp, Slot, slot_cmp};
+ghost use Rattle.nw_digest.specs.Order.{digest_cmp, slot_cmp};
 ghost use Rattle.nw_model.specs.State.{opening, block_slot, certificate_slot};
-ghost use Rattle.nw_model.specs.Paths.{IsComplete};
-ghost use Rattle.nw_model.specs.View.{Shows, AreComplete, AddsIfComplete, HasParent};
-ghost use Rattle.nw_model.specs.Step.{IsReply, IsCausalReply, after, write_reply, certify_reply};
-ghost use Rattle.nw_model.specs.Step.{certified_digest, is_elsewhere, rival, with_block};
-ghost use Rattle.nw_model.specs.Step.{with_certificate};
+ghost use Rattle.nw_model.specs.Step.{IsReply, after, write_reply, certify_reply};
+ghost use Rattle.nw_model.specs.Step.{is_elsewhere, rival, with_block};
 
 mod causal;
 mod certificates;

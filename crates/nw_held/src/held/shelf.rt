@@ -1,5 +1,5 @@
 //! Values of rounds, under digests.
-ghost use Rattle.std.specs.Prelude.{◌≡◌, ◌↔◌, ℕ, IsTrue, [], ◌∷◌};
+ghost use Rattle.std.specs.Prelude.{◌↔◌, IsTrue, [], ◌∷◌};
 ghost use Rattle.std.specs.List.Sorted.{IsStrictlySortedBy};
 ghost use Rattle.std.specs.Map.{keys_of, lookup};
 ghost use Rattle.std.specs.BTreeMap.{is_at};
