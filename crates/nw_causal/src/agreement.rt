@@ -37,7 +37,8 @@ pub fn agree<A: Allocator>(
     requires floor { one.now.frozen.floor ≡ other.now.frozen.floor }
     requires in_one { (b : Block) × IsThere one.now.frozen digest b }
     requires in_other { (b : Block) × IsThere other.now.frozen digest b }
-    ensures { IfOk result (λ agreement. IsAgreement one.now.frozen other.now.frozen digest agreement) }
+    ensures { IfOk result
+        (λ agreement. IsAgreement one.now.frozen other.now.frozen digest agreement) }
 {
     let found = ancestors(alloc, one, digest)?;
     let floor = other.floor();

@@ -23,7 +23,8 @@ impl Ancestor {
     ) -> Result<Ancestor, NoMemory>
         requires { (b : Block) × (map.get view.now.frozen.blocks digest ≡ Some b) }
         ensures digest { IfOk result (λ ancestor. ancestor.digest ≡ digest) }
-        ensures block { IfOk result (λ ancestor. map.get view.now.frozen.blocks digest ≡ Some ancestor.block) }
+        ensures block { IfOk result
+            (λ ancestor. map.get view.now.frozen.blocks digest ≡ Some ancestor.block) }
         ensures closed { OnOk result (IsClosed view.now.frozen) }
     {
         let Some(block) = view.get(&digest) else {

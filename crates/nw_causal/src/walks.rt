@@ -69,9 +69,11 @@ fn parents_of_all<A: Allocator>(
     requires above { AreAbove view.now.frozen (digests frontier.now) }
     requires under { AreUnder view.now.frozen (found_in found.old.entries) }
     requires looked_up { HaveBlocks view.now.frozen found.old.entries frontier.now }
-    ensures parents { IfOk result (λ parents. Finds view.now.frozen (IsParentOfAny view.now.frozen (digests frontier.now))
+    ensures parents { IfOk result
+        (λ parents. Finds view.now.frozen (IsParentOfAny view.now.frozen (digests frontier.now))
         (found_in found.old.entries) (found_in found.new.entries) [] (digests parents.items)) }
-    ensures looked_up { IfOk result (λ parents. HaveBlocks view.now.frozen found.new.entries parents.items) }
+    ensures looked_up { IfOk result
+        (λ parents. HaveBlocks view.now.frozen found.new.entries parents.items) }
 {
     let mut parents = Vec::new(alloc);
     for child in frontier {
@@ -95,8 +97,10 @@ fn find_parents<A: Allocator>(
     requires there { All (HasParent view.now.frozen.blocks (round + 1)) references.now }
     requires looked_up { HaveBlocks view.now.frozen found.old.entries parents.old.items }
     ensures claims { OnOk result (Claims round references.now
-        (found_in found.old.entries) (found_in found.new.entries) (digests parents.old.items) (digests parents.new.items)) }
-    ensures looked_up { OnOk result (HaveBlocks view.now.frozen found.new.entries parents.new.items) }
+        (found_in found.old.entries) (found_in found.new.entries)
+        (digests parents.old.items) (digests parents.new.items)) }
+    ensures looked_up { OnOk result
+        (HaveBlocks view.now.frozen found.new.entries parents.new.items) }
 {
     for reference in references {
         let slot = (round, reference.author);

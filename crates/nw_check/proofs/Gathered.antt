@@ -7,6 +7,7 @@ use Rattle.std.proofs.lemmas.List.{length-map, get_or-map, map-append, take-map,
 use Rattle.std.proofs.lemmas.List.Elements.{All-map, All-append, All-cons, All-take, All-drop, All-weaker}
 use Rattle.std.proofs.lemmas.Option.{slice_get_within}
 use Rattle.nw_codec.specs.Fits.{signers}
+use Rattle.nw_codec.specs.Grammar.{seal}
 use Rattle.nw_codec.specs.declared.certificate.Seal.{Seal}
 use Rattle.nw_codec.specs.declared.certificate.Certificate.{Certificate}
 use Rattle.nw_codec.specs.declared.vote.Vote.{Vote}
@@ -14,7 +15,7 @@ use Rattle.nw_committee.specs.Committee.{ReachesQuorum}
 use Rattle.nw_committee.specs.declared.member.Member.{Member}
 use Rattle.nw_sig.specs.Signed.{Meaning, vote_text}
 use Rattle.nw_model.specs.Checks.{IsMember, IsSignedBy, IsSealOf, IsValid}
-use Rattle.nw_check.specs.Gathering.{Gathering, IsGathering, IsPlace, MayCount, Counts, seal_of, certificate_of}
+use Rattle.nw_check.specs.Gathering.{Gathering, IsGathering, IsPlace, MayCount, Counts, certificate_of}
 use Rattle.nw_check.proofs.Places.{few_below, place-rises}
 
 -- the number at a place is its seal's
@@ -68,16 +69,16 @@ module _ (accepts : Meaning) (g : Gathering) (ok : IsGathering accepts g) where
 
 -- a vote that may count keeps what is gathered
 pub counted-gathering : (accepts : Meaning) (g : Gathering) (v : Vote) (p : ℕ) → IsGathering accepts g → MayCount accepts g v → IsPlace (signers g.seals) v.signer p
-    → IsGathering accepts (record g { seals = insert g.seals p (seal_of v) })
+    → IsGathering accepts (record g { seals = insert g.seals p (seal v) })
 counted-gathering accepts g v p ok may place =
     let digest : v.digest ≡ g.digest = may.0.0.0 in
     let round : v.round ≡ g.round = may.0.0.1 in
     let author : v.author ≡ g.author = may.0.0.2 in
     let text : vote_text v.digest v.round v.author ≡ vote_text g.digest g.round g.author = cc in
-    gathering-insert accepts g ok p (seal_of v) place (subst (λ t. IsSignedBy accepts g.committee v.signer t v.signature) text may.2)
+    gathering-insert accepts g ok p (seal v) place (subst (λ t. IsSignedBy accepts g.committee v.signer t v.signature) text may.2)
 
 -- the seal of a vote, put in at some place, is what was added
-pub counted-counts : (g : Gathering) (v : Vote) (p : ℕ) (new : List Seal) → new ≡ insert g.seals p (seal_of v) → Counts g v (record g { seals = new })
+pub counted-counts : (g : Gathering) (v : Vote) (p : ℕ) (new : List Seal) → new ≡ insert g.seals p (seal v) → Counts g v (record g { seals = new })
 counted-counts g v p new e = record {
   seals = (take p g.seals, drop p g.seals, sym (take-append-drop p g.seals), e);
   others = refl;

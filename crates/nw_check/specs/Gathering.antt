@@ -3,6 +3,7 @@ use Rattle.std.specs.Prelude.{◌≡◌, ℕ, ◌<◌, ◌≤◌, List, ◌∷�
 use Rattle.std.specs.List.Sorted.{IsStrictlyIncreasing}
 use Rattle.nw_digest.specs.declared.digest.Digest.{Digest}
 use Rattle.nw_codec.specs.Fits.{signers}
+use Rattle.nw_codec.specs.Grammar.{seal}
 use Rattle.nw_codec.specs.declared.certificate.Seal.{Seal}
 use Rattle.nw_codec.specs.declared.certificate.Certificate.{Certificate}
 use Rattle.nw_codec.specs.declared.vote.Vote.{Vote}
@@ -58,10 +59,6 @@ IsGatherFault accepts g v fault.Signer = IsNew g v × (IsMember g.committee v.si
 IsGatherFault accepts g v fault.Signature = IsNew g v × IsMember g.committee v.signer × (IsVoteOf accepts g.committee v → ⊥)
 IsGatherFault accepts g v fault.NoMemory = MayCount accepts g v
 
--- the seal of a vote
-abbrev pub seal_of : Vote → Seal
-seal_of v = record { signer = v.signer; signature = v.signature }
-
 -- all numbers before the place are below this one, and all from there on are above
 pub record IsPlace (numbers : List ℕ) (number place : ℕ) : Type 0 where
   pub within : place ≤ length numbers
@@ -70,11 +67,11 @@ pub record IsPlace (numbers : List ℕ) (number place : ℕ) : Type 0 where
 
 -- the seal stands among the old ones
 abbrev pub Adds : List Seal → Seal → List Seal → Type 0
-Adds old seal new = (before after : List Seal) × (old ≡ before ++ after) × (new ≡ before ++ seal ∷ after)
+Adds old one new = (before after : List Seal) × (old ≡ before ++ after) × (new ≡ before ++ one ∷ after)
 
 -- the seal of the vote was added, and nothing else changed
 pub record Counts (old : Gathering) (v : Vote) (new : Gathering) : Type 0 where
-  pub seals : Adds old.seals (seal_of v) new.seals
+  pub seals : Adds old.seals (seal v) new.seals
   pub others : new ≡ record old { seals = new.seals }
 
 -- `Quorum` says that the members whose votes were counted reach the quorum, and `Counted` that they do not

@@ -2,7 +2,8 @@
 ghost use Rattle.std.specs.Prelude.{◌≡◌, ◌↔◌, IsTrue, IfOk, IfErr, OnOk, MatchOption, All};
 ghost use Rattle.nw_codec.specs.Fits.{Fits, CertificateFits};
 ghost use Rattle.nw_model.specs.Checks.{digest_of, IsWellFormedWith, IsSealOf, IsValid};
-ghost use Rattle.nw_check.specs.Fault.{IsBlockFault, BreaksRule, IsCertFault, BreaksCertRule, IsFirstBadSeal};
+ghost use Rattle.nw_check.specs.Fault.{IsBlockFault, BreaksRule, IsCertFault, BreaksCertRule};
+ghost use Rattle.nw_check.specs.Fault.{IsFirstBadSeal};
 
 use crate::members::{are_members, is_member, is_signed_by, reach_quorum};
 use crate::{BlockFault, CertFault, CheckedBlock, CheckedCert};
@@ -25,7 +26,8 @@ pub fn check_block<S: Scheme>(
     signature: Signature,
 ) -> Result<CheckedBlock<S>, BlockFault>
     requires { Fits block }
-    ensures checked { IfOk result (λ checked. checked ≡ record { block = block; committee = committee.now }) }
+    ensures checked { IfOk result
+        (λ checked. checked ≡ record { block = block; committee = committee.now }) }
     ensures well_formed { OnOk result (IsWellFormedWith S.accepts committee.now block signature) }
     ensures fault { IfErr result (IsBlockFault S.accepts committee.now block signature) }
 {
@@ -45,7 +47,8 @@ fn block_fault<S: Scheme>(
 ) -> Option<BlockFault>
     requires fits { Fits block.now }
     requires digest { digest.now ≡ digest_of block.now }
-    ensures { MatchOption result (IsWellFormedWith S.accepts committee.now block.now signature.now) (BreaksRule S.accepts committee.now block.now signature.now) }
+    ensures { MatchOption result (IsWellFormedWith S.accepts committee.now block.now signature.now)
+        (BreaksRule S.accepts committee.now block.now signature.now) }
 {
     let parents = block.parents.as_slice();
     let text = block_text(digest);
@@ -76,7 +79,8 @@ pub fn check_cert<S: Scheme>(
     certificate: Certificate,
 ) -> Result<CheckedCert<S>, CertFault>
     requires { CertificateFits certificate }
-    ensures checked { IfOk result (λ checked. checked ≡ record { certificate = certificate; committee = committee.now }) }
+    ensures checked { IfOk result
+        (λ checked. checked ≡ record { certificate = certificate; committee = committee.now }) }
     ensures valid { OnOk result (IsValid S.accepts committee.now certificate) }
     ensures fault { IfErr result (IsCertFault S.accepts committee.now certificate) }
 {
@@ -88,7 +92,8 @@ pub fn check_cert<S: Scheme>(
 
 /// Whether the certificate fits, is valid under the committee and is for the digest. It takes no memory.
 pub fn valid<S: Scheme>(committee: &Committee, digest: Digest, certificate: &Certificate) -> bool
-    ensures { IsTrue result ↔ (IsValid S.accepts committee.now certificate.now × (certificate.now.digest ≡ digest)) }
+    ensures { IsTrue result
+        ↔ (IsValid S.accepts committee.now certificate.now × (certificate.now.digest ≡ digest)) }
 {
     if !certificate.fits() {
         return false;
@@ -99,7 +104,8 @@ pub fn valid<S: Scheme>(committee: &Committee, digest: Digest, certificate: &Cer
 /// The first rule that the certificate breaks.
 fn cert_fault<S: Scheme>(committee: &Committee, certificate: &Certificate) -> Option<CertFault>
     requires { CertificateFits certificate.now }
-    ensures { MatchOption result (IsValid S.accepts committee.now certificate.now) (BreaksCertRule S.accepts committee.now certificate.now) }
+    ensures { MatchOption result (IsValid S.accepts committee.now certificate.now)
+        (BreaksCertRule S.accepts committee.now certificate.now) }
 {
     let votes = certificate.votes.as_slice();
     if !is_member(committee, certificate.author) {
@@ -115,7 +121,9 @@ fn cert_fault<S: Scheme>(committee: &Committee, certificate: &Certificate) -> Op
 
 /// The first signer whose signature fails.
 fn first_bad_signer<S: Scheme>(committee: &Committee, certificate: &Certificate) -> Option<u16>
-    ensures { MatchOption result (All (IsSealOf S.accepts committee.now certificate.now) certificate.now.votes) (IsFirstBadSeal S.accepts committee.now certificate.now) }
+    ensures { MatchOption result
+        (All (IsSealOf S.accepts committee.now certificate.now) certificate.now.votes)
+        (IsFirstBadSeal S.accepts committee.now certificate.now) }
 {
     let text = vote_text(&certificate.digest, certificate.round, certificate.author);
     for seal in certificate.votes.as_slice() {

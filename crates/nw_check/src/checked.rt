@@ -27,7 +27,8 @@ impl<S: Scheme> Model for CheckedBlock<S> {
 
     ghost view = { λ c. record { block = c.block; committee = c.committee } };
 
-    ghost invariant = { λ c. IsWellFormed S.accepts c.committee c.block × (c.digest ≡ digest_of c.block) };
+    ghost invariant = { λ c. IsWellFormed S.accepts c.committee c.block
+        × (c.digest ≡ digest_of c.block) };
 }
 
 impl<S: Scheme> CheckedBlock<S> {

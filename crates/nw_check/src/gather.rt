@@ -1,10 +1,13 @@
 //! Gathering the votes for a block to a certificate.
-ghost use Rattle.std.specs.Prelude.{◌≡◌, ◌↔◌, ◌≤◌, [], vec_len, insert, Contains, MatchOption, IsTrue, IfOk, IfErr, OnOk, OnErr, IsErrOf};
+ghost use Rattle.std.specs.Prelude.{◌≡◌, ◌↔◌, ◌≤◌, []};
+ghost use Rattle.std.specs.Prelude.{vec_len, insert, Contains, MatchOption, IsTrue, IfOk, IfErr};
+ghost use Rattle.std.specs.Prelude.{OnOk, OnErr, IsErrOf};
 ghost use Rattle.std.specs.List.Sorted.{IsStrictlyIncreasing};
 ghost use Rattle.nw_codec.specs.Fits.{signers};
 ghost use Rattle.nw_committee.specs.Committee.{ReachesQuorum};
 ghost use Rattle.nw_model.specs.Checks.{IsMember};
-ghost use Rattle.nw_check.specs.Gathering.{IsGathering, MayCount, IsGatherFault, IsFor, IsPlace, Counts, IsCount, certificate_of};
+ghost use Rattle.nw_check.specs.Gathering.{IsGathering, MayCount, IsGatherFault, IsFor, IsPlace};
+ghost use Rattle.nw_check.specs.Gathering.{Counts, IsCount, certificate_of};
 
 use crate::members::{is_member, is_signed_by, reach_quorum};
 use crate::{CheckedCert, Counted, FinishFault, GatherFault, StartFault};
@@ -32,9 +35,21 @@ impl<S: Scheme> Model for Gather<S> {
 
     ghost Value = { Gathering };
 
-    ghost view = { λ g. record { digest = g.digest; round = g.round; author = g.author; committee = g.committee; seals = g.seals.items } };
+    ghost view = { λ g. record {
+      digest = g.digest;
+      round = g.round;
+      author = g.author;
+      committee = g.committee;
+      seals = g.seals.items;
+    } };
 
-    ghost invariant = { λ g. IsGathering S.accepts (record { digest = g.digest; round = g.round; author = g.author; committee = g.committee; seals = g.seals.items }) };
+    ghost invariant = { λ g. IsGathering S.accepts (record {
+      digest = g.digest;
+      round = g.round;
+      author = g.author;
+      committee = g.committee;
+      seals = g.seals.items;
+    }) };
 }
 
 impl<S: Scheme> Gather<S> {
@@ -47,7 +62,13 @@ impl<S: Scheme> Gather<S> {
         round: Round,
         author: u16,
     ) -> Result<Gather<S>, StartFault>
-        ensures empty { IfOk result (λ g. g ≡ record { digest = digest; round = round; author = author; committee = committee.now; seals = [] }) }
+        ensures empty { IfOk result (λ g. g ≡ record {
+          digest = digest;
+          round = round;
+          author = author;
+          committee = committee.now;
+          seals = [];
+        }) }
         ensures member { OnOk result (IsMember committee.now author) }
         ensures author { IsErrOf result StartFault.Author ↔ (IsMember committee.now author → ⊥) }
         ensures no_memory { IsErrOf result StartFault.NoMemory → IsMember committee.now author }
@@ -123,10 +144,13 @@ impl<S: Scheme> Gather<S> {
     /// The certificate of the votes that were counted, which stay. `FewVotes` exactly where their signers do not reach the
     /// quorum, else `NoMemory` where memory is refused.
     pub fn finish(&self, alloc: Global) -> Result<CheckedCert<S>, FinishFault>
-        ensures certificate { IfOk result (λ checked. checked ≡ record { certificate = certificate_of self.now; committee = self.now.committee }) }
+        ensures certificate { IfOk result (λ checked. checked
+            ≡ record { certificate = certificate_of self.now; committee = self.now.committee }) }
         ensures quorum { OnOk result (ReachesQuorum self.now.committee (signers self.now.seals)) }
-        ensures few_votes { IsErrOf result FinishFault.FewVotes ↔ (ReachesQuorum self.now.committee (signers self.now.seals) → ⊥) }
-        ensures no_memory { IsErrOf result FinishFault.NoMemory → ReachesQuorum self.now.committee (signers self.now.seals) }
+        ensures few_votes { IsErrOf result FinishFault.FewVotes
+            ↔ (ReachesQuorum self.now.committee (signers self.now.seals) → ⊥) }
+        ensures no_memory { IsErrOf result FinishFault.NoMemory
+            → ReachesQuorum self.now.committee (signers self.now.seals) }
     {
         if !reach_quorum(self.committee.get(), &self.seals) {
             return Err(FinishFault::FewVotes);
@@ -148,7 +172,8 @@ impl<S: Scheme> Gather<S> {
 /// Where the seal of this signer belongs, or `None` where there is one already.
 fn place_of(seals: &[Seal], signer: u16) -> Option<usize>
     requires { IsStrictlyIncreasing (signers seals.now) }
-    ensures { MatchOption result (Contains (signers seals.now) signer) (IsPlace (signers seals.now) signer) }
+    ensures { MatchOption result (Contains (signers seals.now) signer)
+        (IsPlace (signers seals.now) signer) }
 {
     for (place, seal) in seals.iter().enumerate() {
         if seal.signer == signer {

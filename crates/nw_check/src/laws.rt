@@ -1,5 +1,6 @@
 //! Laws of the faults. Each is proved of its definitions; the functions do nothing.
-ghost use Rattle.nw_check.specs.Laws.{BlocksHaveOneFault, CertificatesHaveOneFault, VotesHaveOneFault};
+ghost use Rattle.nw_check.specs.Laws.{BlocksHaveOneFault, CertificatesHaveOneFault};
+ghost use Rattle.nw_check.specs.Laws.{VotesHaveOneFault};
 
 /// A block has one fault at most, and a well-formed one has none but want of memory.
 pub fn blocks_have_one_fault()

@@ -57,7 +57,7 @@ pub(crate) fn are_members<T: Numbered>(committee: &Committee, listed: &[T]) -> b
 
 /// Whether the members listed, strictly ascending, reach the quorum.
 pub(crate) fn reach_quorum<T: Numbered>(committee: &Committee, listed: &[T]) -> bool
-    requires few { length listed.now ≤ 100 }
+    requires few { length listed.now ≤ MAX_LISTED }
     requires in_order { IsStrictlyIncreasing (map T.number_of listed.now) }
     ensures { IsTrue result ↔ ReachesQuorum committee.now (map T.number_of listed.now) }
 {

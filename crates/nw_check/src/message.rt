@@ -1,6 +1,5 @@
 //! Texts from other validators, decoded and checked.
-ghost use Rattle.std.specs.Prelude.{◌≡◌, IfOk, OnErr};
-ghost use Rattle.nw_codec.specs.Fits.{Fits, CertificateFits};
+ghost use Rattle.std.specs.Prelude.{IfOk, OnErr};
 ghost use Rattle.nw_codec.specs.Spelled.{Spells, IsSpelled};
 ghost use Rattle.nw_codec.specs.declared.message.Message.TheVariants as messages;
 ghost use Rattle.nw_check.specs.Message.{IsChecked};

@@ -15,18 +15,19 @@ pub(crate) struct Chunk<T: Drop> {
 
 impl<T: Drop> Model for Chunk<T> {
     ghost use Rattle.std.specs.Prelude.{◌≡◌, List, length};
+    ghost use Rattle.nw_chunks.specs.declared.chunk.TheConstants.{CHUNK};
 
     ghost Value = { List T };
 
     ghost view = { λ c. c.items.items };
 
-    ghost invariant = { λ c. length c.items.items ≡ 256 };
+    ghost invariant = { λ c. length c.items.items ≡ CHUNK };
 }
 
 impl<T: Drop> Chunk<T> {
     /// The chunk of these items. It takes no memory.
     pub(crate) fn new(items: Vec<Shared<T>>) -> Chunk<T>
-        requires { length items.items ≡ 256 }
+        requires { length items.items ≡ CHUNK }
         ensures { result ≡ items.items }
     {
         Chunk { items }
@@ -34,9 +35,9 @@ impl<T: Drop> Chunk<T> {
 
     /// The item at the index.
     pub(crate) fn item(&self, index: usize) -> &T
-        requires { index < 256 }
+        requires { index < CHUNK }
         ensures item { slice_get self.now index ≡ Some result.now }
-        ensures whole { length self.now ≡ 256 }
+        ensures whole { length self.now ≡ CHUNK }
     {
         self.items[index].get()
     }

@@ -1,5 +1,6 @@
 //! Lists in chunks.
-ghost use Rattle.std.specs.Prelude.{◌≡◌, ◌+◌, ◌/◌, ◌%◌, ◌^◌, ◌<◌, ◌==◌, ◌++◌, ◌∷◌, [], IfOk, length, reverse, slice_get};
+ghost use Rattle.std.specs.Prelude.{◌≡◌, ◌+◌, ◌/◌, ◌%◌, ◌^◌, ◌<◌, ◌==◌, ◌++◌, ◌∷◌, []};
+ghost use Rattle.std.specs.Prelude.{IfOk, length, reverse, slice_get};
 ghost use Rattle.std.specs.Option.{option_copied};
 
 use crate::chunk::{CHUNK, Chunk};
@@ -105,7 +106,7 @@ impl<T: Drop> Chunks<T> {
 
     /// How many links it holds: one to each full chunk, and one to each item behind them.
     pub fn parts(&self) -> usize
-        ensures { result ≡ length self.now / 256 + length self.now % 256 }
+        ensures { result ≡ length self.now / CHUNK + length self.now % CHUNK }
     {
         self.full.get().as_slice().len() + self.count
     }
@@ -119,7 +120,8 @@ fn with_chunk<T: Drop>(
     item: Shared<T>,
 ) -> Result<Vec<Shared<Chunk<T>>>, NoMemory>
     requires { length behind.now ≡ 255 }
-    ensures { IfOk result (λ all. all.items ≡ chunks.now ++ (reverse behind.now ++ item ∷ []) ∷ []) }
+    ensures { IfOk result
+        (λ all. all.items ≡ chunks.now ++ (reverse behind.now ++ item ∷ []) ∷ []) }
 {
     let mut items = behind.items(alloc, CHUNK)?;
     items.push(item)?;

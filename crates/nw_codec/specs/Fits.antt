@@ -5,6 +5,7 @@ use Rattle.nw_codec.specs.declared.block.Ref.{Ref}
 use Rattle.nw_codec.specs.declared.block.Block.{Block}
 use Rattle.nw_codec.specs.declared.certificate.Seal.{Seal}
 use Rattle.nw_codec.specs.declared.certificate.Certificate.{Certificate}
+use Rattle.nw_codec.specs.declared.limits.TheConstants.{MAX_PARENTS, MAX_TRANSACTIONS, MAX_TRANSACTION, MAX_BODY, MAX_VOTES}
 use Rattle.nw_codec.specs.declared.message.Message.{Message}
 use Rattle.nw_codec.specs.declared.message.Message.TheVariants as messages
 
@@ -21,18 +22,18 @@ abbrev pub body_size : Block → ℕ
 body_size b = 13 + 34 * length b.parents + transactions_size b.transactions
 
 pub record Fits (b : Block) : Type 0 where
-  pub few_parents : length b.parents ≤ 100
+  pub few_parents : length b.parents ≤ MAX_PARENTS
   pub in_order : IsStrictlyIncreasing (authors b.parents)
-  pub few_transactions : length b.transactions ≤ 1024
-  pub short_transactions : All (λ t. length t ≤ 65536) b.transactions
-  pub short_body : body_size b ≤ 1048576
+  pub few_transactions : length b.transactions ≤ MAX_TRANSACTIONS
+  pub short_transactions : All (λ t. length t ≤ MAX_TRANSACTION) b.transactions
+  pub short_body : body_size b ≤ MAX_BODY
 
 -- the members that sign, in the order of the certificate
 abbrev pub signers : List Seal → List ℕ
 signers votes = map (λ v. v.signer) votes
 
 pub record CertificateFits (c : Certificate) : Type 0 where
-  pub few_votes : length c.votes ≤ 100
+  pub few_votes : length c.votes ≤ MAX_VOTES
   pub votes_in_order : IsStrictlyIncreasing (signers c.votes)
 
 -- a vote always fits

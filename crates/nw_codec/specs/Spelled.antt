@@ -6,6 +6,7 @@ use Rattle.nw_codec.specs.declared.block.Block.{Block}
 use Rattle.nw_codec.specs.declared.certificate.Signature.{Signature}
 use Rattle.nw_codec.specs.declared.certificate.Seal.{Seal}
 use Rattle.nw_codec.specs.declared.certificate.Certificate.{Certificate}
+use Rattle.nw_codec.specs.declared.limits.TheConstants.{MAX_TRANSACTION}
 use Rattle.nw_codec.specs.declared.vote.Vote.{Vote}
 use Rattle.nw_codec.specs.declared.message.Message.{Message}
 use Rattle.nw_codec.specs.declared.message.Message.TheVariants as messages
@@ -45,7 +46,7 @@ pub record BeginsWithParents (text : List ℕ) (parents : List Ref) (rest : List
 
 -- the text begins with these transactions, and this is the rest
 pub record BeginsWithTransactions (text : List ℕ) (transactions : List (List ℕ)) (rest : List ℕ) : Type 0 where
-  pub short : All (λ t. length t ≤ 65536) transactions
+  pub short : All (λ t. length t ≤ MAX_TRANSACTION) transactions
   pub bytes : text ≡ flat_map transaction_bytes transactions ++ rest
 
 -- the text begins with these seals, and this is the rest

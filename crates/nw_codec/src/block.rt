@@ -1,7 +1,7 @@
 //! Blocks of transactions, and references to blocks.
 ghost use Rattle.std.specs.Prelude.{◌≡◌, ◌↔◌, ◌+◌, ◌*◌, ◌<◌, ◌≤◌, IsTrue, All, length};
 ghost use Rattle.std.specs.List.Sorted.{IsStrictlyIncreasing};
-ghost use Rattle.nw_codec.specs.Fits.{Fits, authors, transactions_size, body_size};
+ghost use Rattle.nw_codec.specs.Fits.{Fits, authors, transactions_size};
 
 use crate::limits::{MAX_BODY, MAX_PARENTS, MAX_TRANSACTION, MAX_TRANSACTIONS};
 use nw_digest::{Digest, InRound, Round, Sequence};
@@ -55,17 +55,17 @@ fn is_ascending(parents: &[Ref]) -> bool
 
 /// Whether each transaction is within its limit.
 fn are_short(transactions: &[Sequence<u8>]) -> bool
-    ensures { IsTrue result ↔ All (λ t. length t ≤ 65536) transactions.now }
+    ensures { IsTrue result ↔ All (λ t. length t ≤ MAX_TRANSACTION) transactions.now }
 {
     transactions.iter().all(|transaction| transaction.as_slice().len() <= MAX_TRANSACTION)
 }
 
 /// How many bytes the transactions take in a body, each with its length before it.
 fn size_of_all(transactions: &[Sequence<u8>]) -> usize
-    requires few { length transactions.now ≤ 1024 }
-    requires short { All (λ t. length t ≤ 65536) transactions.now }
+    requires few { length transactions.now ≤ MAX_TRANSACTIONS }
+    requires short { All (λ t. length t ≤ MAX_TRANSACTION) transactions.now }
     ensures size { result ≡ transactions_size transactions.now }
-    ensures small { result ≤ 1024 * 65540 }
+    ensures small { result ≤ MAX_TRANSACTIONS * (4 + MAX_TRANSACTION) }
 {
     let mut size = 0;
     for transaction in transactions {

@@ -17,7 +17,8 @@ use std::alloc::Global;
 
 /// The rest behind the last field of a message.
 fn check_message(text: &[u8]) -> Result<&[u8], DecodeError>
-    ensures { MatchResult result (λ rest. Reaches AtTag text.now AtEnd rest.now) (λ e. FaultFrom AtTag text.now e) }
+    ensures { MatchResult result (λ rest. Reaches AtTag text.now AtEnd rest.now)
+        (λ e. FaultFrom AtTag text.now e) }
 {
     let (tag, rest) = field::<1>(text)?;
     match tag[0] {
@@ -57,7 +58,8 @@ fn message_of(alloc: Global, text: &[u8]) -> Result<Message, NoMemory>
 /// text. The time taken is linear in the text.
 pub fn decode_message(alloc: Global, text: &[u8]) -> Result<Message, DecodeError>
     ensures found { IfOk result (λ m. Spells text.now m) }
-    ensures fault { (e : DecodeError) → e ≢ DecodeError.NoMemory → (IsErrOf result e ↔ IsFirstFault text.now e) }
+    ensures fault { (e : DecodeError) → e ≢ DecodeError.NoMemory
+        → (IsErrOf result e ↔ IsFirstFault text.now e) }
     ensures memory { IsErrOf result DecodeError.NoMemory → IsSpelled text.now }
     ensures succeeds { IsSpelled text.now → IfErr result (λ e. e ≡ DecodeError.NoMemory) }
 {

@@ -1,10 +1,12 @@
 //! Values as bytes.
-ghost use Rattle.std.specs.Prelude.{◌≡◌, ◌↔◌, ◌++◌, ◌<◌, ◌≤◌, ◌^◌, [], ◌∷◌, IfOk, OnOk, IsErrOf, All, List, ℕ, length};
+ghost use Rattle.std.specs.Prelude.{◌≡◌, ◌↔◌, ◌++◌, ◌<◌, ◌≤◌, ℕ};
+ghost use Rattle.std.specs.Prelude.{IfOk, OnOk, IsErrOf, All, List, length};
 ghost use Rattle.std.specs.List.{flat_map};
-ghost use Rattle.std.specs.Int.{to_be_bytes, w16};
+ghost use Rattle.std.specs.Int.{to_be_bytes};
 ghost use Rattle.sha2.specs.Sha256.{sha256};
-ghost use Rattle.nw_codec.specs.Grammar.{body, message, parent_bytes, transaction_bytes, round_bytes};
+ghost use Rattle.nw_codec.specs.Grammar.{body, message, parent_bytes, transaction_bytes};
 ghost use Rattle.nw_codec.specs.Fits.{Fits, MessageFits};
+ghost use Rattle.nw_codec.specs.declared.limits.TheConstants.{MAX_TRANSACTION};
 
 mod certificate;
 
@@ -25,7 +27,8 @@ trait Sink {
     ghost holds: { Self → List ℕ → Type 0 };
 
     fn put(&mut self, piece: &[u8]) -> Result<(), Self::Refusal>
-        ensures { OnOk result ((text : List ℕ) → holds self.old text → holds self.new (text ++ piece.now)) };
+        ensures { OnOk result
+            ((text : List ℕ) → holds self.old text → holds self.new (text ++ piece.now)) };
 }
 
 impl Sink for Vec<u8> {
@@ -52,7 +55,8 @@ impl Sink for Sha256 {
 }
 
 fn put_parents<S: Sink>(sink: &mut S, parents: &[Ref]) -> Result<(), S::Refusal>
-    ensures { OnOk result ((text : List ℕ) → S.holds sink.old text → S.holds sink.new (text ++ flat_map parent_bytes parents.now)) }
+    ensures { OnOk result ((text : List ℕ) → S.holds sink.old text
+        → S.holds sink.new (text ++ flat_map parent_bytes parents.now)) }
 {
     for parent in parents {
         sink.put(&parent.author.to_be_bytes())?;
@@ -62,8 +66,9 @@ fn put_parents<S: Sink>(sink: &mut S, parents: &[Ref]) -> Result<(), S::Refusal>
 }
 
 fn put_transactions<S: Sink>(sink: &mut S, transactions: &[Sequence<u8>]) -> Result<(), S::Refusal>
-    requires { All (λ t. length t ≤ 65536) transactions.now }
-    ensures { OnOk result ((text : List ℕ) → S.holds sink.old text → S.holds sink.new (text ++ flat_map transaction_bytes transactions.now)) }
+    requires { All (λ t. length t ≤ MAX_TRANSACTION) transactions.now }
+    ensures { OnOk result ((text : List ℕ) → S.holds sink.old text
+        → S.holds sink.new (text ++ flat_map transaction_bytes transactions.now)) }
 {
     for transaction in transactions {
         let bytes = transaction.as_slice();
@@ -77,7 +82,8 @@ fn put_transactions<S: Sink>(sink: &mut S, transactions: &[Sequence<u8>]) -> Res
 #[tactic(auto, unfolding(crate::specs::Grammar::body))]
 fn put_body<S: Sink>(sink: &mut S, block: &Block) -> Result<(), S::Refusal>
     requires { Fits block.now }
-    ensures { OnOk result ((text : List ℕ) → S.holds sink.old text → S.holds sink.new (text ++ body block.now)) }
+    ensures { OnOk result
+        ((text : List ℕ) → S.holds sink.old text → S.holds sink.new (text ++ body block.now)) }
 {
     let parents = block.parents.as_slice();
     let transactions = block.transactions.as_slice();

@@ -13,14 +13,18 @@ ghost use Rattle.nw_codec.specs.Typed.{AreBytes, IsBlock};
 /// A text has one message, and no message's text begins another's: where the texts of two messages begin one text,
 /// the messages are the same, and so is what follows them.
 pub fn one_text()
-    ensures { (a b x y : List ℕ) (m n : Message) → Spells a m → Spells b n → a ++ x ≡ b ++ y → (m ≡ n) × (x ≡ y) }
+    ensures { (a b x y : List ℕ) (m n : Message) → Spells a m → Spells b n → a ++ x ≡ b ++ y
+        → (m ≡ n) × (x ≡ y) }
 {}
 
 /// A text of bytes is either a message's, or it has a first fault; and it has one first fault at most.
 pub fn grammar_or_fault()
-    ensures either { (text : List ℕ) → AreBytes text → IsSpelled text ⊎ ((e : DecodeError) × IsFirstFault text e) }
-    ensures not_both { (text : List ℕ) (e : DecodeError) → IsSpelled text → IsFirstFault text e → ⊥ }
-    ensures one_fault { (text : List ℕ) (d e : DecodeError) → IsFirstFault text d → IsFirstFault text e → d ≡ e }
+    ensures either { (text : List ℕ) → AreBytes text
+        → IsSpelled text ⊎ ((e : DecodeError) × IsFirstFault text e) }
+    ensures not_both { (text : List ℕ) (e : DecodeError) → IsSpelled text → IsFirstFault text e
+        → ⊥ }
+    ensures one_fault { (text : List ℕ) (d e : DecodeError) → IsFirstFault text d
+        → IsFirstFault text e → d ≡ e }
 {}
 
 /// Trailing is the fault exactly where bytes follow the text of a message.

@@ -1,6 +1,7 @@
 -- Committees, seen as the lists of their members, and which members reach the quorum.
 use Rattle.std.specs.Prelude.{◌≡◌, ◌≢◌, ◌==◌, ℕ, ◌+◌, ◌*◌, ◌/◌, ◌≤◌, Bool, List, length, map, filter, sum_by, All, AllPairs}
 use Rattle.std.specs.List.{list_any, enumerate_from}
+use Rattle.nw_committee.specs.declared.committee.TheConstants.{MAX_MEMBERS, MAX_WEIGHT}
 use Rattle.nw_committee.specs.declared.member.Key.{Key}
 use Rattle.nw_committee.specs.declared.member.Member.{Member}
 
@@ -14,11 +15,11 @@ keys members = map (λ m. m.key) members
 
 -- a weight from 1 to 1,000,000
 abbrev pub IsWeight : ℕ → Type 0
-IsWeight weight = (1 ≤ weight) × (weight ≤ 1000000)
+IsWeight weight = (1 ≤ weight) × (weight ≤ MAX_WEIGHT)
 
 -- 1 to 100 members
 abbrev pub IsSize : ℕ → Type 0
-IsSize n = (1 ≤ n) × (n ≤ 100)
+IsSize n = (1 ≤ n) × (n ≤ MAX_MEMBERS)
 
 -- 1 to 100 members with distinct keys, each with a weight
 pub record IsCommittee (members : List Member) : Type 0 where
@@ -28,7 +29,7 @@ pub record IsCommittee (members : List Member) : Type 0 where
 
 -- the number of members is 3f + 1 for some f, and at most 100
 unfoldable pub IsEqualSize : ℕ → Type 0
-IsEqualSize n = (f : ℕ) × (n ≡ 3 * f + 1) × (n ≤ 100)
+IsEqualSize n = (f : ℕ) × (n ≡ 3 * f + 1) × (n ≤ MAX_MEMBERS)
 
 -- the members with these keys, each of weight 1
 abbrev pub equal_members : List Key → List Member

@@ -1,8 +1,11 @@
 //! Committees.
-ghost use Rattle.std.specs.Prelude.{◌≡◌, ◌↔◌, ◌<◌, ◌≤◌, ◌^◌, length, slice_get, vec_len, All, IsTrue, IfOk, OnOk, IsErrOf};
+ghost use Rattle.std.specs.Prelude.{◌≡◌, ◌↔◌, ◌<◌, ◌^◌};
+ghost use Rattle.std.specs.Prelude.{length, slice_get, vec_len, All, IsTrue, IfOk, OnOk, IsErrOf};
 ghost use Rattle.std.specs.Option.{option_copied, option_map};
 ghost use Rattle.std.specs.List.Sorted.{IsStrictlyIncreasing};
-ghost use Rattle.nw_committee.specs.Committee.{AreDistinct, IsCommittee, IsSize, IsEqualSize, IsWeight, ReachesQuorum, keys, equal_members, listed_weight, total, quorum};
+ghost use Rattle.nw_committee.specs.Committee.{AreDistinct, IsCommittee, IsSize, IsEqualSize};
+ghost use Rattle.nw_committee.specs.Committee.{IsWeight, ReachesQuorum, keys, equal_members};
+ghost use Rattle.nw_committee.specs.Committee.{listed_weight, total, quorum};
 
 use crate::distinct::are_distinct;
 use crate::{CommitteeFault, Key, Member};
@@ -30,7 +33,8 @@ impl Model for Committee {
 
     ghost view = { λ c. c.members.items };
 
-    ghost invariant = { λ c. IsCommittee c.members.items × (c.total_weight ≡ total c.members.items) };
+    ghost invariant = { λ c. IsCommittee c.members.items
+        × (c.total_weight ≡ total c.members.items) };
 }
 
 impl Committee {
@@ -41,9 +45,12 @@ impl Committee {
     pub fn new(alloc: Global, keys: Vec<Key>) -> Result<Committee, CommitteeFault>
         ensures members { IfOk result (λ committee. committee ≡ equal_members keys.items) }
         ensures taken { OnOk result (IsEqualSize (vec_len keys) × AreDistinct keys.items) }
-        ensures bad_size { IsErrOf result CommitteeFault.BadSize ↔ (IsEqualSize (vec_len keys) → ⊥) }
-        ensures repeated_key { IsErrOf result CommitteeFault.RepeatedKey ↔ (IsEqualSize (vec_len keys) × (AreDistinct keys.items → ⊥)) }
-        ensures no_memory { IsErrOf result CommitteeFault.NoMemory → IsEqualSize (vec_len keys) × AreDistinct keys.items }
+        ensures bad_size { IsErrOf result CommitteeFault.BadSize
+            ↔ (IsEqualSize (vec_len keys) → ⊥) }
+        ensures repeated_key { IsErrOf result CommitteeFault.RepeatedKey
+            ↔ (IsEqualSize (vec_len keys) × (AreDistinct keys.items → ⊥)) }
+        ensures no_memory { IsErrOf result CommitteeFault.NoMemory
+            → IsEqualSize (vec_len keys) × AreDistinct keys.items }
         ensures no_weight { IsErrOf result CommitteeFault.BadWeight → ⊥ }
     {
         if !is_equal_size(keys.len()) {
@@ -63,8 +70,10 @@ impl Committee {
         ensures members { IfOk result (λ committee. committee ≡ members.items) }
         ensures taken { OnOk result (IsCommittee members.items) }
         ensures bad_size { IsErrOf result CommitteeFault.BadSize ↔ (IsSize (vec_len members) → ⊥) }
-        ensures repeated_key { IsErrOf result CommitteeFault.RepeatedKey ↔ (IsSize (vec_len members) × (AreDistinct (keys members.items) → ⊥)) }
-        ensures bad_weight { IsErrOf result CommitteeFault.BadWeight ↔ (IsSize (vec_len members) × AreDistinct (keys members.items) × (All (λ m. IsWeight m.weight) members.items → ⊥)) }
+        ensures repeated_key { IsErrOf result CommitteeFault.RepeatedKey
+            ↔ (IsSize (vec_len members) × (AreDistinct (keys members.items) → ⊥)) }
+        ensures bad_weight { IsErrOf result CommitteeFault.BadWeight ↔ (IsSize (vec_len members)
+            × AreDistinct (keys members.items) × (All (λ m. IsWeight m.weight) members.items → ⊥)) }
         ensures no_memory { IsErrOf result CommitteeFault.NoMemory → ⊥ }
     {
         if members.is_empty() || members.len() > MAX_MEMBERS {

@@ -9,13 +9,10 @@ ghost use Rattle.nw_dag.specs.Frozen.{AreFrozen, AreFrozenBut, AreOf};
 use crate::waits::Waits;
 use nw_codec::Block;
 use nw_digest::{Digest, NoMemory, Round, Shared};
-use nw_generation::{Generation, Generations, View, freeze, put};
+use nw_generation::{Generation, Generations, MOST_PARTS, View, freeze};
 use nw_held::Held;
 use nw_trie::Trie;
 use std::alloc::Global;
-
-/// How many generations there are at most.
-const MOST_PARTS: usize = 16;
 
 /// The generations of the blocks that were complete at the last view.
 #[derive(Drop)]
@@ -137,7 +134,7 @@ fn held_blocks(
     let mut trie = Trie::new_in(alloc);
     for digest in digests {
         if let Some(block) = held.block(digest) {
-            put(&mut trie, *digest, block.try_clone()?)?;
+            trie.put(*digest, block.try_clone()?)?;
         }
     }
     Ok(trie)

@@ -9,6 +9,7 @@ use Rattle.nw_codec.specs.declared.block.Block.{Block}
 use Rattle.nw_digest.specs.Order.{digest_cmp}
 use Rattle.nw_model.specs.State.{coded_digest, coded_block}
 use Rattle.nw_model.specs.View.{Frozen, IsClosed, coded_frozen}
+use Rattle.nw_generation.specs.declared.generations.TheConstants.{MOST_PARTS}
 
 -- the entries of all generations, which are given the oldest first: those of the latest generation come first
 abbrev pub latest_first : List (FinMap digest_cmp Block) → List (Digest × Block)
@@ -49,7 +50,7 @@ coded_seen = code_by (Frozen × ℕ) (coded× coded_frozen coded_ℕ) (λ s. (s.
 abbrev pub seen_of : List (FinMap digest_cmp Block) → ℕ → Seen
 seen_of generations floor = record { frozen = record { blocks = union generations; floor = floor }; parts = length generations }
 
--- closed, and of at most 16 generations
+-- closed, and of so few generations
 pub record IsView (s : Seen) : Type 0 where
   pub closed : IsClosed s.frozen
-  pub few : s.parts ≤ 16
+  pub few : s.parts ≤ MOST_PARTS

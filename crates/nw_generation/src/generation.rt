@@ -1,8 +1,7 @@
 //! Generations: blocks that are frozen at one moment.
-ghost use Rattle.std.specs.Prelude.{◌≡◌, IfOk, IfErr, OnOk, OnErr};
+ghost use Rattle.std.specs.Prelude.{◌≡◌, IfOk, IfErr, OnOk};
 ghost use Rattle.std.specs.Option.{option_copied};
 ghost use Rattle.std.specs.FinMap as map;
-ghost use Rattle.nw_digest.specs.Order.{digest_cmp};
 ghost use Rattle.nw_generation.specs.Seen.{IsOver};
 
 use nw_codec::Block;
@@ -58,10 +57,11 @@ impl<A: Allocator> Generation<A> {
     /// Puts its blocks into the trie, in the place of those that have their digests there. Want of memory may leave some of
     /// them there.
     pub fn lay_over(&self, trie: &mut Trie<Shared<Block>, Global>) -> Result<(), NoMemory>
-        ensures { OnOk result (IsOver self.now (map.from_entries trie.old) (map.from_entries trie.new)) }
+        ensures { OnOk result
+            (IsOver self.now (map.from_entries trie.old) (map.from_entries trie.new)) }
     {
         for (digest, block) in self.trie.iter() {
-            put(trie, *digest, block.try_clone()?)?;
+            trie.put(*digest, block.try_clone()?)?;
         }
         Ok(())
     }
@@ -71,20 +71,5 @@ impl<A: Allocator> Generation<A> {
         ensures { option_copied result ≡ map.get self.now digest.now }
     {
         self.trie.get(digest)
-    }
-}
-
-/// Puts the block under the digest. Want of memory changes nothing.
-pub fn put(
-    trie: &mut Trie<Shared<Block>, Global>,
-    digest: Digest,
-    block: Shared<Block>,
-) -> Result<(), NoMemory>
-    ensures put { OnOk result (map.from_entries trie.new ≡ map.insert (map.from_entries {R = digest_cmp} trie.old) digest block) }
-    ensures unchanged { OnErr result (trie.new ≡ trie.old) }
-{
-    match trie.insert(digest, block) {
-        Ok(_before) => Ok(()),
-        Err((refused, _block)) => Err(refused),
     }
 }

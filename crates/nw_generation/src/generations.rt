@@ -11,7 +11,10 @@ use nw_trie::Trie;
 use std::alloc::{Allocator, Global};
 use std::marker::Model;
 
-/// At most 16 generations, which grow in number as blocks are frozen. Contracts see what they hold together, where the later
+/// How many generations there are at most.
+pub const MOST_PARTS: usize = 16;
+
+/// At most `MOST_PARTS` generations, which grow in number as blocks are frozen. Contracts see what they hold together, where the later
 /// one counts, and how many they are.
 #[derive(Drop)]
 pub struct Generations<A: Allocator> {
@@ -22,6 +25,7 @@ pub struct Generations<A: Allocator> {
 impl<A: Allocator> Model for Generations<A> {
     ghost use Rattle.std.specs.Prelude.{◌≤◌, length};
     ghost use Rattle.nw_generation.specs.Seen.{Joined, coded_joined, joined};
+    ghost use Rattle.nw_generation.specs.declared.generations.TheConstants.{MOST_PARTS};
 
     ghost Value = { Joined };
 
@@ -29,7 +33,7 @@ impl<A: Allocator> Model for Generations<A> {
 
     ghost view = { λ g. joined g.list.items };
 
-    ghost invariant = { λ g. length g.list.items ≤ 16 };
+    ghost invariant = { λ g. length g.list.items ≤ MOST_PARTS };
 }
 
 impl<A: Allocator> Generations<A> {
@@ -45,14 +49,14 @@ impl<A: Allocator> Generations<A> {
     /// How many there are.
     pub fn parts(&self) -> usize
         ensures parts { result ≡ self.now.parts }
-        ensures few { result ≤ 16 }
+        ensures few { result ≤ MOST_PARTS }
     {
         self.list.len()
     }
 
     /// Puts one more behind the others. Want of memory changes nothing.
     pub fn push(&mut self, generation: Generation<A>) -> Result<(), NoMemory>
-        requires room { self.old.parts < 16 }
+        requires room { self.old.parts < MOST_PARTS }
         ensures blocks { OnOk result (IsOver generation self.old.blocks self.new.blocks) }
         ensures parts { OnOk result (self.new.parts ≡ self.old.parts + 1) }
         ensures unchanged { OnErr result (self.new ≡ self.old) }
@@ -87,7 +91,10 @@ impl<A: Allocator> Generations<A> {
     /// A view of what they hold together. It shares them.
     pub fn view(&self, alloc: Global, floor: Round) -> Result<View<A>, NoMemory>
         requires closed { IsClosed (record { blocks = self.now.blocks; floor = floor }) }
-        ensures { IfOk result (λ view. view ≡ record { frozen = record { blocks = self.now.blocks; floor = floor }; parts = self.now.parts }) }
+        ensures { IfOk result (λ view. view ≡ record {
+          frozen = record { blocks = self.now.blocks; floor = floor };
+          parts = self.now.parts;
+        }) }
     {
         Ok(View::new(shared(alloc, self.list.as_slice())?, floor))
     }

@@ -1,7 +1,7 @@
 //! Frozen blocks: generations of them that never change, and views of a few generations.
 //!
 //! Its contract: a [`Generation`] is a finite map from digests to blocks, made of a trie and shared by its owners. [`Generations`]
-//! are at most 16 of these, where the later ones count. A [`View`] is what some generations hold together, and it is closed
+//! are at most [`MOST_PARTS`] of these, where the later ones count. A [`View`] is what some generations hold together, and it is closed
 //! above its floor.
 //! It stands on `nw_trie` for the tries, and on `nw_model` for what a closed view is.
 #![tactic(auto)]
@@ -10,6 +10,6 @@ mod generation;
 mod generations;
 mod view;
 
-pub use generation::{Generation, freeze, put};
-pub use generations::Generations;
+pub use generation::{Generation, freeze};
+pub use generations::{Generations, MOST_PARTS};
 pub use view::View;

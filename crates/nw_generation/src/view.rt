@@ -4,6 +4,7 @@ ghost use Rattle.std.specs.Option.{option_copied};
 ghost use Rattle.std.specs.FinMap as map;
 ghost use Rattle.nw_model.specs.View.{IsClosed};
 ghost use Rattle.nw_generation.specs.Seen.{seen_of};
+ghost use Rattle.nw_generation.specs.declared.generations.TheConstants.{MOST_PARTS};
 
 use crate::Generation;
 use nw_codec::Block;
@@ -11,7 +12,7 @@ use nw_digest::{Digest, Round, Shared};
 use std::alloc::Allocator;
 use std::marker::Model;
 
-/// The blocks of at most 16 generations, and a floor. Where two generations hold a digest, the later one's block counts.
+/// The blocks of at most `MOST_PARTS` generations, and a floor. Where two generations hold a digest, the later one's block counts.
 /// Each parent of a block above the floor is there too, with the named author and in the round before, and no two blocks
 /// that are not below the floor share round and author.
 #[derive(Drop)]
@@ -37,7 +38,7 @@ impl<A: Allocator> View<A> {
     /// The view of these generations, the oldest first. It takes no memory.
     pub fn new(generations: Vec<Generation<A>>, floor: Round) -> View<A>
         requires closed { IsClosed (seen_of generations.items floor).frozen }
-        requires few { length generations.items ≤ 16 }
+        requires few { length generations.items ≤ MOST_PARTS }
         ensures { result ≡ seen_of generations.items floor }
     {
         View { generations, floor }
@@ -69,7 +70,7 @@ impl<A: Allocator> View<A> {
     /// How many generations it is made of.
     pub fn parts(&self) -> usize
         ensures parts { result ≡ self.now.parts }
-        ensures few { result ≤ 16 }
+        ensures few { result ≤ MOST_PARTS }
     {
         self.generations.len()
     }

@@ -1,14 +1,15 @@
 //! What a store holds.
-ghost use Rattle.std.specs.Prelude.{◌≡◌, ◌↔◌, ◌≤◌, OnOk, OnErr, IfOk, Contains, IsNone, None, IsTrue, false, not, is_some};
+ghost use Rattle.std.specs.Prelude.{◌≡◌, ◌↔◌, ◌≤◌};
+ghost use Rattle.std.specs.Prelude.{OnOk, OnErr, IsNone, None, IsTrue, false, not};
+ghost use Rattle.std.specs.Prelude.{is_some};
 ghost use Rattle.std.specs.Option.{option_copied, option_map};
-ghost use Rattle.std.specs.BTreeMap.{insert_entry};
 ghost use Rattle.std.specs.FinMap as map;
 ghost use Rattle.nw_digest.specs.declared.digest.Digest.{Digest};
-ghost use Rattle.nw_digest.specs.Order.{digest_cmp};
 ghost use Rattle.nw_model.specs.State.{opening, block_slot, certificate_slot};
 ghost use Rattle.nw_model.specs.Sound.{IsSound};
 ghost use Rattle.nw_held.specs.Standing.{Stands, IsMet, named_as};
-ghost use Rattle.nw_model.specs.Step.{certified_digest, is_elsewhere, rival, with_block, with_certificate};
+ghost use Rattle.nw_model.specs.Step.{certified_digest, is_elsewhere, rival, with_block};
+ghost use Rattle.nw_model.specs.Step.{with_certificate};
 
 mod collection;
 mod replies;
@@ -57,7 +58,10 @@ impl Held {
     ///
     /// At most `blocks` blocks and as many certificates are taken, of `window` rounds from the garbage round on.
     pub fn new(alloc: Global, blocks: u32, window: u32) -> Held
-        ensures { result ≡ record { bounds = record { blocks = blocks; window = window }; state = opening } }
+        ensures { result ≡ record {
+          bounds = record { blocks = blocks; window = window };
+          state = opening;
+        } }
     {
         Held {
             blocks: Trie::new_in(alloc),
@@ -175,7 +179,8 @@ impl Held {
         requires absent { IsNone (map.get self.old.state.blocks digest) }
         requires first { vote ≡ not (is_some (map.get self.old.state.firsts (block_slot block))) }
         requires alone { rival self.old.state digest (block_slot block) ≡ None }
-        requires misfit { is_elsewhere certificate_slot (map.get self.old.state.certificates digest) (block_slot block) ≡ false }
+        requires misfit { is_elsewhere certificate_slot (map.get self.old.state.certificates digest)
+            (block_slot block) ≡ false }
         requires kept { self.old.state.floor ≤ block.round }
         ensures state { OnOk result (self.new.state ≡ with_block self.old.state digest block vote) }
         ensures bounds { self.new.bounds ≡ self.old.bounds }
@@ -183,7 +188,7 @@ impl Held {
     {
         let held = block.get();
         let (round, author) = (held.round, held.author);
-        insert(&mut self.blocks, digest, block)?;
+        self.blocks.put(digest, block)?;
         if vote {
             if let Err(refused) = self.slots.put_first(round, author, digest) {
                 let _block = self.blocks.remove(&digest);
@@ -198,7 +203,8 @@ impl Held {
     pub fn put_certificate(&mut self, certificate: Shared<Certificate>) -> Result<(), NoMemory>
         requires absent { IsNone (map.get self.old.state.certificates certificate.digest) }
         requires open { certified_digest self.old.state (certificate_slot certificate) ≡ None }
-        requires misfit { is_elsewhere block_slot (map.get self.old.state.blocks certificate.digest) (certificate_slot certificate) ≡ false }
+        requires misfit { is_elsewhere block_slot (map.get self.old.state.blocks certificate.digest)
+            (certificate_slot certificate) ≡ false }
         requires kept { self.old.state.floor ≤ certificate.round }
         ensures state { OnOk result (self.new.state ≡ with_certificate self.old.state certificate) }
         ensures bounds { self.new.bounds ≡ self.old.bounds }
@@ -207,22 +213,11 @@ impl Held {
         let kept = certificate.get();
         let digest = kept.digest;
         let (round, author) = (kept.round, kept.author);
-        insert(&mut self.certificates, digest, certificate)?;
+        self.certificates.put(digest, certificate)?;
         if let Err(refused) = self.slots.put_certified(round, author, digest) {
             let _certificate = self.certificates.remove(&digest);
             return Err(refused);
         }
         Ok(())
-    }
-}
-
-/// Puts the value at the digest.
-fn insert<V: Drop>(entries: &mut Trie<V, Global>, digest: Digest, value: V) -> Result<(), NoMemory>
-    ensures put { OnOk result (entries.new ≡ insert_entry digest_cmp entries.old digest value) }
-    ensures unchanged { OnErr result (entries.new ≡ entries.old) }
-{
-    match entries.insert(digest, value) {
-        Ok(_) => Ok(()),
-        Err((refused, _)) => Err(refused),
     }
 }

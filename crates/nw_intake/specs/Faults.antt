@@ -2,14 +2,15 @@
 use Rattle.std.specs.Prelude.{ℕ, ◌<◌, ◌≤◌, Bool, false}
 use Rattle.nw_intake.specs.declared.point.Point.{Point}
 use Rattle.nw_intake.specs.declared.point.Point.TheVariants as point
+use Rattle.nw_intake.specs.declared.threads.TheConstants.{MOST_WORKERS}
 use Rattle.nw_intake.specs.declared.fault.ShareFault.{ShareFault}
 use Rattle.nw_intake.specs.declared.fault.ShareFault.TheVariants as share
 use Rattle.nw_intake.specs.declared.fault.IntakeFault.{IntakeFault}
 use Rattle.nw_intake.specs.declared.fault.IntakeFault.TheVariants as fault
 
--- 1 to 16 workers
+-- at least one worker, and not too many
 abbrev pub IsCrew : ℕ → Type 0
-IsCrew workers = (1 ≤ workers) × (workers ≤ 16)
+IsCrew workers = (1 ≤ workers) × (workers ≤ MOST_WORKERS)
 
 -- the gate may say no to the start of one of so many checks
 abbrev pub HoldsBack : (Point → Bool → Type 0) → ℕ → Type 0

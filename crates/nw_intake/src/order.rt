@@ -13,7 +13,8 @@ pub(crate) fn put_in_order<T: Drop>(
     count: usize,
 ) -> Result<Vec<T>, NoMemory>
     requires { 0 < vec_len shares }
-    ensures { IfOk result (λ all. (whole : List T) → IsDealt whole count shares.items → all.items ≡ whole) }
+    ensures { IfOk result
+        (λ all. (whole : List T) → IsDealt whole count shares.items → all.items ≡ whole) }
 {
     let workers = shares.len();
     let mut all = Vec::with_capacity(alloc, count)?;

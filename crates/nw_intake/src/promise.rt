@@ -21,5 +21,6 @@ pub(crate) struct ShareOf<'a, S: Scheme, G: Gate> {
 impl<'a, S: Scheme, G: Gate> Promise<ShareResult<S>> for ShareOf<'a, S, G> {
     ghost use Rattle.nw_intake.specs.Shares.{IsShareResult};
 
-    ghost kept_by = { λ p r. IsShareResult S.accepts p.committee.now p.texts.now (G.says p.gate.now) p.worker p.workers r };
+    ghost kept_by = { λ p r. IsShareResult S.accepts p.committee.now p.texts.now
+        (G.says p.gate.now) p.worker p.workers r };
 }

@@ -27,7 +27,8 @@ pub(crate) fn check_share<S: Scheme, G: Gate>(
 ) -> ShareResult<S>
     requires workers { 0 < workers }
     requires few { length texts.now < 2 ^ 32 }
-    ensures { IsShareResult S.accepts committee.now texts.now (G.says gate.now) worker workers result }
+    ensures { IsShareResult S.accepts committee.now texts.now
+        (G.says gate.now) worker workers result }
 {
     let mut answers = VecDeque::new(alloc);
     for (place, text) in texts.iter().enumerate() {

@@ -41,7 +41,8 @@ pub fn check_all<S: Scheme + Send, G: Gate + Sync, R: Threads + Wait + Sync>(
 ) -> Result<Vec<Checked<S>>, IntakeFault>
     requires { vec_len texts < 2 ^ 32 }
     ensures workers { IfOk result (λ _. IsCrew workers) }
-    ensures checked { IfOk result (λ answers. AllZip (IsAnswer S.accepts committee.now) texts.items answers.items) }
+    ensures checked { IfOk result
+        (λ answers. AllZip (IsAnswer S.accepts committee.now) texts.items answers.items) }
     ensures fault { IfErr result (IsIntakeFault (G.says gate.now) (vec_len texts) workers) }
 {
     if workers == 0 || workers > MOST_WORKERS {
@@ -63,14 +64,16 @@ fn run_all<S: Scheme + Send, G: Gate + Sync, R: Threads + Wait + Sync>(
 ) -> Result<Vec<ShareResult<S>>, NoMemory>
     requires workers { 0 < workers }
     requires few { length texts.now < 2 ^ 32 }
-    ensures { IfOk result (λ results. AreShareResults S.accepts committee.now texts.now (G.says gate.now) workers results.items) }
+    ensures { IfOk result (λ results.
+        AreShareResults S.accepts committee.now texts.now (G.says gate.now) workers results.items) }
 {
     thread::scope(
         thread::scope_env(),
         rt,
         |scope| -> Result<Vec<ShareResult<S>>, NoMemory>
             requires { (0 < workers) × (length texts.now < 2 ^ 32) }
-            ensures { IfOk result (λ results. AreShareResults S.accepts committee.entry.now texts.entry.now (G.says gate.entry.now) workers results.items) }
+            ensures { IfOk result (λ results. AreShareResults S.accepts committee.entry.now
+                texts.entry.now (G.says gate.entry.now) workers results.items) }
         {
             let handles = start_all(alloc, scope, committee, texts, workers, gate)?;
             match join_promised(rt, handles) {
@@ -93,7 +96,8 @@ fn start_all<'s, 'e, S: Scheme + Send + 'e, G: Gate + Sync>(
     requires workers { 0 < workers }
     requires few { length texts.now < 2 ^ 32 }
     ensures few { IfOk result (λ handles. length handles.items ≤ workers) }
-    ensures each { IfOk result (λ handles. ArePromised committee.now texts.now gate.now workers handles.items) }
+    ensures each { IfOk result
+        (λ handles. ArePromised committee.now texts.now gate.now workers handles.items) }
 {
     let mut handles = Vec::new(alloc);
     for worker in 0..workers {
@@ -123,7 +127,8 @@ fn joined<S: Scheme>(
     workers: usize,
 ) -> Result<Vec<VecDeque<Checked<S>>>, IntakeFault>
     requires { length results.items ≤ workers }
-    ensures shares { IfOk result (λ shares. (results.items ≡ map (λ share. Ok share) shares.items) × (length shares.items ≡ workers)) }
+    ensures shares { IfOk result (λ shares. (results.items ≡ map (λ share. Ok share) shares.items)
+        × (length shares.items ≡ workers)) }
     ensures fault { IfErr result (IsJointFault workers results.items) }
 {
     let started = results.len();

@@ -6,6 +6,8 @@
 
 mod base;
 mod plain;
+mod view;
+mod walks;
 
 pub use base::Base;
 pub use plain::Plain;

@@ -1,14 +1,13 @@
 //! A slow store over ordered maps.
-ghost use Rattle.std.specs.Prelude.{◌≡◌, ◌≢◌, ◌↔◌, ◌≤◌, ℕ, IfOk, OnOk, OnErr, IsNone, None, IsTrue, true, false, All, if◌then◌else◌};
+ghost use Rattle.std.specs.Prelude.{◌≡◌, ◌≢◌, ◌≤◌};
+ghost use Rattle.std.specs.Prelude.{IfOk, OnOk, OnErr, IsNone, None, IsTrue, true, false};
 ghost use Rattle.std.specs.Option.{option_copied};
-ghost use Rattle.std.specs.Result.{MatchResult};
 ghost use Rattle.std.specs.BTreeMap.{get, insert_entry, IsUnchanged};
 ghost use Rattle.std.specs.FinMap as map;
-ghost use Rattle.nw_digest.specs.Order.{digest_cmp, Slot, slot_cmp};
+ghost use Rattle.nw_digest.specs.Order.{digest_cmp, slot_cmp};
 ghost use Rattle.nw_model.specs.State.{opening, block_slot, certificate_slot};
-ghost use Rattle.nw_model.specs.Paths.{IsComplete};
-ghost use Rattle.nw_model.specs.View.{Shows, AreComplete, AddsIfComplete, HasParent};
-ghost use Rattle.nw_model.specs.Step.{IsReply, IsCausalReply, after, write_reply, certify_reply, certified_digest, is_elsewhere, rival, with_block, with_certificate};
+ghost use Rattle.nw_model.specs.Step.{IsReply, after, write_reply, certify_reply};
+ghost use Rattle.nw_model.specs.Step.{is_elsewhere, rival, with_block};
 
 mod causal;
 mod certificates;
@@ -51,11 +50,21 @@ impl Model for Plain {
 
     ghost view = { λ p. record {
       bounds = record { blocks = p.most; window = p.window };
-      state = record { blocks = map.from_entries p.blocks.entries; certificates = map.from_entries p.certificates.entries; firsts = map.from_entries p.firsts.entries; floor = p.floor };
+      state = record {
+        blocks = map.from_entries p.blocks.entries;
+        certificates = map.from_entries p.certificates.entries;
+        firsts = map.from_entries p.firsts.entries;
+        floor = p.floor;
+      };
     } };
 
     ghost invariant = { λ p. IsKept
-        (record { blocks = map.from_entries p.blocks.entries; certificates = map.from_entries p.certificates.entries; firsts = map.from_entries p.firsts.entries; floor = p.floor })
+        (record {
+          blocks = map.from_entries p.blocks.entries;
+          certificates = map.from_entries p.certificates.entries;
+          firsts = map.from_entries p.firsts.entries;
+          floor = p.floor;
+        })
         (map.from_entries p.certified.entries) };
 }
 
@@ -64,7 +73,10 @@ impl Plain {
     ///
     /// It keeps at most `blocks` blocks, and takes blocks of `window` rounds from the garbage round on.
     pub fn new(alloc: Global, blocks: u32, window: u32) -> Plain
-        ensures { result ≡ record { bounds = record { blocks = blocks; window = window }; state = opening } }
+        ensures { result ≡ record {
+          bounds = record { blocks = blocks; window = window };
+          state = opening;
+        } }
     {
         Plain {
             blocks: BTreeMap::new(alloc),
@@ -82,9 +94,11 @@ impl Plain {
     ///
     /// Want of memory leaves the store as it was.
     pub fn call(&mut self, call: &Call) -> Result<Reply, NoMemory>
-        ensures reply { IfOk result (λ reply. IsReply self.old.bounds self.old.state call.now reply) }
+        ensures reply { IfOk result
+            (λ reply. IsReply self.old.bounds self.old.state call.now reply) }
         ensures listed { IfOk result (λ reply. reply ≢ Reply.Ready) }
-        ensures state { OnOk result (self.new.state ≡ after self.old.bounds self.old.state call.now) }
+        ensures state { OnOk result
+            (self.new.state ≡ after self.old.bounds self.old.state call.now) }
         ensures bounds { self.new.bounds ≡ self.old.bounds }
         ensures unchanged { OnErr result (self.new ≡ self.old) }
     {
@@ -105,7 +119,7 @@ impl Plain {
     }
 
     /// The reply that the call would get now. A causal read of a complete digest gets its list, never `Ready`.
-    pub fn reply(&self, call: &Call) -> Result<Reply, NoMemory>
+    fn reply(&self, call: &Call) -> Result<Reply, NoMemory>
         ensures reply { IfOk result (IsReply self.now.bounds self.now.state call.now) }
         ensures listed { IfOk result (λ reply. reply ≢ Reply.Ready) }
     {
@@ -168,7 +182,8 @@ impl Plain {
 
     /// Whether the digest is certified for another round or author than the block's.
     fn is_misfit(&self, digest: &Digest, block: &Block) -> bool
-        ensures { result ≡ is_elsewhere certificate_slot (map.get self.now.state.certificates digest.now) (block_slot block.now) }
+        ensures { result ≡ is_elsewhere certificate_slot
+            (map.get self.now.state.certificates digest.now) (block_slot block.now) }
     {
         match self.certificate(digest) {
             None => false,
@@ -235,7 +250,8 @@ impl Plain {
     fn store(&mut self, digest: Digest, block: Shared<Block>, vote: bool) -> Result<(), NoMemory>
         requires absent { IsNone (map.get self.old.state.blocks digest) }
         requires open { IsTrue vote → IsNone (map.get self.old.state.firsts (block_slot block)) }
-        requires misfit { is_elsewhere certificate_slot (map.get self.old.state.certificates digest) (block_slot block) ≡ false }
+        requires misfit { is_elsewhere certificate_slot (map.get self.old.state.certificates digest)
+            (block_slot block) ≡ false }
         requires kept { self.old.state.floor ≤ block.round }
         ensures state { OnOk result (self.new.state ≡ with_block self.old.state digest block vote) }
         ensures bounds { self.new.bounds ≡ self.old.bounds }
@@ -252,7 +268,8 @@ impl Plain {
     fn store_first(&mut self, digest: Digest, block: Shared<Block>) -> Result<(), NoMemory>
         requires absent { IsNone (map.get self.old.state.blocks digest) }
         requires open { IsNone (map.get self.old.state.firsts (block_slot block)) }
-        requires misfit { is_elsewhere certificate_slot (map.get self.old.state.certificates digest) (block_slot block) ≡ false }
+        requires misfit { is_elsewhere certificate_slot (map.get self.old.state.certificates digest)
+            (block_slot block) ≡ false }
         requires kept { self.old.state.floor ≤ block.round }
         ensures state { OnOk result (self.new.state ≡ with_block self.old.state digest block true) }
         ensures bounds { self.new.bounds ≡ self.old.bounds }
@@ -273,7 +290,8 @@ fn insert_both<T: Drop>(
     slot: (Round, u16),
 ) -> Result<(), NoMemory>
     requires { IsNone (get slot_cmp slots.old slot) }
-    ensures both { OnOk result ((held.new.entries ≡ insert_entry digest_cmp held.old.entries digest value)
+    ensures both { OnOk result
+        ((held.new.entries ≡ insert_entry digest_cmp held.old.entries digest value)
         × (slots.new.entries ≡ insert_entry slot_cmp slots.old.entries slot digest)) }
     ensures same_held { OnErr result (IsUnchanged held.old held.new) }
     ensures same_slots { OnErr result (IsUnchanged slots.old slots.new) }

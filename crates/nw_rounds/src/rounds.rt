@@ -1,5 +1,6 @@
 //! The digests of each slot.
-ghost use Rattle.std.specs.Prelude.{◌≡◌, ◌+◌, ◌<◌, ◌≤◌, ◌^◌, All, IfOk, OnOk, OnErr, IsNone, nat_le};
+ghost use Rattle.std.specs.Prelude.{◌≡◌, ◌+◌, ◌<◌, ◌≤◌, ◌^◌};
+ghost use Rattle.std.specs.Prelude.{All, IfOk, OnOk, OnErr, IsNone, nat_le};
 ghost use Rattle.std.specs.Bool.{MatchBool};
 ghost use Rattle.std.specs.BTreeMap.{keys};
 ghost use Rattle.std.specs.FinMap as map;
@@ -68,7 +69,8 @@ impl<A: Allocator> Rounds<A> {
     where
         A: Clone,
         requires { IsNone (map.get self.old.firsts (round, author)) }
-        ensures firsts { OnOk result (self.new.firsts ≡ map.insert self.old.firsts (round, author) digest) }
+        ensures firsts { OnOk result
+            (self.new.firsts ≡ map.insert self.old.firsts (round, author) digest) }
         ensures certified { self.new.certified ≡ self.old.certified }
         ensures unchanged { OnErr result (self.new ≡ self.old) }
     {
@@ -88,7 +90,8 @@ impl<A: Allocator> Rounds<A> {
     where
         A: Clone,
         requires { IsNone (map.get self.old.certified (round, author)) }
-        ensures certified { OnOk result (self.new.certified ≡ map.insert self.old.certified (round, author) digest) }
+        ensures certified { OnOk result
+            (self.new.certified ≡ map.insert self.old.certified (round, author) digest) }
         ensures firsts { self.new.firsts ≡ self.old.firsts }
         ensures unchanged { OnErr result (self.new ≡ self.old) }
     {
@@ -115,8 +118,10 @@ impl<A: Allocator> Rounds<A> {
 
     /// Drops the digests of all rounds below this one. It takes no memory, and costs what it drops.
     pub fn drop_below(&mut self, round: Round)
-        ensures firsts { self.new.firsts ≡ map.retain_keys self.old.firsts (λ slot. nat_le round slot.0) }
-        ensures certified { self.new.certified ≡ map.retain_keys self.old.certified (λ slot. nat_le round slot.0) }
+        ensures firsts { self.new.firsts
+            ≡ map.retain_keys self.old.firsts (λ slot. nat_le round slot.0) }
+        ensures certified { self.new.certified
+            ≡ map.retain_keys self.old.certified (λ slot. nat_le round slot.0) }
     {
         let round = round.get();
         while begins_below(&self.digests, round) {
@@ -145,7 +150,8 @@ fn digests_between<A: Allocator>(
     to: u64,
 ) -> Result<BTreeSet<Digest>, NoMemory>
     requires { from < to }
-    ensures { IfOk result (λ found. AreDigestsBetween (tables_of digests.now.entries) from to found.keys) }
+    ensures { IfOk result
+        (λ found. AreDigestsBetween (tables_of digests.now.entries) from to found.keys) }
 {
     let mut found = BTreeSet::new(alloc);
     let places = ((from, 0), Table::First)..((to, 0), Table::First);
@@ -157,7 +163,8 @@ fn digests_between<A: Allocator>(
 
 /// Whether the first place is of a lower round. Otherwise none is.
 fn begins_below<A: Allocator>(digests: &BTreeMap<(Slot, Table), Digest, A>, round: u64) -> bool
-    ensures { MatchBool result (BeginsBelow round digests.now.entries) (All (λ place. round ≤ place.0.0) (keys digests.now)) }
+    ensures { MatchBool result (BeginsBelow round digests.now.entries)
+        (All (λ place. round ≤ place.0.0) (keys digests.now)) }
 {
     match digests.first_key_value() {
         None => false,

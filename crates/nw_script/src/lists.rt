@@ -14,7 +14,8 @@ pub fn list<'a, T: Drop, F: Fn(&'a str) -> Option<T>>(
     element: F,
 ) -> Result<Vec<T>, LineFault>
     requires { F.IsAlwaysCallable element }
-    ensures elements { IfOk result (λ list. AreElements F.Fn element (parts_of text.now) list.items) }
+    ensures elements { IfOk result
+        (λ list. AreElements F.Fn element (parts_of text.now) list.items) }
     ensures bad { result ≡ Err LineFault.Bad → HasOther F.Fn element (parts_of text.now) }
 {
     let parts = split_parts(alloc, text)?;
@@ -38,8 +39,10 @@ fn all_elements<'a, T: Drop, F: Fn(&'a str) -> Option<T>>(
     element: F,
 ) -> Result<Vec<T>, LineFault>
     requires { F.IsAlwaysCallable element }
-    ensures elements { IfOk result (λ list. AreElements F.Fn element (map (λ part. part.now) parts.now) list.items) }
-    ensures bad { result ≡ Err LineFault.Bad → HasOther F.Fn element (map (λ part. part.now) parts.now) }
+    ensures elements { IfOk result
+        (λ list. AreElements F.Fn element (map (λ part. part.now) parts.now) list.items) }
+    ensures bad { result ≡ Err LineFault.Bad
+        → HasOther F.Fn element (map (λ part. part.now) parts.now) }
 {
     let mut elements = Vec::new(alloc);
     for part in parts {

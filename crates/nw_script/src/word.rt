@@ -6,6 +6,11 @@ ghost use Rattle.nw_script.specs.Word.{IsName, IsPlain, IsWord, is_word_byte};
 
 use std::fmt;
 
+/// How many bytes a name has at most.
+const LONGEST_NAME: usize = 16;
+/// How many bytes a transaction's word has at most.
+const LONGEST_TRANSACTION: usize = 64;
+
 /// A name: 1 to 16 bytes of `a` to `z` and `0` to `9`, a letter first.
 #[derive(Clone, Copy, Debug, PartialEq, Eq, PartialOrd, Ord)]
 pub struct Name<'a> {
@@ -31,15 +36,15 @@ impl fmt::Display for Name<'_> {
 fn is_name(word: &[u8]) -> bool
     ensures { IsTrue result ↔ IsName word.now }
 {
-    is_word(word, 16) && word[0].is_ascii_lowercase()
+    is_word(word, LONGEST_NAME) && word[0].is_ascii_lowercase()
 }
 
 /// The transaction that the word is, 1 to 64 bytes of `a` to `z` and `0` to `9`, or `None` where it is not one.
 pub fn transaction(word: &str) -> Option<&str>
-    ensures found { IsSome result ↔ IsWord 64 word.now }
+    ensures found { IsSome result ↔ IsWord LONGEST_TRANSACTION word.now }
     ensures value { IfSome result (λ bytes. bytes.now ≡ word.now) }
 {
-    is_word(word.as_bytes(), 64).then_some(word)
+    is_word(word.as_bytes(), LONGEST_TRANSACTION).then_some(word)
 }
 
 // Whether the word is so many letters and digits at most.

@@ -32,5 +32,6 @@ pub trait Signer {
     fn sign(&self, text: &[u8]) -> Signature
         ensures { signs self.now text.now result };
 
-    ghost accepted: { (signer : Self) (text : List ℕ) (signature : Signature) → signs signer text signature → Self.Scheme.accepts (key signer) text signature ≡ true };
+    ghost accepted: { (signer : Self) (text : List ℕ) (signature : Signature)
+        → signs signer text signature → Self.Scheme.accepts (key signer) text signature ≡ true };
 }

@@ -1,7 +1,7 @@
 //! The bits of a digest, the highest bit of the first byte first.
 ghost use Rattle.std.specs.Prelude.{◌≡◌, ◌<◌, ℕ, length};
 ghost use Rattle.std.specs.Option.{MatchOption};
-ghost use Rattle.nw_trie.specs.Bits.{AgreeBelow, AreBytes, DifferFirst, bit_of, byte_bit, list_bit};
+ghost use Rattle.nw_trie.specs.Bits.{AreBytes, DifferFirst, bit_of, byte_bit, list_bit};
 
 use nw_digest::Digest;
 

@@ -173,7 +173,8 @@ impl<V: Drop, A: Allocator> Tree<V, A> {
     /// The bit at which the digest first differs from the nearest of the others, or `None` where it is one of them.
     pub(crate) fn branch(&self, digest: &Digest) -> Option<u8>
         requires { 0 < length self.now }
-        ensures { MatchOption result (HasKey digest.now self.now) (λ bit. BranchesAt digest.now bit self.now) }
+        ensures { MatchOption result (HasKey digest.now self.now)
+            (λ bit. BranchesAt digest.now bit self.now) }
     {
         let mut near = self;
         while let Link::Fork(bit, sides) = &near.link {
@@ -221,7 +222,8 @@ impl<V: Drop, A: Allocator> Tree<V, A> {
     )
         requires branches { BranchesAt digest.now bit self.old }
         requires leaf { (value : V) × (leaf ≡ (digest.now, value) ∷ []) }
-        ensures entries { (value : V) → leaf ≡ (digest.now, value) ∷ [] → self.new ≡ insert_entry digest_cmp self.old digest.now value }
+        ensures entries { (value : V) → leaf ≡ (digest.now, value) ∷ []
+            → self.new ≡ insert_entry digest_cmp self.old digest.now value }
         ensures len { length self.new ≡ length self.old + 1 }
     {
         if let Link::Fork(at, sides) = &mut self.link {
@@ -239,7 +241,8 @@ impl<V: Drop, A: Allocator> Tree<V, A> {
         requires differ { EachKey (λ k. DifferFirst bit digest.now k) self.old }
         requires full { 0 < length self.old }
         requires leaf { (value : V) × (leaf ≡ (digest.now, value) ∷ []) }
-        ensures entries { (value : V) → leaf ≡ (digest.now, value) ∷ [] → self.new ≡ insert_entry digest_cmp self.old digest.now value }
+        ensures entries { (value : V) → leaf ≡ (digest.now, value) ∷ []
+            → self.new ≡ insert_entry digest_cmp self.old digest.now value }
         ensures len { length self.new ≡ length self.old + 1 }
     {
         let _ = &self.link;
@@ -271,7 +274,9 @@ impl<V: Drop, A: Allocator> Tree<V, A> {
 impl<V: Drop, A: Allocator> Sides<V, A> {
     /// The side of the digests that have the bit set, or the other side.
     fn side_mut(&mut self, set: bool) -> &mut Tree<V, A>
-        ensures* writes_back { sem 𝓛 (follows (sides.the_row V.row A.row A.Allocator) (tree.the_row V.row A.row A.Allocator) self.entry.ghost_name result.ghost_name (with_side self.old set)) }
+        ensures* writes_back { sem 𝓛 (follows (sides.the_row V.row A.row A.Allocator)
+            (tree.the_row V.row A.row A.Allocator) self.entry.ghost_name result.ghost_name
+            (with_side self.old set)) }
         ensures value { result.now ≡ side_of self.old set }
     {
         if set { &mut self.right } else { &mut self.left }

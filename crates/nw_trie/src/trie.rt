@@ -1,5 +1,7 @@
 //! Maps from digests to values.
-ghost use Rattle.std.specs.Prelude.{◌≡◌, ◌+◌, [], length, is_some, IsTrue, ◌↔◌, IfOk, IfErr, OnOk, OnErr, if◌then◌else◌, filter, nat_le};
+ghost use Rattle.std.specs.Prelude.{◌≡◌, ◌+◌, [], ◌↔◌};
+ghost use Rattle.std.specs.Prelude.{length, is_some, IsTrue, IfOk, IfErr, OnOk, OnErr};
+ghost use Rattle.std.specs.Prelude.{if◌then◌else◌, filter, nat_le};
 ghost use Rattle.std.specs.Option.{option_copied, option_copied_mut, ghost_name_of};
 ghost use Rattle.std.specs.Map.{keys_of, lookup, remove_entry};
 ghost use Rattle.std.specs.BTreeMap.{insert_entry, is_at};
@@ -68,7 +70,9 @@ impl<V: Drop, A: Allocator> Trie<V, A> {
 
     /// The value of the digest, to be changed where it lies. What is written there is then the digest's value.
     pub fn get_mut(&mut self, digest: &Digest) -> Option<&mut V>
-        ensures* writes_back { sem 𝓛 (follows_if (the_row V.row A.row A.Allocator) V.row self.entry.ghost_name (ghost_name_of result) (insert_entry digest_cmp self.old digest.now) self.old) }
+        ensures* writes_back { sem 𝓛 (follows_if (the_row V.row A.row A.Allocator) V.row
+            self.entry.ghost_name (ghost_name_of result)
+            (insert_entry digest_cmp self.old digest.now) self.old) }
         ensures value { option_copied_mut result ≡ lookup (is_at (digest_cmp digest.now)) self.old }
     {
         if self.get(digest).is_none() {
@@ -93,7 +97,8 @@ impl<V: Drop, A: Allocator> Trie<V, A> {
         // On success the digest has the value, and its old value is returned.
         ensures old { IfOk result (λ old. old ≡ lookup (is_at (digest_cmp digest)) self.old) }
         ensures entries { OnOk result (self.new ≡ insert_entry digest_cmp self.old digest value) }
-        ensures len { IfOk result (λ old. length self.new ≡ length self.old + (if is_some old then 0 else 1)) }
+        ensures len { IfOk result
+            (λ old. length self.new ≡ length self.old + (if is_some old then 0 else 1)) }
 
         // On failure the value comes back and the entries stay. Only a new digest can fail.
         ensures value_returned { IfErr result (λ refused. refused.1 ≡ value) }
@@ -119,6 +124,20 @@ impl<V: Drop, A: Allocator> Trie<V, A> {
                 self.len += 1;
                 Ok(None)
             }
+        }
+    }
+
+    /// Puts the value at the digest. A value that was there is dropped, and the new one is where memory is refused. Want of
+    /// memory changes nothing.
+    pub fn put(&mut self, digest: Digest, value: V) -> Result<(), NoMemory>
+    where
+        A: Clone,
+        ensures put { OnOk result (self.new ≡ insert_entry digest_cmp self.old digest value) }
+        ensures unchanged { OnErr result (self.new ≡ self.old) }
+    {
+        match self.insert(digest, value) {
+            Ok(_before) => Ok(()),
+            Err((refused, _value)) => Err(refused),
         }
     }
 

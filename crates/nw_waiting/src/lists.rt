@@ -1,5 +1,6 @@
 //! Lists under keys, none of them empty.
-ghost use Rattle.std.specs.Prelude.{◌≡◌, [], ◌∷◌, ◌++◌, OnOk, OnErr, filter, not, ◌&&◌, if◌then◌else◌};
+ghost use Rattle.std.specs.Prelude.{◌≡◌, [], ◌∷◌, ◌++◌, ◌&&◌};
+ghost use Rattle.std.specs.Prelude.{OnOk, OnErr, filter, not, if◌then◌else◌};
 ghost use Rattle.std.specs.BTreeMap.{get, is_at, IsOrdered};
 ghost use Rattle.std.specs.List.{IsDistinct, list_any};
 ghost use Rattle.std.specs.Ordering.{eq_by_cmp};
@@ -17,9 +18,13 @@ pub fn add<K: Ord + Copy, V: Copy, A: Allocator + Copy>(
     value: V,
 ) -> Result<(), NoMemory>
     ensures added { OnOk result ((q : K) → list_of (λ v. v.items) (get K.cmp lists.new q)
-        ≡ (if is_at (K.cmp key) q then list_of (λ v. v.items) (get K.cmp lists.old q) ++ value ∷ [] else list_of (λ v. v.items) (get K.cmp lists.old q))) }
-    ensures kept { OnErr result ((q : K) → list_of (λ v. v.items) (get K.cmp lists.new q) ≡ list_of (λ v. v.items) (get K.cmp lists.old q)) }
-    ensures filled { AreFilled (λ v. v.items) (get K.cmp lists.old) → AreFilled (λ v. v.items) (get K.cmp lists.new) }
+        ≡ (if is_at (K.cmp key) q
+        then list_of (λ v. v.items) (get K.cmp lists.old q) ++ value ∷ []
+        else list_of (λ v. v.items) (get K.cmp lists.old q))) }
+    ensures kept { OnErr result ((q : K) → list_of (λ v. v.items) (get K.cmp lists.new q)
+        ≡ list_of (λ v. v.items) (get K.cmp lists.old q)) }
+    ensures filled { AreFilled (λ v. v.items) (get K.cmp lists.old)
+        → AreFilled (λ v. v.items) (get K.cmp lists.new) }
     ensures ordered { IsOrdered K.cmp lists.new }
 {
     if let Some(list) = lists.get_mut(&key) {
@@ -39,8 +44,12 @@ pub fn remove<K: Ord + Drop, V: Ord + Drop, A: Allocator>(
     value: &V,
 )
     ensures removed { (q : K) → list_of (λ v. v.items) (get K.cmp lists.new q)
-        ≡ (if is_at (K.cmp key.now) q then filter (λ x. not (eq_by_cmp V.cmp x value.now)) (list_of (λ v. v.items) (get K.cmp lists.old q)) else list_of (λ v. v.items) (get K.cmp lists.old q)) }
-    ensures filled { AreFilled (λ v. v.items) (get K.cmp lists.old) → AreFilled (λ v. v.items) (get K.cmp lists.new) }
+        ≡ (if is_at (K.cmp key.now) q
+        then filter (λ x. not (eq_by_cmp V.cmp x value.now))
+        (list_of (λ v. v.items) (get K.cmp lists.old q))
+        else list_of (λ v. v.items) (get K.cmp lists.old q)) }
+    ensures filled { AreFilled (λ v. v.items) (get K.cmp lists.old)
+        → AreFilled (λ v. v.items) (get K.cmp lists.new) }
     ensures ordered { IsOrdered K.cmp lists.new }
 {
     let Some(list) = lists.get_mut(key) else {
@@ -64,11 +73,16 @@ pub fn remove_from_each<K: Ord + Drop, V: Ord + Drop, A: Allocator>(
     keys: &[K],
     value: &V,
 )
-    ensures removed { (q : K) (v : V) → list_any (eq_by_cmp V.cmp v) (list_of (λ list. list.items) (get K.cmp lists.new q))
-        ≡ (list_any (eq_by_cmp V.cmp v) (list_of (λ list. list.items) (get K.cmp lists.old q)) && not (list_any (eq_by_cmp K.cmp q) keys.now && eq_by_cmp V.cmp v value.now)) }
-    ensures once { ((q : K) → IsDistinct (eq_by_cmp V.cmp) (list_of (λ list. list.items) (get K.cmp lists.old q)))
-        → (q : K) → IsDistinct (eq_by_cmp V.cmp) (list_of (λ list. list.items) (get K.cmp lists.new q)) }
-    ensures filled { AreFilled (λ v. v.items) (get K.cmp lists.old) → AreFilled (λ v. v.items) (get K.cmp lists.new) }
+    ensures removed { (q : K) (v : V)
+        → list_any (eq_by_cmp V.cmp v) (list_of (λ list. list.items) (get K.cmp lists.new q))
+        ≡ (list_any (eq_by_cmp V.cmp v) (list_of (λ list. list.items) (get K.cmp lists.old q))
+        && not (list_any (eq_by_cmp K.cmp q) keys.now && eq_by_cmp V.cmp v value.now)) }
+    ensures once { ((q : K)
+        → IsDistinct (eq_by_cmp V.cmp) (list_of (λ list. list.items) (get K.cmp lists.old q)))
+        → (q : K)
+        → IsDistinct (eq_by_cmp V.cmp) (list_of (λ list. list.items) (get K.cmp lists.new q)) }
+    ensures filled { AreFilled (λ v. v.items) (get K.cmp lists.old)
+        → AreFilled (λ v. v.items) (get K.cmp lists.new) }
     ensures ordered { IsOrdered K.cmp lists.old → IsOrdered K.cmp lists.new }
 {
     for key in keys {
@@ -82,7 +96,8 @@ pub fn has<K: Ord, V: Ord, A: Allocator>(
     key: &K,
     value: &V,
 ) -> bool
-    ensures { result ≡ list_any (eq_by_cmp V.cmp value.now) (list_of (λ v. v.items) (get K.cmp lists.now key.now)) }
+    ensures { result ≡ list_any (eq_by_cmp V.cmp value.now)
+        (list_of (λ v. v.items) (get K.cmp lists.now key.now)) }
 {
     match lists.get(key) {
         None => false,

@@ -2,7 +2,8 @@
 ghost use Rattle.std.specs.Prelude.{◌≡◌, IfOk, OnOk, OnErr, take};
 ghost use Rattle.std.specs.BTreeMap.{keys};
 ghost use Rattle.std.specs.FinSet as set;
-ghost use Rattle.nw_waiting.specs.Pairs.{AreFirst, AreHolders, LacksCount, WantedCount, without_holder, without_wanted};
+ghost use Rattle.nw_waiting.specs.Pairs.{AreFirst, AreHolders, LacksCount, WantedCount};
+ghost use Rattle.nw_waiting.specs.Pairs.{without_holder, without_wanted};
 
 use crate::Wanted;
 use crate::lists::{add, has, remove, remove_from_each};
@@ -33,7 +34,8 @@ impl<A: Allocator> Model for Waiting<A> {
 
     ghost view = { λ w. set.from_list (pairs_in (λ v. v.items) w.holders.entries) };
 
-    ghost invariant = { λ w. AreOneRelation (λ v. v.items) (λ v. v.items) w.holders.entries w.lacked.entries };
+    ghost invariant = { λ w.
+        AreOneRelation (λ v. v.items) (λ v. v.items) w.holders.entries w.lacked.entries };
 }
 
 impl<A: Allocator + Copy> Waiting<A> {

@@ -31,7 +31,8 @@ pub fn block(
     parents: Vec<Ref>,
     text: &[u8],
 ) -> Result<Shared<Block>, NoMemory>
-    ensures { IfOk result (λ b. (b.round ≡ slot.0) × (b.author ≡ slot.1) × (b.parents ≡ parents.items)) }
+    ensures { IfOk result
+        (λ b. (b.round ≡ slot.0) × (b.author ≡ slot.1) × (b.parents ≡ parents.items)) }
 {
     let mut transactions = Vec::new(alloc);
     transactions.push(Sequence::new(text.to_vec(alloc)?))?;

@@ -10,5 +10,5 @@ mod tries;
 mod views;
 
 pub use blocks::{block, name, references, round};
-pub use tries::{Blocks, newer, older, put};
+pub use tries::{Blocks, newer, older};
 pub use views::{empty_view, view_of_both, view_of_older};

@@ -1,28 +1,16 @@
 //! Tries of blocks, which tests freeze.
-ghost use Rattle.std.specs.Prelude.{◌≡◌, IfOk, OnOk};
+ghost use Rattle.std.specs.Prelude.{IfOk};
 ghost use Rattle.std.specs.FinMap as map;
-ghost use Rattle.std.specs.BTreeMap.{insert_entry};
-ghost use Rattle.nw_digest.specs.Order.{digest_cmp};
 ghost use Rattle.sample_blocks.specs.Sample.{AreBases, AreNext};
 
 use crate::{block, name, references, round};
 use nw_codec::Block;
-use nw_digest::{Digest, NoMemory, Round, Shared};
+use nw_digest::{NoMemory, Round, Shared};
 use nw_trie::Trie;
 use std::alloc::Global;
 
 /// Blocks under their digests.
 pub type Blocks = Trie<Shared<Block>, Global>;
-
-/// Puts the block under the digest.
-pub fn put(trie: &mut Blocks, digest: Digest, block: Shared<Block>) -> Result<(), NoMemory>
-    ensures { OnOk result (trie.new ≡ insert_entry digest_cmp trie.old digest block) }
-{
-    match trie.insert(digest, block) {
-        Ok(_old) => Ok(()),
-        Err((refused, _block)) => Err(refused),
-    }
-}
 
 /// The blocks of round 0 of three authors, each with this transaction.
 pub fn older(alloc: Global, text: &[u8]) -> Result<Blocks, NoMemory>
@@ -32,7 +20,7 @@ pub fn older(alloc: Global, text: &[u8]) -> Result<Blocks, NoMemory>
     for author in 0..3u8 {
         let slot = (Round::ZERO, author as u16);
         let base = block(alloc, slot, Vec::new(alloc), text)?;
-        put(&mut trie, name(0, author), base)?;
+        trie.put(name(0, author), base)?;
     }
     Ok(trie)
 }
@@ -43,6 +31,6 @@ pub fn newer(alloc: Global) -> Result<Blocks, NoMemory>
 {
     let mut trie = Trie::new_in(alloc);
     let next = block(alloc, (round(1), 0), references(alloc)?, b"next")?;
-    put(&mut trie, name(1, 0), next)?;
+    trie.put(name(1, 0), next)?;
     Ok(trie)
 }

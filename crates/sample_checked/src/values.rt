@@ -41,7 +41,8 @@ pub fn block(
     round: u64,
     parents: &[Digest],
 ) -> Result<CheckedBlock<DemoScheme>, Fail>
-    ensures { IfOk result (λ b. (b.committee ≡ committee.now) × (b.block.author ≡ author) × (b.block.round ≡ round)) }
+    ensures { IfOk result
+        (λ b. (b.committee ≡ committee.now) × (b.block.author ≡ author) × (b.block.round ≡ round)) }
 {
     let transactions = Vec::new(alloc);
     checked(alloc, committee, author, round, parents, transactions)
@@ -53,7 +54,8 @@ pub fn block_with(
     committee: &Shared<Committee>,
     transaction: &[u8],
 ) -> Result<CheckedBlock<DemoScheme>, Fail>
-    ensures { IfOk result (λ b. (b.committee ≡ committee.now) × (b.block.author ≡ 0) × (b.block.round ≡ 0)) }
+    ensures { IfOk result
+        (λ b. (b.committee ≡ committee.now) × (b.block.author ≡ 0) × (b.block.round ≡ 0)) }
 {
     let mut transactions = Vec::new(alloc);
     transactions.push(Sequence::new(transaction.to_vec(alloc)?))?;
@@ -69,7 +71,8 @@ fn checked(
     parents: &[Digest],
     transactions: Vec<Sequence<u8>>,
 ) -> Result<CheckedBlock<DemoScheme>, Fail>
-    ensures { IfOk result (λ b. (b.committee ≡ committee.now) × (b.block.author ≡ author) × (b.block.round ≡ round)) }
+    ensures { IfOk result
+        (λ b. (b.committee ≡ committee.now) × (b.block.author ≡ author) × (b.block.round ≡ round)) }
 {
     let mut references = Vec::new(alloc);
     for (author, digest) in (0u16..).zip(parents) {
@@ -98,7 +101,8 @@ pub fn certificate(
     round: u64,
     digest: Digest,
 ) -> Result<CheckedCert<DemoScheme>, Fail>
-    ensures { IfOk result (λ c. (c.committee ≡ committee.now) × (c.certificate.digest ≡ digest) × (c.certificate.author ≡ author) × (c.certificate.round ≡ round)) }
+    ensures { IfOk result (λ c. (c.committee ≡ committee.now) × (c.certificate.digest ≡ digest)
+        × (c.certificate.author ≡ author) × (c.certificate.round ≡ round)) }
 {
     let round = round_of(round)?;
     let mut votes = Vec::new(alloc);

@@ -1,8 +1,12 @@
 //! Block messages: a check of the text, and the block of a text that was checked.
-ghost use Rattle.std.specs.Prelude.{◌≡◌, ℕ, ◌+◌, ◌*◌, ◌≤◌, List, ◌++◌, length, drop, MatchResult, IfOk, Some, None};
-ghost use Rattle.nw_codec.specs.Faults.{AtVersion, AtParentCount, AtParentAuthor, AtTransactionCount, AtTransactionLength, AtSignature, AtEnd, at_parents, at_transactions, Reaches, FaultFrom};
+ghost use Rattle.std.specs.Prelude.{◌≡◌, ℕ, ◌+◌, ◌*◌, ◌≤◌, ◌++◌};
+ghost use Rattle.std.specs.Prelude.{List, length, drop, MatchResult, IfOk, Some, None};
+ghost use Rattle.nw_codec.specs.Faults.{AtVersion, AtParentCount, AtParentAuthor};
+ghost use Rattle.nw_codec.specs.Faults.{AtTransactionCount, AtTransactionLength, AtSignature};
+ghost use Rattle.nw_codec.specs.Faults.{AtEnd, at_parents, at_transactions, Reaches, FaultFrom};
 ghost use Rattle.nw_codec.specs.Grammar.{parent_bytes, transaction_bytes};
-ghost use Rattle.nw_codec.specs.Spelled.{Spells, IsBlockText, BeginsWithParents, BeginsWithTransactions};
+ghost use Rattle.nw_codec.specs.Spelled.{Spells, IsBlockText, BeginsWithParents};
+ghost use Rattle.nw_codec.specs.Spelled.{BeginsWithTransactions};
 ghost use Rattle.nw_codec.specs.Typed.{IsRef};
 
 use super::fields::{field, front, is_in_order, number_of, round_of};
@@ -13,7 +17,8 @@ use std::alloc::Global;
 
 /// The rest behind the version, the author and the round.
 fn check_head(text: &[u8]) -> Result<&[u8], DecodeError>
-    ensures { MatchResult result (λ rest. Reaches AtVersion text.now AtParentCount rest.now) (λ e. FaultFrom AtVersion text.now e) }
+    ensures { MatchResult result (λ rest. Reaches AtVersion text.now AtParentCount rest.now)
+        (λ e. FaultFrom AtVersion text.now e) }
 {
     let (version, rest) = field::<1>(text)?;
     if version[0] != VERSION {
@@ -26,7 +31,10 @@ fn check_head(text: &[u8]) -> Result<&[u8], DecodeError>
 
 /// How many parents the block names, and the rest.
 fn check_parent_count(text: &[u8]) -> Result<(usize, &[u8]), DecodeError>
-    ensures { MatchResult result (λ x. (x.0 ≤ 100) × Reaches AtParentCount text.now (at_parents x.0 None (11 + 34 * x.0)) x.1.now) (λ e. FaultFrom AtParentCount text.now e) }
+    ensures { MatchResult result
+        (λ x. (x.0 ≤ MAX_PARENTS)
+        × Reaches AtParentCount text.now (at_parents x.0 None (11 + 34 * x.0)) x.1.now)
+        (λ e. FaultFrom AtParentCount text.now e) }
 {
     let (count, rest) = field::<2>(text)?;
     let count = u16::from_be_bytes(*count) as usize;
@@ -38,7 +46,10 @@ fn check_parent_count(text: &[u8]) -> Result<(usize, &[u8]), DecodeError>
 
 /// The author of the parent at the front, behind a parent of this author, and the rest.
 fn check_parent(before: Option<u16>, text: &[u8]) -> Result<(u16, &[u8]), DecodeError>
-    ensures { (more size : ℕ) → MatchResult result (λ x. Reaches (AtParentAuthor more before size) text.now (at_parents more (Some x.0) size) x.1.now) (λ e. FaultFrom (AtParentAuthor more before size) text.now e) }
+    ensures { (more size : ℕ) → MatchResult result
+        (λ x. Reaches (AtParentAuthor more before size) text.now
+        (at_parents more (Some x.0) size) x.1.now)
+        (λ e. FaultFrom (AtParentAuthor more before size) text.now e) }
 {
     let (author, rest) = field::<2>(text)?;
     let author = u16::from_be_bytes(*author);
@@ -51,7 +62,9 @@ fn check_parent(before: Option<u16>, text: &[u8]) -> Result<(u16, &[u8]), Decode
 
 /// The rest behind so many parents.
 fn check_parents(count: usize, text: &[u8]) -> Result<&[u8], DecodeError>
-    ensures { (size : ℕ) → MatchResult result (λ rest. Reaches (at_parents count None size) text.now (AtTransactionCount size) rest.now) (λ e. FaultFrom (at_parents count None size) text.now e) }
+    ensures { (size : ℕ) → MatchResult result
+        (λ rest. Reaches (at_parents count None size) text.now (AtTransactionCount size) rest.now)
+        (λ e. FaultFrom (at_parents count None size) text.now e) }
 {
     let mut before = None;
     let mut rest = text;
@@ -65,7 +78,9 @@ fn check_parents(count: usize, text: &[u8]) -> Result<&[u8], DecodeError>
 
 /// How many transactions the block holds, and the rest.
 fn check_transaction_count(text: &[u8]) -> Result<(usize, &[u8]), DecodeError>
-    ensures { (size : ℕ) → MatchResult result (λ x. Reaches (AtTransactionCount size) text.now (at_transactions x.0 (size + 2)) x.1.now) (λ e. FaultFrom (AtTransactionCount size) text.now e) }
+    ensures { (size : ℕ) → MatchResult result
+        (λ x. Reaches (AtTransactionCount size) text.now (at_transactions x.0 (size + 2)) x.1.now)
+        (λ e. FaultFrom (AtTransactionCount size) text.now e) }
 {
     let (count, rest) = field::<2>(text)?;
     let count = u16::from_be_bytes(*count) as usize;
@@ -77,8 +92,11 @@ fn check_transaction_count(text: &[u8]) -> Result<(usize, &[u8]), DecodeError>
 
 /// The size of the body with the transaction at the front, of a body that has this size before it, and the rest.
 fn check_transaction(size: usize, text: &[u8]) -> Result<(usize, &[u8]), DecodeError>
-    requires { size ≤ 1048576 }
-    ensures { (more : ℕ) → MatchResult result (λ x. (x.0 ≤ 1048576) × Reaches (AtTransactionLength more size) text.now (at_transactions more x.0) x.1.now) (λ e. FaultFrom (AtTransactionLength more size) text.now e) }
+    requires { size ≤ MAX_BODY }
+    ensures { (more : ℕ) → MatchResult result
+        (λ x. (x.0 ≤ MAX_BODY)
+        × Reaches (AtTransactionLength more size) text.now (at_transactions more x.0) x.1.now)
+        (λ e. FaultFrom (AtTransactionLength more size) text.now e) }
 {
     let (len, rest) = field::<4>(text)?;
     let len = u32::from_be_bytes(*len) as usize;
@@ -97,8 +115,10 @@ fn check_transaction(size: usize, text: &[u8]) -> Result<(usize, &[u8]), DecodeE
 
 /// The rest behind so many transactions, of a body that has this size before them.
 fn check_transactions(count: usize, size: usize, text: &[u8]) -> Result<&[u8], DecodeError>
-    requires { size ≤ 1048576 }
-    ensures { MatchResult result (λ rest. Reaches (at_transactions count size) text.now AtSignature rest.now) (λ e. FaultFrom (at_transactions count size) text.now e) }
+    requires { size ≤ MAX_BODY }
+    ensures { MatchResult result
+        (λ rest. Reaches (at_transactions count size) text.now AtSignature rest.now)
+        (λ e. FaultFrom (at_transactions count size) text.now e) }
 {
     let mut size = size;
     let mut rest = text;
@@ -112,7 +132,8 @@ fn check_transactions(count: usize, size: usize, text: &[u8]) -> Result<&[u8], D
 
 /// The rest behind a body and a signature.
 pub(super) fn check_block(text: &[u8]) -> Result<&[u8], DecodeError>
-    ensures { MatchResult result (λ rest. Reaches AtVersion text.now AtEnd rest.now) (λ e. FaultFrom AtVersion text.now e) }
+    ensures { MatchResult result (λ rest. Reaches AtVersion text.now AtEnd rest.now)
+        (λ e. FaultFrom AtVersion text.now e) }
 {
     let rest = check_head(text)?;
     let (count, rest) = check_parent_count(rest)?;
@@ -125,7 +146,8 @@ pub(super) fn check_block(text: &[u8]) -> Result<&[u8], DecodeError>
 
 /// The rest behind a signature, the last field.
 fn check_signature(text: &[u8]) -> Result<&[u8], DecodeError>
-    ensures { MatchResult result (λ rest. Reaches AtSignature text.now AtEnd rest.now) (λ e. FaultFrom AtSignature text.now e) }
+    ensures { MatchResult result (λ rest. Reaches AtSignature text.now AtEnd rest.now)
+        (λ e. FaultFrom AtSignature text.now e) }
 {
     let (_signature, rest) = field::<64>(text)?;
     Ok(rest)
@@ -134,7 +156,8 @@ fn check_signature(text: &[u8]) -> Result<&[u8], DecodeError>
 /// The parent at the front of the text, and the rest.
 fn parent_of(text: &[u8]) -> (Ref, &[u8])
     requires { 34 ≤ length text.now }
-    ensures value { (parent : Ref) (rest : List ℕ) → IsRef parent → text.now ≡ parent_bytes parent ++ rest → result.0 ≡ parent }
+    ensures value { (parent : Ref) (rest : List ℕ) → IsRef parent
+        → text.now ≡ parent_bytes parent ++ rest → result.0 ≡ parent }
     ensures back { result.1.now ≡ drop 34 text.now }
 {
     let (author, rest) = number_of(text);
@@ -150,7 +173,8 @@ fn parent_of(text: &[u8]) -> (Ref, &[u8])
 
 /// So many parents at the front of the text, and the rest.
 fn parents_of(alloc: Global, count: usize, text: &[u8]) -> Result<(Sequence<Ref>, &[u8]), NoMemory>
-    requires { (parents : List Ref) × (rest : List ℕ) × (length parents ≡ count) × BeginsWithParents text.now parents rest }
+    requires { (parents : List Ref) × (rest : List ℕ) × (length parents ≡ count)
+        × BeginsWithParents text.now parents rest }
     ensures { IfOk result (λ x. (length x.0 ≡ count) × BeginsWithParents text.now x.0 x.1.now) }
 {
     let mut parents = Vec::with_capacity(alloc, count)?;
@@ -165,8 +189,11 @@ fn parents_of(alloc: Global, count: usize, text: &[u8]) -> Result<(Sequence<Ref>
 
 /// The transaction at the front of the text, and the rest.
 fn transaction_of(alloc: Global, text: &[u8]) -> Result<(Sequence<u8>, &[u8]), NoMemory>
-    requires { (bytes : List ℕ) × (rest : List ℕ) × (length bytes ≤ 65536) × (text.now ≡ transaction_bytes bytes ++ rest) }
-    ensures { (bytes : List ℕ) (rest : List ℕ) → length bytes ≤ 65536 → text.now ≡ transaction_bytes bytes ++ rest → IfOk result (λ x. (x.0 ≡ bytes) × (x.1.now ≡ rest)) }
+    requires { (bytes : List ℕ) × (rest : List ℕ) × (length bytes ≤ MAX_TRANSACTION)
+        × (text.now ≡ transaction_bytes bytes ++ rest) }
+    ensures { (bytes : List ℕ) (rest : List ℕ)
+        → length bytes ≤ MAX_TRANSACTION → text.now ≡ transaction_bytes bytes ++ rest
+        → IfOk result (λ x. (x.0 ≡ bytes) × (x.1.now ≡ rest)) }
 {
     let (len, rest) = front::<4>(text);
     let (bytes, rest) = rest.split_at(u32::from_be_bytes(*len) as usize);
@@ -179,8 +206,10 @@ fn transactions_of(
     count: usize,
     text: &[u8],
 ) -> Result<(Sequence<Sequence<u8>>, &[u8]), NoMemory>
-    requires { (transactions : List (List ℕ)) × (rest : List ℕ) × (length transactions ≡ count) × BeginsWithTransactions text.now transactions rest }
-    ensures { IfOk result (λ x. (length x.0 ≡ count) × BeginsWithTransactions text.now x.0 x.1.now) }
+    requires { (transactions : List (List ℕ)) × (rest : List ℕ) × (length transactions ≡ count)
+        × BeginsWithTransactions text.now transactions rest }
+    ensures { IfOk result
+        (λ x. (length x.0 ≡ count) × BeginsWithTransactions text.now x.0 x.1.now) }
 {
     let mut transactions = Vec::with_capacity(alloc, count)?;
     let mut rest = text;

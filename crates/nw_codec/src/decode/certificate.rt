@@ -1,6 +1,9 @@
 //! Certificates and votes: a check of the text, and the value of a text that was checked.
-ghost use Rattle.std.specs.Prelude.{◌≡◌, ℕ, ◌≤◌, List, ◌++◌, length, drop, MatchResult, IfOk, Some, None};
-ghost use Rattle.nw_codec.specs.Faults.{Kind, OfCertificate, OfVote, AtDigest, AtVoteCount, AtSigner, AtEnd, at_seals, behind_subject, Reaches, FaultFrom};
+ghost use Rattle.std.specs.Prelude.{◌≡◌, ℕ, ◌≤◌, ◌++◌};
+ghost use Rattle.std.specs.Prelude.{List, length, drop, MatchResult, IfOk, Some, None};
+ghost use Rattle.nw_codec.specs.Faults.{Kind, OfCertificate, OfVote, AtDigest, AtVoteCount};
+ghost use Rattle.nw_codec.specs.Faults.{AtSigner, AtEnd, at_seals, behind_subject, Reaches};
+ghost use Rattle.nw_codec.specs.Faults.{FaultFrom};
 ghost use Rattle.nw_codec.specs.Grammar.{subject_bytes, seal_bytes};
 ghost use Rattle.nw_codec.specs.Spelled.{Spells, IsCertificateText, IsVoteText, BeginsWithSeals};
 ghost use Rattle.nw_codec.specs.Typed.{IsSeal, IsSubject};
@@ -13,7 +16,9 @@ use std::alloc::Global;
 
 /// The rest behind the digest, the round and the author.
 fn check_subject(text: &[u8]) -> Result<&[u8], DecodeError>
-    ensures { (kind : Kind) → MatchResult result (λ rest. Reaches (AtDigest kind) text.now (behind_subject kind) rest.now) (λ e. FaultFrom (AtDigest kind) text.now e) }
+    ensures { (kind : Kind) → MatchResult result
+        (λ rest. Reaches (AtDigest kind) text.now (behind_subject kind) rest.now)
+        (λ e. FaultFrom (AtDigest kind) text.now e) }
 {
     let (_digest, rest) = field::<32>(text)?;
     let (_round, rest) = field::<6>(rest)?;
@@ -23,7 +28,8 @@ fn check_subject(text: &[u8]) -> Result<&[u8], DecodeError>
 
 /// How many votes the certificate has, and the rest.
 fn check_vote_count(text: &[u8]) -> Result<(usize, &[u8]), DecodeError>
-    ensures { MatchResult result (λ x. Reaches AtVoteCount text.now (at_seals x.0 None) x.1.now) (λ e. FaultFrom AtVoteCount text.now e) }
+    ensures { MatchResult result (λ x. Reaches AtVoteCount text.now (at_seals x.0 None) x.1.now)
+        (λ e. FaultFrom AtVoteCount text.now e) }
 {
     let (count, rest) = field::<2>(text)?;
     let count = u16::from_be_bytes(*count) as usize;
@@ -35,7 +41,9 @@ fn check_vote_count(text: &[u8]) -> Result<(usize, &[u8]), DecodeError>
 
 /// The signer of the seal at the front, behind a seal of this signer, and the rest.
 fn check_seal(before: Option<u16>, text: &[u8]) -> Result<(u16, &[u8]), DecodeError>
-    ensures { (more : ℕ) → MatchResult result (λ x. Reaches (AtSigner more before) text.now (at_seals more (Some x.0)) x.1.now) (λ e. FaultFrom (AtSigner more before) text.now e) }
+    ensures { (more : ℕ) → MatchResult result
+        (λ x. Reaches (AtSigner more before) text.now (at_seals more (Some x.0)) x.1.now)
+        (λ e. FaultFrom (AtSigner more before) text.now e) }
 {
     let (signer, rest) = field::<2>(text)?;
     let signer = u16::from_be_bytes(*signer);
@@ -48,7 +56,8 @@ fn check_seal(before: Option<u16>, text: &[u8]) -> Result<(u16, &[u8]), DecodeEr
 
 /// The rest behind so many seals.
 fn check_seals(count: usize, text: &[u8]) -> Result<&[u8], DecodeError>
-    ensures { MatchResult result (λ rest. Reaches (at_seals count None) text.now AtEnd rest.now) (λ e. FaultFrom (at_seals count None) text.now e) }
+    ensures { MatchResult result (λ rest. Reaches (at_seals count None) text.now AtEnd rest.now)
+        (λ e. FaultFrom (at_seals count None) text.now e) }
 {
     let mut before = None;
     let mut rest = text;
@@ -62,7 +71,8 @@ fn check_seals(count: usize, text: &[u8]) -> Result<&[u8], DecodeError>
 
 /// The rest behind a certificate.
 pub(super) fn check_certificate(text: &[u8]) -> Result<&[u8], DecodeError>
-    ensures { MatchResult result (λ rest. Reaches (AtDigest OfCertificate) text.now AtEnd rest.now) (λ e. FaultFrom (AtDigest OfCertificate) text.now e) }
+    ensures { MatchResult result (λ rest. Reaches (AtDigest OfCertificate) text.now AtEnd rest.now)
+        (λ e. FaultFrom (AtDigest OfCertificate) text.now e) }
 {
     let rest = check_subject(text)?;
     let (count, rest) = check_vote_count(rest)?;
@@ -71,7 +81,8 @@ pub(super) fn check_certificate(text: &[u8]) -> Result<&[u8], DecodeError>
 
 /// The rest behind a vote.
 pub(super) fn check_vote(text: &[u8]) -> Result<&[u8], DecodeError>
-    ensures { MatchResult result (λ rest. Reaches (AtDigest OfVote) text.now AtEnd rest.now) (λ e. FaultFrom (AtDigest OfVote) text.now e) }
+    ensures { MatchResult result (λ rest. Reaches (AtDigest OfVote) text.now AtEnd rest.now)
+        (λ e. FaultFrom (AtDigest OfVote) text.now e) }
 {
     let rest = check_subject(text)?;
     let (_signer, rest) = check_seal(None, rest)?;
@@ -88,7 +99,9 @@ struct Subject {
 /// The subject at the front of the text, and the rest.
 fn subject_of(text: &[u8]) -> (Subject, &[u8])
     requires { 40 ≤ length text.now }
-    ensures value { (digest : Digest) (round author : ℕ) (rest : List ℕ) → IsSubject digest round author → text.now ≡ subject_bytes digest round author ++ rest → (result.0.digest ≡ digest) × (result.0.round ≡ round) × (result.0.author ≡ author) }
+    ensures value { (digest : Digest) (round author : ℕ) (rest : List ℕ)
+        → IsSubject digest round author → text.now ≡ subject_bytes digest round author ++ rest
+        → (result.0.digest ≡ digest) × (result.0.round ≡ round) × (result.0.author ≡ author) }
     ensures back { result.1.now ≡ drop 40 text.now }
 {
     let (digest, rest) = front::<32>(text);
@@ -107,7 +120,8 @@ fn subject_of(text: &[u8]) -> (Subject, &[u8])
 /// The seal at the front of the text, and the rest.
 fn seal_of(text: &[u8]) -> (Seal, &[u8])
     requires { 66 ≤ length text.now }
-    ensures value { (seal : Seal) (rest : List ℕ) → IsSeal seal → text.now ≡ seal_bytes seal ++ rest → result.0 ≡ seal }
+    ensures value { (seal : Seal) (rest : List ℕ) → IsSeal seal → text.now ≡ seal_bytes seal ++ rest
+        → result.0 ≡ seal }
     ensures back { result.1.now ≡ drop 66 text.now }
 {
     let (signer, rest) = number_of(text);
@@ -123,8 +137,10 @@ fn seal_of(text: &[u8]) -> (Seal, &[u8])
 
 /// So many seals at the front of the text.
 fn seals_of(alloc: Global, count: usize, text: &[u8]) -> Result<Sequence<Seal>, NoMemory>
-    requires { (seals : List Seal) × (rest : List ℕ) × (length seals ≡ count) × BeginsWithSeals text.now seals rest }
-    ensures { IfOk result (λ seals. (length seals ≡ count) × ((rest : List ℕ) × BeginsWithSeals text.now seals rest)) }
+    requires { (seals : List Seal) × (rest : List ℕ) × (length seals ≡ count)
+        × BeginsWithSeals text.now seals rest }
+    ensures { IfOk result (λ seals. (length seals ≡ count)
+        × ((rest : List ℕ) × BeginsWithSeals text.now seals rest)) }
 {
     let mut seals = Vec::with_capacity(alloc, count)?;
     let mut rest = text;

@@ -41,7 +41,8 @@ impl Held {
 
     /// Takes out the digests under which no block of this round or a lower one is held.
     fn keep_up_to(&self, digests: &mut Vec<Digest>, round: Round)
-        ensures { digests.new.items ≡ filter (λ d. is_up_to round (map.get self.now.state.blocks d)) digests.old.items }
+        ensures { digests.new.items
+            ≡ filter (λ d. is_up_to round (map.get self.now.state.blocks d)) digests.old.items }
     {
         digests.retain(|digest| self.is_up_to(digest, round));
     }

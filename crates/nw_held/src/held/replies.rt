@@ -43,7 +43,8 @@ impl Held {
 
     /// Whether the digest is certified for another round or author than the block's.
     fn is_misfit(&self, digest: &Digest, block: &Block) -> bool
-        ensures { result ≡ is_elsewhere certificate_slot (map.get self.now.state.certificates digest.now) (block_slot block.now) }
+        ensures { result ≡ is_elsewhere certificate_slot
+            (map.get self.now.state.certificates digest.now) (block_slot block.now) }
     {
         match self.certificate(digest) {
             None => false,

@@ -1,5 +1,5 @@
 //! Values of rounds, under digests.
-ghost use Rattle.std.specs.Prelude.{◌≡◌, ◌↔◌, ℕ, IsTrue, [], ◌∷◌};
+ghost use Rattle.std.specs.Prelude.{◌↔◌, IsTrue, [], ◌∷◌};
 ghost use Rattle.std.specs.List.Sorted.{IsStrictlySortedBy};
 ghost use Rattle.std.specs.Map.{keys_of, lookup};
 ghost use Rattle.std.specs.BTreeMap.{is_at};
@@ -36,7 +36,8 @@ fn drop_if_below<V: InRound + Drop>(entries: &mut Trie<V, Global>, digest: &Dige
 
 /// Whether there is a value of the digest, of a round below this one.
 fn is_below<V: InRound + Drop>(entries: &Trie<V, Global>, digest: &Digest, round: Round) -> bool
-    ensures { IsTrue result ↔ IsBelow V.round_of round (lookup (is_at (digest_cmp digest.now)) entries.now) }
+    ensures { IsTrue result
+        ↔ IsBelow V.round_of round (lookup (is_at (digest_cmp digest.now)) entries.now) }
 {
     match entries.get(digest) {
         None => false,

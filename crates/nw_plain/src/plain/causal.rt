@@ -7,15 +7,16 @@ ghost use Rattle.nw_model.specs.View.{Shows, AreComplete, AddsIfComplete, HasPar
 ghost use Rattle.nw_model.specs.Step.{IsCausalReply};
 
 use super::Plain;
+use crate::view::View;
+use crate::walks::walk;
 use nw_codec::{Block, Ref};
 use nw_digest::{Digest, NoMemory, Round, Sequence, Shared};
 use nw_model::{CausalReply, Reply};
-use nw_views::{View, walk};
 use std::collections::BTreeMap;
 
 impl Plain {
     /// A view of the complete blocks, where the block under the digest is complete; else why it is not given.
-    pub fn freeze_for(&self, digest: Digest) -> Result<Result<View, CausalReply>, NoMemory>
+    fn freeze_for(&self, digest: Digest) -> Result<Result<View, CausalReply>, NoMemory>
         ensures { IfOk result (λ frozen. MatchResult frozen
             (λ view. IsComplete self.now.state digest × Shows view self.now.state)
             (λ refusal. IsCausalReply self.now.state digest (Reply.Causal refusal))) }
@@ -35,7 +36,8 @@ impl Plain {
 
     /// The complete blocks. Certified digests are taken by round, so that a block's parents come before it.
     pub(super) fn complete_blocks(&self) -> Result<BTreeMap<Digest, Shared<Block>>, NoMemory>
-        ensures { IfOk result (λ complete. AreComplete self.now.state (map.from_entries complete.entries)) }
+        ensures { IfOk result
+            (λ complete. AreComplete self.now.state (map.from_entries complete.entries)) }
     {
         let mut complete = BTreeMap::new(self.alloc);
         for (_slot, digest) in self.certified.iter() {
@@ -50,7 +52,8 @@ impl Plain {
         complete: &mut BTreeMap<Digest, Shared<Block>>,
         digest: &Digest,
     ) -> Result<(), NoMemory>
-        ensures { OnOk result (AddsIfComplete self.now.state (map.from_entries complete.old.entries) (map.from_entries complete.new.entries) digest.now) }
+        ensures { OnOk result (AddsIfComplete self.now.state (map.from_entries complete.old.entries)
+            (map.from_entries complete.new.entries) digest.now) }
     {
         if let Some(block) = self.blocks.get(digest) {
             let held = block.get();
@@ -78,7 +81,8 @@ impl Plain {
 
 /// Whether each parent of the block is among these blocks, with the named author and in the round before.
 fn has_parents(blocks: &BTreeMap<Digest, Shared<Block>>, block: &Block) -> bool
-    ensures { IsTrue result ↔ All (HasParent (map.from_entries blocks.now.entries) block.now.round) block.now.parents }
+    ensures { IsTrue result
+        ↔ All (HasParent (map.from_entries blocks.now.entries) block.now.round) block.now.parents }
 {
     block
         .parents

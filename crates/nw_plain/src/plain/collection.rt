@@ -26,7 +26,8 @@ impl Plain {
 
     /// How many blocks are held of rounds below this one.
     fn held_below(&self, round: Round) -> u64
-        ensures { result ≡ map.len self.now.state.blocks - map.len (raised self.now.state round).blocks }
+        ensures { result
+            ≡ map.len self.now.state.blocks - map.len (raised self.now.state round).blocks }
     {
         count_below(&self.blocks, round) as u64
     }
@@ -66,7 +67,8 @@ fn retain_blocks(blocks: &mut BTreeMap<Digest, Shared<Block>>, round: Round)
 /// Drops the certificates of rounds below this one.
 fn retain_certificates(certificates: &mut BTreeMap<Digest, Shared<Certificate>>, round: Round)
     ensures ordered { IsOrdered digest_cmp certificates.old }
-    ensures kept { certificates.new.entries ≡ filter (λ e. nat_le round e.1.round) certificates.old.entries }
+    ensures kept { certificates.new.entries
+        ≡ filter (λ e. nat_le round e.1.round) certificates.old.entries }
 {
     certificates.retain(|_digest, certificate| certificate.get().round >= round);
 }

@@ -38,7 +38,8 @@ impl Plain {
 
     /// The parents that are wanted.
     fn wanted(&self) -> Result<BTreeSet<Wanted>, NoMemory>
-        ensures { IfOk result (λ wanted. AreExactly wanted_cmp (IsWanted self.now.state) wanted.keys) }
+        ensures { IfOk result
+            (λ wanted. AreExactly wanted_cmp (IsWanted self.now.state) wanted.keys) }
     {
         let mut wanted = BTreeSet::new(self.alloc);
         for (_digest, block) in self.blocks.iter() {
@@ -49,8 +50,10 @@ impl Plain {
 
     /// Adds the parents that the block wants.
     fn add_wanted(&self, wanted: &mut BTreeSet<Wanted>, block: &Block) -> Result<(), NoMemory>
-        ensures added { OnOk result (Adds (Wants self.now.state block.now) wanted.old.keys wanted.new.keys) }
-        ensures ordered { IsStrictlySortedBy wanted_cmp wanted.old.keys → IsStrictlySortedBy wanted_cmp wanted.new.keys }
+        ensures added { OnOk result
+            (Adds (Wants self.now.state block.now) wanted.old.keys wanted.new.keys) }
+        ensures ordered { IsStrictlySortedBy wanted_cmp wanted.old.keys
+            → IsStrictlySortedBy wanted_cmp wanted.new.keys }
     {
         match block.round.before() {
             Some(before) if block.round > self.floor => {
@@ -69,8 +72,10 @@ impl Plain {
     ) -> Result<(), NoMemory>
         requires before { before + 1 ≡ block.now.round }
         requires above { self.now.state.floor < block.now.round }
-        ensures added { OnOk result (Adds (Wants self.now.state block.now) wanted.old.keys wanted.new.keys) }
-        ensures ordered { IsStrictlySortedBy wanted_cmp wanted.old.keys → IsStrictlySortedBy wanted_cmp wanted.new.keys }
+        ensures added { OnOk result
+            (Adds (Wants self.now.state block.now) wanted.old.keys wanted.new.keys) }
+        ensures ordered { IsStrictlySortedBy wanted_cmp wanted.old.keys
+            → IsStrictlySortedBy wanted_cmp wanted.new.keys }
     {
         for reference in block.parents.as_slice() {
             self.add_if_unsatisfied(wanted, before, block.round, reference)?;
@@ -87,8 +92,10 @@ impl Plain {
         reference: &Ref,
     ) -> Result<(), NoMemory>
         requires { before + 1 ≡ round }
-        ensures added { OnOk result (Adds (Lacks self.now.state round reference.now) wanted.old.keys wanted.new.keys) }
-        ensures ordered { IsStrictlySortedBy wanted_cmp wanted.old.keys → IsStrictlySortedBy wanted_cmp wanted.new.keys }
+        ensures added { OnOk result
+            (Adds (Lacks self.now.state round reference.now) wanted.old.keys wanted.new.keys) }
+        ensures ordered { IsStrictlySortedBy wanted_cmp wanted.old.keys
+            → IsStrictlySortedBy wanted_cmp wanted.new.keys }
     {
         if !self.is_satisfied(round, reference) {
             wanted.insert(Wanted {

@@ -45,7 +45,8 @@ fn are_same_blocks(
     one: &BTreeMap<Digest, Shared<Block>>,
     other: &BTreeMap<Digest, Shared<Block>>,
 ) -> bool
-    ensures { IsTrue result ↔ map.from_entries {R = digest_cmp} one.now.entries ≡ map.from_entries other.now.entries }
+    ensures { IsTrue result
+        ↔ map.from_entries {R = digest_cmp} one.now.entries ≡ map.from_entries other.now.entries }
 {
     one.len() == other.len() && one == other
 }
@@ -55,7 +56,8 @@ fn are_same_certificates(
     one: &BTreeMap<Digest, Shared<Certificate>>,
     other: &BTreeMap<Digest, Shared<Certificate>>,
 ) -> bool
-    ensures { IsTrue result ↔ map.from_entries {R = digest_cmp} one.now.entries ≡ map.from_entries other.now.entries }
+    ensures { IsTrue result
+        ↔ map.from_entries {R = digest_cmp} one.now.entries ≡ map.from_entries other.now.entries }
 {
     one.len() == other.len() && one == other
 }
@@ -65,7 +67,8 @@ fn are_same_slots(
     one: &BTreeMap<(Round, u16), Digest>,
     other: &BTreeMap<(Round, u16), Digest>,
 ) -> bool
-    ensures { IsTrue result ↔ map.from_entries {R = slot_cmp} one.now.entries ≡ map.from_entries other.now.entries }
+    ensures { IsTrue result
+        ↔ map.from_entries {R = slot_cmp} one.now.entries ≡ map.from_entries other.now.entries }
 {
     one.len() == other.len() && one == other
 }

@@ -27,7 +27,8 @@ pub(crate) trait Way {
     fn value_mut<'a, V: Drop, A: Allocator>(tree: &'a mut Tree<V, A>, digest: &Digest) -> &'a mut V
         requires key { HasKey digest.now tree.old }
         requires alike { EachKey (AgreeButLast bits digest.now) tree.old }
-        ensures* writes_back { sem 𝓛 (follows (tree_row V.row A.row A.Allocator) V.row tree.entry.ghost_name result.ghost_name (insert_entry digest_cmp tree.old digest.now)) }
+        ensures* writes_back { sem 𝓛 (follows (tree_row V.row A.row A.Allocator) V.row
+            tree.entry.ghost_name result.ghost_name (insert_entry digest_cmp tree.old digest.now)) }
         ensures value { lookup (is_at (digest_cmp digest.now)) tree.old ≡ Some result.now };
 }
 
@@ -41,7 +42,8 @@ pub(crate) trait Steps {
     ) -> &'a mut V
         requires key { HasKey digest.now tree.old }
         requires alike { EachKey (AgreeButLast (bits + W.bits) digest.now) tree.old }
-        ensures* writes_back { sem 𝓛 (follows (tree_row V.row A.row A.Allocator) V.row tree.entry.ghost_name result.ghost_name (insert_entry digest_cmp tree.old digest.now)) }
+        ensures* writes_back { sem 𝓛 (follows (tree_row V.row A.row A.Allocator) V.row
+            tree.entry.ghost_name result.ghost_name (insert_entry digest_cmp tree.old digest.now)) }
         ensures value { lookup (is_at (digest_cmp digest.now)) tree.old ≡ Some result.now };
 }
 
@@ -116,9 +118,11 @@ impl<V: Drop, A: Allocator> Tree<V, A> {
     /// The value of the digest.
     pub(crate) fn value_mut(&mut self, digest: &Digest) -> &mut V
         requires { HasKey digest.now self.old }
-        ensures* writes_back { sem 𝓛 (follows (tree_row V.row A.row A.Allocator) V.row self.entry.ghost_name result.ghost_name (insert_entry digest_cmp self.old digest.now)) }
+        ensures* writes_back { sem 𝓛 (follows (tree_row V.row A.row A.Allocator) V.row
+            self.entry.ghost_name result.ghost_name (insert_entry digest_cmp self.old digest.now)) }
         ensures value { lookup (is_at (digest_cmp digest.now)) self.old ≡ Some result.now }
-        ensures len { (v : V) → length (insert_entry digest_cmp self.old digest.now v) ≡ length self.old }
+        ensures len { (v : V)
+            → length (insert_entry digest_cmp self.old digest.now v) ≡ length self.old }
     {
         let _ = &self.link;
         Whole::value_mut::<V, A, End>(self, digest)
@@ -138,7 +142,8 @@ impl<V: Drop, A: Allocator> Tree<V, A> {
     fn only_value_mut(&mut self, digest: &Digest) -> &mut V
         requires key { HasKey digest.now self.old }
         requires alone { length self.old < 2 }
-        ensures* writes_back { sem 𝓛 (follows (tree_row V.row A.row A.Allocator) V.row self.entry.ghost_name result.ghost_name (insert_entry digest_cmp self.old digest.now)) }
+        ensures* writes_back { sem 𝓛 (follows (tree_row V.row A.row A.Allocator) V.row
+            self.entry.ghost_name result.ghost_name (insert_entry digest_cmp self.old digest.now)) }
         ensures value { lookup (is_at (digest_cmp digest.now)) self.old ≡ Some result.now }
     {
         match &mut self.link {
@@ -152,7 +157,8 @@ impl<V: Drop, A: Allocator> Tree<V, A> {
         requires key { HasKey digest.now self.old }
         requires fork { 1 < length self.old }
         requires alike { EachKey (AgreeButLast (1 + W.bits) digest.now) self.old }
-        ensures* writes_back { sem 𝓛 (follows (tree_row V.row A.row A.Allocator) V.row self.entry.ghost_name result.ghost_name (insert_entry digest_cmp self.old digest.now)) }
+        ensures* writes_back { sem 𝓛 (follows (tree_row V.row A.row A.Allocator) V.row
+            self.entry.ghost_name result.ghost_name (insert_entry digest_cmp self.old digest.now)) }
         ensures value { lookup (is_at (digest_cmp digest.now)) self.old ≡ Some result.now }
     {
         let set = match &self.link {
@@ -171,8 +177,11 @@ impl<V: Drop, A: Allocator> Sides<V, A> {
     fn value_mut<W: Way>(&mut self, set: bool, digest: &Digest) -> &mut V
         requires key { HasKey digest.now (side_of self.old set) }
         requires alike { EachKey (AgreeButLast W.bits digest.now) (side_of self.old set) }
-        ensures* writes_back { sem 𝓛 (follows (sides_row V.row A.row A.Allocator) V.row self.entry.ghost_name result.ghost_name (λ w. with_side self.old set (insert_entry digest_cmp (side_of self.old set) digest.now w))) }
-        ensures value { lookup (is_at (digest_cmp digest.now)) (side_of self.old set) ≡ Some result.now }
+        ensures* writes_back { sem 𝓛 (follows (sides_row V.row A.row A.Allocator) V.row
+            self.entry.ghost_name result.ghost_name (λ w.
+            with_side self.old set (insert_entry digest_cmp (side_of self.old set) digest.now w))) }
+        ensures value { lookup (is_at (digest_cmp digest.now)) (side_of self.old set)
+            ≡ Some result.now }
     {
         W::value_mut(self.side_mut(set), digest)
     }

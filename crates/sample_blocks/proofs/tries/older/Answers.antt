@@ -13,7 +13,7 @@ loop-author-init c = rw (c.new_in-trie.ensures) bases_none
 pub loop-author-preserved : goal.loop-author-preserved
 loop-author-preserved c =
     let old : List (Digest × Block) = c.loop-author.trie in
-    let new : List (Digest × Block) = c.put.new.trie in
+    let new : List (Digest × Block) = c.put.new.self in
     let base : Block = c.in_ok-base.base in
-    let is = put_entries digests_total digests_apart old new (name_of (0, c.loop-author.author)) base (rw (c.name.ensures) at c.in_ok-put.ensures) in
+    let is = put_entries digests_total digests_apart old new (name_of (0, c.loop-author.author)) base (rw (c.name.ensures) at c.in_ok-put.ensures.put) in
     rw (is) (bases_more c.loop-author.author (from_entries old) base c.loop-author.invariant c.in_ok-base.ensures.0 c.in_ok-base.ensures.1)

@@ -1,5 +1,8 @@
-use Rattle.std.proofs.Common.{subst}
+use Rattle.std.proofs.Common.{List, subst}
 use Rattle.std.specs.FinMap.{from_entries}
+use Rattle.nw_digest.specs.declared.digest.Digest.{Digest}
+use Rattle.nw_codec.specs.declared.block.Block.{Block}
+use Rattle.nw_model.proofs.Maps.{digests_apart, digests_total, put_entries}
 use Rattle.nw_generation.proofs.Laying.{IsLaying, all_left, one_laid}
 use Rattle.nw_generation.proofs.generation.Generation.lay_over.Goals as goal
 
@@ -10,6 +13,9 @@ loop-digest-init g c =
 
 pub loop-digest-preserved : goal.loop-digest-preserved
 loop-digest-preserved g c =
-    rw (c.in_ok-put.ensures.put, c.in_ok-try_clone.ensures)
+    let before : List (Digest × Block) = c.loop-digest.trie in
+    let after : List (Digest × Block) = c.put.new.self in
+    let put = put_entries digests_total digests_apart before after c.in-Some.digest.now _ c.in_ok-put.ensures.put in
+    rw (put, c.in_ok-try_clone.ensures)
     (one_laid c.args.self.now (from_entries c.args.trie.now) (from_entries c.loop-digest.trie) c.in-Some.digest.now c.in-Some.block.now c.next.new.self
     (subst (λ left. IsLaying c.args.self.now (from_entries c.args.trie.now) left (from_entries c.loop-digest.trie)) c.in-Some.ensures.steps c.loop-digest.invariant))

@@ -15,14 +15,14 @@ pub invariant_of-self-in-Err : goal.invariant_of-self-in-Err
 invariant_of-self-in-Err c =
     let none : lookup (is_at (digest_cmp c.args.digest)) c.self.inside.blocks ≡ None = sym (get_lookup digests_total c.self.inside.blocks c.args.digest) ∙ absent _ (rw (← c.self.view_is) at c.requires.absent) in
     let back : c.remove-block.new.self ≡ c.self.inside.blocks =
-    c.remove-block.ensures.entries ∙ ap (remove_entry (is_at (digest_cmp c.args.digest))) c.in_ok-insert.ensures.put ∙ taken_back c.self.inside.blocks c.args.digest c.args.block none in
+    c.remove-block.ensures.entries ∙ ap (remove_entry (is_at (digest_cmp c.args.digest))) c.in_ok-put.ensures.put ∙ taken_back c.self.inside.blocks c.args.digest c.args.block none in
     rw (back, c.in-Err.ensures.unchanged) c.self.invariant
 
 pub returns-in-Err-clause-unchanged : goal.returns-in-Err-clause-unchanged
 returns-in-Err-clause-unchanged c =
     let none : lookup (is_at (digest_cmp c.args.digest)) c.self.inside.blocks ≡ None = sym (get_lookup digests_total c.self.inside.blocks c.args.digest) ∙ absent _ (rw (← c.self.view_is) at c.requires.absent) in
     let back : c.remove-block.new.self ≡ c.self.inside.blocks =
-    c.remove-block.ensures.entries ∙ ap (remove_entry (is_at (digest_cmp c.args.digest))) c.in_ok-insert.ensures.put ∙ taken_back c.self.inside.blocks c.args.digest c.args.block none in
+    c.remove-block.ensures.entries ∙ ap (remove_entry (is_at (digest_cmp c.args.digest))) c.in_ok-put.ensures.put ∙ taken_back c.self.inside.blocks c.args.digest c.args.block none in
     rw (back, c.in-Err.ensures.unchanged) c.self.view_is
 
 pub invariant_of-self-in_default : goal.invariant_of-self-in_default
@@ -31,16 +31,16 @@ invariant_of-self-in_default c =
     let slot : Slot = block_slot c.args.block in
     let first : c.put_first.new.self.firsts ≡ insert slots.firsts slot c.args.digest = c.in_default.ensures.firsts ∙ ap (λ (x : Block). insert slots.firsts (block_slot x) c.args.digest) c.get-held.ensures in
     let vacant : get slots.firsts slot ≡ None = vacant_first (get slots.firsts slot) (sym c.if-vote.true ∙ rw (← c.self.view_is) at c.requires.first) in
-    block_held c.self.inside.blocks c.insert.new.entries c.self.inside.certificates slots c.put_first.new.self c.self.inside.floor c.args.digest c.args.block
-    c.self.invariant (rw (← c.self.view_is) at c.requires.misfit) (rw (← c.self.view_is) at c.requires.kept) c.in_ok-insert.ensures.put c.put_first.ensures.certified
+    block_held c.self.inside.blocks c.put.new.self c.self.inside.certificates slots c.put_first.new.self c.self.inside.floor c.args.digest c.args.block
+    c.self.invariant (rw (← c.self.view_is) at c.requires.misfit) (rw (← c.self.view_is) at c.requires.kept) c.in_ok-put.ensures.put c.put_first.ensures.certified
     (inl (subst (λ m. get m slot ≡ Some c.args.digest) (sym first) (at_slot slots.firsts slot c.args.digest)))
     (λ other e has. subst (λ m. get m other ≡ Some e) (sym first) (other_slot slots.firsts slot c.args.digest other e vacant has))
 
 pub invariant_of-self-else-vote : goal.invariant_of-self-else-vote
 invariant_of-self-else-vote c =
     let slots = c.self.inside.slots in
-    block_held c.self.inside.blocks c.insert.new.entries c.self.inside.certificates slots slots c.self.inside.floor c.args.digest c.args.block
-    c.self.invariant (rw (← c.self.view_is) at c.requires.misfit) (rw (← c.self.view_is) at c.requires.kept) c.in_ok-insert.ensures.put refl
+    block_held c.self.inside.blocks c.put.new.self c.self.inside.certificates slots slots c.self.inside.floor c.args.digest c.args.block
+    c.self.invariant (rw (← c.self.view_is) at c.requires.misfit) (rw (← c.self.view_is) at c.requires.kept) c.in_ok-put.ensures.put refl
     (known_first (state_of c.self.inside.blocks c.self.inside.certificates slots c.self.inside.floor) c.args.digest (block_slot c.args.block) (rw (← c.self.view_is) at c.requires.alone)
     (sym c.if-vote.false ∙ rw (← c.self.view_is) at c.requires.first))
     (λ other e has. has)
@@ -48,7 +48,7 @@ invariant_of-self-else-vote c =
 pub returns-in_default-clause-state : goal.returns-in_default-clause-state
 returns-in_default-clause-state c =
     rw (← c.self.view_is)
-    (same_held c.self.inside.blocks c.insert.new.entries c.self.inside.certificates c.self.inside.slots c.put_first.new.self c.self.inside.floor c.args.digest c.args.block c.args.vote c.in_ok-insert.ensures.put
+    (same_held c.self.inside.blocks c.put.new.self c.self.inside.certificates c.self.inside.slots c.put_first.new.self c.self.inside.floor c.args.digest c.args.block c.args.vote c.in_ok-put.ensures.put
     (c.in_default.ensures.firsts
     ∙ ap (λ (x : Block). insert c.self.inside.slots.firsts (block_slot x) c.args.digest) c.get-held.ensures
     ∙ ap (λ v. cond v (insert c.self.inside.slots.firsts (block_slot c.args.block) c.args.digest) c.self.inside.slots.firsts) (sym c.if-vote.true)))
@@ -56,5 +56,5 @@ returns-in_default-clause-state c =
 pub returns-else-vote-clause-state : goal.returns-else-vote-clause-state
 returns-else-vote-clause-state c =
     rw (← c.self.view_is)
-    (same_held c.self.inside.blocks c.insert.new.entries c.self.inside.certificates c.self.inside.slots c.self.inside.slots c.self.inside.floor c.args.digest c.args.block c.args.vote c.in_ok-insert.ensures.put
+    (same_held c.self.inside.blocks c.put.new.self c.self.inside.certificates c.self.inside.slots c.self.inside.slots c.self.inside.floor c.args.digest c.args.block c.args.vote c.in_ok-put.ensures.put
     (ap (λ v. cond v (insert c.self.inside.slots.firsts (block_slot c.args.block) c.args.digest) c.self.inside.slots.firsts) (sym c.if-vote.false)))

@@ -26,7 +26,7 @@ invariant_of-self-in-Err c =
     let none : lookup (is_at (digest_cmp digest)) c.self.inside.certificates ≡ None =
     ap (λ (x : Certificate). lookup (is_at (digest_cmp x.digest)) c.self.inside.certificates) c.get-kept.ensures ∙ sym (get_lookup digests_total c.self.inside.certificates c.args.certificate.digest) ∙ absent _ (rw (← c.self.view_is) at c.requires.absent) in
     let back : c.remove-certificate.new.self ≡ c.self.inside.certificates =
-    c.remove-certificate.ensures.entries ∙ ap (remove_entry (is_at (digest_cmp digest))) c.in_ok-insert.ensures.put ∙ taken_back c.self.inside.certificates digest c.args.certificate none in
+    c.remove-certificate.ensures.entries ∙ ap (remove_entry (is_at (digest_cmp digest))) c.in_ok-put.ensures.put ∙ taken_back c.self.inside.certificates digest c.args.certificate none in
     rw (back, c.in-Err.ensures.unchanged) c.self.invariant
 
 pub returns-in-Err-clause-unchanged : goal.returns-in-Err-clause-unchanged
@@ -35,19 +35,19 @@ returns-in-Err-clause-unchanged c =
     let none : lookup (is_at (digest_cmp digest)) c.self.inside.certificates ≡ None =
     ap (λ (x : Certificate). lookup (is_at (digest_cmp x.digest)) c.self.inside.certificates) c.get-kept.ensures ∙ sym (get_lookup digests_total c.self.inside.certificates c.args.certificate.digest) ∙ absent _ (rw (← c.self.view_is) at c.requires.absent) in
     let back : c.remove-certificate.new.self ≡ c.self.inside.certificates =
-    c.remove-certificate.ensures.entries ∙ ap (remove_entry (is_at (digest_cmp digest))) c.in_ok-insert.ensures.put ∙ taken_back c.self.inside.certificates digest c.args.certificate none in
+    c.remove-certificate.ensures.entries ∙ ap (remove_entry (is_at (digest_cmp digest))) c.in_ok-put.ensures.put ∙ taken_back c.self.inside.certificates digest c.args.certificate none in
     rw (back, c.in-Err.ensures.unchanged) c.self.view_is
 
 pub invariant_of-self-in_default : goal.invariant_of-self-in_default
 invariant_of-self-in_default c =
-    certificate_held c.self.inside.blocks c.self.inside.certificates c.insert.new.entries c.self.inside.slots c.put_certified.new.self c.self.inside.floor c.args.certificate c.self.invariant
+    certificate_held c.self.inside.blocks c.self.inside.certificates c.put.new.self c.self.inside.slots c.put_certified.new.self c.self.inside.floor c.args.certificate c.self.invariant
     (absent _ (rw (← c.self.view_is) at c.requires.absent)) (rw (← c.self.view_is) at c.requires.open) (rw (← c.self.view_is) at c.requires.misfit) (rw (← c.self.view_is) at c.requires.kept)
-    (c.in_ok-insert.ensures.put ∙ ap (λ (x : Certificate). insert_entry digest_cmp c.self.inside.certificates x.digest c.args.certificate) c.get-kept.ensures)
+    (c.in_ok-put.ensures.put ∙ ap (λ (x : Certificate). insert_entry digest_cmp c.self.inside.certificates x.digest c.args.certificate) c.get-kept.ensures)
     (c.in_default.ensures.certified ∙ ap (λ (x : Certificate). insert c.self.inside.slots.certified (certificate_slot x) x.digest) c.get-kept.ensures) c.put_certified.ensures.firsts
 
 pub returns-clause-state : goal.returns-clause-state
 returns-clause-state c =
     rw (← c.self.view_is)
-    (same_certified c.self.inside.blocks c.self.inside.certificates c.insert.new.entries c.self.inside.slots c.put_certified.new.self c.self.inside.floor c.args.certificate
-    (c.in_ok-insert.ensures.put ∙ ap (λ (x : Certificate). insert_entry digest_cmp c.self.inside.certificates x.digest c.args.certificate) c.get-kept.ensures)
+    (same_certified c.self.inside.blocks c.self.inside.certificates c.put.new.self c.self.inside.slots c.put_certified.new.self c.self.inside.floor c.args.certificate
+    (c.in_ok-put.ensures.put ∙ ap (λ (x : Certificate). insert_entry digest_cmp c.self.inside.certificates x.digest c.args.certificate) c.get-kept.ensures)
     c.put_certified.ensures.firsts)

@@ -5,8 +5,8 @@ use Rattle.nw_digest.specs.declared.digest.Digest.{Digest}
 use Rattle.nw_codec.specs.declared.block.Block.{Block}
 use Rattle.nw_model.specs.View.{Frozen}
 use Rattle.nw_model.proofs.Finding.{finds_nothing, under_more, parents_nothing, parents_on, parents_there, above_is, none_some}
-use Rattle.nw_views.proofs.walks.parents_of_all.Goals as goal
-use Rattle.nw_views.proofs.walks.parents_of_all.Goals.{in-Some+in_ok-find_parents, in_default}
+use Rattle.nw_plain.proofs.walks.parents_of_all.Goals as goal
+use Rattle.nw_plain.proofs.walks.parents_of_all.Goals.{in-Some+in_ok-find_parents, in_default}
 
 pub loop-digest-init : goal.loop-digest-init
 loop-digest-init c = rw (c.new-parents.ensures.items) (finds_nothing _ _ _ _ (parents_nothing c.args.view.now))

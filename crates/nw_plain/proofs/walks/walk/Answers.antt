@@ -5,7 +5,7 @@ use Rattle.std.proofs.lemmas.Map.Iter.{iter_turn, iter_end}
 use Rattle.nw_digest.specs.declared.digest.Digest.{Digest}
 use Rattle.nw_model.proofs.Finding.{none_some}
 use Rattle.nw_model.proofs.Walked.{values_there, walk_on, turn_among, walked}
-use Rattle.nw_views.proofs.walks.walk.Goals as goal
+use Rattle.nw_plain.proofs.walks.walk.Goals as goal
 
 pub loop-digest-init : goal.loop-digest-init
 loop-digest-init c = rw (c.in_ok-blocks.ensures.items) refl

@@ -12,7 +12,7 @@ use std::marker::Model;
 /// Blocks under their digests, and a floor. Each parent of a block above the floor is there too, with the named author
 /// and in the round before, and no two blocks that are not below the floor share round and author.
 #[derive(Drop)]
-pub struct View {
+pub(crate) struct View {
     blocks: BTreeMap<Digest, Shared<Block>>,
     floor: Round,
 }
@@ -27,12 +27,13 @@ impl Model for View {
 
     ghost view = { λ v. record { blocks = map.from_entries v.blocks.entries; floor = v.floor } };
 
-    ghost invariant = { λ v. IsClosed (record { blocks = map.from_entries v.blocks.entries; floor = v.floor }) };
+    ghost invariant = { λ v.
+        IsClosed (record { blocks = map.from_entries v.blocks.entries; floor = v.floor }) };
 }
 
 impl View {
     /// The view of these blocks. It takes no memory.
-    pub fn new(blocks: BTreeMap<Digest, Shared<Block>>, floor: Round) -> View
+    pub(crate) fn new(blocks: BTreeMap<Digest, Shared<Block>>, floor: Round) -> View
         requires { IsClosed (record { blocks = map.from_entries blocks.entries; floor = floor }) }
         ensures { result ≡ record { blocks = map.from_entries blocks.entries; floor = floor } }
     {
@@ -40,7 +41,7 @@ impl View {
     }
 
     /// The block under the digest.
-    pub fn get(&self, digest: &Digest) -> Option<&Shared<Block>>
+    pub(crate) fn get(&self, digest: &Digest) -> Option<&Shared<Block>>
         ensures block { option_copied result ≡ map.get self.now.blocks digest.now }
         ensures closed { IsClosed self.now }
     {
@@ -48,7 +49,7 @@ impl View {
     }
 
     /// The round below which nothing is asked for.
-    pub fn floor(&self) -> Round
+    pub(crate) fn floor(&self) -> Round
         ensures floor { result ≡ self.now.floor }
         ensures closed { IsClosed self.now }
     {

@@ -4,7 +4,7 @@ ghost use Rattle.std.specs.FinMap as map;
 ghost use Rattle.nw_model.specs.View.{IsThere, IsWalk};
 ghost use Rattle.nw_model.specs.Search.{AreUnder, AreAbove, IsNamed, IsParentOfAny, Finds, Reaches};
 
-use crate::View;
+use crate::view::View;
 use nw_codec::Block;
 use nw_digest::{Digest, NoMemory, Round, Shared};
 use std::alloc::Global;
@@ -13,7 +13,11 @@ use std::collections::BTreeMap;
 /// The block under the digest and all its ancestors in the view, strictly ascending by round and author.
 ///
 /// It goes round by round, from the block's own down to the floor; each block is looked up once for each reference to it.
-pub fn walk(alloc: Global, view: &View, digest: Digest) -> Result<Vec<Shared<Block>>, NoMemory>
+pub(crate) fn walk(
+    alloc: Global,
+    view: &View,
+    digest: Digest,
+) -> Result<Vec<Shared<Block>>, NoMemory>
     requires { (b : Block) × IsThere view.now digest b }
     ensures { IfOk result (λ blocks. IsWalk view.now digest blocks.items) }
 {
@@ -62,7 +66,8 @@ fn parents_of_all(
     requires above { AreAbove view.now frontier.now }
     requires under { AreUnder view.now (map.from_entries found.old.entries) }
     ensures { IfOk result (λ parents. Finds view.now (IsParentOfAny view.now frontier.now)
-        (map.from_entries found.old.entries) (map.from_entries found.new.entries) [] parents.items) }
+        (map.from_entries found.old.entries) (map.from_entries found.new.entries)
+        [] parents.items) }
 {
     let mut parents = Vec::new(alloc);
     for digest in frontier {
@@ -83,7 +88,8 @@ fn find_parents(
     requires there { All (λ r. (b : Block) × IsThere view.now r.digest b) block.now.parents }
     requires under { AreUnder view.now (map.from_entries found.old.entries) }
     ensures { IfOk result (λ _. Finds view.now (IsNamed block.now.parents)
-        (map.from_entries found.old.entries) (map.from_entries found.new.entries) parents.old.items parents.new.items) }
+        (map.from_entries found.old.entries) (map.from_entries found.new.entries)
+        parents.old.items parents.new.items) }
 {
     for reference in block.parents.as_slice() {
         if let Some(parent) = view.get(&reference.digest) {

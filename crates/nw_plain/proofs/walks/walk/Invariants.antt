@@ -1,7 +1,7 @@
 use Rattle.std.proofs.Common.{◌≡◌, Some, map}
 use Rattle.std.specs.FinMap.{get}
 use Rattle.std.specs.Map.Iter.{deref}
-use Rattle.nw_views.proofs.walks.walk.Given as goal
+use Rattle.nw_plain.proofs.walks.walk.Given as goal
 
 abbrev pub invariant-loop-digest : goal.invariant-loop-digest
 invariant-loop-digest l = map (get l.view.blocks) (map deref l.yielded) ≡ map Some l.blocks.items

@@ -11,8 +11,8 @@ use Rattle.nw_model.specs.State.{block_slot}
 use Rattle.nw_model.specs.View.{IsThere}
 use Rattle.nw_model.proofs.Maps.{get_lookup, slots_total, slots_apart, put_entries}
 use Rattle.nw_model.proofs.Finding.{finds_nothing, finds_again, finds_one, under_more, names_nothing, names_on, none_some, there_is}
-use Rattle.nw_views.proofs.walks.find_parents.Goals as goal
-use Rattle.nw_views.proofs.walks.find_parents.Goals.{in-Some+then-not-contains_key+in_ok-insert+in_ok-push, in-Some+else-not-contains_key, in_default}
+use Rattle.nw_plain.proofs.walks.find_parents.Goals as goal
+use Rattle.nw_plain.proofs.walks.find_parents.Goals.{in-Some+then-not-contains_key+in_ok-insert+in_ok-push, in-Some+else-not-contains_key, in_default}
 
 pub loop-reference-init : goal.loop-reference-init
 loop-reference-init c = finds_nothing _ _ _ _ names_nothing

@@ -8,8 +8,8 @@ use Rattle.nw_model.specs.State.{block_slot}
 use Rattle.nw_model.proofs.Maps.{get_lookup, put_entries, slots_total, slots_apart}
 use Rattle.nw_model.proofs.Finding.{none_some, there_is}
 use Rattle.nw_model.proofs.Ancestors.{explores_first, explores_above, explores_on, reaches_floor, reaches_early, none_left}
-use Rattle.nw_views.proofs.walks.ancestors.Goals as goal
-use Rattle.nw_views.proofs.walks.ancestors.Goals.{in-Some+in_ok-insert+in_ok-push+else-loop-test, in-Some+in_ok-insert+in_ok-push+then-loop-test+then-is_empty, in_default}
+use Rattle.nw_plain.proofs.walks.ancestors.Goals as goal
+use Rattle.nw_plain.proofs.walks.ancestors.Goals.{in-Some+in_ok-insert+in_ok-push+else-loop-test, in-Some+in_ok-insert+in_ok-push+then-loop-test+then-is_empty, in_default}
 
 pub loop-init : goal.loop-init
 loop-init c =

@@ -1,6 +1,6 @@
 use Rattle.std.proofs.Common.{sym, ◌∙◌}
 use Rattle.nw_model.proofs.Maps.{get_lookup, digests_total}
-use Rattle.nw_views.proofs.view.View.get.Goals as goal
+use Rattle.nw_plain.proofs.view.View.get.Goals as goal
 
 pub returns-clause-block : goal.returns-clause-block
 returns-clause-block c = rw (← c.self.view_is) (c.get.ensures.value ∙ sym (get_lookup digests_total _ _))
