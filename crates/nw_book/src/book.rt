@@ -65,7 +65,12 @@ impl<S: Scheme> Book<S> {
         committee: Shared<Committee>,
         limits: Limits,
     ) -> Result<Book<S>, BookError>
-        ensures empty { IfOk result (λ book. book ≡ record { committee = committee; limits = limits; base = opening; events = [] }) }
+        ensures empty { IfOk result (λ book. book ≡ record {
+          committee = committee;
+          limits = limits;
+          base = opening;
+          events = [];
+        }) }
         ensures in_range { OnOk result (AreInRange limits) }
         ensures bad_limits { IsErrOf result BookError.BadLimits ↔ (AreInRange limits → ⊥) }
         ensures no_memory { IsErrOf result BookError.NoMemory → AreInRange limits }
@@ -106,9 +111,11 @@ impl<S: Scheme> Book<S> {
         command: &Command<S>,
     ) -> Result<Done<S>, NoStep>
         ensures taken { IfOk result (λ done.
-            Takes S.accepts self.old self.new session number (call_of command.now) done.reply done.front) }
+            Takes S.accepts self.old self.new session number
+            (call_of command.now) done.reply done.front) }
         ensures may { OnOk result (MayStep self.old session number (committee_of command.now)) }
-        ensures refused { IfErr result (IsRefusal self.old session number (committee_of command.now)) }
+        ensures refused { IfErr result
+            (IsRefusal self.old session number (committee_of command.now)) }
         ensures unchanged { OnErr result (self.new ≡ self.old) }
     {
         self.may_step(session, number, command.committee())?;

@@ -45,7 +45,8 @@ fn make<S: Scheme>(
     tickets: &mut Vec<Ticket<S>>,
     answers: &mut Vec<Answer<S>>,
 ) -> Result<(), Cause>
-    ensures made { OnOk result (Makes S.accepts book.old tickets.old.items answers.old.items next.now
+    ensures made { OnOk result
+        (Makes S.accepts book.old tickets.old.items answers.old.items next.now
         book.new tickets.new.items answers.new.items) }
     ensures refused { IfErr result (IsStop book.old tickets.old.items next.now) }
     ensures unchanged { OnErr result (book.new ≡ book.old) }
@@ -98,7 +99,8 @@ fn make_open<S: Scheme>(
 ) -> Result<(), NoStep>
     ensures made { OnOk result (Makes S.accepts book.old tickets.old.items answers.old.items
         (Move.Open session digest) book.new tickets.new.items answers.new.items) }
-    ensures refused { IfErr result (IsRefusal book.old session (next_number book.old session) None) }
+    ensures refused { IfErr result
+        (IsRefusal book.old session (next_number book.old session) None) }
     ensures unchanged { OnErr result (book.new ≡ book.old) }
     ensures same_tickets { OnErr result (tickets.new.items ≡ tickets.old.items) }
     ensures same_answers { OnErr result (answers.new.items ≡ answers.old.items) }

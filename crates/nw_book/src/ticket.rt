@@ -37,7 +37,8 @@ impl<S: Scheme> Model for Ticket<S> {
 
     ghost view = { λ t. record { digest = t.digest; front = t.front } };
 
-    ghost invariant = { λ t. IsTicketWith S.accepts (record { digest = t.digest; front = t.front }) t.view.frozen };
+    ghost invariant = { λ t.
+        IsTicketWith S.accepts (record { digest = t.digest; front = t.front }) t.view.frozen };
 }
 
 impl<S: Scheme> Ticket<S> {
@@ -81,7 +82,8 @@ impl<S: Scheme> Ticket<S> {
     /// The list of the causal read that was opened: the block and its certified ancestors, strictly ascending by round and
     /// author. `NoMemory` where memory is refused; it may then be asked again.
     pub fn walk(&self, alloc: Global) -> Result<Vec<Shared<Block>>, NoMemory>
-        ensures list { IfOk result (λ blocks. IsReply (bounds_of self.now.front.limits) (state_of self.now.front) (Call.Causal self.now.digest) (Reply.List blocks.items)) }
+        ensures list { IfOk result (λ blocks. IsReply (bounds_of self.now.front.limits)
+            (state_of self.now.front) (Call.Causal self.now.digest) (Reply.List blocks.items)) }
         ensures ticket { IsTicket S.accepts self.now }
     {
         walk(alloc, &self.view, self.digest)

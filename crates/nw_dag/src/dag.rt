@@ -1,5 +1,6 @@
 //! The tables of a store.
-ghost use Rattle.std.specs.Prelude.{◌≡◌, ◌<◌, ◌≤◌, IfOk, OnOk, OnErr, IsNone, None, IsTrue, false, not, is_some, ◌↔◌};
+ghost use Rattle.std.specs.Prelude.{◌≡◌, ◌<◌, ◌≤◌, ◌↔◌};
+ghost use Rattle.std.specs.Prelude.{IfOk, OnOk, OnErr, IsNone, None, IsTrue, false, not, is_some};
 ghost use Rattle.std.specs.FinMap as map;
 ghost use Rattle.nw_model.specs.State.{opening, block_slot, certificate_slot};
 ghost use Rattle.nw_model.specs.declared.call.Call.TheVariants as Call;
@@ -64,7 +65,8 @@ impl Model for Dag {
 
     ghost view = { λ d. d.held };
 
-    ghost invariant = { λ d. AreTables d.held.state d.waits.unmet d.waits.lacking d.waits.roll.fresh.items d.waits.roll.pending d.frozen.generations.blocks };
+    ghost invariant = { λ d. AreTables d.held.state d.waits.unmet d.waits.lacking
+        d.waits.roll.fresh.items d.waits.roll.pending d.frozen.generations.blocks };
 }
 
 impl Dag {
@@ -85,8 +87,10 @@ impl Dag {
     /// Takes the step of a write of the block under the digest, and answers its reply. Want of memory leaves the store as
     /// it was.
     pub fn write(&mut self, digest: Digest, block: &Shared<Block>) -> Result<WriteReply, NoMemory>
-        ensures reply { IfOk result (λ r. r ≡ write_reply self.old.bounds self.old.state digest block.now) }
-        ensures state { OnOk result (self.new.state ≡ after self.old.bounds self.old.state (Call.Write digest block.now)) }
+        ensures reply { IfOk result
+            (λ r. r ≡ write_reply self.old.bounds self.old.state digest block.now) }
+        ensures state { OnOk result
+            (self.new.state ≡ after self.old.bounds self.old.state (Call.Write digest block.now)) }
         ensures bounds { self.new.bounds ≡ self.old.bounds }
         ensures unchanged { OnErr result (self.new ≡ self.old) }
     {
@@ -97,8 +101,10 @@ impl Dag {
 
     /// Takes the step of handing in the certificate, and answers its reply. Want of memory leaves the store as it was.
     pub fn certify(&mut self, certificate: &Shared<Certificate>) -> Result<CertifyReply, NoMemory>
-        ensures reply { IfOk result (λ r. r ≡ certify_reply self.old.bounds self.old.state certificate.now) }
-        ensures state { OnOk result (self.new.state ≡ after self.old.bounds self.old.state (Call.Certify certificate.now)) }
+        ensures reply { IfOk result
+            (λ r. r ≡ certify_reply self.old.bounds self.old.state certificate.now) }
+        ensures state { OnOk result
+            (self.new.state ≡ after self.old.bounds self.old.state (Call.Certify certificate.now)) }
         ensures bounds { self.new.bounds ≡ self.old.bounds }
         ensures unchanged { OnErr result (self.new ≡ self.old) }
     {
@@ -111,7 +117,8 @@ impl Dag {
     /// garbage round from now on, and what is of a round below it is dropped. Want of memory leaves the store as it was.
     pub fn collect(&mut self, round: Round) -> Result<CollectReply, NoMemory>
         ensures reply { IfOk result (λ r. r ≡ collect_reply self.old.state round) }
-        ensures state { OnOk result (self.new.state ≡ after self.old.bounds self.old.state (Call.Collect round)) }
+        ensures state { OnOk result
+            (self.new.state ≡ after self.old.bounds self.old.state (Call.Collect round)) }
         ensures bounds { self.new.bounds ≡ self.old.bounds }
         ensures unchanged { OnErr result (self.new ≡ self.old) }
     {
@@ -199,7 +206,8 @@ impl Dag {
         reply: &WriteReply,
     ) -> Result<(), NoMemory>
         requires { reply.now ≡ write_reply self.old.bounds self.old.state digest block.now }
-        ensures state { OnOk result (self.new.state ≡ after_write self.old.state digest block.now reply.now) }
+        ensures state { OnOk result
+            (self.new.state ≡ after_write self.old.state digest block.now reply.now) }
         ensures bounds { self.new.bounds ≡ self.old.bounds }
         ensures unchanged { OnErr result (self.new ≡ self.old) }
     {
@@ -216,7 +224,8 @@ impl Dag {
         reply: &CertifyReply,
     ) -> Result<(), NoMemory>
         requires { reply.now ≡ certify_reply self.old.bounds self.old.state certificate.now }
-        ensures state { OnOk result (self.new.state ≡ after_certify self.old.state certificate.now reply.now) }
+        ensures state { OnOk result
+            (self.new.state ≡ after_certify self.old.state certificate.now reply.now) }
         ensures bounds { self.new.bounds ≡ self.old.bounds }
         ensures unchanged { OnErr result (self.new ≡ self.old) }
     {
@@ -233,7 +242,8 @@ impl Dag {
         reply: &CollectReply,
     ) -> Result<(), NoMemory>
         requires { reply.now ≡ collect_reply self.old.state round }
-        ensures state { OnOk result (self.new.state ≡ after_collect self.old.state round reply.now) }
+        ensures state { OnOk result
+            (self.new.state ≡ after_collect self.old.state round reply.now) }
         ensures bounds { self.new.bounds ≡ self.old.bounds }
         ensures unchanged { OnErr result (self.new ≡ self.old) }
     {
@@ -248,7 +258,8 @@ impl Dag {
         requires absent { IsNone (map.get self.old.state.blocks digest) }
         requires first { vote ≡ not (is_some (map.get self.old.state.firsts (block_slot block))) }
         requires alone { rival self.old.state digest (block_slot block) ≡ None }
-        requires misfit { is_elsewhere certificate_slot (map.get self.old.state.certificates digest) (block_slot block) ≡ false }
+        requires misfit { is_elsewhere certificate_slot (map.get self.old.state.certificates digest)
+            (block_slot block) ≡ false }
         requires kept { self.old.state.floor ≤ block.round }
         ensures state { OnOk result (self.new.state ≡ with_block self.old.state digest block vote) }
         ensures bounds { self.new.bounds ≡ self.old.bounds }
@@ -286,7 +297,8 @@ impl Dag {
     fn keep(&mut self, certificate: Shared<Certificate>) -> Result<(), NoMemory>
         requires absent { IsNone (map.get self.old.state.certificates certificate.digest) }
         requires open { certified_digest self.old.state (certificate_slot certificate) ≡ None }
-        requires misfit { is_elsewhere block_slot (map.get self.old.state.blocks certificate.digest) (certificate_slot certificate) ≡ false }
+        requires misfit { is_elsewhere block_slot (map.get self.old.state.blocks certificate.digest)
+            (certificate_slot certificate) ≡ false }
         requires kept { self.old.state.floor ≤ certificate.round }
         ensures state { OnOk result (self.new.state ≡ with_certificate self.old.state certificate) }
         ensures bounds { self.new.bounds ≡ self.old.bounds }
@@ -311,13 +323,19 @@ fn hold(
     requires absent { IsNone (map.get held.old.state.blocks digest) }
     requires first { vote ≡ not (is_some (map.get held.old.state.firsts (block_slot block))) }
     requires alone { rival held.old.state digest (block_slot block) ≡ None }
-    requires misfit { is_elsewhere certificate_slot (map.get held.old.state.certificates digest) (block_slot block) ≡ false }
+    requires misfit { is_elsewhere certificate_slot (map.get held.old.state.certificates digest)
+        (block_slot block) ≡ false }
     requires kept { held.old.state.floor ≤ block.round }
     ensures state { OnOk result (held.new.state ≡ with_block held.old.state digest block vote) }
     ensures bounds { held.new.bounds ≡ held.old.bounds }
     ensures unchanged { OnErr result (held.new ≡ held.old) }
-    ensures unmet { OnOk result (Wants (IsMet held.old.state) (λ w. (held.old.state.floor < block.round) × IsNamedAmong block.round block.parents w) digest waits.old.unmet waits.new.unmet) }
-    ensures lacking { OnOk result (Wants (λ w. IsMet held.old.state w × IsReady held.old.state waits.old.lacking w.digest) (λ w. (held.old.state.floor < block.round) × IsNamedAmong block.round block.parents w) digest waits.old.lacking waits.new.lacking) }
+    ensures unmet { OnOk result
+        (Wants (IsMet held.old.state) (λ w. (held.old.state.floor < block.round)
+        × IsNamedAmong block.round block.parents w) digest waits.old.unmet waits.new.unmet) }
+    ensures lacking { OnOk result
+        (Wants (λ w. IsMet held.old.state w × IsReady held.old.state waits.old.lacking w.digest)
+        (λ w. (held.old.state.floor < block.round)
+        × IsNamedAmong block.round block.parents w) digest waits.old.lacking waits.new.lacking) }
     ensures same_unmet { AreSameBut digest waits.old.unmet waits.new.unmet }
     ensures same_lacking { AreSameBut digest waits.old.lacking waits.new.lacking }
     ensures roll { waits.new.roll ≡ waits.old.roll }

@@ -33,9 +33,12 @@ impl Frozen {
     /// Freezes the blocks that became complete since the last view, as one more generation, or none where none did. Where
     /// there are as many as there may be, all that is frozen becomes one generation first. Want of memory changes nothing.
     pub(crate) fn add(&mut self, alloc: Global, held: &Held, waits: &Waits) -> Result<(), NoMemory>
-        requires frozen { AreFrozenBut held.now.state waits.now.lacking waits.now.roll.fresh.items self.old.generations.blocks }
-        requires fresh { (d : Digest) → Contains waits.now.roll.fresh.items d → IsReady held.now.state waits.now.lacking d }
-        ensures all { OnOk result (AreFrozen held.now.state waits.now.lacking self.new.generations.blocks) }
+        requires frozen { AreFrozenBut held.now.state waits.now.lacking waits.now.roll.fresh.items
+            self.old.generations.blocks }
+        requires fresh { (d : Digest) → Contains waits.now.roll.fresh.items d
+            → IsReady held.now.state waits.now.lacking d }
+        ensures all { OnOk result
+            (AreFrozen held.now.state waits.now.lacking self.new.generations.blocks) }
         ensures unchanged { OnErr result (self.new ≡ self.old) }
     {
         if waits.fresh().is_empty() {
@@ -54,9 +57,12 @@ impl Frozen {
 
     /// Freezes the complete blocks anew, as one generation in the place of all. Want of memory changes nothing.
     pub(crate) fn join(&mut self, alloc: Global, held: &Held, waits: &Waits) -> Result<(), NoMemory>
-        requires frozen { AreFrozenBut held.now.state waits.now.lacking waits.now.roll.fresh.items self.old.generations.blocks }
-        requires fresh { (d : Digest) → Contains waits.now.roll.fresh.items d → IsReady held.now.state waits.now.lacking d }
-        ensures all { OnOk result (AreFrozen held.now.state waits.now.lacking self.new.generations.blocks) }
+        requires frozen { AreFrozenBut held.now.state waits.now.lacking waits.now.roll.fresh.items
+            self.old.generations.blocks }
+        requires fresh { (d : Digest) → Contains waits.now.roll.fresh.items d
+            → IsReady held.now.state waits.now.lacking d }
+        ensures all { OnOk result
+            (AreFrozen held.now.state waits.now.lacking self.new.generations.blocks) }
         ensures unchanged { OnErr result (self.new ≡ self.old) }
     {
         let newest = freeze_held(alloc, held, waits.fresh())?;
@@ -72,7 +78,8 @@ impl Frozen {
         alloc: Global,
         round: Round,
     ) -> Result<Trie<Shared<Block>, Global>, NoMemory>
-        ensures { IfOk result (λ trie. map.from_entries trie ≡ from_round (λ (b : Block). b.round) round self.now.generations.blocks) }
+        ensures { IfOk result (λ trie. map.from_entries trie
+            ≡ from_round (λ (b : Block). b.round) round self.now.generations.blocks) }
     {
         let mut trie = self.generations.joined(alloc)?;
         trie.retain_rounds(round);
@@ -82,7 +89,8 @@ impl Frozen {
     /// A view of what is frozen.
     pub(crate) fn view(&self, alloc: Global, floor: Round) -> Result<View<Global>, NoMemory>
         requires { IsClosed (record { blocks = self.now.generations.blocks; floor = floor }) }
-        ensures { IfOk result (λ view. view.frozen ≡ record { blocks = self.now.generations.blocks; floor = floor }) }
+        ensures { IfOk result
+            (λ view. view.frozen ≡ record { blocks = self.now.generations.blocks; floor = floor }) }
     {
         self.generations.view(alloc, floor)
     }

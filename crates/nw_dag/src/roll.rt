@@ -1,5 +1,6 @@
 //! Which blocks are complete: the last ones by their digests, and all of them by how many are not.
-ghost use Rattle.std.specs.Prelude.{◌≡◌, ◌↔◌, ◌+◌, ◌-◌, ◌<◌, ◌≤◌, OnOk, MatchOption, IsTrue, [], ◌∷◌, ◌++◌, length, get_or, Contains};
+ghost use Rattle.std.specs.Prelude.{◌≡◌, ◌↔◌, ◌+◌, ◌-◌, ◌<◌, ◌≤◌, [], ◌∷◌, ◌++◌};
+ghost use Rattle.std.specs.Prelude.{OnOk, MatchOption, IsTrue, length, get_or, Contains};
 ghost use Rattle.std.specs.Vec.{vec_capacity};
 ghost use Rattle.nw_waiting.specs.Pairs.{Lacks};
 ghost use Rattle.nw_dag.specs.Lacking.{IsReady};
@@ -54,7 +55,8 @@ impl Roll {
 
     /// The block at the place of the list, or `None` behind its end.
     pub(crate) fn get(&self, place: usize) -> Option<Digest>
-        ensures { MatchOption result (length self.now.fresh.items ≤ place) (λ digest. (place < length self.now.fresh.items) × (digest ≡ get_or self.now.fresh.items place digest)) }
+        ensures { MatchOption result (length self.now.fresh.items ≤ place) (λ digest. (place
+            < length self.now.fresh.items) × (digest ≡ get_or self.now.fresh.items place digest)) }
     {
         self.fresh.get(place).copied()
     }
@@ -68,7 +70,8 @@ impl Roll {
 
     /// Whether there is room for one pending block more.
     pub(crate) fn has_room(&self) -> bool
-        ensures { IsTrue result ↔ length self.now.fresh.items + self.now.pending < vec_capacity self.now.fresh }
+        ensures { IsTrue result
+            ↔ length self.now.fresh.items + self.now.pending < vec_capacity self.now.fresh }
     {
         self.most() < self.fresh.capacity()
     }
@@ -77,7 +80,8 @@ impl Roll {
     pub(crate) fn grow(&mut self) -> Result<(), NoMemory>
         ensures fresh { self.new.fresh.items ≡ self.old.fresh.items }
         ensures pending { self.new.pending ≡ self.old.pending }
-        ensures room { OnOk result (length self.new.fresh.items + self.new.pending < vec_capacity self.new.fresh) }
+        ensures room { OnOk result
+            (length self.new.fresh.items + self.new.pending < vec_capacity self.new.fresh) }
     {
         let Some(more) = self.most().checked_add(1) else {
             return Err(NoMemory);
@@ -116,7 +120,8 @@ impl Roll {
 
     /// Lists no block any more that is not complete.
     pub(crate) fn drop_stale(&mut self, held: &Held, lacking: &Waiting<Global>)
-        ensures fresh { (d : Digest) → Contains self.new.fresh.items d ↔ (Contains self.old.fresh.items d × IsReady held.now.state lacking.now d) }
+        ensures fresh { (d : Digest) → Contains self.new.fresh.items d
+            ↔ (Contains self.old.fresh.items d × IsReady held.now.state lacking.now d) }
         ensures pending { self.new.pending ≡ self.old.pending }
     {
         self.fresh.retain(|digest| is_ready(held, lacking, *digest));

@@ -1,5 +1,6 @@
 //! What held blocks lack, and which are complete.
-ghost use Rattle.std.specs.Prelude.{◌≡◌, ◌↔◌, ◌<◌, ◌≤◌, ◌+◌, IfOk, OnOk, IsTrue, [], ◌∷◌, ◌++◌, length, Contains};
+ghost use Rattle.std.specs.Prelude.{◌≡◌, ◌↔◌, ◌<◌, ◌≤◌, ◌+◌, [], ◌∷◌, ◌++◌};
+ghost use Rattle.std.specs.Prelude.{IfOk, OnOk, IsTrue, length, Contains};
 ghost use Rattle.std.specs.FinSet as set;
 ghost use Rattle.std.specs.FinMap as map;
 ghost use Rattle.std.specs.Vec.{vec_capacity};
@@ -63,8 +64,11 @@ impl Waits {
 
     /// Lets the holder lack it, where it does not stand or is not complete. Want of memory may leave that half done.
     fn want(&mut self, held: &Held, wanted: Wanted, holder: Digest) -> Result<(), NoMemory>
-        ensures unmet { OnOk result (Wants (IsMet held.now.state) (λ w. w ≡ wanted) holder self.old.unmet self.new.unmet) }
-        ensures lacking { OnOk result (Wants (λ w. IsMet held.now.state w × IsReady held.now.state self.old.lacking w.digest) (λ w. w ≡ wanted) holder self.old.lacking self.new.lacking) }
+        ensures unmet { OnOk result
+            (Wants (IsMet held.now.state) (λ w. w ≡ wanted) holder self.old.unmet self.new.unmet) }
+        ensures lacking { OnOk result
+            (Wants (λ w. IsMet held.now.state w × IsReady held.now.state self.old.lacking w.digest)
+            (λ w. w ≡ wanted) holder self.old.lacking self.new.lacking) }
         ensures same_unmet { AreSameBut holder self.old.unmet self.new.unmet }
         ensures same_lacking { AreSameBut holder self.old.lacking self.new.lacking }
         ensures roll { self.new.roll ≡ self.old.roll }
@@ -89,8 +93,11 @@ impl Waits {
         holder: Digest,
     ) -> Result<(), NoMemory>
         requires absent { Stands held.now.state holder → ⊥ }
-        ensures unmet { OnOk result (Wants (IsMet held.now.state) (IsNamedAmong (round + 1) references.now) holder self.old.unmet self.new.unmet) }
-        ensures lacking { OnOk result (Wants (λ w. IsMet held.now.state w × IsReady held.now.state self.old.lacking w.digest) (IsNamedAmong (round + 1) references.now) holder self.old.lacking self.new.lacking) }
+        ensures unmet { OnOk result (Wants (IsMet held.now.state)
+            (IsNamedAmong (round + 1) references.now) holder self.old.unmet self.new.unmet) }
+        ensures lacking { OnOk result
+            (Wants (λ w. IsMet held.now.state w × IsReady held.now.state self.old.lacking w.digest)
+            (IsNamedAmong (round + 1) references.now) holder self.old.lacking self.new.lacking) }
         ensures same_unmet { AreSameBut holder self.old.unmet self.new.unmet }
         ensures same_lacking { AreSameBut holder self.old.lacking self.new.lacking }
         ensures roll { self.new.roll ≡ self.old.roll }
@@ -110,8 +117,13 @@ impl Waits {
         holder: Digest,
     ) -> Result<(), NoMemory>
         requires absent { Stands held.now.state holder → ⊥ }
-        ensures unmet { OnOk result (Wants (IsMet held.now.state) (λ w. (held.now.state.floor < block.now.round) × IsNamedAmong block.now.round block.now.parents w) holder self.old.unmet self.new.unmet) }
-        ensures lacking { OnOk result (Wants (λ w. IsMet held.now.state w × IsReady held.now.state self.old.lacking w.digest) (λ w. (held.now.state.floor < block.now.round) × IsNamedAmong block.now.round block.now.parents w) holder self.old.lacking self.new.lacking) }
+        ensures unmet { OnOk result (Wants (IsMet held.now.state)
+            (λ w. (held.now.state.floor < block.now.round) × IsNamedAmong block.now.round
+            block.now.parents w) holder self.old.unmet self.new.unmet) }
+        ensures lacking { OnOk result
+            (Wants (λ w. IsMet held.now.state w × IsReady held.now.state self.old.lacking w.digest)
+            (λ w. (held.now.state.floor < block.now.round) × IsNamedAmong block.now.round
+            block.now.parents w) holder self.old.lacking self.new.lacking) }
         ensures same_unmet { AreSameBut holder self.old.unmet self.new.unmet }
         ensures same_lacking { AreSameBut holder self.old.lacking self.new.lacking }
         ensures roll { self.new.roll ≡ self.old.roll }
@@ -160,9 +172,11 @@ impl Waits {
     pub(crate) fn reserve(&mut self, held: &Held) -> Result<(), NoMemory>
         ensures unmet { self.new.unmet ≡ self.old.unmet }
         ensures lacking { self.new.lacking ≡ self.old.lacking }
-        ensures kept { (d : Digest) → Contains self.old.roll.fresh.items d → IsReady held.now.state self.old.lacking d → Contains self.new.roll.fresh.items d }
+        ensures kept { (d : Digest) → Contains self.old.roll.fresh.items d
+            → IsReady held.now.state self.old.lacking d → Contains self.new.roll.fresh.items d }
         ensures pending { self.new.roll.pending ≡ self.old.roll.pending }
-        ensures room { OnOk result (length self.new.roll.fresh.items + self.new.roll.pending < vec_capacity self.new.roll.fresh) }
+        ensures room { OnOk result (length self.new.roll.fresh.items + self.new.roll.pending
+            < vec_capacity self.new.roll.fresh) }
     {
         if self.roll.has_room() {
             return Ok(());
@@ -173,7 +187,8 @@ impl Waits {
 
     /// Takes in that one block more is held.
     pub(crate) fn admit(&mut self)
-        requires { length self.old.roll.fresh.items + self.old.roll.pending < vec_capacity self.old.roll.fresh }
+        requires { length self.old.roll.fresh.items + self.old.roll.pending
+            < vec_capacity self.old.roll.fresh }
         ensures unmet { self.new.unmet ≡ self.old.unmet }
         ensures lacking { self.new.lacking ≡ self.old.lacking }
         ensures fresh { self.new.roll.fresh ≡ self.old.roll.fresh }

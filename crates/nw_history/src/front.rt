@@ -1,10 +1,12 @@
 //! Legal histories that never change.
-ghost use Rattle.std.specs.Prelude.{◌≡◌, ◌↔◌, ◌==◌, ◌+◌, ◌/◌, ◌%◌, ◌++◌, ◌∷◌, ◌^◌, ◌<◌, [], IfOk, OnOk, IfSome, IsNone, IsTrue, length, slice_get};
+ghost use Rattle.std.specs.Prelude.{◌≡◌, ◌↔◌, ◌==◌, ◌+◌, ◌/◌, ◌%◌, ◌++◌, ◌∷◌, ◌^◌, ◌<◌, []};
+ghost use Rattle.std.specs.Prelude.{IfOk, OnOk, IfSome, IsNone, IsTrue, length, slice_get};
 ghost use Rattle.std.specs.Option.{option_copied};
 ghost use mathlib.Core.List.{IsPrefix};
 ghost use Rattle.nw_model.specs.State.{opening};
 ghost use Rattle.nw_model.specs.Step.{after};
-ghost use Rattle.nw_history.specs.Story.{IsLegalStory, bounds_of, reopened, story_of, tables_of, with_event};
+ghost use Rattle.nw_history.specs.Story.{IsLegalStory, bounds_of, reopened, story_of, tables_of};
+ghost use Rattle.nw_history.specs.Story.{with_event};
 ghost use Rattle.nw_history.specs.Prefix.{IsPrefixOf, AreAlike};
 
 use crate::Limits;
@@ -126,7 +128,8 @@ impl<S: Scheme> Front<S> {
 
     /// The base that its calls are replayed from, or `None` where that is the opening state.
     pub fn base(&self) -> Option<&Base>
-        ensures base { IfSome result (λ base. base.now ≡ record { bounds = bounds_of self.now.limits; state = self.now.base }) }
+        ensures base { IfSome result (λ base.
+            base.now ≡ record { bounds = bounds_of self.now.limits; state = self.now.base }) }
         ensures opening { IsNone result ↔ self.now.base ≡ opening }
         ensures legal { IsLegalStory S.accepts self.now }
     {
@@ -165,7 +168,8 @@ impl<S: Scheme> Front<S> {
 
     /// Whether both have an event at the index, of one session, with one number and one call.
     fn is_alike(&self, other: &Front<S>, index: usize) -> bool
-        ensures { IsTrue result ↔ AreAlike (slice_get self.now.events index) (slice_get other.now.events index) }
+        ensures { IsTrue result
+            ↔ AreAlike (slice_get self.now.events index) (slice_get other.now.events index) }
     {
         match (self.event(index), other.event(index)) {
             (Some(one), Some(other)) => {
@@ -202,7 +206,8 @@ impl<S: Scheme> Front<S> {
 
 /// Takes the step of the call again, whose reply is known: only writes, certificates and collections change the tables.
 fn take_again(tables: &mut Plain, call: &Call) -> Result<(), NoMemory>
-    ensures { OnOk result (tables.new ≡ record tables.old { state = after tables.old.bounds tables.old.state call.now }) }
+    ensures { OnOk result (tables.new
+        ≡ record tables.old { state = after tables.old.bounds tables.old.state call.now }) }
 {
     match call {
         Call::Write(_, _) | Call::Certify(_) | Call::Collect(_) => {

@@ -40,7 +40,12 @@ impl<S: Scheme> History<S> {
         committee: Shared<Committee>,
         limits: Limits,
     ) -> Result<History<S>, NoMemory>
-        ensures empty { IfOk result (λ history. history ≡ record { committee = committee; limits = limits; base = opening; events = [] }) }
+        ensures empty { IfOk result (λ history. history ≡ record {
+          committee = committee;
+          limits = limits;
+          base = opening;
+          events = [];
+        }) }
     {
         let base = Base::of(Plain::new(alloc, limits.blocks, limits.window));
         History::from_start(alloc, Start::new(committee, limits, base))

@@ -29,7 +29,11 @@ impl Model for Start {
 
     ghost coded = { Prim.hlevel (codes, coded_state) };
 
-    ghost view = { λ s. record { committee = s.committee; limits = s.limits; base = s.base.state } };
+    ghost view = { λ s. record {
+      committee = s.committee;
+      limits = s.limits;
+      base = s.base.state;
+    } };
 
     ghost invariant = { λ s. s.base.bounds ≡ bounds_of s.limits };
 }
@@ -61,7 +65,8 @@ impl Start {
 
     /// The base, or `None` where it is the opening state.
     pub(crate) fn base(&self) -> Option<&Base>
-        ensures base { IfSome result (λ base. base.now ≡ record { bounds = bounds_of self.now.limits; state = self.now.base }) }
+        ensures base { IfSome result (λ base.
+            base.now ≡ record { bounds = bounds_of self.now.limits; state = self.now.base }) }
         ensures opening { IsNone result ↔ self.now.base ≡ opening }
     {
         if self.base.is_opening() {
@@ -73,7 +78,10 @@ impl Start {
 
     /// A store over the base.
     pub(crate) fn tables(&self, alloc: Global) -> Result<Plain, NoMemory>
-        ensures { IfOk result (λ tables. tables ≡ record { bounds = bounds_of self.now.limits; state = self.now.base }) }
+        ensures { IfOk result (λ tables. tables ≡ record {
+          bounds = bounds_of self.now.limits;
+          state = self.now.base;
+        }) }
     {
         Plain::over(alloc, &self.base)
     }

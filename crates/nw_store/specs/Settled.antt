@@ -53,9 +53,10 @@ pub record AreSettled (history : Story) (js : List Journal) : Type 0 where
 abbrev pub AreAllComparable : List Journal → Type 0
 AreAllComparable js = (i k : ℕ) (one two : Journal) → slice_get js i ≡ Some one → slice_get js k ≡ Some two → AreComparable one.answers two.answers
 
--- what is settled: the history, and the journals in the order of their sessions
+-- what is settled: the history, how many sessions were made, and the journals in the order of their sessions
 pub record Ledgers : Type 0 where
   pub history : Story
+  pub made : ℕ
   pub journals : List Journal
 
 -- why journals do not settle: there are fewer than sessions were made; else an id strays, and the least that does is named, with no number of a call

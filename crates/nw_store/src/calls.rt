@@ -1,6 +1,7 @@
 //! Calls of sessions, while the guard of the lock is lent.
-ghost use Rattle.std.specs.Prelude.{◌≡◌, None, IfOk, IfErr, OnOk, OnErr};
+ghost use Rattle.std.specs.Prelude.{◌≡◌, Some, None, IfOk, IfErr, OnOk, OnErr};
 ghost use Rattle.std.specs.Option.{option_copied};
+ghost use Rattle.nw_model.specs.Checks.{digest_of};
 ghost use Rattle.nw_model.specs.History.{IsAdmitted};
 ghost use Rattle.nw_history.specs.Story.{IsLegalStory};
 ghost use Rattle.nw_book.specs.Answer.{IsFor, front_of, reply_of};
@@ -12,6 +13,7 @@ ghost use Rattle.nw_store.specs.Answered.{IsAnswered};
 use crate::session::{Entry, Session};
 use crate::{Home, Locked};
 use nw_book::{Command, Done, NoStep, Ticket};
+use nw_check::{CheckedBlock, CheckedCert};
 use nw_committee::Committee;
 use nw_digest::{Digest, NoMemory};
 use nw_model::Call;
@@ -77,9 +79,54 @@ pub fn open_locked<S: Scheme, L: Home>(
     Ok(take_open(locked, alloc, session, digest)?)
 }
 
+/// Writes the block, which is lent, as the session's next call, while the guard is lent.
+pub(crate) fn write_locked<S: Scheme, L: Home>(
+    locked: &mut Locked<S, L>,
+    alloc: Global,
+    session: &mut Session<S, L>,
+    block: &CheckedBlock<S>,
+) -> Result<Done<S>, NoStep>
+    ensures answered { IfOk result (λ done. IsAnswered S.accepts locked.old.history session.old
+        session.new
+        (Call.Write (digest_of block.now.block) block.now.block) done.reply done.front) }
+    ensures starts { origin_of locked.old.history ≡ L.origin }
+    ensures legal { IsLegalStory S.accepts locked.old.history }
+    ensures may { OnOk result (MayStep locked.old.history session.old.id
+        (next_number session.old) (Some block.now.committee)) }
+    ensures refused { IfErr result (IsRefusal locked.old.history session.old.id
+        (next_number session.old) (Some block.now.committee)) }
+    ensures session { OnErr result (session.new ≡ session.old) }
+{
+    may_call(locked, session, Some(block.committee().get()))?;
+    let call = Call::Write(block.digest(), block.block().try_clone()?);
+    Ok(take_call(locked, alloc, session, call)?)
+}
+
+/// Hands in the certificate, which is lent, as the session's next call, while the guard is lent.
+pub(crate) fn certify_locked<S: Scheme, L: Home>(
+    locked: &mut Locked<S, L>,
+    alloc: Global,
+    session: &mut Session<S, L>,
+    certificate: &CheckedCert<S>,
+) -> Result<Done<S>, NoStep>
+    ensures answered { IfOk result (λ done. IsAnswered S.accepts locked.old.history session.old
+        session.new (Call.Certify certificate.now.certificate) done.reply done.front) }
+    ensures starts { origin_of locked.old.history ≡ L.origin }
+    ensures legal { IsLegalStory S.accepts locked.old.history }
+    ensures may { OnOk result (MayStep locked.old.history session.old.id
+        (next_number session.old) (Some certificate.now.committee)) }
+    ensures refused { IfErr result (IsRefusal locked.old.history session.old.id
+        (next_number session.old) (Some certificate.now.committee)) }
+    ensures session { OnErr result (session.new ≡ session.old) }
+{
+    may_call(locked, session, Some(certificate.committee().get()))?;
+    let call = Call::Certify(certificate.certificate().try_clone()?);
+    Ok(take_call(locked, alloc, session, call)?)
+}
+
 /// Whether the session may make its next call, where what it hands in was checked under that committee, if it hands in
 /// anything. It takes no memory, and changes nothing.
-pub(crate) fn may_call<S: Scheme, L: Home>(
+fn may_call<S: Scheme, L: Home>(
     locked: &mut Locked<S, L>,
     session: &mut Session<S, L>,
     under: Option<&Committee>,
@@ -101,7 +148,7 @@ pub(crate) fn may_call<S: Scheme, L: Home>(
 
 /// Takes the step of a call that the session may make as its next. It is refused for want of memory alone, and then changes
 /// nothing.
-pub(crate) fn take_call<S: Scheme, L: Home>(
+fn take_call<S: Scheme, L: Home>(
     locked: &mut Locked<S, L>,
     alloc: Global,
     session: &mut Session<S, L>,

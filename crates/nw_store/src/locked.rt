@@ -1,5 +1,6 @@
 //! What the lock holds, and what is done while it is held.
-ghost use Rattle.std.specs.Prelude.{◌≡◌, ◌↔◌, ◌+◌, ◌<◌, ◌≤◌, ◌++◌, ◌∷◌, [], IsErr, IfOk, IfErr, OnOk, OnErr};
+ghost use Rattle.std.specs.Prelude.{◌≡◌, ◌↔◌, ◌+◌, ◌<◌, ◌≤◌, ◌++◌, ◌∷◌, []};
+ghost use Rattle.std.specs.Prelude.{IsErr, IfOk, IfErr, OnOk, OnErr};
 ghost use mathlib.Core.List.{IsPrefix};
 ghost use Rattle.nw_history.specs.Limits.{AreInRange};
 ghost use Rattle.nw_history.specs.Story.{IsLegalStory, reopened};
@@ -87,7 +88,9 @@ impl<S: Scheme, L: Home> Model for Locked<S, L> {
 
     ghost view = { λ l. record { history = l.book; made = l.made } };
 
-    ghost invariant = { λ l. (L.parts ≡ parts_of_a_ledger) × IsKept S.accepts (record { history = l.book; made = l.made }) l.tally.calls.total l.spare.parts l.spare.amount l.tally.keeper × (origin_of l.book ≡ L.origin) };
+    ghost invariant = { λ l. (L.parts ≡ parts_of_a_ledger)
+        × IsKept S.accepts (record { history = l.book; made = l.made }) l.tally.calls.total
+        l.spare.parts l.spare.amount l.tally.keeper × (origin_of l.book ≡ L.origin) };
 }
 
 impl<S: Scheme, L: Home> Locked<S, L> {
@@ -153,8 +156,10 @@ pub fn session_locked<S: Scheme, L: Home>(
     locked: &mut Locked<S, L>,
     alloc: Global,
 ) -> Result<Session<S, L>, TooMany>
-    ensures session { IfOk result (λ session. session ≡ record { id = locked.old.made; answers = [] }) }
-    ensures made { OnOk result (locked.new ≡ record { history = locked.old.history; made = locked.old.made + 1 }) }
+    ensures session { IfOk result
+        (λ session. session ≡ record { id = locked.old.made; answers = [] }) }
+    ensures made { OnOk result
+        (locked.new ≡ record { history = locked.old.history; made = locked.old.made + 1 }) }
     ensures too_many { IsErr result ↔ (locked.old.made ≡ locked.old.history.limits.sessions) }
     ensures unchanged { OnErr result (locked.new ≡ locked.old) }
 {

@@ -97,7 +97,8 @@ impl<S: Scheme, L: Home> Model for Session<S, L> {
 
     ghost view = { λ s. record { id = s.id; answers = s.journal.items } };
 
-    ghost invariant = { λ s. IsSession s.pass.mine.parts s.pass.mine.amount s.pass.claim (record { id = s.id; answers = s.journal.items }) };
+    ghost invariant = { λ s. IsSession s.pass.mine.parts s.pass.mine.amount s.pass.claim
+        (record { id = s.id; answers = s.journal.items }) };
 }
 
 impl<S: Scheme, L: Home> Session<S, L> {

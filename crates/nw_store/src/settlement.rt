@@ -1,9 +1,12 @@
 //! Settlement: the journals of all sessions, and the history that they are.
-ghost use Rattle.std.specs.Prelude.{ℕ, ◌≡◌, ◌↔◌, ◌+◌, ◌<◌, ◌^◌, ◌≤◌, IsOk, IsNone, IsTrue, OnOk, IfOk, IfErr, IfSome, IfNone, Some, All, length, slice_get, sum_by};
+ghost use Rattle.std.specs.Prelude.{ℕ, ◌≡◌, ◌↔◌, ◌+◌, ◌<◌, ◌^◌, ◌≤◌};
+ghost use Rattle.std.specs.Prelude.{IsOk, IsNone, IsTrue, OnOk, IfOk, IfErr, IfSome, IfNone, Some};
+ghost use Rattle.std.specs.Prelude.{All, length, slice_get, sum_by};
 ghost use Rattle.std.specs.List.Sorted.{IsPermutation, IsNonDecreasingBy};
 ghost use Rattle.nw_history.specs.Story.{IsLegalStory, reopened};
 ghost use Rattle.nw_store.specs.Journal.{Journal, AreBegun, AreAnswers, origin_of};
-ghost use Rattle.nw_store.specs.Settled.{AreAll, AreAllComparable, AreInOrder, AreSettled, IsFault, IsFirstStray, IsStray, ids_of};
+ghost use Rattle.nw_store.specs.Settled.{AreAll, AreAllComparable, AreInOrder, AreSettled, IsFault};
+ghost use Rattle.nw_store.specs.Settled.{IsFirstStray, IsStray, ids_of};
 
 use crate::locked::renew_locked;
 use crate::{Entry, Home, Locked, Session, SettleFault, Store};
@@ -31,7 +34,8 @@ impl<S: Scheme, L: Home> Model for Settled<S, L> {
 
     ghost coded = { Prim.hlevel (codes, coded_state) };
 
-    ghost view = { λ s. record { history = s.locked.history; journals = s.sessions.items } };
+    ghost view = { λ s.
+        record { history = s.locked.history; made = s.locked.made; journals = s.sessions.items } };
 
     ghost invariant = { λ s. AreSettled s.locked.history s.sessions.items };
 }
@@ -64,7 +68,8 @@ impl<S: Scheme, L: Home> Settled<S, L> {
 
     /// The journal of the session, or `None` where no session has this id.
     pub fn journal(&self, session: u16) -> Option<&[Entry<S>]>
-        ensures journal { IfSome result (λ entries. (j : Journal) × (slice_get self.now.journals session ≡ Some j) × (entries.now ≡ j.answers)) }
+        ensures journal { IfSome result (λ entries. (j : Journal)
+            × (slice_get self.now.journals session ≡ Some j) × (entries.now ≡ j.answers)) }
         ensures none { IfNone result (length self.now.journals ≤ session) }
     {
         match self.sessions.get(usize::from(session)) {
@@ -81,6 +86,7 @@ pub fn settle_locked<S: Scheme, L: Home>(
     sessions: Vec<Session<S, L>>,
 ) -> Result<Settled<S, L>, (SettleFault, Locked<S, L>, Vec<Session<S, L>>)>
     ensures history { IfOk result (λ s. s.history ≡ locked.history) }
+    ensures made { IfOk result (λ s. s.made ≡ locked.made) }
     ensures journals { IfOk result (λ s. IsPermutation sessions.items s.journals) }
     ensures settled { IfOk result (λ s. AreSettled s.history s.journals) }
     ensures exactly { IsOk result ↔ AreAll locked.made sessions.items }
@@ -151,7 +157,8 @@ fn join<S: Scheme, L: Home>(locked: &mut Locked<S, L>, sessions: &mut [Session<S
 
 /// Each front of these sessions begins the history, and their answers are to their calls. Nothing is changed.
 fn renew_all<S: Scheme, L: Home>(locked: &mut Locked<S, L>, sessions: &mut [Session<S, L>])
-    ensures begun { All (λ s. AreBegun locked.old.history s.answers × AreAnswers s.id 1 s.answers) sessions.old }
+    ensures begun { All
+        (λ s. AreBegun locked.old.history s.answers × AreAnswers s.id 1 s.answers) sessions.old }
     ensures same { locked.new ≡ locked.old }
     ensures sessions { sessions.new ≡ sessions.old }
 {
@@ -170,7 +177,8 @@ fn add_up<S: Scheme, L: Home>(
 )
     requires parts { gathered.old.parts + length sessions.old ≡ L.parts }
     requires backed { gathered.old.parts ≡ 0 → gathered.old.amount ≡ 0 }
-    ensures total { sum_by (λ s. length s.answers) sessions.old + gathered.old.amount ≡ calls.old.total }
+    ensures total { sum_by (λ s. length s.answers) sessions.old + gathered.old.amount
+        ≡ calls.old.total }
     ensures calls { calls.new.total ≡ calls.old.total }
     ensures sessions { sessions.new ≡ sessions.old }
     ensures parts { gathered.new.parts ≡ gathered.old.parts }
@@ -227,6 +235,7 @@ pub fn settle<S: Scheme, L: Home>(
     store: Store<S, L>,
     sessions: Vec<Session<S, L>>,
 ) -> Result<Settled<S, L>, Unsettled<S, L>>
+    ensures all { IfOk result (λ s. AreAll s.made sessions.items) }
     ensures journals { IfOk result (λ s. IsPermutation sessions.items s.journals) }
     ensures settled { IfOk result (λ s. AreSettled s.history s.journals) }
     ensures refused { IfErr result (λ e. IsFault e.locked.made sessions.items e.fault) }

@@ -14,6 +14,7 @@ ghost use Rattle.std.specs.Prelude.{
 };
 ghost use Rattle.std.specs.Result.{IsErrOf};
 ghost use Rattle.nw_model.specs.Checks.{digest_of};
+ghost use Rattle.nw_model.specs.declared.call.Call.TheVariants as Call;
 ghost use Rattle.nw_history.specs.Limits.{AreInRange};
 ghost use Rattle.nw_book.specs.Answer.{IsFor, front_of, reply_of};
 ghost use Rattle.nw_book.specs.Command.{call_of, committee_of};
@@ -21,7 +22,7 @@ ghost use Rattle.nw_store.specs.Journal.{first_origin, origin_of};
 ghost use Rattle.nw_store.specs.Kept.{parts_of_a_ledger};
 ghost use Rattle.nw_store.specs.Answered.{IsExplained, TakesNoStep};
 
-use crate::calls::{call_locked, may_call, open_locked, take_call};
+use crate::calls::{call_locked, certify_locked, open_locked, write_locked};
 use crate::locked::{compact_locked, session_locked};
 use crate::{Home, Locked, Session, TooMany};
 use nw_book::{Book, BookError, Command, Done, Front, Limits, NoStep, Ticket};
@@ -29,7 +30,6 @@ use nw_check::{CheckedBlock, CheckedCert};
 use nw_committee::Committee;
 use nw_digest::{Digest, NoMemory, Round, Shared};
 use nw_log::Opened;
-use nw_model::Call;
 use nw_sig::Scheme;
 use std::alloc::Global;
 use std::marker::Model;
@@ -129,17 +129,15 @@ impl<S: Scheme, L: Home> Store<S, L> {
         session: &mut Session<S, L>,
         block: &CheckedBlock<S>,
     ) -> Result<Done<S>, NoStep>
-        ensures answered { IfOk result (λ done. IsExplained S.accepts L.origin session.old session.new
+        ensures answered { IfOk result
+            (λ done. IsExplained S.accepts L.origin session.old session.new
             (Call.Write (digest_of block.now.block) block.now.block) done.reply done.front) }
         ensures own_committee { OnOk result (block.now.committee ≡ L.origin.committee) }
         ensures no_step { IfErr result
             (TakesNoStep S.accepts L.origin session.old (Some block.now.committee)) }
         ensures unchanged { OnErr result (session.new ≡ session.old) }
     {
-        let mut locked = self.locked.lock(rt);
-        may_call(&mut *locked, session, Some(block.committee().get()))?;
-        let call = Call::Write(block.digest(), block.block().try_clone()?);
-        Ok(take_call(&mut *locked, alloc, session, call)?)
+        write_locked(&mut *self.locked.lock(rt), alloc, session, block)
     }
 
     /// Keeps the certificate: a call of the session. The certificate is lent: a refused call can be made again.
@@ -150,17 +148,15 @@ impl<S: Scheme, L: Home> Store<S, L> {
         session: &mut Session<S, L>,
         certificate: &CheckedCert<S>,
     ) -> Result<Done<S>, NoStep>
-        ensures answered { IfOk result (λ done. IsExplained S.accepts L.origin session.old session.new
+        ensures answered { IfOk result
+            (λ done. IsExplained S.accepts L.origin session.old session.new
             (Call.Certify certificate.now.certificate) done.reply done.front) }
         ensures own_committee { OnOk result (certificate.now.committee ≡ L.origin.committee) }
         ensures no_step { IfErr result
             (TakesNoStep S.accepts L.origin session.old (Some certificate.now.committee)) }
         ensures unchanged { OnErr result (session.new ≡ session.old) }
     {
-        let mut locked = self.locked.lock(rt);
-        may_call(&mut *locked, session, Some(certificate.committee().get()))?;
-        let call = Call::Certify(certificate.certificate().try_clone()?);
-        Ok(take_call(&mut *locked, alloc, session, call)?)
+        certify_locked(&mut *self.locked.lock(rt), alloc, session, certificate)
     }
 
     /// Reads the certificate that is kept for the digest: a call of the session.
@@ -171,7 +167,8 @@ impl<S: Scheme, L: Home> Store<S, L> {
         session: &mut Session<S, L>,
         digest: Digest,
     ) -> Result<Done<S>, NoStep>
-        ensures answered { IfOk result (λ done. IsExplained S.accepts L.origin session.old session.new
+        ensures answered { IfOk result
+            (λ done. IsExplained S.accepts L.origin session.old session.new
             (Call.Certificate digest) done.reply done.front) }
         ensures no_step { IfErr result (TakesNoStep S.accepts L.origin session.old None) }
         ensures unchanged { OnErr result (session.new ≡ session.old) }
@@ -187,7 +184,8 @@ impl<S: Scheme, L: Home> Store<S, L> {
         session: &mut Session<S, L>,
         digest: Digest,
     ) -> Result<Done<S>, NoStep>
-        ensures answered { IfOk result (λ done. IsExplained S.accepts L.origin session.old session.new
+        ensures answered { IfOk result
+            (λ done. IsExplained S.accepts L.origin session.old session.new
             (Call.Read digest) done.reply done.front) }
         ensures no_step { IfErr result (TakesNoStep S.accepts L.origin session.old None) }
         ensures unchanged { OnErr result (session.new ≡ session.old) }
@@ -204,7 +202,8 @@ impl<S: Scheme, L: Home> Store<S, L> {
         session: &mut Session<S, L>,
         round: Round,
     ) -> Result<Done<S>, NoStep>
-        ensures answered { IfOk result (λ done. IsExplained S.accepts L.origin session.old session.new
+        ensures answered { IfOk result
+            (λ done. IsExplained S.accepts L.origin session.old session.new
             (Call.Collect round) done.reply done.front) }
         ensures no_step { IfErr result (TakesNoStep S.accepts L.origin session.old None) }
         ensures unchanged { OnErr result (session.new ≡ session.old) }
@@ -220,7 +219,8 @@ impl<S: Scheme, L: Home> Store<S, L> {
         session: &mut Session<S, L>,
         most: u16,
     ) -> Result<Done<S>, NoStep>
-        ensures answered { IfOk result (λ done. IsExplained S.accepts L.origin session.old session.new
+        ensures answered { IfOk result
+            (λ done. IsExplained S.accepts L.origin session.old session.new
             (Call.Missing most) done.reply done.front) }
         ensures no_step { IfErr result (TakesNoStep S.accepts L.origin session.old None) }
         ensures unchanged { OnErr result (session.new ≡ session.old) }
@@ -235,7 +235,8 @@ impl<S: Scheme, L: Home> Store<S, L> {
         alloc: Global,
         session: &mut Session<S, L>,
     ) -> Result<Done<S>, NoStep>
-        ensures answered { IfOk result (λ done. IsExplained S.accepts L.origin session.old session.new
+        ensures answered { IfOk result
+            (λ done. IsExplained S.accepts L.origin session.old session.new
             Call.Status done.reply done.front) }
         ensures no_step { IfErr result (TakesNoStep S.accepts L.origin session.old None) }
         ensures unchanged { OnErr result (session.new ≡ session.old) }
@@ -258,7 +259,8 @@ impl<S: Scheme, L: Home> Store<S, L> {
         session: &mut Session<S, L>,
         digest: Digest,
     ) -> Result<Result<Ticket<S>, Done<S>>, NoStep>
-        ensures answered { IfOk result (λ answer. IsExplained S.accepts L.origin session.old session.new
+        ensures answered { IfOk result
+            (λ answer. IsExplained S.accepts L.origin session.old session.new
             (Call.Causal digest) (reply_of answer) (front_of answer)) }
         ensures told { IfOk result (IsFor digest) }
         ensures no_step { IfErr result (TakesNoStep S.accepts L.origin session.old None) }
@@ -275,7 +277,8 @@ impl<S: Scheme, L: Home> Store<S, L> {
         session: &mut Session<S, L>,
         command: &Command<S>,
     ) -> Result<Done<S>, NoStep>
-        ensures answered { IfOk result (λ done. IsExplained S.accepts L.origin session.old session.new
+        ensures answered { IfOk result
+            (λ done. IsExplained S.accepts L.origin session.old session.new
             (call_of command.now) done.reply done.front) }
         ensures no_step { IfErr result
             (TakesNoStep S.accepts L.origin session.old (committee_of command.now)) }

@@ -31,7 +31,8 @@ impl<S: Scheme> Book<S> {
 
     /// An empty history that starts where this one ends, and no calls of each session.
     fn restarted(&self, alloc: Global) -> Result<(History<S>, Vec<u32>), NoMemory>
-        ensures { IfOk result (λ made. (made.0 ≡ reopened self.now) × AreCounts made.1.items (reopened self.now)) }
+        ensures { IfOk result
+            (λ made. (made.0 ≡ reopened self.now) × AreCounts made.1.items (reopened self.now)) }
     {
         let history = self.history.restarted(alloc)?;
         let calls = vec![in alloc; 0u32; history.limits().sessions as usize]?;

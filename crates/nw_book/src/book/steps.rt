@@ -90,7 +90,8 @@ impl<S: Scheme> Book<S> {
 
     /// The reply that the call would get after the history: of a causal read that can be listed `Ready`.
     fn reply(&self, alloc: Global, call: &Call) -> Result<Reply, NoMemory>
-        ensures reply { IfOk result (IsReply (bounds_of self.now.limits) (state_of self.now) call.now) }
+        ensures reply { IfOk result
+            (IsReply (bounds_of self.now.limits) (state_of self.now) call.now) }
         ensures short { IfOk result IsShort }
     {
         self.tables.reply(alloc, call)
@@ -103,8 +104,10 @@ impl<S: Scheme> Book<S> {
         digest: Digest,
     ) -> Result<Result<View<Global>, CausalReply>, NoMemory>
         ensures answer { IfOk result (λ frozen. MatchResult frozen
-            (λ view. IsReply (bounds_of self.old.limits) (state_of self.old) (Call.Causal digest) Reply.Ready × Shows view.frozen (state_of self.old))
-            (λ refusal. IsReply (bounds_of self.old.limits) (state_of self.old) (Call.Causal digest) (Reply.Causal refusal))) }
+            (λ view. IsReply (bounds_of self.old.limits) (state_of self.old)
+            (Call.Causal digest) Reply.Ready × Shows view.frozen (state_of self.old))
+            (λ refusal. IsReply (bounds_of self.old.limits) (state_of self.old) (Call.Causal digest)
+            (Reply.Causal refusal))) }
         ensures same { self.new ≡ self.old }
     {
         self.tables.freeze_for(alloc, digest)

@@ -16,7 +16,8 @@ impl<S: Scheme> Book<S> {
         ensures number { IfOk result (λ number. number ≡ next_number self.now session) }
         ensures turn { OnOk result (IsInTurn self.now session (next_number self.now session)) }
         ensures refused { IfErr result (λ why.
-            (why ≡ NoStep.OutOfTurn) × (IsInTurn self.now session (next_number self.now session) → ⊥)) }
+            (why ≡ NoStep.OutOfTurn)
+            × (IsInTurn self.now session (next_number self.now session) → ⊥)) }
     {
         match self.calls.get(usize::from(session)) {
             None => Err(NoStep::OutOfTurn),
@@ -34,7 +35,8 @@ impl<S: Scheme> Book<S> {
         under: Option<&Committee>,
     ) -> Result<(), NoStep>
         ensures may { OnOk result (MayStep self.now session number (option_copied under.entry)) }
-        ensures refused { IfErr result (IsRefusal self.now session number (option_copied under.entry)) }
+        ensures refused { IfErr result
+            (IsRefusal self.now session number (option_copied under.entry)) }
         ensures no_memory { IsErrOf result NoStep.NoMemory → ⊥ }
     {
         if !self.is_in_turn(session, number) {

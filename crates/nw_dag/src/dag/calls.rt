@@ -12,9 +12,11 @@ impl Dag {
     ///
     /// Want of memory leaves the store as it was.
     pub fn call(&mut self, alloc: Global, call: &Call) -> Result<Reply, NoMemory>
-        ensures reply { IfOk result (λ reply. IsReply self.old.bounds self.old.state call.now reply) }
+        ensures reply { IfOk result
+            (λ reply. IsReply self.old.bounds self.old.state call.now reply) }
         ensures short { IfOk result IsShort }
-        ensures state { OnOk result (self.new.state ≡ after self.old.bounds self.old.state call.now) }
+        ensures state { OnOk result
+            (self.new.state ≡ after self.old.bounds self.old.state call.now) }
         ensures bounds { self.new.bounds ≡ self.old.bounds }
         ensures unchanged { OnErr result (self.new ≡ self.old) }
     {
@@ -29,7 +31,8 @@ impl Dag {
     /// Want of memory leaves the store as it was.
     pub fn take(&mut self, call: &Call, reply: &Reply) -> Result<(), NoMemory>
         requires { IsReply self.old.bounds self.old.state call.now reply.now }
-        ensures state { OnOk result (self.new.state ≡ after self.old.bounds self.old.state call.now) }
+        ensures state { OnOk result
+            (self.new.state ≡ after self.old.bounds self.old.state call.now) }
         ensures bounds { self.new.bounds ≡ self.old.bounds }
         ensures unchanged { OnErr result (self.new ≡ self.old) }
     {

@@ -48,7 +48,8 @@ impl Dag {
 
     /// Why a causal read of the digest gets no list, or `None` where the block under it is complete.
     fn refusal(&self, digest: &Digest) -> Option<CausalReply>
-        ensures why { MatchOption result (IsComplete self.now.state digest.now) (λ refusal. IsCausalReply self.now.state digest.now (Reply.Causal refusal)) }
+        ensures why { MatchOption result (IsComplete self.now.state digest.now)
+            (λ refusal. IsCausalReply self.now.state digest.now (Reply.Causal refusal)) }
         ensures sound { IsSound self.now.state }
     {
         if self.held.block(digest).is_none() {

@@ -16,11 +16,14 @@ use nw_held::Held;
 impl Waits {
     /// Lists the digest where it is ready.
     pub(super) fn add_if_ready(&mut self, held: &Held, digest: Digest)
-        requires pending { IsReady held.now.state self.old.lacking digest → 0 < self.old.roll.pending }
+        requires pending { IsReady held.now.state self.old.lacking digest
+            → 0 < self.old.roll.pending }
         ensures unmet { self.new.unmet ≡ self.old.unmet }
         ensures lacking { self.new.lacking ≡ self.old.lacking }
-        ensures added { Adds (IsReady held.now.state self.old.lacking) (digest ∷ []) self.old.roll.fresh.items self.new.roll.fresh.items }
-        ensures most { length self.new.roll.fresh.items + self.new.roll.pending ≡ length self.old.roll.fresh.items + self.old.roll.pending }
+        ensures added { Adds (IsReady held.now.state self.old.lacking)
+            (digest ∷ []) self.old.roll.fresh.items self.new.roll.fresh.items }
+        ensures most { length self.new.roll.fresh.items + self.new.roll.pending
+            ≡ length self.old.roll.fresh.items + self.old.roll.pending }
     {
         if self.is_ready(held, digest) {
             self.roll.add(digest);
@@ -33,8 +36,10 @@ impl Waits {
         requires once { IsDistinct (eq_by_cmp digest_cmp) digests.now }
         ensures unmet { self.new.unmet ≡ self.old.unmet }
         ensures lacking { self.new.lacking ≡ self.old.lacking }
-        ensures added { Adds (IsReady held.now.state self.old.lacking) digests.now self.old.roll.fresh.items self.new.roll.fresh.items }
-        ensures most { length self.new.roll.fresh.items + self.new.roll.pending ≡ length self.old.roll.fresh.items + self.old.roll.pending }
+        ensures added { Adds (IsReady held.now.state self.old.lacking) digests.now
+            self.old.roll.fresh.items self.new.roll.fresh.items }
+        ensures most { length self.new.roll.fresh.items + self.new.roll.pending
+            ≡ length self.old.roll.fresh.items + self.old.roll.pending }
     {
         for digest in digests {
             self.add_if_ready(held, *digest);
@@ -46,8 +51,10 @@ impl Waits {
         requires tally { IsTally held.now.state self.old.lacking [] self.old.roll.pending }
         requires stands { Stands held.now.state digest }
         ensures unmet { self.new.unmet ≡ self.old.unmet }
-        ensures promotes { Promotes held.now.state digest self.old.lacking self.new.lacking self.old.roll.fresh.items self.new.roll.fresh.items }
-        ensures most { length self.new.roll.fresh.items + self.new.roll.pending ≡ length self.old.roll.fresh.items + self.old.roll.pending }
+        ensures promotes { Promotes held.now.state digest self.old.lacking self.new.lacking
+            self.old.roll.fresh.items self.new.roll.fresh.items }
+        ensures most { length self.new.roll.fresh.items + self.new.roll.pending
+            ≡ length self.old.roll.fresh.items + self.old.roll.pending }
     {
         if let Some(wanted) = held.name(digest) {
             let holders = self.lacking.satisfy(&wanted);
@@ -57,9 +64,12 @@ impl Waits {
 
     /// Promotes what is listed from this place on, and what becomes ready by it. It takes no memory.
     pub(super) fn cascade(&mut self, held: &Held, first: usize)
-        requires due { IsCascading held.now.state self.old.unmet self.old.lacking (drop first self.old.roll.fresh.items) self.old.roll.pending }
-        ensures settled { IsSettled held.now.state self.new.unmet self.new.lacking self.new.roll.pending }
-        ensures grown { Grows held.now.state (IsReady held.now.state self.old.lacking) self.old.lacking self.new.lacking self.old.roll.fresh.items self.new.roll.fresh.items }
+        requires due { IsCascading held.now.state self.old.unmet self.old.lacking
+            (drop first self.old.roll.fresh.items) self.old.roll.pending }
+        ensures settled { IsSettled held.now.state self.new.unmet self.new.lacking
+            self.new.roll.pending }
+        ensures grown { Grows held.now.state (IsReady held.now.state self.old.lacking)
+            self.old.lacking self.new.lacking self.old.roll.fresh.items self.new.roll.fresh.items }
     {
         for place in first..self.roll.most() {
             match self.roll.get(place) {
@@ -85,9 +95,13 @@ impl Waits {
     /// Takes in that the digest may stand now: what lacked it does no more, and what is complete by it is promoted. It
     /// takes no memory.
     pub(crate) fn arrive(&mut self, held: &Held, digest: Digest)
-        requires { IsSettledBut held.now.state digest self.old.unmet self.old.lacking self.old.roll.pending }
-        ensures settled { IsSettled held.now.state self.new.unmet self.new.lacking self.new.roll.pending }
-        ensures grown { Grows held.now.state (λ d. IsReady held.now.state self.old.lacking d × (d ≡ digest → ⊥)) self.old.lacking self.new.lacking self.old.roll.fresh.items self.new.roll.fresh.items }
+        requires { IsSettledBut held.now.state digest self.old.unmet self.old.lacking
+            self.old.roll.pending }
+        ensures settled { IsSettled held.now.state self.new.unmet self.new.lacking
+            self.new.roll.pending }
+        ensures grown { Grows held.now.state
+            (λ d. IsReady held.now.state self.old.lacking d × (d ≡ digest → ⊥)) self.old.lacking
+            self.new.lacking self.old.roll.fresh.items self.new.roll.fresh.items }
     {
         if !held.stands(&digest) {
             return;

@@ -44,8 +44,10 @@ impl Waits {
         requires tally { IsTally held.now.state self.old.lacking [] self.old.roll.pending }
         ensures unmet { self.new.unmet ≡ without_holder self.old.unmet holder }
         ensures lacking { self.new.lacking ≡ without_holder self.old.lacking holder }
-        ensures added { Adds (IsStuck held.now.state self.old.lacking) (holder ∷ []) self.old.roll.fresh.items self.new.roll.fresh.items }
-        ensures most { length self.new.roll.fresh.items + self.new.roll.pending ≡ length self.old.roll.fresh.items + self.old.roll.pending }
+        ensures added { Adds (IsStuck held.now.state self.old.lacking)
+            (holder ∷ []) self.old.roll.fresh.items self.new.roll.fresh.items }
+        ensures most { length self.new.roll.fresh.items + self.new.roll.pending
+            ≡ length self.old.roll.fresh.items + self.old.roll.pending }
     {
         let lacked_nothing = self.lacks_nothing(holder);
         self.forget(holder);
@@ -60,8 +62,10 @@ impl Waits {
         requires once { IsDistinct (eq_by_cmp digest_cmp) holders.now }
         ensures unmet { AreWithout holders.now self.old.unmet self.new.unmet }
         ensures lacking { AreWithout holders.now self.old.lacking self.new.lacking }
-        ensures added { Adds (IsStuck held.now.state self.old.lacking) holders.now self.old.roll.fresh.items self.new.roll.fresh.items }
-        ensures most { length self.new.roll.fresh.items + self.new.roll.pending ≡ length self.old.roll.fresh.items + self.old.roll.pending }
+        ensures added { Adds (IsStuck held.now.state self.old.lacking) holders.now
+            self.old.roll.fresh.items self.new.roll.fresh.items }
+        ensures most { length self.new.roll.fresh.items + self.new.roll.pending
+            ≡ length self.old.roll.fresh.items + self.old.roll.pending }
     {
         for holder in holders {
             self.release(held, *holder);
@@ -71,9 +75,12 @@ impl Waits {
     /// Takes in that the garbage round was raised: these holders, of rounds up to it, lack nothing any more, so many blocks
     /// that were not complete are held no more, and what is complete by it is promoted. It takes no memory.
     pub(crate) fn collect(&mut self, held: &Held, holders: &[Digest], dropped: usize)
-        requires { IsCollecting held.now.state self.old.unmet self.old.lacking self.old.roll.pending holders.now dropped }
-        ensures settled { IsSettled held.now.state self.new.unmet self.new.lacking self.new.roll.pending }
-        ensures grown { Grows held.now.state (IsReady held.now.state self.old.lacking) self.old.lacking self.new.lacking self.old.roll.fresh.items self.new.roll.fresh.items }
+        requires { IsCollecting held.now.state self.old.unmet self.old.lacking self.old.roll.pending
+            holders.now dropped }
+        ensures settled { IsSettled held.now.state self.new.unmet self.new.lacking
+            self.new.roll.pending }
+        ensures grown { Grows held.now.state (IsReady held.now.state self.old.lacking)
+            self.old.lacking self.new.lacking self.old.roll.fresh.items self.new.roll.fresh.items }
     {
         self.roll.dismiss(dropped);
         let first = self.roll.listed();

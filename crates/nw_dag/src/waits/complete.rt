@@ -18,7 +18,8 @@ impl Waits {
     pub(crate) fn drop_stale(&mut self, held: &Held)
         ensures unmet { self.new.unmet ≡ self.old.unmet }
         ensures lacking { self.new.lacking ≡ self.old.lacking }
-        ensures fresh { (d : Digest) → Contains self.new.roll.fresh.items d ↔ (Contains self.old.roll.fresh.items d × IsReady held.now.state self.old.lacking d) }
+        ensures fresh { (d : Digest) → Contains self.new.roll.fresh.items d
+            ↔ (Contains self.old.roll.fresh.items d × IsReady held.now.state self.old.lacking d) }
         ensures pending { self.new.roll.pending ≡ self.old.roll.pending }
     {
         self.roll.drop_stale(held, &self.lacking);

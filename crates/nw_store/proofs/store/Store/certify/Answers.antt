@@ -1,0 +1,13 @@
+use Rattle.nw_store.specs.Journal.{IsHistoryOf}
+use Rattle.nw_store.proofs.Answered.{explained, unanswered}
+use Rattle.nw_store.proofs.store.Store.certify.Goals as goal
+
+pub returns-clause-answered : goal.returns-clause-answered
+returns-clause-answered g c =
+    let known : IsHistoryOf g.S.Scheme.accepts g.L.Home.origin _ = record { starts = c.certify_locked.ensures.starts; legal = c.certify_locked.ensures.legal } in
+    explained g.S.Scheme.accepts _ _ _ _ _ (λ done. done.reply) (λ done. done.front) c.certify_locked.result known c.certify_locked.ensures.answered
+
+pub returns-clause-no_step : goal.returns-clause-no_step
+returns-clause-no_step g c =
+    let known : IsHistoryOf g.S.Scheme.accepts g.L.Home.origin _ = record { starts = c.certify_locked.ensures.starts; legal = c.certify_locked.ensures.legal } in
+    unanswered g.S.Scheme.accepts _ _ _ _ c.certify_locked.result known c.certify_locked.ensures.refused
