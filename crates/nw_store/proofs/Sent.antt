@@ -26,7 +26,7 @@ use Rattle.nw_store.specs.contracts.store.Store as store
 
 module _ (S : RattleType) (g : Ghosts S.Denot) where
   entry_send : IsSend (entry.the_row S g)
-  entry_send = view_send (entry_inside.the_row S g) _ _ _ _ (declared_send (entry_inside.the_type S g) (search (sendable, crosses), (search (sendable, crosses) depth 30, (search (sendable, crosses) depth 30, tt))))
+  entry_send = view_send (entry_inside.the_row S g) _ _ _ _ (declared_send (entry_inside.the_type S g) (front_send S g, (search (sendable, crosses) depth 30, tt)))
 
 module _ (S L : RattleType) (g : Ghosts S.Denot) (home : HomeGhosts L.Denot) (place : PlaceGhosts L.Denot) (ledger : LedgerGhosts L.Denot) where
   pass_send : IsSend (pass.the_row S L g place ledger)

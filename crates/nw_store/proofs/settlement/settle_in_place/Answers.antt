@@ -1,4 +1,4 @@
-use Rattle.std.proofs.Common.{◌≡◌, true≢false, sym, ap, subst, arith}
+use Rattle.std.proofs.Common.{◌≡◌, true≢false, sym, ap, subst, arith, refl}
 use Rattle.nw_store.specs.Journal.{Kept}
 use Rattle.nw_store.specs.Settled.{ids_of, IsFirstStray}
 use Rattle.nw_store.proofs.Ordered.{all_length}
@@ -21,4 +21,4 @@ returns-in-Some-clause-refused g c =
     let made : c.from.result ≡ c.locked.inside.made = c.from.ensures in
     let same : c.locked.inside.made ≡ c.args.locked.now.made = ap (λ (h : Kept). h.made) c.locked.view_is in
     let first : IsFirstStray c.args.locked.now.made (ids_of c.args.sessions.now) c.in-Some.session = subst (λ m. IsFirstStray m (ids_of c.args.sessions.now) c.in-Some.session) same c.in-Some.ensures.stray in
-    (omega (arith, enough, made, same), first)
+    (omega (arith, enough, made, same), first, refl)

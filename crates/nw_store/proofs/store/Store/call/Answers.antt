@@ -1,3 +1,4 @@
+use Rattle.nw_book.specs.Command.{committee_of}
 use Rattle.nw_store.specs.Journal.{IsHistoryOf}
 use Rattle.nw_store.proofs.Answered.{explained, unanswered}
 use Rattle.nw_store.proofs.store.Store.call.Goals as goal
@@ -10,4 +11,4 @@ returns-clause-answered g c =
 pub returns-clause-no_step : goal.returns-clause-no_step
 returns-clause-no_step g c =
     let known : IsHistoryOf g.S.Scheme.accepts g.L.Home.origin _ = record { starts = c.call_locked.ensures.starts; legal = c.call_locked.ensures.legal } in
-    unanswered g.S.Scheme.accepts _ _ _ _ c.call_locked.result known c.call_locked.ensures.refused
+    unanswered g.S.Scheme.accepts _ _ _ (committee_of c.args.command.now) c.call_locked.result known c.call_locked.ensures.refused

@@ -1,3 +1,4 @@
+use Rattle.std.proofs.Common.{Some}
 use Rattle.nw_store.specs.Journal.{IsHistoryOf}
 use Rattle.nw_store.proofs.Answered.{explained, unanswered}
 use Rattle.nw_store.proofs.store.Store.write.Goals as goal
@@ -10,4 +11,4 @@ returns-clause-answered g c =
 pub returns-clause-no_step : goal.returns-clause-no_step
 returns-clause-no_step g c =
     let known : IsHistoryOf g.S.Scheme.accepts g.L.Home.origin _ = record { starts = c.write_locked.ensures.starts; legal = c.write_locked.ensures.legal } in
-    unanswered g.S.Scheme.accepts _ _ _ _ c.write_locked.result known c.write_locked.ensures.refused
+    unanswered g.S.Scheme.accepts _ _ _ (Some c.args.block.now.committee) c.write_locked.result known c.write_locked.ensures.refused
