@@ -10,3 +10,9 @@ mod roll;
 mod waits;
 
 pub use dag::{Dag, DagLimits};
+pub use nw_codec::{Block, Certificate};
+pub use nw_digest::{Digest, NoMemory, Round, Sequence, Shared};
+pub use nw_generation::View;
+pub use nw_model::{
+    Call, CausalReply, CertifyReply, CollectReply, Counts, Reply, Wanted, WriteReply,
+};

@@ -14,3 +14,8 @@ mod start;
 pub use front::Front;
 pub use history::History;
 pub use limits::Limits;
+pub use nw_committee::Committee;
+pub use nw_digest::{NoMemory, Shared};
+pub use nw_model::Event;
+pub use nw_plain::Base;
+pub use nw_sig::Scheme;

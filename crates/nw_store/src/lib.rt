@@ -20,7 +20,9 @@ pub use error::{SettleFault, TooMany};
 pub use home::Home;
 pub use locked::{Locked, compact_locked, compare_locked, renew_locked, session_locked};
 pub use nw_book::{
-    Agreement, Book, BookError, Command, Done, Front, History, Limits, NoStep, Ticket,
+    Agreement, Base, Block, Book, BookError, Call, CheckedBlock, CheckedCert, Command, Committee,
+    Digest, Done, Event, Front, History, Limits, NoMemory, NoStep, Reply, Round, Scheme, Sequence,
+    Shared, Ticket, View,
 };
 pub use session::{Entry, Session};
 pub use settlement::{Settled, Unsettled, settle, settle_locked};
