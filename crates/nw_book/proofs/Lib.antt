@@ -3,5 +3,5 @@ pub mod Stands
 pub mod Opened
 pub mod Agreed
 pub mod Sent
-pub mod Shared
+pub mod HeldCalls
 pub mod Runs

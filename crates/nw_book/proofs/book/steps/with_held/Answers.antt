@@ -1,5 +1,5 @@
 use Rattle.std.proofs.Common.{sym, ◌∙◌}
-use Rattle.nw_book.proofs.Shared.{held_call}
+use Rattle.nw_book.proofs.HeldCalls.{held_call}
 use Rattle.nw_book.proofs.book.steps.with_held.Goals as goal
 
 pub returns-in-Some : goal.returns-in-Some
