@@ -1,27 +1,26 @@
 //! The client thread of a node: it opens the node's own blocks, and walks them.
 use crate::fault::End;
-use crate::post::News;
+use crate::post::ClientNews;
 use crate::store::ClientCalls;
-use nw_book::Ticket;
 use nw_digest::Digest;
 use nw_intake::{Gate, Point, pass_start};
 use nw_sig::DemoScheme;
-use nw_store::Home;
+use nw_store::{Home, Ticket};
 use std::alloc::Global;
 use std::sync::Wait;
 
 /// What a client works with.
 #[derive(Drop)]
-pub(crate) struct Client<'a, L: Home, N: News + Drop, G: Gate> {
+pub(crate) struct Client<'a, L: Home, G: Gate> {
     pub(crate) alloc: Global,
     pub(crate) node: u32,
     pub(crate) rounds: u32,
     pub(crate) store: ClientCalls<'a, L>,
-    pub(crate) news: N,
+    pub(crate) news: ClientNews,
     pub(crate) gate: &'a G,
 }
 
-impl<'a, L: Home, N: News + Drop, G: Gate> Client<'a, L, N, G> {
+impl<'a, L: Home, G: Gate> Client<'a, L, G> {
     /// Opens and walks the node's block of each round, once told of it. Answers how many blocks the last walk listed.
     pub(crate) fn run<R: Wait>(&mut self, rt: &R) -> Result<usize, End> {
         let mut last = 0;
