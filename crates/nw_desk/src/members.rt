@@ -47,7 +47,7 @@ fn keys(alloc: Global, count: u32) -> Result<Vec<Key>, LineFault>
 {
     let mut keys = Vec::new(alloc);
     for number in 0..count.min(MAX_MEMBERS + 1) {
-        keys.push(key(u16::try_from(number).map_err(|_| LineFault::Bad)?))?;
+        keys.push(key(number as u16))?;
     }
     Ok(keys)
 }
@@ -57,7 +57,9 @@ fn members(alloc: Global, weights: &[u32]) -> Result<Vec<Member>, LineFault>
 {
     let mut members = Vec::new(alloc);
     for (number, weight) in weights.iter().enumerate() {
-        let number = u16::try_from(number).map_err(|_| LineFault::Bad)?;
+        let Ok(number) = u16::try_from(number) else {
+            return Err(LineFault::Bad);
+        };
         members.push(Member {
             key: key(number),
             weight: *weight,
