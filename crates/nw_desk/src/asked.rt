@@ -34,40 +34,30 @@ pub enum Asked<'a> {
 }
 
 impl<'a> Desk<'a> {
-    /// What the request asks of a store with this committee. All is done that needs no store.
-    pub fn asked(
-        &mut self,
-        alloc: Global,
-        committee: &Shared<Committee>,
-        request: &Request<'a>,
-    ) -> Result<Asked<'a>, LineFault> {
+    /// What the request asks of a store of the committee. All is done that needs no store.
+    pub fn asked(&mut self, alloc: Global, request: &Request<'a>) -> Result<Asked<'a>, LineFault> {
         match request {
-            Request::Write { name, signer } => self.write(alloc, committee, *name, *signer),
-            Request::Certify { name, signers } => self.certify(alloc, committee, *name, signers),
+            Request::Write { name, signer } => self.write(alloc, *name, *signer),
+            Request::Certify { name, signers } => self.certify(alloc, *name, signers),
             Request::Certificate(_) | Request::Read(_) => self.call(request),
             Request::Collect(_) | Request::Missing(_) | Request::Status => self.call(request),
             Request::Causal(name) => self.open(*name, *name, false),
             Request::Open { ticket, name } => self.open(*ticket, *name, true),
             Request::Session(id) => Ok(Asked::Session(*id)),
             Request::Compact => Ok(Asked::Compact),
-            _ => Ok(Asked::Nothing(self.answer(alloc, committee, request)?)),
+            _ => Ok(Asked::Nothing(self.answer(alloc, request)?)),
         }
     }
 
     // The answer to a request that needs no store.
-    fn answer(
-        &mut self,
-        alloc: Global,
-        committee: &Shared<Committee>,
-        request: &Request<'a>,
-    ) -> Result<Answer<'a>, LineFault> {
+    fn answer(&mut self, alloc: Global, request: &Request<'a>) -> Result<Answer<'a>, LineFault> {
         match request {
             Request::Block(line) => self.block(alloc, line),
             Request::Body(name) => self.body(alloc, *name),
             Request::Digest(name) => self.digest(alloc, *name),
             Request::Hash(word) => Desk::hash(alloc, word),
-            Request::Valid { name, signers } => self.valid(alloc, committee.get(), *name, signers),
-            Request::Gather { name, signers } => self.gather(alloc, committee, *name, signers),
+            Request::Valid { name, signers } => self.valid(alloc, *name, signers),
+            Request::Gather { name, signers } => self.gather(alloc, *name, signers),
             Request::Walk(ticket) => self.walk(alloc, *ticket),
             _ => Err(LineFault::Bad),
         }
@@ -92,24 +82,22 @@ impl<'a> Desk<'a> {
     fn write(
         &self,
         alloc: Global,
-        committee: &Shared<Committee>,
         name: Name<'a>,
         signer: Option<u16>,
     ) -> Result<Asked<'a>, LineFault> {
         let text = self.block_text(alloc, name, signer)?;
-        checked(alloc, committee, name, &text)
+        checked(alloc, &self.committee, name, &text)
     }
 
     // A certificate of the block with the signers' votes in this order, sent as a message.
     fn certify(
         &self,
         alloc: Global,
-        committee: &Shared<Committee>,
         name: Name<'a>,
         signers: &[u16],
     ) -> Result<Asked<'a>, LineFault> {
         match self.certificate_text(alloc, name, signers)? {
-            Some(text) => checked(alloc, committee, name, &text),
+            Some(text) => checked(alloc, &self.committee, name, &text),
             None => Ok(Asked::Nothing(Answer::over_limit(name))),
         }
     }

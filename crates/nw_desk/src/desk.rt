@@ -4,26 +4,34 @@ use crate::fault::LineFault;
 use crate::names::{Bound, Names};
 use crate::print::Answer;
 use nw_book::Ticket;
-use nw_digest::{Digest, digest_of};
+use nw_committee::Committee;
+use nw_digest::{Digest, Shared, digest_of};
 use nw_script::Name;
 use nw_sig::DemoScheme;
 use std::alloc::Global;
 use std::collections::BTreeMap;
 
-/// The blocks and tickets that are bound to names, whatever store is asked.
+/// The committee of a script, and the blocks and tickets that are bound to names, whatever store is asked.
 #[derive(Drop)]
 pub struct Desk<'a> {
+    pub(crate) committee: Shared<Committee>,
     pub(crate) names: Names<'a>,
     tickets: BTreeMap<Name<'a>, Ticket<DemoScheme>>,
 }
 
 impl<'a> Desk<'a> {
     /// No names. It takes no memory.
-    pub fn new(alloc: Global) -> Desk<'a> {
+    pub fn new(alloc: Global, committee: Shared<Committee>) -> Desk<'a> {
         Desk {
+            committee,
             names: Names::new(alloc),
             tickets: BTreeMap::new(alloc),
         }
+    }
+
+    /// The committee.
+    pub fn committee(&self) -> &Shared<Committee> {
+        &self.committee
     }
 
     /// The digest of the block. The line is bad where the name is not bound.

@@ -7,8 +7,6 @@ use crate::names::Bound;
 use crate::print::Answer;
 use nw_check::{Counted, Gather, GatherFault, StartFault, valid};
 use nw_codec::{Message, encode_message};
-use nw_committee::Committee;
-use nw_digest::Shared;
 use nw_script::Name;
 use nw_sig::DemoScheme;
 use std::alloc::Global;
@@ -30,13 +28,12 @@ impl<'a> Desk<'a> {
     pub(crate) fn valid(
         &self,
         alloc: Global,
-        committee: &Committee,
         name: Name<'a>,
         signers: &[u16],
     ) -> Result<Answer<'a>, LineFault> {
         let bound = self.bound(name)?;
         let certificate = certificate(alloc, signers, bound.digest, &bound.block)?;
-        let words = if valid::<DemoScheme>(committee, bound.digest, &certificate) {
+        let words = if valid::<DemoScheme>(self.committee.get(), bound.digest, &certificate) {
             "valid yes"
         } else {
             "valid no"
@@ -48,13 +45,18 @@ impl<'a> Desk<'a> {
     pub(crate) fn gather(
         &self,
         alloc: Global,
-        committee: &Shared<Committee>,
         name: Name<'a>,
         signers: &[u16],
     ) -> Result<Answer<'a>, LineFault> {
         let bound = self.bound(name)?;
         let block = &bound.block;
-        match Gather::new(alloc, committee, bound.digest, block.round, block.author) {
+        match Gather::new(
+            alloc,
+            &self.committee,
+            bound.digest,
+            block.round,
+            block.author,
+        ) {
             Ok(mut gather) => Ok(Answer::Gathered {
                 name,
                 votes: gather_all(alloc, &mut gather, signers, bound)?,

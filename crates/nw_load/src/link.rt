@@ -1,6 +1,7 @@
 //! The link thread of a node: it makes the node's blocks, and writes, votes and certifies.
 use crate::fault::End;
 use crate::message::{text_of_block, text_of_certificate};
+use crate::node::Shop;
 use crate::post::LinkPost;
 use crate::store::LinkCalls;
 use crate::table::Table;
@@ -14,34 +15,63 @@ use nw_desk::vote_message;
 use nw_digest::{Round, Sequence, Shared};
 use nw_intake::{Gate, Point, pass_start};
 use nw_sig::DemoScheme;
-use nw_store::Home;
+use nw_store::{Home, Session};
 use std::alloc::Global;
 use std::sync::Wait;
 
 /// What a link works with, and where it stands.
 #[derive(Drop)]
 pub(crate) struct Link<'a, L: Home, G: Gate> {
-    pub(crate) alloc: Global,
-    pub(crate) committee: &'a Shared<Committee>,
-    pub(crate) node: u16,
-    pub(crate) nodes: u16,
-    pub(crate) rounds: u32,
-    pub(crate) store: LinkCalls<'a, L>,
-    pub(crate) post: LinkPost<'a>,
-    pub(crate) gate: &'a G,
+    alloc: Global,
+    committee: &'a Shared<Committee>,
+    node: u16,
+    nodes: u16,
+    rounds: u32,
+    store: LinkCalls<'a, L>,
+    post: LinkPost<'a>,
+    gate: &'a G,
     /// What is held and certified here.
-    pub(crate) table: Table,
+    table: Table,
     /// The votes for the node's last block, until they reach the quorum.
-    pub(crate) gather: Option<Gather<DemoScheme>>,
+    gather: Option<Gather<DemoScheme>>,
     /// How many blocks of its own the node made.
-    pub(crate) made: u32,
+    made: u32,
     /// How many blocks were written.
-    pub(crate) written: u32,
+    written: u32,
     /// How many certificates were certified.
-    pub(crate) certified: u32,
+    certified: u32,
 }
 
 impl<'a, L: Home, G: Gate> Link<'a, L, G> {
+    /// The link of the node, which has made nothing yet.
+    pub(crate) fn new<R>(
+        shop: &Shop<'a, R, G>,
+        node: u16,
+        store: LinkCalls<'a, L>,
+        post: LinkPost<'a>,
+    ) -> Link<'a, L, G> {
+        Link {
+            alloc: shop.alloc,
+            committee: shop.committee,
+            node,
+            nodes: shop.nodes,
+            rounds: shop.rounds,
+            store,
+            post,
+            gate: shop.gate,
+            table: Table::new(shop.alloc),
+            gather: None,
+            made: 0,
+            written: 0,
+            certified: 0,
+        }
+    }
+
+    /// The session, handed back.
+    pub(crate) fn session(self) -> Session<DemoScheme, L> {
+        self.store.session
+    }
+
     /// Makes the block of each round, and answers what other nodes send, until all blocks of all nodes are written and
     /// certified.
     pub(crate) fn run<R: Wait>(&mut self, rt: &R) -> Result<(), End> {

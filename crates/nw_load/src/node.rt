@@ -9,7 +9,6 @@ use crate::link::Link;
 use crate::post::{ClientNews, LinkPost, Mailbox, Office};
 use crate::report::NodeReport;
 use crate::store::{ClientCalls, LinkCalls};
-use crate::table::Table;
 use crossbeam_channel::{Receiver, Sender, unbounded};
 use nw_committee::Committee;
 use nw_digest::{Digest, Shared};
@@ -175,34 +174,22 @@ fn run_link<L: Home, R: Wait, G: Gate>(
     mailbox: Mailbox,
     client: Sender<Digest>,
 ) -> (Session<DemoScheme, L>, Result<(), End>) {
-    let mut link = Link {
-        alloc: shop.alloc,
-        committee: shop.committee,
-        node,
-        nodes: shop.nodes,
-        rounds: shop.rounds,
-        store: LinkCalls {
-            node: u32::from(node),
-            store,
-            session,
-        },
-        post: LinkPost {
-            office: shop.office,
-            mailbox,
-            client,
-        },
-        gate: shop.gate,
-        table: Table::new(shop.alloc),
-        gather: None,
-        made: 0,
-        written: 0,
-        certified: 0,
+    let store = LinkCalls {
+        node: u32::from(node),
+        store,
+        session,
     };
+    let post = LinkPost {
+        office: shop.office,
+        mailbox,
+        client,
+    };
+    let mut link = Link::new(shop, node, store, post);
     let linked = link.run(shop.rt);
     if linked.is_err() {
         shop.office.close(shop.rt);
     }
-    (link.store.session, linked)
+    (link.session(), linked)
 }
 
 /// Runs the client, and hands its session back. Where it ends early the office is closed, so that its link ends too.
@@ -213,23 +200,17 @@ fn run_client<L: Home, R: Wait, G: Gate>(
     session: Session<DemoScheme, L>,
     link: Receiver<Digest>,
 ) -> Walked<L> {
-    let mut client = Client {
-        alloc: shop.alloc,
+    let store = ClientCalls {
         node: u32::from(node),
-        rounds: shop.rounds,
-        store: ClientCalls {
-            node: u32::from(node),
-            store,
-            session,
-        },
-        news: ClientNews { link },
-        gate: shop.gate,
+        store,
+        session,
     };
+    let mut client = Client::new(shop, node, store, ClientNews { link });
     let walked = client.run(shop.rt);
     if walked.is_err() {
         shop.office.close(shop.rt);
     }
-    (client.store.session, walked)
+    (client.session(), walked)
 }
 
 /// What the node reports, once both sessions settle: how many events the history has, and this last walk.

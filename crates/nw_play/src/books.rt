@@ -35,18 +35,30 @@ impl Start {
     }
 }
 
-/// The start of a script: a book of the committee in the first line that counts, under the default limits.
-pub fn first(alloc: Global, lines: &mut Lines<'_>) -> Result<Start, PlayFault> {
-    let Some(Line::Committee(line)) = lines.next_line(alloc)? else {
-        return Err(lines.bad());
-    };
-    match shared(alloc, &line) {
-        Ok(committee) => Ok(Start {
-            book: new_book(alloc, committee, DEFAULT_LIMITS, lines.taken())?,
-            may_limit: true,
-        }),
-        Err(fault) => Err(PlayFault::at(lines.taken(), fault)),
+/// The committee of a script, which the first line that counts has.
+pub fn first_committee(
+    alloc: Global,
+    lines: &mut Lines<'_>,
+) -> Result<Shared<Committee>, PlayFault> {
+    match lines.next_line(alloc)? {
+        Some(Line::Committee(line)) => match shared(alloc, &line) {
+            Ok(committee) => Ok(committee),
+            Err(fault) => Err(PlayFault::at(lines.taken(), fault)),
+        },
+        _ => Err(lines.bad()),
     }
+}
+
+/// The start of a script of this committee, under the default limits.
+pub fn first(
+    alloc: Global,
+    committee: &Shared<Committee>,
+    number: usize,
+) -> Result<Start, PlayFault> {
+    Ok(Start {
+        book: new_book(alloc, committee, DEFAULT_LIMITS, number)?,
+        may_limit: true,
+    })
 }
 
 /// The start of a store of this committee with the limits that the line of this number sets.
@@ -62,8 +74,7 @@ pub fn limited(
         window: line.window,
         sessions: line.sessions,
     };
-    let book = new_book(alloc, committee.try_clone()?, limits, number)?;
-    Ok(Some(Start::behind(book)))
+    Ok(Some(Start::behind(new_book(alloc, committee, limits, number)?)))
 }
 
 fn shared(alloc: Global, line: &CommitteeLine) -> Result<Shared<Committee>, LineFault> {
@@ -73,11 +84,11 @@ fn shared(alloc: Global, line: &CommitteeLine) -> Result<Shared<Committee>, Line
 // A book with these limits, for the line of this number.
 fn new_book(
     alloc: Global,
-    committee: Shared<Committee>,
+    committee: &Shared<Committee>,
     limits: Limits,
     number: usize,
 ) -> Result<Book<DemoScheme>, PlayFault> {
-    match Book::new(alloc, committee, limits) {
+    match Book::new(alloc, committee.try_clone()?, limits) {
         Ok(book) => Ok(book),
         Err(fault) => Err(PlayFault::at(number, LineFault::from(fault))),
     }

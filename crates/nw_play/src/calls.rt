@@ -3,42 +3,43 @@ ghost use Rattle.std.specs.Prelude.{◌≡◌};
 ghost use Rattle.nw_store.specs.Journal.{origin_of};
 ghost use Rattle.nw_store.specs.Kept.{parts_of_a_ledger};
 
-use nw_committee::Committee;
+use crate::books::Start;
 use nw_desk::{Answer, Asked, Desk, LineFault};
-use nw_digest::{Digest, Shared};
+use nw_digest::Digest;
 use nw_script::{Name, Request};
 use nw_sig::DemoScheme;
-use nw_store::{Book, Command, Done, Home, NoStep, Opening, Session, Store};
+use nw_store::{Command, Done, Home, NoStep, Opening, Session, Store, Ticket};
 use std::alloc::Global;
 use std::sync::Wait;
 
 /// A store, its sessions in the order in which they were made, and which of them makes the next call.
 #[derive(Drop)]
 pub struct Calls<L: Home> {
-    pub committee: Shared<Committee>,
     pub store: Store<DemoScheme, L>,
     pub sessions: Vec<Session<DemoScheme, L>>,
     current: usize,
+    /// Whether the next line may be that with the limits.
+    pub may_limit: bool,
 }
 
 impl<L: Home> Calls<L> {
-    /// No call yet, and no session, of a store over the book, whose history is empty.
+    /// No call yet, and no session, of a store over the book of the start, whose history is empty.
     pub fn over(
         alloc: Global,
         opening: Opening<DemoScheme>,
-        book: Book<DemoScheme>,
+        start: Start,
     ) -> Result<Calls<L>, LineFault>
         requires log { opening.log ≡ L.log }
         requires ledger { (opening.ledger ≡ L.name) × (L.parts ≡ parts_of_a_ledger) }
-        requires origin { origin_of book ≡ L.origin }
+        requires origin { origin_of start.book ≡ L.origin }
     {
-        let committee = book.history().committee().try_clone()?;
+        let Start { book, may_limit } = start;
         match Store::over(opening, book) {
             Ok(store) => Ok(Calls {
-                committee,
                 store,
                 sessions: Vec::new(alloc),
                 current: 0,
+                may_limit,
             }),
             Err(_book) => Err(LineFault::Bad),
         }
@@ -52,7 +53,8 @@ impl<L: Home> Calls<L> {
         desk: &mut Desk<'a>,
         request: &Request<'a>,
     ) -> Result<Answer<'a>, LineFault> {
-        match desk.asked(alloc, &self.committee, request)? {
+        self.may_limit = false;
+        match desk.asked(alloc, request)? {
             Asked::Nothing(answer) => Ok(answer),
             Asked::Call { name, command } => self.call(rt, alloc, desk, name, &command),
             Asked::Open {
@@ -61,10 +63,7 @@ impl<L: Home> Calls<L> {
                 is_kept,
             } => self.open(rt, alloc, desk, name, digest, is_kept),
             Asked::Session(id) => self.select(rt, alloc, id),
-            Asked::Compact => {
-                self.store.compact(rt, alloc)?;
-                Ok(Answer::Words("compacted"))
-            }
+            Asked::Compact => self.compact(rt, alloc),
         }
     }
 
@@ -105,7 +104,7 @@ impl<L: Home> Calls<L> {
         }
     }
 
-    // Opens a causal read as the next call of the current session.
+    // Opens a causal read, which is told of the name.
     fn open<'a, R: Wait>(
         &mut self,
         rt: &R,
@@ -115,19 +114,35 @@ impl<L: Home> Calls<L> {
         digest: Digest,
         is_kept: bool,
     ) -> Result<Answer<'a>, LineFault> {
-        let Some(session) = self.sessions.get_mut(self.current) else {
-            return Err(LineFault::Bad);
-        };
-        match self.store.open_causal(rt, alloc, session, digest) {
+        match self.step_open(rt, alloc, digest) {
             Ok(Ok(ticket)) => desk.opened(alloc, name, ticket, is_kept),
             Ok(Err(done)) => desk.told(alloc, Some(name), &done.reply),
             Err(refusal) => refused(refusal),
         }
     }
 
-    /// Lets this session make the calls from here on. The next one is made by the store, if it makes one more. The line is bad
-    /// where the session is beyond the next.
-    pub fn select<'a, R: Wait>(
+    // The causal read as the next call of the current session.
+    fn step_open<R: Wait>(
+        &mut self,
+        rt: &R,
+        alloc: Global,
+        digest: Digest,
+    ) -> Result<Result<Ticket<DemoScheme>, Done<DemoScheme>>, NoStep> {
+        match self.sessions.get_mut(self.current) {
+            Some(session) => self.store.open_causal(rt, alloc, session, digest),
+            None => Err(NoStep::OutOfTurn),
+        }
+    }
+
+    // Lets later tickets share one copy of what is complete.
+    fn compact<'a, R: Wait>(&self, rt: &R, alloc: Global) -> Result<Answer<'a>, LineFault> {
+        self.store.compact(rt, alloc)?;
+        Ok(Answer::Words("compacted"))
+    }
+
+    // Lets this session make the calls from here on. The next one is made by the store, if it makes one more. The line is bad
+    // where the session is beyond the next.
+    fn select<'a, R: Wait>(
         &mut self,
         rt: &R,
         alloc: Global,
@@ -147,8 +162,8 @@ impl<L: Home> Calls<L> {
         })
     }
 
-    // One more session, or `false` where the store makes no more.
-    fn add_session<R: Wait>(&mut self, rt: &R, alloc: Global) -> Result<bool, LineFault> {
+    /// One more session, or `false` where the store makes no more. The first makes the first call.
+    pub fn add_session<R: Wait>(&mut self, rt: &R, alloc: Global) -> Result<bool, LineFault> {
         self.sessions.reserve(1)?;
         match self.store.session(rt, alloc) {
             Ok(session) => {

@@ -1,7 +1,7 @@
 //! A whole script.
 ghost use Rattle.std.specs.Prelude.{◌<◌, length, IfSome, IsErr};
 
-use crate::books::first;
+use crate::books::{Start, first, first_committee};
 use crate::fault::{PlayFault, print, written};
 use crate::input::read_script;
 use crate::lines::Lines;
@@ -61,14 +61,43 @@ fn play_stores<Rt: Wait, W: Write>(
     out: &mut W,
 ) -> Result<(), PlayFault> {
     let mut lines = Lines::new(script);
-    let mut start = first(alloc, &mut lines)?;
-    let mut desk = Desk::new(alloc);
-    for _ in 0..=script.len() {
-        let opening = Opening::new(alloc)?;
-        match play_store::<Brand, Rt, W>(rt, alloc, opening, start, &mut desk, &mut lines, out)? {
+    let committee = first_committee(alloc, &mut lines)?;
+    let start = first(alloc, &committee, lines.taken())?;
+    let mut desk = Desk::new(alloc, committee);
+    play_from(rt, alloc, start, &mut desk, &mut lines, out, script.len())
+}
+
+// Plays a store, and so many more at most that go on behind it.
+fn play_from<'a, Rt: Wait, W: Write>(
+    rt: &Rt,
+    alloc: Global,
+    start: Start,
+    desk: &mut Desk<'a>,
+    lines: &mut Lines<'a>,
+    out: &mut W,
+    more: usize,
+) -> Result<(), PlayFault> {
+    let mut start = start;
+    for _ in 0..=more {
+        match play_next(rt, alloc, start, desk, lines, out)? {
             Some(next) => start = next,
             None => return Ok(()),
         }
     }
     Ok(())
+}
+
+// Plays a store of its own name.
+fn play_next<'a, Rt: Wait, W: Write>(
+    rt: &Rt,
+    alloc: Global,
+    start: Start,
+    desk: &mut Desk<'a>,
+    lines: &mut Lines<'a>,
+    out: &mut W,
+) -> Result<Option<Start>, PlayFault> {
+    match Opening::new(alloc) {
+        Ok(opening) => play_store::<Brand, Rt, W>(rt, alloc, opening, start, desk, lines, out),
+        Err(_) => Err(PlayFault::NoMemory),
+    }
 }

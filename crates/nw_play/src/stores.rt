@@ -40,9 +40,8 @@ pub fn play_store<'a, L: Home, R: Wait, W: Write>(
     requires ledger { (opening.ledger ≡ L.name) × (L.parts ≡ parts_of_a_ledger) }
     requires origin { origin_of start.book ≡ L.origin }
 {
-    let Start { book, may_limit } = start;
-    match Calls::<L>::over(alloc, opening, book) {
-        Ok(calls) => play_calls(rt, alloc, calls, may_limit, desk, lines, out),
+    match Calls::<L>::over(alloc, opening, start) {
+        Ok(calls) => play_calls(rt, alloc, calls, desk, lines, out),
         Err(fault) => Err(PlayFault::at(lines.taken(), fault)),
     }
 }
@@ -52,47 +51,61 @@ fn play_calls<'a, L: Home, R: Wait, W: Write>(
     rt: &R,
     alloc: Global,
     mut calls: Calls<L>,
-    may_limit: bool,
     desk: &mut Desk<'a>,
     lines: &mut Lines<'a>,
     out: &mut W,
 ) -> Result<Option<Start>, PlayFault> {
-    match play_lines(rt, alloc, &mut calls, may_limit, desk, lines, out)? {
-        End::Script => Ok(None),
-        End::Limits(line) => limited(alloc, &calls.committee, line, lines.taken()),
-        End::Settle => settled(alloc, calls, lines, out),
+    match play_all(rt, alloc, &mut calls, desk, lines, out) {
+        Ok(End::Script) => Ok(None),
+        Ok(End::Limits(line)) => limited(alloc, desk.committee(), line, lines.taken()),
+        Ok(End::Settle) => settled(alloc, calls, lines, out),
+        Err(fault) => Err(fault),
     }
 }
 
-// Plays the lines that ask the store, up to and with that behind which it is not asked any more. Session 0 makes the first call.
-fn play_lines<'a, L: Home, R: Wait, W: Write>(
+// Makes the first session, and plays lines.
+fn play_all<'a, L: Home, R: Wait, W: Write>(
     rt: &R,
     alloc: Global,
     calls: &mut Calls<L>,
-    may_limit: bool,
     desk: &mut Desk<'a>,
     lines: &mut Lines<'a>,
     out: &mut W,
 ) -> Result<End, PlayFault> {
-    if let Err(fault) = calls.select(rt, alloc, 0) {
-        return Err(PlayFault::at(lines.taken(), fault));
+    match calls.add_session(rt, alloc) {
+        Ok(_) => play_lines(rt, alloc, calls, desk, lines, out),
+        Err(fault) => Err(PlayFault::at(lines.taken(), fault)),
     }
-    let mut may_limit = may_limit;
+}
+
+// Plays the lines that ask the store, up to and with that behind which it is not asked any more.
+fn play_lines<'a, L: Home, R: Wait, W: Write>(
+    rt: &R,
+    alloc: Global,
+    calls: &mut Calls<L>,
+    desk: &mut Desk<'a>,
+    lines: &mut Lines<'a>,
+    out: &mut W,
+) -> Result<End, PlayFault> {
     for (number, text) in lines.by_ref() {
         match read_line(alloc, number, text)? {
             Line::Skipped => {}
             Line::Request(request) => {
-                may_limit = false;
                 play_request(rt, alloc, calls, desk, number, &request, out)?;
             }
-            Line::Limits(line) if may_limit => return Ok(End::Limits(line)),
-            Line::Settle => return Ok(End::Settle),
-            Line::Committee(_) | Line::Limits(_) | Line::Reopen => {
-                return Err(PlayFault::BadLine { line: number });
-            }
+            line => return end_of(line, calls.may_limit, number),
         }
     }
     Ok(End::Script)
+}
+
+// What the line of this number, which asks nothing, says of the store.
+fn end_of(line: Line<'_>, may_limit: bool, number: usize) -> Result<End, PlayFault> {
+    match line {
+        Line::Limits(line) if may_limit => Ok(End::Limits(line)),
+        Line::Settle => Ok(End::Settle),
+        _ => Err(PlayFault::BadLine { line: number }),
+    }
 }
 
 // Prints the answer to the request, which stands in the line of this number.
