@@ -8,5 +8,6 @@ use Rattle.nw_script.specs.declared.line.CommitteeLine.TheVariants as lines
 
 -- as many members as the line says, of weight 1; or one for each of its weights, in order
 abbrev pub AreMembersOf : CommitteeLine → List Member → Type 0
-AreMembersOf (lines.Equal count) members = (keys : List Key) × (members ≡ equal_members keys) × (length keys ≡ count)
+AreMembersOf (lines.Equal count) members =
+    (keys : List Key) × (members ≡ equal_members keys) × (length keys ≡ count)
 AreMembersOf (lines.Weighted weights) members = map (λ m. m.weight) members ≡ weights.items

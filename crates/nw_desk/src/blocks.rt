@@ -1,69 +1,73 @@
 //! The blocks that names stand for, and their messages.
 
 use crate::desk::Desk;
-use crate::fault::LineFault;
-use crate::members;
+use crate::fault::{LineFault, within_limits};
+use crate::members::block_message;
 use crate::print::Answer;
-use nw_check::{Checked, CheckedBlock, check_message};
-use nw_codec::{Block, encode_block, encode_body};
-use nw_committee::Committee;
-use nw_digest::{Digest, Sequence, Shared};
+use nw_codec::{Block, encode_body};
+use nw_digest::{Digest, Sequence};
 use nw_script::{BlockLine, Name};
-use nw_sig::DemoScheme;
 use std::alloc::Global;
 
 impl<'a> Desk<'a> {
-    /// Binds the name to a block.
-    pub fn block(&mut self, alloc: Global, line: &BlockLine<'a>) -> Result<Answer<'a>, LineFault> {
+    /// Binds the name to a block. The line is bad where the name is bound.
+    pub(crate) fn block(
+        &mut self,
+        alloc: Global,
+        line: &BlockLine<'a>,
+    ) -> Result<Answer<'a>, LineFault> {
         let name = line.name;
-        if self.names.is_bound(name) {
+        if self.names.bound(name).is_ok() {
             return Err(LineFault::Bad);
         }
-        let block = Block {
+        let block = self.block_of(alloc, line)?;
+        let Some(text) = within_limits(encode_body(alloc, &block))? else {
+            return Ok(Answer::over_limit(name));
+        };
+        self.names.bind(name, block)?;
+        Ok(Answer::Bound {
+            name,
+            body: text.len(),
+        })
+    }
+
+    fn block_of(&self, alloc: Global, line: &BlockLine<'a>) -> Result<Block, LineFault> {
+        Ok(Block {
             author: line.author,
             round: line.round,
             parents: self.names.references(alloc, &line.parents)?,
             transactions: copied(alloc, &line.transactions)?,
-        };
-        match self.names.bind(alloc, name, block)? {
-            None => Ok(Answer::over_limit(name)),
-            Some(body) => Ok(Answer::Bound { name, body }),
-        }
+        })
     }
 
     /// The body of the block in hex.
-    pub fn body(&self, alloc: Global, name: Name<'a>) -> Result<Answer<'a>, LineFault> {
+    pub(crate) fn body(&self, alloc: Global, name: Name<'a>) -> Result<Answer<'a>, LineFault> {
         let text = encode_body(alloc, &self.bound(name)?.block)?;
-        let hex = hex::encode(alloc, text.as_slice())?;
-        Ok(Answer::Bytes { name, hex })
+        in_hex(alloc, name, text.as_slice())
     }
 
     /// The digest of the block in hex.
-    pub fn digest(&self, alloc: Global, name: Name<'a>) -> Result<Answer<'a>, LineFault> {
+    pub(crate) fn digest(&self, alloc: Global, name: Name<'a>) -> Result<Answer<'a>, LineFault> {
         let Digest(bytes) = self.digest_of(name)?;
-        let hex = hex::encode(alloc, bytes.as_slice())?;
-        Ok(Answer::Bytes { name, hex })
+        in_hex(alloc, name, bytes.as_slice())
     }
 
-    /// The block, sent as a message that its author signs, or the member with this number, and checked; or the answer that
-    /// tells which rule it breaks.
-    pub fn checked_block(
+    /// The message of the block, signed by its author, or by the member with this number.
+    pub(crate) fn block_text(
         &self,
         alloc: Global,
-        committee: &Shared<Committee>,
         name: Name<'a>,
         signer: Option<u16>,
-    ) -> Result<Result<CheckedBlock<DemoScheme>, Answer<'a>>, LineFault> {
+    ) -> Result<Vec<u8>, LineFault> {
         let bound = self.bound(name)?;
         let signer = signer.unwrap_or(bound.block.author);
-        let signature = members::sign_block(signer, &bound.digest);
-        let text = encode_block(alloc, &bound.block, &signature)?;
-        match check_message(alloc, committee, &text)? {
-            Checked::Block(block) => Ok(Ok(block)),
-            Checked::BadBlock(fault) => Ok(Err(Answer::BadBlock { name, fault })),
-            _ => Err(LineFault::Bad),
-        }
+        Ok(block_message(alloc, signer, &bound.digest, &bound.block)?)
     }
+}
+
+fn in_hex<'a>(alloc: Global, name: Name<'a>, bytes: &[u8]) -> Result<Answer<'a>, LineFault> {
+    let hex = hex::encode(alloc, bytes)?;
+    Ok(Answer::Bytes { name, hex })
 }
 
 // The words as the transactions of a block.

@@ -70,3 +70,12 @@ impl From<BookError> for LineFault {
         }
     }
 }
+
+/// What was encoded, or `None` where it is over a limit or out of order.
+pub fn within_limits(encoded: Result<Vec<u8>, EncodeError>) -> Result<Option<Vec<u8>>, LineFault> {
+    match encoded {
+        Ok(text) => Ok(Some(text)),
+        Err(EncodeError::OverLimit) => Ok(None),
+        Err(EncodeError::NoMemory) => Err(LineFault::NoMemory),
+    }
+}

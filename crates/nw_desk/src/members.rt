@@ -5,7 +5,9 @@ ghost use Rattle.nw_committee.specs.declared.member.Key.{Key};
 ghost use Rattle.nw_desk.specs.Members.{AreMembersOf};
 
 use crate::fault::LineFault;
-use nw_codec::{Block, Certificate, Seal, Signature, Vote};
+use nw_codec::{
+    Block, Certificate, EncodeError, Message, Seal, Signature, Vote, encode_block, encode_message,
+};
 use nw_committee::{Committee, Key, Member};
 use nw_digest::{Digest, Sequence};
 use nw_script::CommitteeLine;
@@ -26,7 +28,8 @@ pub fn committee(alloc: Global, line: &CommitteeLine) -> Result<Committee, LineF
 }
 
 fn equal(alloc: Global, count: u32) -> Result<Committee, LineFault>
-    ensures { IfOk result (λ members. (keys : List Key) × (members ≡ equal_members keys) × (length keys ≡ count)) }
+    ensures { IfOk result (λ members.
+        (keys : List Key) × (members ≡ equal_members keys) × (length keys ≡ count)) }
 {
     let keys = keys(alloc, count)?;
     Ok(Committee::new(alloc, keys)?)
@@ -44,7 +47,7 @@ fn keys(alloc: Global, count: u32) -> Result<Vec<Key>, LineFault>
 {
     let mut keys = Vec::new(alloc);
     for number in 0..count.min(MAX_MEMBERS + 1) {
-        keys.push(key(u16::try_from(number).map_err(|_| LineFault::Bad)?))?;
+        keys.push(key(number as u16))?;
     }
     Ok(keys)
 }
@@ -54,7 +57,9 @@ fn members(alloc: Global, weights: &[u32]) -> Result<Vec<Member>, LineFault>
 {
     let mut members = Vec::new(alloc);
     for (number, weight) in weights.iter().enumerate() {
-        let number = u16::try_from(number).map_err(|_| LineFault::Bad)?;
+        let Ok(number) = u16::try_from(number) else {
+            return Err(LineFault::Bad);
+        };
         members.push(Member {
             key: key(number),
             weight: *weight,
@@ -70,25 +75,39 @@ fn key(number: u16) -> Key {
     Key(bytes)
 }
 
-/// The signature that the member makes as the creator of the block with this digest.
-pub fn sign_block(member: u16, digest: &Digest) -> Signature {
-    DemoSigner::new(key(member)).sign(&block_text(digest))
+/// The message of the block with this digest, signed by the member as its creator.
+pub fn block_message(
+    alloc: Global,
+    member: u16,
+    digest: &Digest,
+    block: &Block,
+) -> Result<Vec<u8>, EncodeError> {
+    encode_block(alloc, block, &signature(member, &block_text(digest)))
+}
+
+/// The message of the member's vote for the block with this digest.
+pub fn vote_message(
+    alloc: Global,
+    member: u16,
+    digest: Digest,
+    block: &Block,
+) -> Result<Vec<u8>, EncodeError> {
+    encode_message(alloc, &Message::Vote(vote(member, digest, block)))
 }
 
 /// The member's vote for the block with this digest.
-pub fn vote(member: u16, digest: Digest, block: &Block) -> Vote {
-    let text = vote_text(&digest, block.round, block.author);
+pub(crate) fn vote(member: u16, digest: Digest, block: &Block) -> Vote {
     Vote {
         digest,
         round: block.round,
         author: block.author,
         signer: member,
-        signature: DemoSigner::new(key(member)).sign(&text),
+        signature: signature(member, &vote_text(&digest, block.round, block.author)),
     }
 }
 
 /// The certificate of the members' votes for the block with this digest, in the order of the members.
-pub fn certificate(
+pub(crate) fn certificate(
     alloc: Global,
     members: &[u16],
     digest: Digest,
@@ -96,10 +115,7 @@ pub fn certificate(
 ) -> Result<Certificate, LineFault> {
     let mut votes = Vec::with_capacity(alloc, members.len())?;
     for member in members {
-        votes.push(Seal {
-            signer: *member,
-            signature: vote(*member, digest, block).signature,
-        })?;
+        votes.push(seal(*member, digest, block))?;
     }
     Ok(Certificate {
         digest,
@@ -107,4 +123,15 @@ pub fn certificate(
         author: block.author,
         votes: Sequence::new(votes),
     })
+}
+
+fn seal(member: u16, digest: Digest, block: &Block) -> Seal {
+    Seal {
+        signer: member,
+        signature: vote(member, digest, block).signature,
+    }
+}
+
+fn signature(member: u16, text: &[u8]) -> Signature {
+    DemoSigner::new(key(member)).sign(text)
 }

@@ -1,7 +1,6 @@
 //! What is printed.
 
 use nw_check::{BlockFault, CertFault};
-use nw_digest::Round;
 use nw_model::{Counts, Wanted};
 use nw_script::Name;
 use std::fmt;
@@ -11,6 +10,11 @@ use std::fmt;
 pub enum Answer<'a> {
     /// Words that speak of no name.
     Words(&'static str),
+    /// Words and a number that speak of no name.
+    Counted {
+        words: &'static str,
+        number: u64,
+    },
     /// What is said of a block or a ticket.
     Told {
         name: Name<'a>,
@@ -21,6 +25,12 @@ pub enum Answer<'a> {
         name: Name<'a>,
         words: &'static str,
         other: Name<'a>,
+    },
+    /// What is said of a block, and a number.
+    ToldCount {
+        name: Name<'a>,
+        words: &'static str,
+        number: u64,
     },
     /// A block was bound, whose body has so many bytes.
     Bound {
@@ -44,16 +54,6 @@ pub enum Answer<'a> {
     },
     /// A digest of a word in hex.
     Hash(String),
-    /// A block or a certificate is of a round below the garbage round.
-    Below {
-        name: Name<'a>,
-        floor: Round,
-    },
-    /// A read found a block, whose body has so many bytes.
-    Found {
-        name: Name<'a>,
-        body: usize,
-    },
     /// What a gatherer said of each vote.
     Gathered {
         name: Name<'a>,
@@ -69,24 +69,15 @@ pub enum Answer<'a> {
         name: Name<'a>,
         blocks: Vec<Name<'a>>,
     },
-    /// The garbage round was raised, and so many blocks were dropped.
-    Raised(u64),
-    /// The garbage round is this one already, or was.
-    NotHigher(Round),
-    /// The first of the parents that are wanted, and the first names that were bound to their blocks.
+    /// The parents that are wanted, and the first name of the digest of each.
     Missing {
         wanted: Vec<Wanted>,
         names: Vec<Name<'a>>,
     },
-    /// How much is kept, and how much is wanted.
+    /// How much is kept and how much is wanted.
     Status(Counts),
-    /// A session makes the calls from here on.
-    Session(u16),
     /// A store was settled: the events of its history, and the calls of each session.
-    Settled {
-        events: usize,
-        calls: Vec<usize>,
-    },
+    Settled(Vec<usize>),
 }
 
 impl<'a> Answer<'a> {
@@ -102,77 +93,84 @@ impl<'a> Answer<'a> {
 impl fmt::Display for Answer<'_> {
     fn fmt<W: fmt::Write>(&self, f: &mut fmt::Formatter<W>) -> fmt::Result {
         match self {
-            Answer::Words(words) => write!(f, "{words}"),
-            Answer::Told { name, words } => write!(f, "{name} {words}"),
-            Answer::ToldOf { name, words, other } => write!(f, "{name} {words} {other}"),
-            Answer::Bound { name, body } => write!(f, "block {name} {body}"),
-            Answer::BadBlock { name, fault } => write!(f, "{name} refused {fault}"),
-            Answer::BadCert { name, fault } => write!(f, "{name} refused {fault}"),
-            Answer::Bytes { name, hex } => write!(f, "{name} {hex}"),
-            Answer::Hash(hex) => write!(f, "{hex}"),
-            Answer::Below { name, floor } => write!(f, "{name} collected {}", floor.get()),
-            Answer::Found { name, body } => write!(f, "{name} found {body}"),
-            Answer::Gathered { name, votes } => {
-                write!(f, "{name}")?;
-                write_each(f, votes.as_slice())
-            }
-            Answer::Signers { name, signers } => {
-                write!(f, "{name} certified by ")?;
-                write_list(f, signers.as_slice())
-            }
-            Answer::Listed { name, blocks } => {
-                write!(f, "{name} causal")?;
-                write_each(f, blocks.as_slice())
-            }
-            Answer::Raised(dropped) => write!(f, "raised {dropped}"),
-            Answer::NotHigher(floor) => write!(f, "not higher {}", floor.get()),
+            Answer::Words(words) => f.write_str(words),
+            Answer::Counted { words, number } => write_two(f, words, number),
+            Answer::Told { name, words } => write_two(f, name, words),
+            Answer::ToldOf { name, words, other } => write_three(f, name, words, other),
+            Answer::ToldCount {
+                name,
+                words,
+                number,
+            } => write_three(f, name, words, number),
+            Answer::Bound { name, body } => write_three(f, &"block", name, body),
+            Answer::BadBlock { name, fault } => write_three(f, name, &"refused", fault),
+            Answer::BadCert { name, fault } => write_three(f, name, &"refused", fault),
+            Answer::Bytes { name, hex } => write_two(f, name, hex),
+            Answer::Hash(hex) => f.write_str(hex.as_str()),
+            Answer::Gathered { name, votes } => write_list(f, name, "", votes.as_slice()),
+            Answer::Signers { name, signers } => write_signers(f, *name, signers.as_slice()),
+            Answer::Listed { name, blocks } => write_list(f, name, " causal", blocks.as_slice()),
             Answer::Missing { wanted, names } => {
                 write_missing(f, wanted.as_slice(), names.as_slice())
             }
             Answer::Status(counts) => write_status(f, counts),
-            Answer::Session(id) => write!(f, "session {id}"),
-            Answer::Settled { events, calls } => {
-                write!(f, "settled {events}")?;
-                write_each(f, calls.as_slice())
-            }
+            Answer::Settled(counts) => write_list(f, &"settled", "", counts.as_slice()),
         }
     }
 }
 
-// Each item behind a space.
-fn write_each<W: fmt::Write, T: fmt::Display>(
+fn write_two<W: fmt::Write, A: fmt::Display, B: fmt::Display>(
     f: &mut fmt::Formatter<W>,
+    one: &A,
+    two: &B,
+) -> fmt::Result {
+    write!(f, "{one} {two}")
+}
+
+fn write_three<W: fmt::Write, A: fmt::Display, B: fmt::Display, C: fmt::Display>(
+    f: &mut fmt::Formatter<W>,
+    one: &A,
+    two: &B,
+    three: &C,
+) -> fmt::Result {
+    write!(f, "{one} {two} {three}")
+}
+
+// The subject, the words behind it, and each item behind a space.
+fn write_list<W: fmt::Write, A: fmt::Display, T: fmt::Display>(
+    f: &mut fmt::Formatter<W>,
+    subject: &A,
+    words: &str,
     items: &[T],
 ) -> fmt::Result {
+    write!(f, "{subject}{words}")?;
     for item in items {
         write!(f, " {item}")?;
     }
     Ok(())
 }
 
-// Numbers parted by commas, or the dash of an empty list.
-fn write_list<W: fmt::Write>(f: &mut fmt::Formatter<W>, numbers: &[u16]) -> fmt::Result {
-    if numbers.is_empty() {
-        return write!(f, "-");
-    }
-    let mut parting = "";
-    for number in numbers {
-        write!(f, "{parting}{number}")?;
+// Numbers parted by commas.
+fn write_signers<W: fmt::Write>(
+    f: &mut fmt::Formatter<W>,
+    name: Name<'_>,
+    signers: &[u16],
+) -> fmt::Result {
+    write!(f, "{name} certified by")?;
+    let mut parting = " ";
+    for signer in signers {
+        write!(f, "{parting}{signer}")?;
         parting = ",";
     }
     Ok(())
 }
 
-// The parents that are wanted, or that there are none.
 fn write_missing<W: fmt::Write>(
     f: &mut fmt::Formatter<W>,
     wanted: &[Wanted],
     names: &[Name<'_>],
 ) -> fmt::Result {
-    write!(f, "missing")?;
-    if wanted.is_empty() {
-        return write!(f, " none");
-    }
+    f.write_str("missing")?;
     for (parent, name) in wanted.iter().zip(names) {
         write!(f, " {}.{}.{name}", parent.round.get(), parent.author)?;
     }

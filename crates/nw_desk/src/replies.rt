@@ -4,16 +4,29 @@ use crate::desk::Desk;
 use crate::fault::LineFault;
 use crate::print::Answer;
 use nw_book::Ticket;
-use nw_codec::{Seal, encode_body};
-use nw_digest::Digest;
+use nw_codec::{Block, Seal, encode_body};
+use nw_digest::{Digest, Round};
 use nw_model::{CausalReply, CertifyReply, CollectReply, Reply, Wanted, WriteReply};
 use nw_script::Name;
 use nw_sig::DemoScheme;
 use std::alloc::Global;
 
 impl<'a> Desk<'a> {
-    /// The answer that tells the reply to a call on the name.
+    /// The answer that tells the reply to a call, which is on the name where it has one.
     pub fn told(
+        &self,
+        alloc: Global,
+        name: Option<Name<'a>>,
+        reply: &Reply,
+    ) -> Result<Answer<'a>, LineFault> {
+        match name {
+            Some(name) => self.told_on(alloc, name, reply),
+            None => self.stated(alloc, reply),
+        }
+    }
+
+    // The answer that tells the reply to a call on the name.
+    fn told_on(
         &self,
         alloc: Global,
         name: Name<'a>,
@@ -23,42 +36,41 @@ impl<'a> Desk<'a> {
             Reply::Write(reply) => self.written(name, *reply),
             Reply::Certify(reply) => self.certified(name, *reply),
             Reply::Certificate(Some(certificate)) => {
-                let signers = signers(alloc, certificate.get().votes.as_slice())?;
-                Ok(Answer::Signers { name, signers })
+                signed(alloc, name, certificate.get().votes.as_slice())
             }
-            Reply::Certificate(None) => Ok(Answer::Told {
-                name,
-                words: "none",
-            }),
-            Reply::Read(Some(block)) => {
-                let body = encode_body(alloc, block.get())?.len();
-                Ok(Answer::Found { name, body })
-            }
-            Reply::Read(None) => Ok(Answer::Told {
-                name,
-                words: "unknown",
-            }),
-            Reply::Causal(reply) => Ok(Answer::Told {
-                name,
-                words: word_of(*reply),
-            }),
+            Reply::Certificate(None) => Ok(told(name, "none")),
+            Reply::Read(Some(block)) => found(alloc, name, block.get()),
+            Reply::Read(None) => Ok(told(name, "unknown")),
+            Reply::Causal(reply) => Ok(told(name, word_of(*reply))),
             Reply::Ready | Reply::List(_) => Err(LineFault::Bad),
             Reply::Collect(_) | Reply::Missing(_) | Reply::Status(_) => Err(LineFault::Bad),
         }
     }
 
-    /// The answer that tells the reply to a call that names no block.
-    pub fn stated(&self, alloc: Global, reply: &Reply) -> Result<Answer<'a>, LineFault> {
+    // The answer that tells the reply to a call that names no block.
+    fn stated(&self, alloc: Global, reply: &Reply) -> Result<Answer<'a>, LineFault> {
         match reply {
-            Reply::Collect(CollectReply::Raised { dropped }) => Ok(Answer::Raised(*dropped)),
-            Reply::Collect(CollectReply::NotHigher(floor)) => Ok(Answer::NotHigher(*floor)),
-            Reply::Missing(wanted) => Ok(Answer::Missing {
-                wanted: wanted.as_slice().to_vec(alloc)?,
-                names: self.first_names(alloc, wanted.as_slice())?,
+            Reply::Collect(CollectReply::Raised { dropped }) => Ok(Answer::Counted {
+                words: "raised",
+                number: *dropped,
             }),
+            Reply::Collect(CollectReply::NotHigher(floor)) => Ok(Answer::Counted {
+                words: "not higher",
+                number: floor.get(),
+            }),
+            Reply::Missing(wanted) => self.missing(alloc, wanted.as_slice()),
             Reply::Status(counts) => Ok(Answer::Status(*counts)),
             _ => Err(LineFault::Bad),
         }
+    }
+
+    fn missing(&self, alloc: Global, wanted: &[Wanted]) -> Result<Answer<'a>, LineFault> {
+        if wanted.is_empty() {
+            return Ok(Answer::Words("missing none"));
+        }
+        let names = self.first_names(alloc, wanted)?;
+        let wanted = wanted.to_vec(alloc)?;
+        Ok(Answer::Missing { wanted, names })
     }
 
     fn first_names(&self, alloc: Global, wanted: &[Wanted]) -> Result<Vec<Name<'a>>, LineFault> {
@@ -71,7 +83,7 @@ impl<'a> Desk<'a> {
 
     fn written(&self, name: Name<'a>, reply: WriteReply) -> Result<Answer<'a>, LineFault> {
         let words = match reply {
-            WriteReply::Collected(floor) => return Ok(Answer::Below { name, floor }),
+            WriteReply::Collected(floor) => return Ok(collected(name, floor)),
             WriteReply::Equivocates(first) => {
                 return self.told_of(name, "equivocates", first);
             }
@@ -83,12 +95,12 @@ impl<'a> Desk<'a> {
             WriteReply::Stored { vote: true } => "stored vote",
             WriteReply::Stored { vote: false } => "stored",
         };
-        Ok(Answer::Told { name, words })
+        Ok(told(name, words))
     }
 
     fn certified(&self, name: Name<'a>, reply: CertifyReply) -> Result<Answer<'a>, LineFault> {
         let words = match reply {
-            CertifyReply::Collected(floor) => return Ok(Answer::Below { name, floor }),
+            CertifyReply::Collected(floor) => return Ok(collected(name, floor)),
             CertifyReply::Conflict(other) => return self.told_of(name, "conflict", other),
             CertifyReply::TooFar => "too far",
             CertifyReply::Already => "already",
@@ -96,7 +108,7 @@ impl<'a> Desk<'a> {
             CertifyReply::Full => "full",
             CertifyReply::Certified => "certified",
         };
-        Ok(Answer::Told { name, words })
+        Ok(told(name, words))
     }
 
     // The words, with the first name that was bound to the block of this digest.
@@ -111,7 +123,7 @@ impl<'a> Desk<'a> {
     }
 
     /// The names of the ticket's list.
-    pub fn listed(
+    pub(crate) fn listed(
         &self,
         alloc: Global,
         name: Name<'a>,
@@ -126,12 +138,36 @@ impl<'a> Desk<'a> {
     }
 }
 
-fn signers(alloc: Global, votes: &[Seal]) -> Result<Vec<u16>, LineFault> {
+fn told<'a>(name: Name<'a>, words: &'static str) -> Answer<'a> {
+    Answer::Told { name, words }
+}
+
+fn collected(name: Name<'_>, floor: Round) -> Answer<'_> {
+    Answer::ToldCount {
+        name,
+        words: "collected",
+        number: floor.get(),
+    }
+}
+
+fn found<'a>(alloc: Global, name: Name<'a>, block: &Block) -> Result<Answer<'a>, LineFault> {
+    let body = encode_body(alloc, block)?;
+    Ok(Answer::ToldCount {
+        name,
+        words: "found",
+        number: body.len() as u64,
+    })
+}
+
+fn signed<'a>(alloc: Global, name: Name<'a>, votes: &[Seal]) -> Result<Answer<'a>, LineFault> {
+    if votes.is_empty() {
+        return Ok(told(name, "certified by -"));
+    }
     let mut signers = Vec::with_capacity(alloc, votes.len())?;
     for seal in votes {
         signers.push(seal.signer)?;
     }
-    Ok(signers)
+    Ok(Answer::Signers { name, signers })
 }
 
 fn word_of(reply: CausalReply) -> &'static str {

@@ -1,57 +1,39 @@
 //! Votes and certificates of blocks that names stand for.
 
 use crate::desk::Desk;
-use crate::fault::LineFault;
-use crate::members;
+use crate::fault::{LineFault, within_limits};
+use crate::members::{certificate, vote};
 use crate::names::Bound;
 use crate::print::Answer;
-use nw_check::{
-    Checked, CheckedCert, Counted, Gather, GatherFault, StartFault, check_message, valid,
-};
-use nw_codec::{EncodeError, Message, encode_message};
-use nw_committee::Committee;
-use nw_digest::Shared;
+use nw_check::{Counted, Gather, GatherFault, StartFault, valid};
+use nw_codec::{Message, encode_message};
 use nw_script::Name;
 use nw_sig::DemoScheme;
 use std::alloc::Global;
 
 impl<'a> Desk<'a> {
-    /// A certificate of the block with the signers' votes in this order, sent as a message, and checked; or the answer that
-    /// tells which rule it breaks.
-    pub fn checked_certificate(
+    /// The message of a certificate of the block with the signers' votes in this order, or `None` where it does not fit.
+    pub(crate) fn certificate_text(
         &self,
         alloc: Global,
-        committee: &Shared<Committee>,
         name: Name<'a>,
         signers: &[u16],
-    ) -> Result<Result<CheckedCert<DemoScheme>, Answer<'a>>, LineFault> {
+    ) -> Result<Option<Vec<u8>>, LineFault> {
         let bound = self.bound(name)?;
-        let certificate = members::certificate(alloc, signers, bound.digest, &bound.block)?;
-        let text = match encode_message(alloc, &Message::Certificate(certificate)) {
-            Ok(text) => text,
-            Err(EncodeError::OverLimit) => {
-                return Ok(Err(Answer::over_limit(name)));
-            }
-            Err(EncodeError::NoMemory) => return Err(LineFault::NoMemory),
-        };
-        match check_message(alloc, committee, &text)? {
-            Checked::Cert(certificate) => Ok(Ok(certificate)),
-            Checked::BadCert(fault) => Ok(Err(Answer::BadCert { name, fault })),
-            _ => Err(LineFault::Bad),
-        }
+        let certificate = certificate(alloc, signers, bound.digest, &bound.block)?;
+        within_limits(encode_message(alloc, &Message::Certificate(certificate)))
     }
 
     /// Whether such a certificate is valid.
-    pub fn valid(
+    pub(crate) fn valid(
         &self,
         alloc: Global,
-        committee: &Committee,
         name: Name<'a>,
         signers: &[u16],
     ) -> Result<Answer<'a>, LineFault> {
         let bound = self.bound(name)?;
-        let certificate = members::certificate(alloc, signers, bound.digest, &bound.block)?;
-        let words = if valid::<DemoScheme>(committee, bound.digest, &certificate) {
+        let certificate = certificate(alloc, signers, bound.digest, &bound.block)?;
+        let words = if valid::<DemoScheme>(self.committee.get(), bound.digest, &certificate) {
             "valid yes"
         } else {
             "valid no"
@@ -60,46 +42,55 @@ impl<'a> Desk<'a> {
     }
 
     /// Gathers the signers' votes for the block in this order.
-    pub fn gather(
+    pub(crate) fn gather(
         &self,
         alloc: Global,
-        committee: &Shared<Committee>,
         name: Name<'a>,
         signers: &[u16],
     ) -> Result<Answer<'a>, LineFault> {
         let bound = self.bound(name)?;
         let block = &bound.block;
-        let mut gather: Gather<DemoScheme> = match Gather::new(
+        match Gather::new(
             alloc,
-            committee,
+            &self.committee,
             bound.digest,
             block.round,
             block.author,
         ) {
-            Ok(gather) => gather,
-            Err(StartFault::Author) => {
-                return Ok(Answer::Told {
-                    name,
-                    words: "refused author",
-                });
-            }
-            Err(StartFault::NoMemory) => return Err(LineFault::NoMemory),
-        };
-        let mut votes = Vec::with_capacity(alloc, signers.len())?;
-        for signer in signers {
-            votes.push(gathered(&mut gather, *signer, bound)?)?;
+            Ok(mut gather) => Ok(Answer::Gathered {
+                name,
+                votes: gather_all(alloc, &mut gather, signers, bound)?,
+            }),
+            Err(StartFault::Author) => Ok(Answer::Told {
+                name,
+                words: "refused author",
+            }),
+            Err(StartFault::NoMemory) => Err(LineFault::NoMemory),
         }
-        Ok(Answer::Gathered { name, votes })
     }
+}
+
+// What the gatherer says of each member's vote.
+fn gather_all(
+    alloc: Global,
+    gather: &mut Gather<DemoScheme>,
+    signers: &[u16],
+    bound: &Bound,
+) -> Result<Vec<&'static str>, LineFault> {
+    let mut votes = Vec::with_capacity(alloc, signers.len())?;
+    for signer in signers {
+        votes.push(gathered(gather, *signer, bound)?)?;
+    }
+    Ok(votes)
 }
 
 // What a gatherer says of the member's vote. A vote for another block is met by no script.
 fn gathered(
     gather: &mut Gather<DemoScheme>,
     signer: u16,
-    bound: &Bound<'_>,
+    bound: &Bound,
 ) -> Result<&'static str, LineFault> {
-    match gather.add(&members::vote(signer, bound.digest, &bound.block)) {
+    match gather.add(&vote(signer, bound.digest, &bound.block)) {
         Ok(Counted::Counted) => Ok("counted"),
         Ok(Counted::Quorum) => Ok("quorum"),
         Err(GatherFault::Repeated) => Ok("repeated"),

@@ -1,27 +1,49 @@
 //! The client thread of a node: it opens the node's own blocks, and walks them.
 use crate::fault::End;
-use crate::post::News;
+use crate::node::Shop;
+use crate::post::ClientNews;
 use crate::store::ClientCalls;
-use nw_book::Ticket;
 use nw_digest::Digest;
 use nw_intake::{Gate, Point, pass_start};
 use nw_sig::DemoScheme;
-use nw_store::Home;
+use nw_store::{Home, Session, Ticket};
 use std::alloc::Global;
 use std::sync::Wait;
 
 /// What a client works with.
 #[derive(Drop)]
-pub(crate) struct Client<'a, L: Home, N: News + Drop, G: Gate> {
-    pub(crate) alloc: Global,
-    pub(crate) node: u32,
-    pub(crate) rounds: u32,
-    pub(crate) store: ClientCalls<'a, L>,
-    pub(crate) news: N,
-    pub(crate) gate: &'a G,
+pub(crate) struct Client<'a, L: Home, G: Gate> {
+    alloc: Global,
+    node: u32,
+    rounds: u32,
+    store: ClientCalls<'a, L>,
+    news: ClientNews,
+    gate: &'a G,
 }
 
-impl<'a, L: Home, N: News + Drop, G: Gate> Client<'a, L, N, G> {
+impl<'a, L: Home, G: Gate> Client<'a, L, G> {
+    /// The client of the node.
+    pub(crate) fn new<R>(
+        shop: &Shop<'a, R, G>,
+        node: u16,
+        store: ClientCalls<'a, L>,
+        news: ClientNews,
+    ) -> Client<'a, L, G> {
+        Client {
+            alloc: shop.alloc,
+            node: u32::from(node),
+            rounds: shop.rounds,
+            store,
+            news,
+            gate: shop.gate,
+        }
+    }
+
+    /// The session, handed back.
+    pub(crate) fn session(self) -> Session<DemoScheme, L> {
+        self.store.session
+    }
+
     /// Opens and walks the node's block of each round, once told of it. Answers how many blocks the last walk listed.
     pub(crate) fn run<R: Wait>(&mut self, rt: &R) -> Result<usize, End> {
         let mut last = 0;

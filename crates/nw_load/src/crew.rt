@@ -4,20 +4,22 @@ ghost use Rattle.nw_load.specs.Size.{IsCrew, AreRounds};
 ghost use Rattle.nw_load.specs.declared.fault.LoadFault.TheVariants as LoadFault;
 
 use crate::fault::{End, LoadFault};
-use crate::member::committee;
 use crate::node::{Shop, run_node};
 use crate::post::{Mailbox, Office};
 use crate::report::NodeReport;
 use crate::size::{are_rounds, is_crew};
-use nw_digest::NoMemory;
+use nw_committee::Committee;
+use nw_desk::committee;
+use nw_digest::Shared;
 use nw_intake::Gate;
+use nw_script::CommitteeLine;
 use std::alloc::Global;
 use std::sync::Wait;
 use std::thread;
 use std::thread::{JoinHandle, Scope, Threads};
 
-/// What a node gives.
-type Outcome = Result<NodeReport, End>;
+/// A node's thread, and what it gives.
+type Started = JoinHandle<Result<NodeReport, End>>;
 
 /// Lets so many nodes make, certify and read so many rounds of blocks, each node in two threads on a store of its own, and gives
 /// their reports in the order of the nodes.
@@ -33,7 +35,8 @@ pub fn load<G: Gate + Sync, R: Threads + Wait + Sync>(
     gate: &G,
 ) -> Result<Vec<NodeReport>, LoadFault>
     ensures bad_nodes { IsErrOf result LoadFault.BadNodes ↔ (IsCrew nodes → ⊥) }
-    ensures bad_rounds { IsErrOf result LoadFault.BadRounds ↔ (IsCrew nodes × (AreRounds rounds → ⊥)) }
+    ensures bad_rounds { IsErrOf result LoadFault.BadRounds
+        ↔ (IsCrew nodes × (AreRounds rounds → ⊥)) }
 {
     if !is_crew(nodes) {
         return Err(LoadFault::BadNodes);
@@ -59,7 +62,7 @@ fn run_all<G: Gate + Sync, R: Threads + Wait + Sync>(
     rounds: u32,
     gate: &G,
 ) -> Result<Vec<NodeReport>, End> {
-    let committee = committee(alloc, nodes)?;
+    let committee = committee_of(alloc, nodes)?;
     let (office, boxes) = Office::new(alloc, nodes)?;
     let shop = Shop {
         rt,
@@ -70,20 +73,29 @@ fn run_all<G: Gate + Sync, R: Threads + Wait + Sync>(
         rounds,
         gate,
     };
-    reports_of(alloc, outcomes(&shop, boxes)?, nodes)
+    run_nodes(&shop, boxes)
 }
 
-/// What the nodes give, in their order. There are fewer outcomes than nodes where a thread was not started.
-fn outcomes<G: Gate + Sync, R: Threads + Wait + Sync>(
+/// The committee of so many members.
+fn committee_of(alloc: Global, nodes: u16) -> Result<Shared<Committee>, End> {
+    let members = u32::from(nodes);
+    let committee = committee(alloc, &CommitteeLine::Equal { members })?;
+    Ok(Shared::new(alloc, committee)?)
+}
+
+/// Runs each node in a thread.
+fn run_nodes<G: Gate + Sync, R: Threads + Wait + Sync>(
     shop: &Shop<'_, R, G>,
     boxes: Vec<Mailbox>,
-) -> Result<Vec<Outcome>, End> {
+) -> Result<Vec<NodeReport>, End> {
     thread::scope(thread::scope_env(), shop.rt, |scope| {
-        let started = start_all(scope, shop, boxes);
-        if started.is_err() {
-            shop.office.close(shop.rt);
+        match start_all(scope, shop, boxes) {
+            Ok(handles) => joined(shop, handles),
+            Err(end) => {
+                shop.office.close(shop.rt);
+                Err(end)
+            }
         }
-        Ok(joined(shop.rt, shop.alloc, started?)?)
     })
 }
 
@@ -92,7 +104,7 @@ fn start_all<'s, 'e, G: Gate + Sync, R: Threads + Wait + Sync>(
     scope: &Scope<'s, &'e ()>,
     shop: &'e Shop<'e, R, G>,
     boxes: Vec<Mailbox>,
-) -> Result<Vec<JoinHandle<Outcome>>, End> {
+) -> Result<Vec<Started>, End> {
     let mut handles = Vec::with_capacity(shop.alloc, boxes.len())?;
     for (node, mailbox) in (0..shop.nodes).zip(boxes) {
         match scope.spawn(move || run_node(shop, node, mailbox)) {
@@ -106,36 +118,26 @@ fn start_all<'s, 'e, G: Gate + Sync, R: Threads + Wait + Sync>(
     Ok(handles)
 }
 
-/// Waits for the threads, and gives what they gave.
-fn joined<R: Threads>(
-    rt: &R,
-    alloc: Global,
-    handles: Vec<JoinHandle<Outcome>>,
-) -> Result<Vec<Outcome>, NoMemory> {
-    let mut outcomes = Vec::with_capacity(alloc, handles.len())?;
-    for handle in handles {
-        outcomes.push(handle.join(rt))?;
-    }
-    Ok(outcomes)
-}
-
-/// The reports of all nodes, or the first in order of why one gave none.
-fn reports_of(alloc: Global, outcomes: Vec<Outcome>, nodes: u16) -> Result<Vec<NodeReport>, End> {
-    let all = usize::from(nodes);
-    let mut reports = Vec::with_capacity(alloc, all)?;
-    let mut least = if outcomes.len() < all {
+/// Waits for the threads. The reports of all nodes, or the end that counts where one gave none or was not started.
+fn joined<G: Gate, R: Threads>(
+    shop: &Shop<'_, R, G>,
+    handles: Vec<Started>,
+) -> Result<Vec<NodeReport>, End> {
+    let nodes = usize::from(shop.nodes);
+    let mut end = if handles.len() < nodes {
         End::Spawn
     } else {
         End::CutOff
     };
-    for outcome in outcomes {
-        match outcome {
+    let mut reports = Vec::with_capacity(shop.alloc, nodes)?;
+    for handle in handles {
+        match handle.join(shop.rt) {
             Ok(report) => reports.push(report)?,
-            Err(end) => least = least.min(end),
+            Err(other) => end = end.or(other),
         }
     }
-    if reports.len() < all {
-        Err(least)
+    if reports.len() < nodes {
+        Err(end)
     } else {
         Ok(reports)
     }

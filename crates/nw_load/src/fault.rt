@@ -1,4 +1,6 @@
 //! Why a load gives no report, and why a thread of it ends early.
+use nw_codec::EncodeError;
+use nw_desk::LineFault;
 use nw_digest::NoMemory;
 use nw_intake::GateShut;
 use std::alloc::{AllocError, AllocFailed};
@@ -31,16 +33,38 @@ pub enum LoadFault {
     Unsettled { node: u32 },
 }
 
-/// Why a thread ends early. Where several do, the least in this order counts.
-#[derive(Clone, Copy, Debug, PartialEq, Eq, PartialOrd, Ord)]
+/// Why a thread ends early.
+#[derive(Clone, Copy)]
 pub(crate) enum End {
     NoMemory,
     Spawn,
     GateShut,
     Causal { node: u32, round: u32 },
     Unsettled { node: u32 },
-    /// Another thread ended early, and what this one waits for will not come.
+    /// Another thread ended early, and what this one waits for will not come. It is what no load asks for, too.
     CutOff,
+}
+
+impl End {
+    /// The one of two ends that counts: the first in the order of the kinds, or this one where both are of one kind.
+    pub(crate) fn or(self, other: End) -> End {
+        if other.place() < self.place() {
+            other
+        } else {
+            self
+        }
+    }
+
+    fn place(self) -> u8 {
+        match self {
+            End::NoMemory => 0,
+            End::Spawn => 1,
+            End::GateShut => 2,
+            End::Causal { .. } => 3,
+            End::Unsettled { .. } => 4,
+            End::CutOff => 5,
+        }
+    }
 }
 
 impl From<NoMemory> for End {
@@ -69,5 +93,25 @@ impl<T: Drop> From<AllocFailed<T>> for End {
 impl From<GateShut> for End {
     fn from(_error: GateShut) -> End {
         End::GateShut
+    }
+}
+
+// A load has no more than the formats take.
+impl From<EncodeError> for End {
+    fn from(error: EncodeError) -> End {
+        match error {
+            EncodeError::NoMemory => End::NoMemory,
+            EncodeError::OverLimit => End::CutOff,
+        }
+    }
+}
+
+// A load has as many members as a committee may have.
+impl From<LineFault> for End {
+    fn from(fault: LineFault) -> End {
+        match fault {
+            LineFault::NoMemory => End::NoMemory,
+            LineFault::Bad => End::CutOff,
+        }
     }
 }

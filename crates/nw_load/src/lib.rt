@@ -10,7 +10,6 @@ mod client;
 mod crew;
 mod fault;
 mod link;
-mod member;
 mod message;
 mod node;
 mod post;

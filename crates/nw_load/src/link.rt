@@ -1,7 +1,8 @@
 //! The link thread of a node: it makes the node's blocks, and writes, votes and certifies.
 use crate::fault::End;
-use crate::message::{text_of_block, text_of_certificate, text_of_vote};
-use crate::post::Post;
+use crate::message::{text_of_block, text_of_certificate};
+use crate::node::Shop;
+use crate::post::LinkPost;
 use crate::store::LinkCalls;
 use crate::table::Table;
 use nw_check::{
@@ -10,37 +11,67 @@ use nw_check::{
 };
 use nw_codec::{Block, Ref, Vote};
 use nw_committee::Committee;
-use nw_digest::{Digest, Round, Sequence, Shared};
+use nw_desk::vote_message;
+use nw_digest::{Round, Sequence, Shared};
 use nw_intake::{Gate, Point, pass_start};
 use nw_sig::DemoScheme;
-use nw_store::Home;
+use nw_store::{Home, Session};
 use std::alloc::Global;
 use std::sync::Wait;
 
 /// What a link works with, and where it stands.
 #[derive(Drop)]
-pub(crate) struct Link<'a, L: Home, P: Post + Drop, G: Gate> {
-    pub(crate) alloc: Global,
-    pub(crate) committee: &'a Shared<Committee>,
-    pub(crate) node: u16,
-    pub(crate) nodes: u16,
-    pub(crate) rounds: u32,
-    pub(crate) store: LinkCalls<'a, L>,
-    pub(crate) post: P,
-    pub(crate) gate: &'a G,
+pub(crate) struct Link<'a, L: Home, G: Gate> {
+    alloc: Global,
+    committee: &'a Shared<Committee>,
+    node: u16,
+    nodes: u16,
+    rounds: u32,
+    store: LinkCalls<'a, L>,
+    post: LinkPost<'a>,
+    gate: &'a G,
     /// What is held and certified here.
-    pub(crate) table: Table,
+    table: Table,
     /// The votes for the node's last block, until they reach the quorum.
-    pub(crate) gather: Option<Gather<DemoScheme>>,
+    gather: Option<Gather<DemoScheme>>,
     /// How many blocks of its own the node made.
-    pub(crate) made: u32,
+    made: u32,
     /// How many blocks were written.
-    pub(crate) written: u32,
+    written: u32,
     /// How many certificates were certified.
-    pub(crate) certified: u32,
+    certified: u32,
 }
 
-impl<'a, L: Home, P: Post + Drop, G: Gate> Link<'a, L, P, G> {
+impl<'a, L: Home, G: Gate> Link<'a, L, G> {
+    /// The link of the node, which has made nothing yet.
+    pub(crate) fn new<R>(
+        shop: &Shop<'a, R, G>,
+        node: u16,
+        store: LinkCalls<'a, L>,
+        post: LinkPost<'a>,
+    ) -> Link<'a, L, G> {
+        Link {
+            alloc: shop.alloc,
+            committee: shop.committee,
+            node,
+            nodes: shop.nodes,
+            rounds: shop.rounds,
+            store,
+            post,
+            gate: shop.gate,
+            table: Table::new(shop.alloc),
+            gather: None,
+            made: 0,
+            written: 0,
+            certified: 0,
+        }
+    }
+
+    /// The session, handed back.
+    pub(crate) fn session(self) -> Session<DemoScheme, L> {
+        self.store.session
+    }
+
     /// Makes the block of each round, and answers what other nodes send, until all blocks of all nodes are written and
     /// certified.
     pub(crate) fn run<R: Wait>(&mut self, rt: &R) -> Result<(), End> {
@@ -67,8 +98,8 @@ impl<'a, L: Home, P: Post + Drop, G: Gate> Link<'a, L, P, G> {
     /// Checks the text and does what it asks for. A text that is no good message is dropped.
     fn take<R: Wait>(&mut self, rt: &R, text: &[u8]) -> Result<(), End> {
         match check_message(self.alloc, self.committee, text)? {
-            Checked::Block(block) => self.write(rt, block),
-            Checked::Cert(certificate) => self.certify(rt, certificate),
+            Checked::Block(block) => self.write(rt, &block),
+            Checked::Cert(certificate) => self.certify(rt, &certificate),
             Checked::Vote(vote) => self.count(rt, &vote),
             Checked::BadText(_) | Checked::BadBlock(_) | Checked::BadCert(_) => Ok(()),
         }
@@ -82,7 +113,7 @@ impl<'a, L: Home, P: Post + Drop, G: Gate> Link<'a, L, P, G> {
         let Some(before) = u64::from(self.made).checked_sub(1) else {
             return Ok(());
         };
-        match self.table.parents(self.alloc, before)? {
+        match self.table.parents(self.alloc, before, self.nodes)? {
             Some(parents) => self.make(rt, parents),
             None => Ok(()),
         }
@@ -90,20 +121,26 @@ impl<'a, L: Home, P: Post + Drop, G: Gate> Link<'a, L, P, G> {
 
     /// Makes the node's block of the next round over these parents, sends it to all others, and writes it.
     fn make<R: Wait>(&mut self, rt: &R, parents: Vec<Ref>) -> Result<(), End> {
-        let block = Block {
+        let text = text_of_block(self.alloc, &self.block(parents))?;
+        self.made = self.made.saturating_add(1);
+        match check_message(self.alloc, self.committee, &text)? {
+            Checked::Block(block) => {
+                self.gather = Some(self.gather_for(&block)?);
+                self.send_to_others(rt, &text)?;
+                self.write(rt, &block)
+            }
+            _ => Err(End::CutOff),
+        }
+    }
+
+    /// The node's block of the next round over these parents.
+    fn block(&self, parents: Vec<Ref>) -> Block {
+        Block {
             author: self.node,
             round: Round::new(u64::from(self.made)).unwrap_or(Round::ZERO),
             parents: Sequence::new(parents),
             transactions: Sequence::new(Vec::new(self.alloc)),
-        };
-        self.made = self.made.saturating_add(1);
-        let text = text_of_block(self.alloc, &block)?;
-        let Checked::Block(checked) = check_message(self.alloc, self.committee, &text)? else {
-            return Err(End::CutOff);
-        };
-        self.gather = Some(self.gather_for(&checked)?);
-        self.send_to_others(rt, &text)?;
-        self.write(rt, checked)
+        }
     }
 
     /// No votes yet for the node's own block.
@@ -117,22 +154,21 @@ impl<'a, L: Home, P: Post + Drop, G: Gate> Link<'a, L, P, G> {
     }
 
     /// Writes the block between two points, and votes for it where the store does.
-    fn write<R: Wait>(&mut self, rt: &R, block: CheckedBlock<DemoScheme>) -> Result<(), End> {
+    fn write<R: Wait>(&mut self, rt: &R, checked: &CheckedBlock<DemoScheme>) -> Result<(), End> {
         let node = u32::from(self.node);
         let number = self.written.saturating_add(1);
         self.written = number;
-        let digest = block.digest();
-        let round = block.block().get().round;
-        let author = block.block().get().author;
         pass_start(self.gate, Point::WriteStart { node, number })?;
-        let vote = self.store.write(rt, self.alloc, block)?;
+        let vote = self.store.write(rt, self.alloc, checked)?;
         self.gate.reach(Point::WriteDone { node, number });
-        self.table.hold(round.get(), author, digest);
+        let digest = checked.digest();
+        let block = checked.block().get();
+        self.table.hold(block.round.get(), block.author, digest);
         if !vote {
             return Ok(());
         }
-        let text = text_of_vote(self.alloc, self.node, digest, round, author)?;
-        self.post.send(rt, author, text)
+        let text = vote_message(self.alloc, self.node, digest, block)?;
+        self.post.send(rt, block.author, text)
     }
 
     /// Counts the vote for the node's own block, which is certified once the votes reach the quorum. Any other is dropped.
@@ -159,7 +195,7 @@ impl<'a, L: Home, P: Post + Drop, G: Gate> Link<'a, L, P, G> {
     ) -> Result<(), End> {
         let digest = certificate.digest();
         let text = text_of_certificate(self.alloc, certificate.certificate().get())?;
-        self.certify(rt, certificate)?;
+        self.certify(rt, &certificate)?;
         self.post.tell(rt, digest)?;
         self.send_to_others(rt, &text)
     }
@@ -168,14 +204,14 @@ impl<'a, L: Home, P: Post + Drop, G: Gate> Link<'a, L, P, G> {
     fn certify<R: Wait>(
         &mut self,
         rt: &R,
-        certificate: CheckedCert<DemoScheme>,
+        certificate: &CheckedCert<DemoScheme>,
     ) -> Result<(), End> {
-        let digest = certificate.digest();
-        let round = certificate.certificate().get().round;
-        let author = certificate.certificate().get().author;
         self.store.certify(rt, self.alloc, certificate)?;
         self.certified = self.certified.saturating_add(1);
-        self.table.certify(round.get(), author, digest);
+        let digest = certificate.digest();
+        let certificate = certificate.certificate().get();
+        self.table
+            .certify(certificate.round.get(), certificate.author, digest);
         Ok(())
     }
 

@@ -1,11 +1,8 @@
-//! The messages that nodes send, as texts.
+//! The messages that nodes send, as texts, but for votes.
 use crate::fault::End;
-use crate::member::signer;
-use nw_codec::{
-    Block, Certificate, EncodeError, Message, Vote, block_digest, encode_block, encode_message,
-};
-use nw_digest::{Digest, Round, Sequence};
-use nw_sig::{Signer, block_text, vote_text};
+use nw_codec::{Block, Certificate, Message, block_digest, encode_message};
+use nw_desk::block_message;
+use nw_digest::Sequence;
 use std::alloc::Global;
 
 /// The text of the block, signed by its author. A block of a load is within the limits.
@@ -13,26 +10,8 @@ pub(crate) fn text_of_block(alloc: Global, block: &Block) -> Result<Vec<u8>, End
     if !block.fits() {
         return Err(End::CutOff);
     }
-    let signature = signer(block.author).sign(&block_text(&block_digest(block)));
-    encode_block(alloc, block, &signature).map_err(not_encoded)
-}
-
-/// The text of this member's vote for the block of the digest, round and author.
-pub(crate) fn text_of_vote(
-    alloc: Global,
-    member: u16,
-    digest: Digest,
-    round: Round,
-    author: u16,
-) -> Result<Vec<u8>, End> {
-    let vote = Vote {
-        digest,
-        round,
-        author,
-        signer: member,
-        signature: signer(member).sign(&vote_text(&digest, round, author)),
-    };
-    encode_message(alloc, &Message::Vote(vote)).map_err(not_encoded)
+    let digest = block_digest(block);
+    Ok(block_message(alloc, block.author, &digest, block)?)
 }
 
 /// The text of the certificate.
@@ -46,12 +25,5 @@ pub(crate) fn text_of_certificate(
         author: certificate.author,
         votes: Sequence::new(certificate.votes.as_slice().to_vec(alloc)?),
     };
-    encode_message(alloc, &Message::Certificate(copy)).map_err(not_encoded)
-}
-
-fn not_encoded(error: EncodeError) -> End {
-    match error {
-        EncodeError::NoMemory => End::NoMemory,
-        EncodeError::OverLimit => End::CutOff,
-    }
+    Ok(encode_message(alloc, &Message::Certificate(copy))?)
 }

@@ -1,6 +1,6 @@
 //! One node: its store, its two threads, and what it reports.
 ghost use Rattle.std.specs.Prelude.{◌≡◌};
-ghost use Rattle.nw_store.specs.Held.{first_origin};
+ghost use Rattle.nw_store.specs.Journal.{first_origin};
 ghost use Rattle.nw_store.specs.Kept.{parts_of_a_ledger};
 
 use crate::client::Client;
@@ -9,15 +9,12 @@ use crate::link::Link;
 use crate::post::{ClientNews, LinkPost, Mailbox, Office};
 use crate::report::NodeReport;
 use crate::store::{ClientCalls, LinkCalls};
-use crate::table::Table;
 use crossbeam_channel::{Receiver, Sender, unbounded};
-use nw_book::BookError;
 use nw_committee::Committee;
 use nw_digest::{Digest, Shared};
-use nw_history::Limits;
 use nw_intake::Gate;
 use nw_sig::DemoScheme;
-use nw_store::{Home, Opening, Session, Store, settle};
+use nw_store::{BookError, Home, Limits, Opening, Session, Store, settle};
 use std::alloc::Global;
 use std::marker::Brand;
 use std::sync::Wait;
@@ -83,11 +80,10 @@ fn run_store<L: Home, R: Threads + Wait + Sync, G: Gate + Sync>(
     requires origin { first_origin committee limits ≡ L.origin }
 {
     let store = new_store::<L>(shop.alloc, opening, committee, limits)?;
-    let first = new_session(shop, node, &store)?;
-    let second = new_session(shop, node, &store)?;
-    let (last, sessions) = run_both(shop, node, mailbox, &store, first, second)?;
-    let events = settled(node, store, sessions)?;
-    Ok(NodeReport { events, last })
+    match run_both(shop, node, mailbox, &store) {
+        Ok((last, sessions)) => settled(node, store, sessions, last),
+        Err(end) => Err(end),
+    }
 }
 
 /// The store. Its limits are in their ranges.
@@ -114,32 +110,31 @@ fn new_session<L: Home, R: Wait, G>(
     node: u16,
     store: &Store<DemoScheme, L>,
 ) -> Result<Session<DemoScheme, L>, End> {
-    let node = u32::from(node);
-    store
-        .session(shop.rt, shop.alloc)
-        .map_err(|_| End::Unsettled { node })
+    match store.session(shop.rt, shop.alloc) {
+        Ok(session) => Ok(session),
+        Err(_too_many) => Err(End::Unsettled {
+            node: u32::from(node),
+        }),
+    }
 }
 
-/// Runs the client in a thread of its own, and the link in this one. Answers how many blocks the last walk listed, and hands the
-/// sessions back.
+/// Runs the client in a thread of its own, and the link in this one. Answers how many blocks the last walk listed, and gives the
+/// sessions of both.
 fn run_both<L: Home, R: Threads + Wait + Sync, G: Gate + Sync>(
     shop: &Shop<'_, R, G>,
     node: u16,
     mailbox: Mailbox,
     store: &Store<DemoScheme, L>,
-    first: Session<DemoScheme, L>,
-    second: Session<DemoScheme, L>,
 ) -> Result<(usize, Vec<Session<DemoScheme, L>>), End> {
+    let first = new_session(shop, node, store)?;
+    let second = new_session(shop, node, store)?;
     let (client, news) = unbounded(shop.alloc)?;
     thread::scope(thread::scope_env(), shop.rt, move |scope| {
         let started = start_client(scope, shop, node, store, second, news)?;
         let (first, linked) = run_link(shop, node, store, first, mailbox, client);
         let (second, walked) = started.join(shop.rt);
         let last = both(linked, walked)?;
-        let mut sessions = Vec::with_capacity(shop.alloc, 2)?;
-        sessions.push(first)?;
-        sessions.push(second)?;
-        Ok((last, sessions))
+        Ok((last, vec![in shop.alloc; first, second]?))
     })
 }
 
@@ -166,7 +161,7 @@ fn both(linked: Result<(), End>, walked: Result<usize, End>) -> Result<usize, En
     match (linked, walked) {
         (Ok(()), walked) => walked,
         (Err(end), Ok(_)) => Err(end),
-        (Err(one), Err(other)) => Err(one.min(other)),
+        (Err(one), Err(other)) => Err(one.or(other)),
     }
 }
 
@@ -179,34 +174,22 @@ fn run_link<L: Home, R: Wait, G: Gate>(
     mailbox: Mailbox,
     client: Sender<Digest>,
 ) -> (Session<DemoScheme, L>, Result<(), End>) {
-    let mut link = Link {
-        alloc: shop.alloc,
-        committee: shop.committee,
-        node,
-        nodes: shop.nodes,
-        rounds: shop.rounds,
-        store: LinkCalls {
-            node: u32::from(node),
-            store,
-            session,
-        },
-        post: LinkPost {
-            office: shop.office,
-            mailbox,
-            client,
-        },
-        gate: shop.gate,
-        table: Table::new(shop.alloc),
-        gather: None,
-        made: 0,
-        written: 0,
-        certified: 0,
+    let store = LinkCalls {
+        node: u32::from(node),
+        store,
+        session,
     };
+    let post = LinkPost {
+        office: shop.office,
+        mailbox,
+        client,
+    };
+    let mut link = Link::new(shop, node, store, post);
     let linked = link.run(shop.rt);
     if linked.is_err() {
         shop.office.close(shop.rt);
     }
-    (link.store.session, linked)
+    (link.session(), linked)
 }
 
 /// Runs the client, and hands its session back. Where it ends early the office is closed, so that its link ends too.
@@ -217,33 +200,31 @@ fn run_client<L: Home, R: Wait, G: Gate>(
     session: Session<DemoScheme, L>,
     link: Receiver<Digest>,
 ) -> Walked<L> {
-    let mut client = Client {
-        alloc: shop.alloc,
+    let store = ClientCalls {
         node: u32::from(node),
-        rounds: shop.rounds,
-        store: ClientCalls {
-            node: u32::from(node),
-            store,
-            session,
-        },
-        news: ClientNews { link },
-        gate: shop.gate,
+        store,
+        session,
     };
+    let mut client = Client::new(shop, node, store, ClientNews { link });
     let walked = client.run(shop.rt);
     if walked.is_err() {
         shop.office.close(shop.rt);
     }
-    (client.store.session, walked)
+    (client.session(), walked)
 }
 
-/// How many events the history has, once both sessions settle.
+/// What the node reports, once both sessions settle: how many events the history has, and this last walk.
 fn settled<L: Home>(
     node: u16,
     store: Store<DemoScheme, L>,
     sessions: Vec<Session<DemoScheme, L>>,
-) -> Result<usize, End> {
+    last: usize,
+) -> Result<NodeReport, End> {
     match settle(store, sessions) {
-        Ok(settled) => Ok(settled.history().len()),
+        Ok(settled) => Ok(NodeReport {
+            events: settled.history().len(),
+            last,
+        }),
         Err(_refused) => Err(End::Unsettled {
             node: u32::from(node),
         }),

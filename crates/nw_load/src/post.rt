@@ -1,27 +1,9 @@
 //! The mailboxes of all nodes, and the office through which everything is sent to them.
 use crate::fault::End;
-use crossbeam_channel::{Receiver, SendError, Sender, unbounded};
+use crossbeam_channel::{Receiver, RecvError, SendError, Sender, unbounded};
 use nw_digest::Digest;
 use std::alloc::Global;
 use std::sync::{RwLock, Wait};
-
-/// What a link may do with other threads: send to nodes, wait for what is sent to its own, and tell its client.
-pub(crate) trait Post {
-    /// Sends the text to the node, which may be the link's own. It is dropped where the node has ended.
-    fn send<R: Wait>(&self, rt: &R, node: u16, text: Vec<u8>) -> Result<(), End>;
-
-    /// Waits for the next text.
-    fn receive<R: Wait>(&self, rt: &R) -> Result<Vec<u8>, End>;
-
-    /// Tells the client that its node's block of the next round is certified.
-    fn tell<R: Wait>(&self, rt: &R, digest: Digest) -> Result<(), End>;
-}
-
-/// What a client may do with other threads: wait for what its link tells.
-pub(crate) trait News {
-    /// Waits for the digest of the next block.
-    fn hear<R: Wait>(&self, rt: &R) -> Result<Digest, End>;
-}
 
 /// The mailbox of a node, from which its link receives.
 pub(crate) type Mailbox = Receiver<Vec<u8>>;
@@ -75,7 +57,7 @@ fn sent<T: Drop>(outcome: Result<(), SendError<T>>) -> Result<(), End> {
     }
 }
 
-/// The post of one link.
+/// What a link may do with other threads: send to nodes, wait for what is sent to its own, and tell its client.
 #[derive(Drop)]
 pub(crate) struct LinkPost<'a> {
     pub(crate) office: &'a Office,
@@ -83,28 +65,40 @@ pub(crate) struct LinkPost<'a> {
     pub(crate) client: Sender<Digest>,
 }
 
-impl<'a> Post for LinkPost<'a> {
-    fn send<R: Wait>(&self, rt: &R, node: u16, text: Vec<u8>) -> Result<(), End> {
+impl<'a> LinkPost<'a> {
+    /// Sends the text to the node, which may be the link's own. It is dropped where the node has ended.
+    pub(crate) fn send<R: Wait>(&self, rt: &R, node: u16, text: Vec<u8>) -> Result<(), End> {
         self.office.send(rt, node, text)
     }
 
-    fn receive<R: Wait>(&self, rt: &R) -> Result<Vec<u8>, End> {
-        self.mailbox.recv(rt).map_err(|_| End::CutOff)
+    /// Waits for the next text.
+    pub(crate) fn receive<R: Wait>(&self, rt: &R) -> Result<Vec<u8>, End> {
+        received(self.mailbox.recv(rt))
     }
 
-    fn tell<R: Wait>(&self, rt: &R, digest: Digest) -> Result<(), End> {
+    /// Tells the client that its node's block of the next round is certified.
+    pub(crate) fn tell<R: Wait>(&self, rt: &R, digest: Digest) -> Result<(), End> {
         sent(self.client.send(rt, digest))
     }
 }
 
-/// The news of one client.
+/// What a client may do with other threads: wait for what its link tells.
 #[derive(Drop)]
 pub(crate) struct ClientNews {
     pub(crate) link: Receiver<Digest>,
 }
 
-impl News for ClientNews {
-    fn hear<R: Wait>(&self, rt: &R) -> Result<Digest, End> {
-        self.link.recv(rt).map_err(|_| End::CutOff)
+impl ClientNews {
+    /// Waits for the digest of the next block.
+    pub(crate) fn hear<R: Wait>(&self, rt: &R) -> Result<Digest, End> {
+        received(self.link.recv(rt))
+    }
+}
+
+// Where nobody sends any more, the load has ended early.
+fn received<T: Drop>(outcome: Result<T, RecvError>) -> Result<T, End> {
+    match outcome {
+        Ok(it) => Ok(it),
+        Err(_) => Err(End::CutOff),
     }
 }

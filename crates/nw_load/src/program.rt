@@ -1,7 +1,7 @@
 //! The load as a program's words ask for it.
 use crate::crew::load;
 use crate::fault::LoadFault;
-use crate::report::{NodeReport, Row};
+use crate::report::NodeReport;
 use nw_intake::FreeGate;
 use nw_script::weight;
 use std::alloc::Global;
@@ -50,11 +50,7 @@ fn numbers(words: &[String]) -> Option<(u32, u32)> {
 
 fn print_reports<W: Write>(reports: &[NodeReport], out: &mut W) -> io::Result<()> {
     for (node, report) in reports.iter().enumerate() {
-        let row = Row {
-            node,
-            report: *report,
-        };
-        writeln!(out, "{row}")?;
+        writeln!(out, "node {node} {report}")?;
     }
     out.flush()
 }

@@ -10,17 +10,9 @@ pub struct NodeReport {
     pub last: usize,
 }
 
-/// A line of a load's report.
-#[derive(Clone, Copy, Debug)]
-pub(crate) struct Row {
-    pub(crate) node: usize,
-    pub(crate) report: NodeReport,
-}
-
-impl fmt::Display for Row {
+impl fmt::Display for NodeReport {
     fn fmt<W: fmt::Write>(&self, f: &mut fmt::Formatter<W>) -> fmt::Result {
-        let node = self.node;
-        let NodeReport { events, last } = self.report;
-        write!(f, "node {node} events {events} last {last}")
+        let NodeReport { events, last } = self;
+        write!(f, "events {events} last {last}")
     }
 }

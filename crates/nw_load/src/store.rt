@@ -1,11 +1,10 @@
 //! What the threads of a node may ask of its store: each has a type of its own, with the calls that it makes.
 use crate::fault::End;
-use nw_book::{NoStep, Ticket};
 use nw_check::{CheckedBlock, CheckedCert};
 use nw_digest::Digest;
 use nw_model::{Reply, WriteReply};
 use nw_sig::DemoScheme;
-use nw_store::{Home, Session, Store};
+use nw_store::{Home, NoStep, Session, Store, Ticket};
 use std::alloc::Global;
 use std::sync::Wait;
 
@@ -23,7 +22,7 @@ impl<'a, L: Home> LinkCalls<'a, L> {
         &mut self,
         rt: &R,
         alloc: Global,
-        block: CheckedBlock<DemoScheme>,
+        block: &CheckedBlock<DemoScheme>,
     ) -> Result<bool, End> {
         match self.store.write(rt, alloc, &mut self.session, block) {
             Ok(done) => Ok(matches!(&done.reply, Reply::Write(WriteReply::Stored { vote: true }))),
@@ -36,7 +35,7 @@ impl<'a, L: Home> LinkCalls<'a, L> {
         &mut self,
         rt: &R,
         alloc: Global,
-        certificate: CheckedCert<DemoScheme>,
+        certificate: &CheckedCert<DemoScheme>,
     ) -> Result<(), End> {
         match self
             .store

@@ -4,7 +4,7 @@ use nw_digest::{Digest, NoMemory};
 use std::alloc::Global;
 
 /// What is held and what is certified for one round and author.
-#[derive(Clone, Copy, Debug)]
+#[derive(Clone, Copy)]
 struct Slot {
     held: Option<Digest>,
     certified: Option<Digest>,
@@ -72,19 +72,29 @@ impl Table {
             .get_mut(usize::from(author))
     }
 
-    /// References to the blocks of all authors in the round, ascending by author, or `None` where one is not held and
+    /// References to the blocks of so many authors in the round, ascending by author, or `None` where one is not held and
     /// certified.
-    pub(crate) fn parents(&self, alloc: Global, round: u64) -> Result<Option<Vec<Ref>>, NoMemory> {
-        let Some(slots) = self.rounds.get(round as usize) else {
-            return Ok(None);
-        };
-        let mut parents = Vec::with_capacity(alloc, slots.len())?;
-        for (author, slot) in slots.iter().enumerate() {
-            let (Ok(author), Some(digest)) = (u16::try_from(author), slot.parent()) else {
-                return Ok(None);
-            };
-            parents.push(Ref { author, digest })?;
+    pub(crate) fn parents(
+        &self,
+        alloc: Global,
+        round: u64,
+        nodes: u16,
+    ) -> Result<Option<Vec<Ref>>, NoMemory> {
+        let mut parents = Vec::with_capacity(alloc, usize::from(nodes))?;
+        for author in 0..nodes {
+            match self.parent(round, author) {
+                Some(digest) => parents.push(Ref { author, digest })?,
+                None => return Ok(None),
+            }
         }
         Ok(Some(parents))
+    }
+
+    /// The digest of the author's block that is held and certified, if there is one.
+    fn parent(&self, round: u64, author: u16) -> Option<Digest> {
+        self.rounds
+            .get(round as usize)?
+            .get(usize::from(author))?
+            .parent()
     }
 }

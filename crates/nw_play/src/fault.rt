@@ -5,6 +5,8 @@ use nw_desk::LineFault;
 use nw_digest::NoMemory;
 use nw_store::SettleFault;
 use std::alloc::{AllocError, AllocFailed};
+use std::fmt::Display;
+use std::io::{self, Write};
 use thiserror::Error;
 
 /// Why a script was not played to its end. What was printed before stands.
@@ -66,7 +68,20 @@ impl PlayFault {
     pub(crate) fn unsettled(line: usize, fault: SettleFault) -> PlayFault {
         match fault {
             SettleFault::Unfinished { .. } => PlayFault::BadLine { line },
-            SettleFault::Differs { session } => PlayFault::Differs { session },
+            SettleFault::Differs { session, .. } => PlayFault::Differs { session },
         }
+    }
+}
+
+/// Prints a line.
+pub(crate) fn print<W: Write, T: Display>(out: &mut W, line: &T) -> Result<(), PlayFault> {
+    written(writeln!(out, "{line}"))
+}
+
+/// The fault of the script, where this is that of its writer.
+pub(crate) fn written(outcome: io::Result<()>) -> Result<(), PlayFault> {
+    match outcome {
+        Ok(()) => Ok(()),
+        Err(_) => Err(PlayFault::Write),
     }
 }

@@ -12,7 +12,8 @@ pub const MAX_SCRIPT: usize = 1_048_576;
 /// A read that was interrupted is asked again.
 pub fn read_script<R: Read>(alloc: Global, reader: &mut R) -> Result<Vec<u8>, PlayFault>
     ensures within { IfOk result (λ script. vec_len script ≤ 1048576) }
-    ensures whole { IfOk result (λ script. IfSome (R.remaining reader.old) (λ bytes. script.items ≡ bytes)) }
+    ensures whole { IfOk result (λ script.
+        IfSome (R.remaining reader.old) (λ bytes. script.items ≡ bytes)) }
 {
     let mut script = Vec::new(alloc);
     let mut chunk = [0u8; 4096];

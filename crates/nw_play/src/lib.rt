@@ -5,12 +5,13 @@
 //! `nw_desk` for what needs no store, and on `nw_store`; its members sign by the demonstration scheme.
 #![tactic(auto)]
 
+mod books;
 mod calls;
 mod fault;
 mod input;
 mod lines;
-mod player;
 mod script;
+mod settled;
 mod stores;
 
 pub use fault::PlayFault;

@@ -28,6 +28,22 @@ impl<'a> Lines<'a> {
     pub fn taken(&self) -> usize {
         self.taken
     }
+
+    /// That the line that was taken last is bad.
+    pub fn bad(&self) -> PlayFault {
+        PlayFault::BadLine { line: self.taken }
+    }
+
+    /// The next line that counts, which is then the last that was taken, or `None` where none is left.
+    pub fn next_line(&mut self, alloc: Global) -> Result<Option<Line<'a>>, PlayFault> {
+        for (number, text) in self.by_ref() {
+            match read_line(alloc, number, text)? {
+                Line::Skipped => {}
+                line => return Ok(Some(line)),
+            }
+        }
+        Ok(None)
+    }
 }
 
 impl<'a> Iterator for Lines<'a> {
@@ -50,5 +66,8 @@ impl<'a> Iterator for Lines<'a> {
 
 /// What the line with this number says.
 pub fn read_line(alloc: Global, number: usize, text: &[u8]) -> Result<Line<'_>, PlayFault> {
-    parse_line(alloc, text).map_err(|fault| PlayFault::at(number, LineFault::from(fault)))
+    match parse_line(alloc, text) {
+        Ok(line) => Ok(line),
+        Err(fault) => Err(PlayFault::at(number, LineFault::from(fault))),
+    }
 }

@@ -1,29 +1,17 @@
 //! A whole script.
 ghost use Rattle.std.specs.Prelude.{◌<◌, length, IfSome, IsErr};
 
-use crate::fault::PlayFault;
+use crate::books::{Start, first, first_committee};
+use crate::fault::{PlayFault, print, written};
 use crate::input::read_script;
-use crate::lines::{Lines, read_line};
-use crate::stores::{Start, play_store};
-use nw_book::Book;
-use nw_desk::{Desk, LineFault, committee};
-use nw_digest::Shared;
-use nw_history::Limits;
-use nw_script::{CommitteeLine, Line};
-use nw_sig::DemoScheme;
+use crate::lines::Lines;
+use crate::stores::play_store;
+use nw_desk::Desk;
 use nw_store::Opening;
 use std::alloc::Global;
 use std::io::{BufWriter, Read, Write};
 use std::marker::Brand;
 use std::sync::Wait;
-
-// The limits of a script without a line of its own for them.
-const DEFAULT_LIMITS: Limits = Limits {
-    blocks: 1024,
-    events: 1024,
-    window: 64,
-    sessions: 16,
-};
 
 /// Plays the script that the reader gives, and prints its answers to the writer, a line each.
 ///
@@ -39,11 +27,13 @@ pub fn play<Rt: Wait, R: Read + Drop, W: Write + Drop>(
     ensures { IfSome (R.remaining reader) (λ bytes. 1048576 < length bytes → IsErr result) }
 {
     let script = read_script(alloc, &mut reader)?;
-    let mut out = BufWriter::new(alloc, writer).map_err(|_| PlayFault::NoMemory)?;
+    let Ok(mut out) = BufWriter::new(alloc, writer) else {
+        return Err(PlayFault::NoMemory);
+    };
     let played = play_script(rt, alloc, script.as_slice(), &mut out);
     let outcome = match played {
         Err(PlayFault::Write) => Err(PlayFault::Write),
-        _ => out.flush().map_err(|_| PlayFault::Write).and(played),
+        _ => written(out.flush()).and(played),
     };
     // What a failed writer did not take is not offered again.
     let _ = out.into_parts();
@@ -58,7 +48,7 @@ fn play_script<Rt: Wait, W: Write>(
 ) -> Result<(), PlayFault> {
     let played = play_stores(rt, alloc, script, out);
     if let Err(fault @ (PlayFault::BadLine { .. } | PlayFault::Differs { .. })) = played {
-        writeln!(out, "{fault}").map_err(|_| PlayFault::Write)?;
+        print(out, &fault)?;
     }
     played
 }
@@ -71,11 +61,25 @@ fn play_stores<Rt: Wait, W: Write>(
     out: &mut W,
 ) -> Result<(), PlayFault> {
     let mut lines = Lines::new(script);
-    let mut start = Start::first(first_book(alloc, &mut lines)?);
-    let mut desk = Desk::new(alloc);
-    for _ in 0..=script.len() {
-        let opening = Opening::new(alloc)?;
-        match play_store::<Brand, Rt, W>(rt, alloc, opening, start, &mut desk, &mut lines, out)? {
+    let committee = first_committee(alloc, &mut lines)?;
+    let start = first(alloc, &committee, lines.taken())?;
+    let mut desk = Desk::new(alloc, committee);
+    play_from(rt, alloc, start, &mut desk, &mut lines, out, script.len())
+}
+
+// Plays a store, and so many more at most that go on behind it.
+fn play_from<'a, Rt: Wait, W: Write>(
+    rt: &Rt,
+    alloc: Global,
+    start: Start,
+    desk: &mut Desk<'a>,
+    lines: &mut Lines<'a>,
+    out: &mut W,
+    more: usize,
+) -> Result<(), PlayFault> {
+    let mut start = start;
+    for _ in 0..=more {
+        match play_next(rt, alloc, start, desk, lines, out)? {
             Some(next) => start = next,
             None => return Ok(()),
         }
@@ -83,23 +87,17 @@ fn play_stores<Rt: Wait, W: Write>(
     Ok(())
 }
 
-// The book of the committee in the first line that counts, under the default limits.
-fn first_book(alloc: Global, lines: &mut Lines<'_>) -> Result<Book<DemoScheme>, PlayFault> {
-    for (number, text) in lines.by_ref() {
-        match read_line(alloc, number, text)? {
-            Line::Skipped => {}
-            Line::Committee(line) => {
-                return book_of(alloc, &line).map_err(|fault| PlayFault::at(number, fault));
-            }
-            _ => return Err(PlayFault::BadLine { line: number }),
-        }
+// Plays a store of its own name.
+fn play_next<'a, Rt: Wait, W: Write>(
+    rt: &Rt,
+    alloc: Global,
+    start: Start,
+    desk: &mut Desk<'a>,
+    lines: &mut Lines<'a>,
+    out: &mut W,
+) -> Result<Option<Start>, PlayFault> {
+    match Opening::new(alloc) {
+        Ok(opening) => play_store::<Brand, Rt, W>(rt, alloc, opening, start, desk, lines, out),
+        Err(_) => Err(PlayFault::NoMemory),
     }
-    Err(PlayFault::BadLine {
-        line: lines.taken(),
-    })
-}
-
-fn book_of(alloc: Global, line: &CommitteeLine) -> Result<Book<DemoScheme>, LineFault> {
-    let committee = Shared::new(alloc, committee(alloc, line)?)?;
-    Ok(Book::new(alloc, committee, DEFAULT_LIMITS)?)
 }

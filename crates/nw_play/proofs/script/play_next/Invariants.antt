@@ -1,6 +1,6 @@
-use Rattle.nw_store.specs.Held.{origin_of}
+use Rattle.nw_store.specs.Journal.{origin_of}
 use Rattle.nw_store.specs.Kept.{parts_of_a_ledger}
-use Rattle.nw_play.proofs.script.play_stores.Given as goal
+use Rattle.nw_play.proofs.script.play_next.Given as goal
 
 -- the ledger that was opened
 abbrev pub ghosts-play_store-L-Ledger : goal.ghosts-play_store-L-Ledger
