@@ -1,9 +1,7 @@
-use nw_book::{Book, BookError, Command, NoStep, Ticket};
 use nw_committee::Committee;
 use nw_digest::{Digest, NoMemory, Round, Shared};
-use nw_history::Limits;
-use nw_run::Move;
 use nw_sig::DemoScheme;
+use nw_store::{Book, BookError, Command, Limits, NoStep, Ticket};
 use sample_checked::{again, refuse_all, refuse_none};
 use std::alloc::{AllocError, Global};
 use std::test::Fail;

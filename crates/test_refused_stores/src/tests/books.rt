@@ -1,8 +1,9 @@
 //! Books: runs of moves, and calls that take no memory.
-use super::desk::{Asked, Desk, FOUR, Row, TWO, word};
+use super::desk::{Desk, FOUR, Link, Sketch, TWO, Told};
 use super::*;
-use nw_history::Front;
-use nw_run::{Answer, Cause, Run, Stop, run};
+use nw_book::{Answer, Cause, Move, Run, Stop};
+use nw_model::{CertifyReply, CollectReply, WriteReply};
+use nw_store::Front;
 
 /// The limits of a book of one session.
 const LIMITS: Limits = Limits {
@@ -21,26 +22,62 @@ fn new_book(
     Book::new(alloc, committee.try_clone()?, limits)
 }
 
-/// A block is written, certified and opened, its round is collected, and the ticket is walked, and then one that the run has not.
-const LATE: [Row; 6] = [
-    (Asked::Write(0), "stored vote", 0),
-    (Asked::Certify(0), "certified", 0),
-    (Asked::Open(0), "opened", 0),
-    (Asked::Collect(1), "raised", 1),
-    (Asked::Walk(0), "listed", 1),
-    (Asked::Walk(5), "no ticket", 0),
+/// The last block of an example.
+fn last_of(alloc: Global, members: &[u8], sketches: &[Sketch]) -> Result<Link, Fail> {
+    let mut desk = Desk::new(alloc, members, sketches)?;
+    Ok(desk.links.pop().ok_or("an example has blocks")?)
+}
+
+/// How many moves are made.
+const MOVES: usize = 6;
+
+/// A block is written, certified and opened, its round is collected, and its ticket is walked, and then one that the run has not.
+fn moves(alloc: Global, made: Link) -> Result<Vec<Move<DemoScheme>>, Fail> {
+    let digest = made.block.digest();
+    let mut moves = again!(AllocError, Vec::with_capacity(alloc, MOVES))?;
+    for command in [
+        Command::Write(made.block),
+        Command::Certify(made.certificate),
+    ] {
+        moves.push(Move::Call {
+            session: 0,
+            command,
+        })?;
+    }
+    moves.push(Move::Open { session: 0, digest })?;
+    moves.push(Move::Call {
+        session: 0,
+        command: Command::Collect(Round::new(1).unwrap_or(Round::ZERO)),
+    })?;
+    moves.push(Move::Walk { ticket: 0 })?;
+    moves.push(Move::Walk { ticket: 5 })?;
+    Ok(moves)
+}
+
+/// What those moves are answered, where the block is at place 1, up to the last, which is not made.
+const LATE: [Told; 5] = [
+    Told::Write(WriteReply::Stored { vote: true }),
+    Told::Certify(CertifyReply::Certified),
+    Told::Opened(1),
+    Told::Collect(CollectReply::Raised { dropped: 1 }),
+    Told::Listed(&[1]),
 ];
 
+/// Whether it is this answer.
+fn is_answer(desk: &Desk, answer: &Answer<DemoScheme>, told: &Told) -> bool {
+    match (answer, told) {
+        (Answer::Opened, Told::Opened(_)) => true,
+        (Answer::Walked(blocks), Told::Listed(places)) => desk.has_all(places, blocks.as_slice()),
+        (Answer::Done(done), _) => desk.is_told(told, &done.reply),
+        _ => false,
+    }
+}
+
 /// Whether the run has the first answers of the example, and the history has their events and no other.
-fn is_begun(run: &Run<DemoScheme>, events: usize) -> bool {
+fn is_begun(desk: &Desk, run: &Run<DemoScheme>, events: usize) -> bool {
     let answers = run.answers.as_slice();
-    for (answer, (_, wanted, number)) in answers.iter().zip(&LATE) {
-        let told = match answer {
-            Answer::Opened => ("opened", 0),
-            Answer::Walked(blocks) => ("listed", blocks.as_slice().len() as u64),
-            Answer::Done(done) => word(&done.reply),
-        };
-        if told != (*wanted, *number) {
+    for (answer, told) in answers.iter().zip(&LATE) {
+        if !is_answer(desk, answer, told) {
             return false;
         }
     }
@@ -51,10 +88,11 @@ fn is_begun(run: &Run<DemoScheme>, events: usize) -> bool {
 fn made(
     book: &mut Book<DemoScheme>,
     alloc: Global,
+    desk: &Desk,
     moves: &[Move<DemoScheme>],
 ) -> (Option<Stop>, bool) {
-    let run = run(book, alloc, moves);
-    (run.stop, is_begun(&run, book.history().len()))
+    let run = book.run(alloc, moves);
+    (run.stop, is_begun(desk, &run, book.history().len()))
 }
 
 /// Whether the stop is want of memory.
@@ -72,16 +110,16 @@ fn is_refused(stop: Option<Stop>) -> bool {
 fn a_run_of_moves_is_made_or_begun(rt: HostRuntime) -> Result<(), Fail> {
     let alloc = rt.alloc();
     let desk = Desk::new(alloc, &[0], &TWO)?;
-    let moves = desk.moves(alloc, &LATE)?;
+    let moves = moves(alloc, last_of(alloc, &[0], &TWO)?)?;
     let book = again!(
         BookError::NoMemory,
         new_book(alloc, &desk.committee, LIMITS)
     );
-    let (mut stop, mut begun) = made(&mut book.expect(&rt, "a book"), alloc, &moves);
+    let (mut stop, mut begun) = made(&mut book.expect(&rt, "a book"), alloc, &desk, &moves);
     if is_refused(stop) {
         assert!(rt; begun);
         let book = new_book(alloc, &desk.committee, LIMITS);
-        (stop, begun) = made(&mut book.expect(&rt, "a book"), alloc, &moves);
+        (stop, begun) = made(&mut book.expect(&rt, "a book"), alloc, &desk, &moves);
     }
     let cause = Cause::NoTicket;
     assert!(rt; begun && stop == Some(Stop { at: 5, cause }));
@@ -146,9 +184,9 @@ fn refusal(alloc: Global, committee: Shared<Committee>) -> Option<BookError> {
 #[test]
 fn refusals_fronts_and_histories_take_no_memory(rt: HostRuntime) -> Result<(), Fail> {
     let alloc = rt.alloc();
-    let desk = Desk::new(alloc, &[0, 1, 2, 3], &FOUR)?;
-    let own = desk.command(alloc, &Asked::Write(0))?;
-    let stranger = Desk::new(alloc, &[0], &TWO)?.command(alloc, &Asked::Write(0))?;
+    let desk = Desk::new(alloc, &[0, 1, 2, 3], &[])?;
+    let own = Command::Write(last_of(alloc, &[0, 1, 2, 3], &FOUR)?.block);
+    let stranger = Command::Write(last_of(alloc, &[0], &TWO)?.block);
     let committee = desk.committee.try_clone()?;
     let book = again!(BookError::NoMemory, new_book(alloc, &desk.committee, FEW));
     let mut book = book.expect(&rt, "a book");

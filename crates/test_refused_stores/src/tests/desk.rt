@@ -1,43 +1,60 @@
-//! The blocks of an example, and the moves that are made with them.
+//! The blocks of an example, what is asked of them, and what is answered.
 use super::*;
 use nw_check::{BlockFault, CertFault, CheckedBlock, CheckedCert};
-use nw_codec::Ref;
-use nw_model::{CausalReply, CertifyReply, CollectReply, Reply, WriteReply};
-use sample_checked::refused::{Slot, checked_block, checked_certificate, committee};
+use nw_codec::{Block, Certificate, Ref};
+use nw_model::{CausalReply, CertifyReply, CollectReply, Counts, Reply, Wanted, WriteReply};
+use sample_checked::refused::{checked_block, checked_certificate, committee};
 
 /// A block by its round, its author, its transaction of one byte, and its parents, by their places in the example.
-pub(super) type Sketch = (u64, u16, u8, &'static [usize]);
+pub(super) struct Sketch {
+    round: u64,
+    author: u16,
+    text: u8,
+    parents: &'static [usize],
+}
 
 /// Three blocks of round 0, and one over them.
 pub(super) const FOUR: [Sketch; 4] = [
-    (0, 0, b'x', &[]),
-    (0, 1, b'x', &[]),
-    (0, 2, b'x', &[]),
-    (1, 0, b'x', &[0, 1, 2]),
+    Sketch {
+        round: 0,
+        author: 0,
+        text: b'x',
+        parents: &[],
+    },
+    Sketch {
+        round: 0,
+        author: 1,
+        text: b'x',
+        parents: &[],
+    },
+    Sketch {
+        round: 0,
+        author: 2,
+        text: b'x',
+        parents: &[],
+    },
+    Sketch {
+        round: 1,
+        author: 0,
+        text: b'x',
+        parents: &[0, 1, 2],
+    },
 ];
 
 /// Two blocks of one slot.
-pub(super) const TWO: [Sketch; 2] = [(0, 0, b'x', &[]), (0, 0, b'y', &[])];
-
-/// A chain of 17 blocks.
-pub(super) const CHAIN: [Sketch; 17] = [
-    (0, 0, b'x', &[]),
-    (1, 0, b'x', &[0]),
-    (2, 0, b'x', &[1]),
-    (3, 0, b'x', &[2]),
-    (4, 0, b'x', &[3]),
-    (5, 0, b'x', &[4]),
-    (6, 0, b'x', &[5]),
-    (7, 0, b'x', &[6]),
-    (8, 0, b'x', &[7]),
-    (9, 0, b'x', &[8]),
-    (10, 0, b'x', &[9]),
-    (11, 0, b'x', &[10]),
-    (12, 0, b'x', &[11]),
-    (13, 0, b'x', &[12]),
-    (14, 0, b'x', &[13]),
-    (15, 0, b'x', &[14]),
-    (16, 0, b'x', &[15]),
+pub(super) const TWO: [Sketch; 2] = [
+    Sketch {
+        round: 0,
+        author: 0,
+        text: b'x',
+        parents: &[],
+    },
+    Sketch {
+        round: 0,
+        author: 0,
+        text: b'y',
+        parents: &[],
+    },
 ];
 
 /// What is asked, of blocks by their places in the example.
@@ -49,144 +66,184 @@ pub(super) enum Asked {
     Read(usize),
     Open(usize),
     /// The ticket of this number is walked.
-    Walk(u32),
+    Walk(usize),
     Collect(u64),
     Missing,
     Status,
+    /// The store is compacted, which is no call.
+    Compact,
 }
 
-/// What is asked, and what is answered, in a word and a number.
-pub(super) type Row = (Asked, &'static str, u64);
+/// What is answered, with blocks by their places in the example.
+pub(super) enum Told {
+    Write(WriteReply),
+    /// The slot's first block is this one.
+    Equivocates(usize),
+    /// The garbage round is this one.
+    Collected(u64),
+    Certify(CertifyReply),
+    /// The certificate of this block.
+    Kept(usize),
+    /// This block.
+    Found(usize),
+    /// No block.
+    Unknown,
+    Causal(CausalReply),
+    /// A ticket whose view has so many parts.
+    Opened(usize),
+    /// These blocks, in order.
+    Listed(&'static [usize]),
+    Collect(CollectReply),
+    /// This block alone is missing.
+    Missing(usize),
+    Status(Counts),
+    Compacted,
+}
 
-/// The blocks of an example, with their digests, under its committee.
+/// What is asked, and what is answered.
+pub(super) type Row = (Asked, Told);
+
+/// A block and its certificate, with the votes of a quorum.
+#[derive(Drop)]
+pub(super) struct Link {
+    pub(super) block: CheckedBlock<DemoScheme>,
+    pub(super) certificate: CheckedCert<DemoScheme>,
+}
+
+/// References to the blocks at these places.
+fn references(alloc: Global, links: &[Link], places: &[usize]) -> Result<Vec<Ref>, NoMemory> {
+    let mut references = Vec::new(alloc);
+    for place in places {
+        if let Some(link) = links.get(*place) {
+            references.push(Ref {
+                author: link.block.block().get().author,
+                digest: link.block.digest(),
+            })?;
+        }
+    }
+    Ok(references)
+}
+
+/// The block of the sketch over these, and its certificate.
+fn made(
+    alloc: Global,
+    committee: &Shared<Committee>,
+    links: &[Link],
+    sketch: &Sketch,
+) -> Result<Link, Fail> {
+    let slot = (
+        Round::new(sketch.round).unwrap_or(Round::ZERO),
+        sketch.author,
+    );
+    let parents = again!(NoMemory, references(alloc, links, sketch.parents))?;
+    let block = again!(
+        BlockFault::NoMemory,
+        checked_block(alloc, committee, slot, &parents, sketch.text, sketch.author)
+    )?;
+    let signers: &[u16] = match committee.get().quorum() {
+        1 => &[0],
+        _ => &[0, 1, 2],
+    };
+    let certificate = again!(
+        CertFault::NoMemory,
+        checked_certificate(alloc, committee, block.digest(), slot, signers)
+    )?;
+    Ok(Link { block, certificate })
+}
+
+/// The blocks of an example, with their certificates, under its committee.
 #[derive(Drop)]
 pub(super) struct Desk {
     pub(super) committee: Shared<Committee>,
-    sketches: &'static [Sketch],
-    digests: Vec<Digest>,
+    pub(super) links: Vec<Link>,
 }
 
 impl Desk {
     /// The blocks for a committee of members with these numbers.
-    pub(super) fn new(
-        alloc: Global,
-        members: &[u8],
-        sketches: &'static [Sketch],
-    ) -> Result<Desk, Fail> {
-        let mut desk = Desk {
-            committee: again!(NoMemory, committee(alloc, members))?,
-            sketches,
-            digests: again!(AllocError, Vec::with_capacity(alloc, sketches.len()))?,
-        };
-        for place in 0..sketches.len() {
-            let block = again!(BlockFault::NoMemory, desk.block(alloc, place))?;
-            desk.digests.push(block.digest())?;
+    pub(super) fn new(alloc: Global, members: &[u8], sketches: &[Sketch]) -> Result<Desk, Fail> {
+        let committee = again!(NoMemory, committee(alloc, members))?;
+        let mut links = again!(AllocError, Vec::with_capacity(alloc, sketches.len()))?;
+        for sketch in sketches {
+            let made = made(alloc, &committee, &links, sketch)?;
+            links.push(made)?;
         }
-        Ok(desk)
+        Ok(Desk { committee, links })
     }
 
     pub(super) fn digest(&self, place: usize) -> Digest {
-        self.digests.get(place).copied().unwrap_or(Digest([0; 32]))
-    }
-
-    fn slot(&self, place: usize) -> Slot {
-        match self.sketches.get(place) {
-            None => (Round::ZERO, 0),
-            Some((number, author, _, _)) => (Round::new(*number).unwrap_or(Round::ZERO), *author),
+        match self.links.get(place) {
+            Some(link) => link.block.digest(),
+            None => Digest([0; 32]),
         }
     }
 
-    /// References to the blocks at these places.
-    fn references(&self, alloc: Global, places: &[usize]) -> Result<Vec<Ref>, NoMemory> {
-        let mut references = Vec::new(alloc);
-        for place in places {
-            references.push(Ref {
-                author: self.slot(*place).1,
-                digest: self.digest(*place),
-            })?;
-        }
-        Ok(references)
-    }
-
-    /// The block at the place, signed and checked.
-    fn block(&self, alloc: Global, place: usize) -> Result<CheckedBlock<DemoScheme>, BlockFault> {
-        let (_, _, text, parents) = self.sketches.get(place).unwrap_or(&TWO[0]);
-        let references = self.references(alloc, parents)?;
-        let slot = self.slot(place);
-        checked_block(alloc, &self.committee, slot, &references, *text, slot.1)
-    }
-
-    /// The certificate of the block at the place, with the votes of a quorum of members of weight 1.
-    fn certificate(
-        &self,
-        alloc: Global,
-        place: usize,
-    ) -> Result<CheckedCert<DemoScheme>, CertFault> {
-        let signers: &[u16] = match self.committee.get().quorum() {
-            1 => &[0],
-            _ => &[0, 1, 2],
-        };
-        let (digest, slot) = (self.digest(place), self.slot(place));
-        checked_certificate(alloc, &self.committee, digest, slot, signers)
-    }
-
-    /// What is asked of a book, where it is no causal read.
-    pub(super) fn command(
-        &self,
-        alloc: Global,
-        asked: &Asked,
-    ) -> Result<Command<DemoScheme>, Fail> {
-        Ok(match asked {
-            Asked::Write(place) => {
-                Command::Write(again!(BlockFault::NoMemory, self.block(alloc, *place))?)
-            }
-            Asked::Certify(place) => {
-                Command::Certify(again!(CertFault::NoMemory, self.certificate(alloc, *place))?)
-            }
-            Asked::Certificate(place) => Command::Certificate(self.digest(*place)),
-            Asked::Read(place) => Command::Read(self.digest(*place)),
-            Asked::Collect(number) => Command::Collect(Round::new(*number).unwrap_or(Round::ZERO)),
-            Asked::Missing => Command::Missing(5),
-            _ => Command::Status,
+    /// What is wanted where the block at the place is missing.
+    fn wanted(&self, place: usize) -> Option<Wanted> {
+        let block = &self.links.get(place)?.block;
+        Some(Wanted {
+            round: block.block().get().round,
+            author: block.block().get().author,
+            digest: block.digest(),
         })
     }
 
-    /// The moves of session 0 that ask all this.
-    pub(super) fn moves(&self, alloc: Global, rows: &[Row]) -> Result<Vec<Move<DemoScheme>>, Fail> {
-        let mut moves = again!(AllocError, Vec::with_capacity(alloc, rows.len()))?;
-        for (asked, _, _) in rows {
-            moves.push(match asked {
-                Asked::Walk(ticket) => Move::Walk { ticket: *ticket },
-                Asked::Open(place) => Move::Open {
-                    session: 0,
-                    digest: self.digest(*place),
-                },
-                _ => Move::Call {
-                    session: 0,
-                    command: self.command(alloc, asked)?,
-                },
-            })?;
+    /// Whether it is the block at the place.
+    fn has_block(&self, place: usize, block: &Block) -> bool {
+        match self.links.get(place) {
+            Some(link) => link.block.block().get() == block,
+            None => false,
         }
-        Ok(moves)
     }
-}
 
-/// A reply in a word and a number.
-pub(super) fn word(reply: &Reply) -> (&'static str, u64) {
-    match reply {
-        Reply::Write(WriteReply::Stored { vote: true }) => ("stored vote", 0),
-        Reply::Write(WriteReply::Held) => ("held", 0),
-        Reply::Write(WriteReply::Equivocates(_)) => ("equivocates", 0),
-        Reply::Write(WriteReply::Collected(floor)) => ("collected", floor.get()),
-        Reply::Certify(CertifyReply::Certified) => ("certified", 0),
-        Reply::Certify(CertifyReply::Already) => ("already", 0),
-        Reply::Certificate(Some(_)) => ("kept", 0),
-        Reply::Read(Some(_)) => ("found", 0),
-        Reply::Read(None) | Reply::Causal(CausalReply::Unknown) => ("unknown", 0),
-        Reply::Causal(CausalReply::Incomplete) => ("incomplete", 0),
-        Reply::Collect(CollectReply::Raised { dropped }) => ("raised", *dropped),
-        Reply::Missing(wanted) => ("missing", wanted.as_slice().len() as u64),
-        Reply::Status(counts) => ("complete", counts.complete),
-        _ => ("another reply", 0),
+    /// Whether it is the certificate of the block at the place.
+    fn has_certificate(&self, place: usize, certificate: &Certificate) -> bool {
+        match self.links.get(place) {
+            Some(link) => link.certificate.certificate().get() == certificate,
+            None => false,
+        }
+    }
+
+    /// Whether they are the blocks at these places, in order.
+    pub(super) fn has_all(&self, places: &[usize], blocks: &[Shared<Block>]) -> bool {
+        for (place, block) in places.iter().zip(blocks) {
+            if !self.has_block(*place, block.get()) {
+                return false;
+            }
+        }
+        places.len() == blocks.len()
+    }
+
+    /// Whether this alone is missing.
+    fn is_missing(&self, place: usize, wanted: &[Wanted]) -> bool {
+        match wanted {
+            [only] => self.wanted(place) == Some(*only),
+            _ => false,
+        }
+    }
+
+    /// Whether it is this reply, whole.
+    pub(super) fn is_told(&self, told: &Told, reply: &Reply) -> bool {
+        match (told, reply) {
+            (Told::Write(told), Reply::Write(reply)) => told == reply,
+            (Told::Equivocates(place), Reply::Write(WriteReply::Equivocates(first))) => {
+                *first == self.digest(*place)
+            }
+            (Told::Collected(round), Reply::Write(WriteReply::Collected(floor))) => {
+                floor.get() == *round
+            }
+            (Told::Certify(told), Reply::Certify(reply)) => told == reply,
+            (Told::Kept(place), Reply::Certificate(Some(kept))) => {
+                self.has_certificate(*place, kept.get())
+            }
+            (Told::Found(place), Reply::Read(Some(found))) => self.has_block(*place, found.get()),
+            (Told::Unknown, Reply::Read(None)) => true,
+            (Told::Causal(told), Reply::Causal(reply)) => told == reply,
+            (Told::Collect(told), Reply::Collect(reply)) => told == reply,
+            (Told::Missing(place), Reply::Missing(wanted)) => {
+                self.is_missing(*place, wanted.as_slice())
+            }
+            (Told::Status(told), Reply::Status(reply)) => told == reply,
+            _ => false,
+        }
     }
 }

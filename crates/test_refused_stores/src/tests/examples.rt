@@ -1,76 +1,88 @@
 //! Worked examples, played on stores.
-use super::desk::{Asked, CHAIN, Desk, FOUR, Row, TWO};
-use super::play::Example;
+use super::desk::{Asked, Desk, FOUR, Row, TWO, Told};
 use super::stores::{played, played_on};
 use super::*;
-use nw_book::Agreement;
+use nw_model::{CausalReply, CertifyReply, CollectReply, Counts, WriteReply};
+use nw_store::Agreement;
+
+const STORED: Told = Told::Write(WriteReply::Stored { vote: true });
+
+const HELD: Told = Told::Write(WriteReply::Held);
+
+const CERTIFIED: Told = Told::Certify(CertifyReply::Certified);
+
+const ALL: Told = Told::Listed(&[0, 1, 2, 3]);
 
 /// A block waits for one of its three parents.
 const WAITING: [Row; 13] = [
-    (Asked::Write(0), "stored vote", 0),
-    (Asked::Write(1), "stored vote", 0),
-    (Asked::Write(3), "stored vote", 0),
-    (Asked::Certify(0), "certified", 0),
-    (Asked::Certify(1), "certified", 0),
-    (Asked::Certify(2), "certified", 0),
-    (Asked::Certify(3), "certified", 0),
-    (Asked::Open(3), "incomplete", 0),
-    (Asked::Missing, "missing", 1),
-    (Asked::Status, "complete", 2),
-    (Asked::Write(2), "stored vote", 0),
-    (Asked::Open(3), "opened", 1),
-    (Asked::Walk(0), "listed", 4),
+    (Asked::Write(0), STORED),
+    (Asked::Write(1), STORED),
+    (Asked::Write(3), STORED),
+    (Asked::Certify(0), CERTIFIED),
+    (Asked::Certify(1), CERTIFIED),
+    (Asked::Certify(2), CERTIFIED),
+    (Asked::Certify(3), CERTIFIED),
+    (Asked::Open(3), Told::Causal(CausalReply::Incomplete)),
+    (Asked::Missing, Told::Missing(2)),
+    (
+        Asked::Status,
+        Told::Status(Counts {
+            floor: Round::ZERO,
+            blocks: 3,
+            certificates: 4,
+            complete: 2,
+            wanted: 1,
+        }),
+    ),
+    (Asked::Write(2), STORED),
+    (Asked::Open(3), Told::Opened(1)),
+    (Asked::Walk(0), ALL),
 ];
 
-/// A ticket is walked after its rounds were collected.
-const COLLECTED: [Row; 13] = [
-    (Asked::Write(0), "stored vote", 0),
-    (Asked::Write(1), "stored vote", 0),
-    (Asked::Write(2), "stored vote", 0),
-    (Asked::Write(3), "stored vote", 0),
-    (Asked::Certify(0), "certified", 0),
-    (Asked::Certify(1), "certified", 0),
-    (Asked::Certify(2), "certified", 0),
-    (Asked::Certify(3), "certified", 0),
-    (Asked::Open(3), "opened", 1),
-    (Asked::Collect(2), "raised", 4),
-    (Asked::Walk(0), "listed", 4),
-    (Asked::Read(3), "unknown", 0),
-    (Asked::Open(3), "unknown", 0),
+/// Tickets are walked after a compaction, and after their rounds were collected.
+const COLLECTED: [Row; 20] = [
+    (Asked::Write(0), STORED),
+    (Asked::Certify(0), CERTIFIED),
+    (Asked::Open(0), Told::Opened(1)),
+    (Asked::Write(1), STORED),
+    (Asked::Certify(1), CERTIFIED),
+    (Asked::Open(1), Told::Opened(2)),
+    (Asked::Write(2), STORED),
+    (Asked::Certify(2), CERTIFIED),
+    (Asked::Open(2), Told::Opened(3)),
+    (Asked::Write(3), STORED),
+    (Asked::Certify(3), CERTIFIED),
+    (Asked::Open(3), Told::Opened(4)),
+    (Asked::Compact, Told::Compacted),
+    (Asked::Open(3), Told::Opened(1)),
+    (
+        Asked::Collect(2),
+        Told::Collect(CollectReply::Raised { dropped: 4 }),
+    ),
+    (Asked::Walk(1), Told::Listed(&[1])),
+    (Asked::Walk(3), ALL),
+    (Asked::Walk(4), ALL),
+    (Asked::Read(3), Told::Unknown),
+    (Asked::Open(3), Told::Causal(CausalReply::Unknown)),
 ];
 
-/// A certificate is kept once.
-const CERTIFIED: [Row; 3] = [
-    (Asked::Certify(0), "certified", 0),
-    (Asked::Certify(0), "already", 0),
-    (Asked::Certificate(0), "kept", 0),
+/// A block and its certificate are kept once, and read.
+const KEPT: [Row; 6] = [
+    (Asked::Write(0), STORED),
+    (Asked::Write(0), HELD),
+    (Asked::Read(0), Told::Found(0)),
+    (Asked::Certify(0), CERTIFIED),
+    (Asked::Certify(0), Told::Certify(CertifyReply::Already)),
+    (Asked::Certificate(0), Told::Kept(0)),
 ];
-
-/// The rows of an example, and how many events it has.
-const EXAMPLES: [(&[Row], usize); 3] = [(&WAITING, 12), (&COLLECTED, 12), (&CERTIFIED, 3)];
-
-/// The example of these rows, which are of the desk.
-fn example<'a>(
-    alloc: Global,
-    desk: &Desk,
-    rows: &'a [Row],
-    compacted: Option<usize>,
-) -> Result<Example<'a>, Fail> {
-    Ok(Example {
-        moves: desk.moves(alloc, rows)?,
-        rows,
-        compacted,
-    })
-}
 
 #[test]
 fn stores_answer_as_the_examples_say(rt: HostRuntime) -> Result<(), Fail> {
     let alloc = rt.alloc();
     let desk = Desk::new(alloc, &[0, 1, 2, 3], &FOUR)?;
-    for (rows, events) in EXAMPLES {
-        let mut tickets = again!(AllocError, Vec::with_capacity(alloc, 1))?;
-        let example = example(alloc, &desk, rows, None)?;
-        let played = played(&rt, alloc, &desk.committee, &example, &mut tickets)?;
+    for (rows, events) in [(&WAITING[..], 12), (&COLLECTED[..], 16), (&KEPT[..], 6)] {
+        let mut tickets = again!(AllocError, Vec::with_capacity(alloc, 5))?;
+        let played = played(&rt, alloc, &desk, rows, &mut tickets)?;
         assert_eq!(rt; (played.0, played.1), (rows.len(), events));
     }
     Ok(())
@@ -78,74 +90,37 @@ fn stores_answer_as_the_examples_say(rt: HostRuntime) -> Result<(), Fail> {
 
 /// What a store of one member is asked, and those that go on with what it knew, one after the other.
 const FIRST: [Row; 3] = [
-    (Asked::Write(0), "stored vote", 0),
-    (Asked::Certify(0), "certified", 0),
-    (Asked::Open(0), "opened", 1),
+    (Asked::Write(0), STORED),
+    (Asked::Certify(0), CERTIFIED),
+    (Asked::Open(0), Told::Opened(1)),
 ];
 
 const SECOND: [Row; 5] = [
-    (Asked::Write(1), "equivocates", 0),
-    (Asked::Write(0), "held", 0),
-    (Asked::Open(0), "opened", 1),
-    (Asked::Collect(1), "raised", 1),
-    (Asked::Walk(0), "listed", 1),
+    (Asked::Write(1), Told::Equivocates(0)),
+    (Asked::Write(0), HELD),
+    (Asked::Open(0), Told::Opened(1)),
+    (
+        Asked::Collect(1),
+        Told::Collect(CollectReply::Raised { dropped: 1 }),
+    ),
+    (Asked::Walk(0), Told::Listed(&[0])),
 ];
 
-const THIRD: [Row; 1] = [(Asked::Write(1), "collected", 1)];
-
-/// Those that go on, and how many events each has.
-const LATER: [(&[Row], usize); 2] = [(&SECOND, 4), (&THIRD, 1)];
+const THIRD: [Row; 1] = [(Asked::Write(1), Told::Collected(1))];
 
 #[test]
 fn stores_that_go_on_answer(rt: HostRuntime) -> Result<(), Fail> {
     let alloc = rt.alloc();
     let desk = Desk::new(alloc, &[0], &TWO)?;
     let mut tickets = again!(AllocError, Vec::with_capacity(alloc, 2))?;
-    let first = example(alloc, &desk, &FIRST, None)?;
-    let played = played(&rt, alloc, &desk.committee, &first, &mut tickets)?;
+    let played = played(&rt, alloc, &desk, &FIRST, &mut tickets)?;
     assert_eq!(rt; (played.0, played.1), (3, 3));
     let mut book = played.2;
-    for (rows, events) in LATER {
-        let later = example(alloc, &desk, rows, None)?;
-        let played = played_on(&rt, alloc, book, &later, &mut tickets)?;
+    for (rows, events) in [(&SECOND[..], 4), (&THIRD[..], 1)] {
+        let played = played_on(&rt, alloc, book, &desk, rows, &mut tickets)?;
         assert_eq!(rt; (played.0, played.1), (rows.len(), events));
         book = played.2;
     }
-    Ok(())
-}
-
-/// What a store of one member is asked behind a chain of 17 blocks, each of which was written, certified and opened.
-const COMPACTED: [Row; 4] = [
-    (Asked::Walk(16), "listed", 17),
-    (Asked::Walk(0), "listed", 1),
-    (Asked::Open(16), "opened", 1),
-    (Asked::Read(16), "found", 0),
-];
-
-/// All that it is asked.
-fn chain(alloc: Global) -> Result<Vec<Row>, AllocError> {
-    let mut rows = Vec::with_capacity(alloc, 3 * 17 + COMPACTED.len())?;
-    for place in 0..17 {
-        let parts = if place < 16 { place as u64 + 1 } else { 2 };
-        rows.push((Asked::Write(place), "stored vote", 0))?;
-        rows.push((Asked::Certify(place), "certified", 0))?;
-        rows.push((Asked::Open(place), "opened", parts))?;
-    }
-    for row in COMPACTED {
-        rows.push(row)?;
-    }
-    Ok(rows)
-}
-
-#[test]
-fn tickets_before_and_behind_a_compaction_are_walked(rt: HostRuntime) -> Result<(), Fail> {
-    let alloc = rt.alloc();
-    let desk = Desk::new(alloc, &[0], &CHAIN)?;
-    let rows = again!(AllocError, chain(alloc))?;
-    let example = example(alloc, &desk, &rows, Some(3 * 17))?;
-    let mut tickets = again!(AllocError, Vec::with_capacity(alloc, 18))?;
-    let played = played(&rt, alloc, &desk.committee, &example, &mut tickets)?;
-    assert_eq!(rt; (played.0, played.1), (55, 53));
     Ok(())
 }
 
@@ -173,14 +148,13 @@ fn told(alloc: Global, ticket: &Ticket<DemoScheme>) -> (Digest, usize, usize) {
 fn tickets_of_two_stores_agree(rt: HostRuntime) -> Result<(), Fail> {
     let alloc = rt.alloc();
     let desk = Desk::new(alloc, &[0, 1, 2, 3], &FOUR)?;
-    let example = example(alloc, &desk, &COLLECTED[..9], None)?;
-    let mut tickets = again!(AllocError, Vec::with_capacity(alloc, 2))?;
+    let mut tickets = again!(AllocError, Vec::with_capacity(alloc, 8))?;
     for _ in 0..2 {
-        let played = played(&rt, alloc, &desk.committee, &example, &mut tickets)?;
-        assert_eq!(rt; (played.0, played.1), (9, 9));
+        let played = played(&rt, alloc, &desk, &COLLECTED[..12], &mut tickets)?;
+        assert_eq!(rt; (played.0, played.1), (12, 12));
     }
-    assert_eq!(rt; tickets.len(), 2);
-    assert!(rt; agree(alloc, &tickets[0], &tickets[1])?);
-    assert_eq!(rt; told(alloc, &tickets[0]), (desk.digest(3), 9, 1));
+    assert_eq!(rt; tickets.len(), 8);
+    assert!(rt; agree(alloc, &tickets[3], &tickets[7])?);
+    assert_eq!(rt; told(alloc, &tickets[3]), (desk.digest(3), 12, 4));
     Ok(())
 }

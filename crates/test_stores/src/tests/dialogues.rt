@@ -121,7 +121,7 @@ struct Hand {
     child: Link,
 }
 
-fn hand(alloc: Global) -> Result<Hand, Fail> {
+fn new_hand(alloc: Global) -> Result<Hand, Fail> {
     let one = committee(alloc, 1)?;
     Ok(Hand {
         block: link_over(alloc, &one, 0, &[])?,
@@ -273,7 +273,7 @@ pub(super) fn dialogue<L: Home, R: Wait>(
     alloc: Global,
     store: Store<DemoScheme, L>,
 ) -> Result<usize, Fail> {
-    let hand = hand(alloc)?;
+    let hand = new_hand(alloc)?;
     let mut session = store.session(rt, alloc)?;
     let answered = ask_all(rt, alloc, &store, &mut session, &hand)?;
     want(answered, "an answer is another")?;

@@ -12,7 +12,7 @@ struct Three<L: Home> {
 }
 
 /// All sessions that the store makes, of which the first two have read once.
-fn three<L: Home, R: Wait>(
+fn all_three<L: Home, R: Wait>(
     rt: &R,
     alloc: Global,
     store: &Store<DemoScheme, L>,
@@ -83,7 +83,7 @@ pub(super) fn settled_late<L: Home, R: Wait>(
         first,
         second,
         silent,
-    } = three(rt, alloc, &store)?;
+    } = all_three(rt, alloc, &store)?;
     let Unsettled {
         fault,
         locked,
