@@ -53,7 +53,7 @@ pub(super) fn taken<L: Home, R: Wait>(
 }
 
 #[test]
-fn a_refused_call_can_be_followed_by_others_and_made_again(rt: HostRuntime) -> Result<(), Fail> {
+fn a_refused_call_can_be_followed_by_others(rt: HostRuntime) -> Result<(), Fail> {
     let alloc = rt.alloc();
     let block = block(alloc, &committee(alloc, 4)?, 0, 0, &[])?;
     let other = book(alloc, 1, 1, 1)?;

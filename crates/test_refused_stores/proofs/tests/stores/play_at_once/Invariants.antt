@@ -1,4 +1,4 @@
-use Rattle.nw_store.specs.Held.{first_origin}
+use Rattle.nw_store.specs.Journal.{first_origin}
 use Rattle.nw_store.specs.Kept.{parts_of_a_ledger}
 use Rattle.test_refused_stores.proofs.tests.stores.play_at_once.Given as goal
 

@@ -1,4 +1,4 @@
-use Rattle.nw_store.specs.Held.{origin_of}
+use Rattle.nw_store.specs.Journal.{origin_of}
 use Rattle.nw_store.specs.Kept.{parts_of_a_ledger}
 use Rattle.test_refused_stores.proofs.tests.stores.played_on.Given as goal
 
