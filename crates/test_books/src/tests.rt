@@ -1,7 +1,5 @@
-use nw_book::{Book, Command, Done, NoStep, Ticket};
+use nw_book::{Book, Command, Done, Front, Limits, Move, NoStep, Ticket};
 use nw_digest::{Digest, Round};
-use nw_history::{Front, Limits};
-use nw_run::{Move, run};
 use nw_sig::DemoScheme;
 use sample_checked::{block, certificate, committee};
 use std::alloc::Global;
@@ -80,7 +78,7 @@ fn add_block(
 
 /// Whether all moves are made.
 fn are_made(book: &mut Book<DemoScheme>, alloc: Global, moves: &[Move<DemoScheme>]) -> bool {
-    run(book, alloc, moves).stop.is_none()
+    book.run(alloc, moves).stop.is_none()
 }
 
 /// Takes the next step of session 0.

@@ -1,6 +1,6 @@
 use nw_causal::walk;
 use nw_codec::{Block, Certificate, Ref};
-use nw_dag::Dag;
+use nw_dag::{Dag, DagLimits};
 use nw_digest::{Digest, NoMemory, Round, Sequence, Shared};
 use nw_generation::View;
 use std::alloc::Global;

@@ -79,19 +79,42 @@ fn agree(alloc: Global, one: &Ticket<DemoScheme>, other: &Ticket<DemoScheme>) ->
         && matches!(one.agree(alloc, other), Ok(Agreement::Same))
 }
 
+/// A ticket for the digest of a new book after the moves, and the book.
+fn opened_anew(
+    alloc: Global,
+    moves: &[Move<DemoScheme>],
+    digest: Digest,
+) -> Result<(Ticket<DemoScheme>, Book<DemoScheme>), Fail> {
+    let mut book = book_of_one(alloc, LIMITS)?;
+    let ticket = opened(&mut book, alloc, moves, digest).ok_or("a ticket is opened")?;
+    Ok((ticket, book))
+}
+
+/// A ticket for the digest of the book without its history.
+fn opened_later(
+    book: Book<DemoScheme>,
+    alloc: Global,
+    digest: Digest,
+) -> Option<Ticket<DemoScheme>> {
+    open(&mut reopened(book, alloc)?, alloc, digest)
+}
+
+/// Whether tickets for the digest of two books, and of one of them without its history, agree.
+fn three_agree(alloc: Global, moves: &[Move<DemoScheme>], digest: Digest) -> Result<bool, Fail> {
+    let (ticket, book) = opened_anew(alloc, moves, digest)?;
+    let (others, _) = opened_anew(alloc, moves, digest)?;
+    let later = opened_later(book, alloc, digest).ok_or("a ticket is opened")?;
+    Ok(
+        agree(alloc, &ticket, &others)
+            && agree(alloc, &ticket, &later)
+            && agree(alloc, &later, &others),
+    )
+}
+
 #[test]
 fn tickets_of_two_books_and_of_a_reopened_one_agree(rt: HostRuntime) -> Result<(), Fail> {
-    let alloc = rt.alloc();
-    let (moves, digests) = planned(alloc, &TWO)?;
+    let (moves, digests) = planned(rt.alloc(), &TWO)?;
     assert_eq!(rt; digests.len(), 2);
-    let mut one = book_of_one(alloc, LIMITS)?;
-    let mut other = book_of_one(alloc, LIMITS)?;
-    let ticket = opened(&mut one, alloc, &moves, digests[1]).expect(&rt, "a ticket");
-    let others = opened(&mut other, alloc, &moves, digests[1]).expect(&rt, "a ticket");
-    let mut one = reopened(one, alloc).expect(&rt, "a book");
-    let later = open(&mut one, alloc, digests[1]).expect(&rt, "a ticket");
-    for (first, second) in [(&ticket, &others), (&ticket, &later), (&later, &others)] {
-        assert!(rt; agree(alloc, first, second));
-    }
+    assert!(rt; three_agree(rt.alloc(), &moves, digests[1])?);
     Ok(())
 }

@@ -1,7 +1,7 @@
 //! Runs of moves, with all their answers.
 use super::*;
+use nw_book::{Answer, Cause, Run, Stop};
 use nw_model::{CertifyReply, CollectReply, Reply, WriteReply};
-use nw_run::{Answer, Cause, Run, Stop};
 
 /// A run that stops at a ticket that it has not.
 struct Case {
@@ -83,7 +83,7 @@ fn is_answered(
     moves: &[Move<DemoScheme>],
     case: &Case,
 ) -> bool {
-    is_told(&run(book, alloc, moves), case.answers)
+    is_told(&book.run(alloc, moves), case.answers)
 }
 
 /// Whether a run of the case in a new book does.

@@ -22,7 +22,7 @@ fn refusals(
     block: CheckedBlock<DemoScheme>,
 ) -> [Option<NoStep>; 2] {
     let command = Command::Write(block);
-    let said = book.may_step(0, number, &command).err();
+    let said = book.may_step(0, number, command.committee()).err();
     [said, book.step(alloc, 0, number, &command).err()]
 }
 
@@ -47,7 +47,7 @@ fn a_call_out_of_turn_is_refused_and_then_a_block_of_another_committee(
     };
     let mut book = book_of_one(rt.alloc(), limits)?;
     assert_eq!(rt; first_other(&mut book, rt.alloc())?, None);
-    assert_eq!(rt; book.may_open(0, 2), Err(NoStep::HistoryFull));
+    assert_eq!(rt; book.may_step(0, 2, None), Err(NoStep::HistoryFull));
     Ok(())
 }
 

@@ -1,11 +1,17 @@
 //! The certified DAG, and what it is asked.
 use super::*;
 use nw_codec::{Certificate, Ref};
-use nw_dag::Dag;
+use nw_dag::{Dag, DagLimits};
 use nw_digest::Sequence;
 use nw_model::{CausalReply, CertifyReply, CollectReply, Counts, WriteReply};
 use nw_waiting::Wanted;
 use sample_blocks::block;
+
+/// Room for 64 blocks over as many rounds.
+const ROOM: DagLimits = DagLimits {
+    blocks: 64,
+    window: 64,
+};
 
 /// A block of author 0 and the round over these.
 fn block_of(alloc: Global, round: Round, parents: &[Ref]) -> Result<Shared<Block>, NoMemory> {
@@ -100,12 +106,12 @@ fn has_one(dag: &Dag, alloc: Global) -> bool {
     };
     dag.status() == expected
         && dag.is_complete(&digest(2, 0))
-        && Dag::new(alloc, 64, 64).status().blocks == 0
+        && Dag::new(alloc, ROOM).status().blocks == 0
 }
 
 #[test]
 fn a_block_of_the_garbage_round_needs_no_parents(rt: HostRuntime) {
-    let dag = &mut Dag::new(rt.alloc(), 64, 64);
+    let dag = &mut Dag::new(rt.alloc(), ROOM);
     assert_eq!(rt; needs_no_parents(dag, rt.alloc()), Ok(true));
     refuse_all(rt.alloc());
     let has_one = has_one(dag, rt.alloc());
@@ -145,6 +151,6 @@ fn are_shared(dag: &mut Dag, alloc: Global) -> Result<bool, NoMemory> {
 
 #[test]
 fn views_of_a_chain_share_what_was_frozen(rt: HostRuntime) {
-    let dag = &mut Dag::new(rt.alloc(), 64, 64);
+    let dag = &mut Dag::new(rt.alloc(), ROOM);
     assert_eq!(rt; are_shared(dag, rt.alloc()), Ok(true));
 }

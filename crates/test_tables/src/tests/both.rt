@@ -14,7 +14,7 @@ impl Both {
     /// Both empty, with room for so many blocks in a window of so many rounds.
     pub(super) fn new(alloc: Global, blocks: u32, window: u32) -> Both {
         Both {
-            dag: Dag::new(alloc, blocks, window),
+            dag: Dag::new(alloc, DagLimits { blocks, window }),
             plain: Plain::new(alloc, blocks, window),
         }
     }

@@ -2,6 +2,12 @@
 use super::*;
 use nw_model::{CertifyReply, Counts, WriteReply};
 
+/// Room for 64 blocks over four rounds.
+const ROOM: DagLimits = DagLimits {
+    blocks: 64,
+    window: 4,
+};
+
 /// What is kept of a block of round 0 with its certificate, and of a block of round 3 that lacks its parent.
 const KEPT: Counts = Counts {
     floor: Round::ZERO,
@@ -37,7 +43,7 @@ fn flooded(dag: &mut Dag, alloc: Global) -> Result<u16, NoMemory> {
 
 #[test]
 fn a_flood_beyond_the_window_changes_nothing(rt: HostRuntime) {
-    let dag = &mut Dag::new(rt.alloc(), 64, 4);
+    let dag = &mut Dag::new(rt.alloc(), ROOM);
     assert!(rt; matches!(flooded(dag, rt.alloc()), Ok(1000)));
     assert!(rt; dag.status() == KEPT);
 }

@@ -80,9 +80,15 @@ fn completes(dag: &mut Dag, alloc: Global, order: &[u16; 4], pace: Pace) -> Resu
     Ok(dag.is_complete(&digest_of(CHILD)))
 }
 
+/// Room for the four blocks.
+const FOUR: DagLimits = DagLimits {
+    blocks: 4,
+    window: 2,
+};
+
 /// Whether it is so in a new store.
 fn is_completed(alloc: Global, order: &[u16; 4], pace: Pace) -> bool {
-    let mut dag = Dag::new(alloc, 4, 2);
+    let mut dag = Dag::new(alloc, FOUR);
     let completed = completes(&mut dag, alloc, order, pace);
     matches!(completed, Ok(true))
 }

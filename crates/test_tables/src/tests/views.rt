@@ -2,6 +2,12 @@
 //! over the one before.
 use super::*;
 
+/// Room for 64 blocks over as many rounds.
+const ROOM: DagLimits = DagLimits {
+    blocks: 64,
+    window: 64,
+};
+
 /// Writes and certifies the next block of the chain.
 fn extend(dag: &mut Dag, alloc: Global, number: u64) -> Result<(), NoMemory> {
     match number.checked_sub(1) {
@@ -33,7 +39,7 @@ fn parts_of_chain(dag: &mut Dag, alloc: Global) -> Result<Vec<(usize, usize)>, N
 
 #[test]
 fn views_share_what_was_frozen(rt: HostRuntime) {
-    let dag = &mut Dag::new(rt.alloc(), 64, 64);
+    let dag = &mut Dag::new(rt.alloc(), ROOM);
     let parts = parts_of_chain(dag, rt.alloc()).expect(&rt, "there is memory");
     let expected = [1, 2, 3, 4, 5, 6, 7, 8, 9, 10, 11, 12, 13, 14, 15, 16, 2];
     for (number, (pair, expected)) in parts.iter().zip(expected).enumerate() {
@@ -43,7 +49,7 @@ fn views_share_what_was_frozen(rt: HostRuntime) {
 
 #[test]
 fn after_compact_a_view_has_one_part(rt: HostRuntime) {
-    let dag = &mut Dag::new(rt.alloc(), 64, 64);
+    let dag = &mut Dag::new(rt.alloc(), ROOM);
     let parts = parts_of_chain(dag, rt.alloc()).expect(&rt, "there is memory");
     assert_eq!(rt; parts.last().copied(), Some((1, 1)));
 }
@@ -80,7 +86,7 @@ fn listed_late(
 
 /// Whether the view of c3 that is taken before or after the store has gone on lists exactly these, in a new store.
 fn lists(alloc: Global, after: bool, slots: &[Slot]) -> Result<bool, NoMemory> {
-    let dag = &mut Dag::new(alloc, 64, 64);
+    let dag = &mut Dag::new(alloc, ROOM);
     for number in 0..4 {
         extend(dag, alloc, number)?;
     }

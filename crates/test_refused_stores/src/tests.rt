@@ -1,0 +1,14 @@
+use nw_committee::Committee;
+use nw_digest::{Digest, NoMemory, Round, Shared};
+use nw_sig::DemoScheme;
+use nw_store::{Book, BookError, Command, Limits, NoStep, Ticket};
+use sample_checked::{again, refuse_all, refuse_none};
+use std::alloc::{AllocError, Global};
+use std::test::Fail;
+
+mod books;
+mod desk;
+mod endings;
+mod examples;
+mod play;
+mod stores;
