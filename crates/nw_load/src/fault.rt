@@ -6,8 +6,8 @@ use nw_intake::GateShut;
 use std::alloc::{AllocError, AllocFailed};
 use thiserror::Error;
 
-/// Why a load gives no report. The first two are tested before anything else and take no memory; of the others the first that
-/// happened is answered.
+/// Why a load gives no report. The first two are tested before anything else and take no memory; where several of the others
+/// happened, the first in this order is answered.
 #[derive(Clone, Copy, Debug, PartialEq, Eq, Error)]
 pub enum LoadFault {
     /// The nodes are not 1, 4, 7, 10, 13 or 16.
