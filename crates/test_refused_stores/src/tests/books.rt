@@ -4,6 +4,7 @@ use super::*;
 use nw_book::{Answer, Cause, Move, Run, Stop};
 use nw_model::{CertifyReply, CollectReply, WriteReply};
 use nw_store::Front;
+use sample_checked::refused::committee;
 
 /// The limits of a book of one session.
 const LIMITS: Limits = Limits {
@@ -181,22 +182,43 @@ fn refusal(alloc: Global, committee: Shared<Committee>) -> Option<BookError> {
     Book::<DemoScheme>::new(alloc, committee, limits).err()
 }
 
+/// Why those steps of a book with two events are not taken, and whether its fronts and the refusal of a book without a window are
+/// told, all while all memory is refused.
+fn told(
+    book: &mut Book<DemoScheme>,
+    alloc: Global,
+    own: &Command<DemoScheme>,
+    stranger: &Command<DemoScheme>,
+    committee: Shared<Committee>,
+) -> Result<([Option<NoStep>; 5], bool), NoStep> {
+    let one = front(book, alloc, own)?;
+    let two = front(book, alloc, &Command::Status)?;
+    refuse_all(alloc);
+    let refusals = refusals(book, alloc, stranger);
+    let told = are_told(&one, &two, book);
+    let refusal = refusal(alloc, committee);
+    refuse_none(alloc);
+    Ok((refusals, told && refusal == Some(BookError::BadLimits)))
+}
+
+/// That of a new book of the committee.
+fn told_anew(
+    alloc: Global,
+    committee: Shared<Committee>,
+    own: &Command<DemoScheme>,
+    stranger: &Command<DemoScheme>,
+) -> Result<([Option<NoStep>; 5], bool), Fail> {
+    let mut book = again!(BookError::NoMemory, new_book(alloc, &committee, FEW))?;
+    Ok(told(&mut book, alloc, own, stranger, committee)?)
+}
+
 #[test]
 fn refusals_fronts_and_histories_take_no_memory(rt: HostRuntime) -> Result<(), Fail> {
     let alloc = rt.alloc();
-    let desk = Desk::new(alloc, &[0, 1, 2, 3], &[])?;
+    let committee = again!(NoMemory, committee(alloc, &[0, 1, 2, 3]))?;
     let own = Command::Write(last_of(alloc, &[0, 1, 2, 3], &FOUR)?.block);
     let stranger = Command::Write(last_of(alloc, &[0], &TWO)?.block);
-    let committee = desk.committee.try_clone()?;
-    let book = again!(BookError::NoMemory, new_book(alloc, &desk.committee, FEW));
-    let mut book = book.expect(&rt, "a book");
-    let one = front(&mut book, alloc, &own).expect(&rt, "a front");
-    let two = front(&mut book, alloc, &Command::Status).expect(&rt, "a front");
-    refuse_all(alloc);
-    let refusals = refusals(&mut book, alloc, &stranger);
-    let told = are_told(&one, &two, &book);
-    let refusal = refusal(alloc, committee);
-    refuse_none(alloc);
+    let told = told_anew(alloc, committee, &own, &stranger)?;
     let wanted = [
         NoStep::OutOfTurn,
         NoStep::OtherCommittee,
@@ -204,7 +226,6 @@ fn refusals_fronts_and_histories_take_no_memory(rt: HostRuntime) -> Result<(), F
         NoStep::OutOfTurn,
         NoStep::HistoryFull,
     ];
-    assert_eq!(rt; refusals, wanted.map(Some));
-    assert!(rt; told && refusal == Some(BookError::BadLimits));
+    assert_eq!(rt; told, (wanted.map(Some), true));
     Ok(())
 }

@@ -6,17 +6,20 @@ use nw_store::{
 };
 use std::sync::Wait;
 
-/// Settles what was handed back with its first session and a third, where there is no fourth.
+/// Settles what was handed back for want of its first session, with that and a third, where there is no fourth.
 fn settle_all<L: Home>(
     alloc: Global,
     unsettled: Unsettled<DemoScheme, L>,
     first: Session<DemoScheme, L>,
 ) -> Option<Settled<DemoScheme, L>> {
     let Unsettled {
+        fault,
         mut locked,
         mut sessions,
-        ..
     } = unsettled;
+    if fault != (SettleFault::Unfinished { made: 2, given: 1 }) {
+        return None;
+    }
     sessions.push(first).ok()?;
     sessions
         .push(session_locked(&mut locked, alloc).ok()?)
@@ -38,10 +41,8 @@ fn settle_late<L: Home, R: Wait>(
     let mut given = given;
     given.push(store.session(rt, alloc).ok()?).ok()?;
     match settle(store, given) {
-        Err(unsettled) if unsettled.fault == SettleFault::Unfinished { made: 2, given: 1 } => {
-            settle_all(alloc, unsettled, first)
-        }
-        _ => None,
+        Err(unsettled) => settle_all(alloc, unsettled, first),
+        Ok(_) => None,
     }
 }
 
