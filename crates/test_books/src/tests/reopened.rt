@@ -99,16 +99,35 @@ fn opened_later(
     open(&mut reopened(book, alloc)?, alloc, digest)
 }
 
+/// Whether a ticket for the digest of the book without its history agrees with this one.
+fn later_agrees(
+    alloc: Global,
+    book: Book<DemoScheme>,
+    ticket: &Ticket<DemoScheme>,
+    digest: Digest,
+) -> bool {
+    match opened_later(book, alloc, digest) {
+        None => false,
+        Some(later) => agree(alloc, ticket, &later) && agree(alloc, &later, ticket),
+    }
+}
+
+/// Whether a ticket for the digest of another new book agrees with this one.
+fn other_agrees(
+    alloc: Global,
+    moves: &[Move<DemoScheme>],
+    ticket: &Ticket<DemoScheme>,
+    digest: Digest,
+) -> Result<bool, Fail> {
+    let opened = opened_anew(alloc, moves, digest)?;
+    Ok(agree(alloc, ticket, &opened.0))
+}
+
 /// Whether tickets for the digest of two books, and of one of them without its history, agree.
 fn three_agree(alloc: Global, moves: &[Move<DemoScheme>], digest: Digest) -> Result<bool, Fail> {
     let (ticket, book) = opened_anew(alloc, moves, digest)?;
-    let (others, _) = opened_anew(alloc, moves, digest)?;
-    let later = opened_later(book, alloc, digest).ok_or("a ticket is opened")?;
-    Ok(
-        agree(alloc, &ticket, &others)
-            && agree(alloc, &ticket, &later)
-            && agree(alloc, &later, &others),
-    )
+    let later = later_agrees(alloc, book, &ticket, digest);
+    Ok(later && other_agrees(alloc, moves, &ticket, digest)?)
 }
 
 #[test]
