@@ -10,6 +10,7 @@ use Rattle.std.specs.List.{IsDistinct, list_any}
 use Rattle.std.specs.List.Sorted.{IsStrictlySortedBy}
 use Rattle.std.specs.Map.{lookup, keys_of, values_of}
 use Rattle.std.specs.BTreeMap.{is_at}
+use Rattle.std.specs.FinMap.{get}
 use Rattle.std.specs.BTreeMap.Range.{IsLeBy, range_contains}
 use Rattle.std.specs.Map.Iter.{deref_pair}
 use Rattle.std.proofs.lemmas.Bool.{le-leb, lt-leb, ltb-true, ltb-false}
@@ -24,9 +25,9 @@ use lib.Dec.{leb, ltb}
 use Rattle.nw_digest.specs.declared.digest.Digest.{Digest}
 use Rattle.nw_rounds.specs.declared.table.Table.{Table}
 use Rattle.nw_rounds.specs.declared.table.Table.TheVariants.{First, Certified}
-use Rattle.nw_digest.specs.Order.{digest_cmp}
+use Rattle.nw_digest.specs.Order.{digest_cmp, Slot}
 use Rattle.nw_rounds.specs.Slots.{AreDigestsAt, AreDigestsBetween, StandsAt, Tables}
-use Rattle.nw_rounds.specs.Places.{BeginsBelow, Place, place_cmp, table_cmp, tables_of}
+use Rattle.nw_rounds.specs.Places.{ArePlacesBetween, BeginsBelow, Place, place_cmp, table_cmp, table_of, tables_of}
 use Rattle.nw_rounds.proofs.SlotLemmas.{digests_apart, digests_total, places_apart, places_total}
 use Rattle.nw_rounds.proofs.TwoTables.{get_in, tie}
 
@@ -81,48 +82,59 @@ kept_only : (b : Bool) (found : Option Digest) (d : Digest) → cond b found Non
 kept_only true found d e = (refl, e)
 kept_only false found d e = cc
 
+at_table : (es : List (Place × Digest)) (slot : Slot) (t : Table) → get (table_of (tables_of es) t) slot ≡ lookup (is_at (place_cmp (slot, t))) es
+at_table es slot First = get_in First slot es
+at_table es slot Certified = get_in Certified slot es
+
+-- the entries from the first place of a round to the first of another
 module _ (es rs : List (Place × Digest)) (from to : ℕ) (sorted : IsStrictlySortedBy place_cmp (keys_of es))
     (part : rs ≡ filter (λ e. range_contains place_cmp (Included ((from, 0), First)) (Excluded ((to, 0), First)) e.0) es) where
-  abbrev Stands : Digest → Type 0
-  Stands d = (round : ℕ) × (from ≤ round) × (round < to) × StandsAt (tables_of es) round d
-
   there : rs ≡ filter (λ e. is_between from to e.0.0.0) es
   there = part ∙ filter_same _ _ es (λ e. in_rounds from to e.0)
 
-  distinct : IsDistinct (eq_by_cmp place_cmp) (keys_of es)
-  distinct = IsDistinct-from_sorted place_cmp (keys_of es) sorted
+  apart : IsDistinct (eq_by_cmp place_cmp) (keys_of rs)
+  apart = rw there (IsDistinct-keys_filter (eq_by_cmp place_cmp) _ es (IsDistinct-from_sorted place_cmp (keys_of es) sorted))
 
   look : (p : Place) → lookup (is_at (place_cmp p)) rs ≡ cond (is_between from to p.0.0) (lookup (is_at (place_cmp p)) es) None
   look p = ap (lookup (is_at (place_cmp p))) there
       ∙ lookup-filter-keys (is_at (place_cmp p)) (λ (q : Place). is_between from to q.0.0) (is_between from to p.0.0) (λ q at. ap (λ (q : Place). is_between from to q.0.0) (sym (places_apart p q (tie (place_cmp p q) at)))) es
 
-  -- a digest among those of the part stands at a round between
-  pub stands : (d : Digest) → Contains (values_of rs) d → Stands d
+  pub are_places : ArePlacesBetween (tables_of es) from to rs
+  are_places = record {
+    exactly = λ p d. (
+      (λ has.
+          let both = kept_only (is_between from to p.0.0) _ d (sym (look p) ∙ lookup-from_Contains (eq_by_cmp_equiv places_total) p d rs apart has) in
+          let here = is_in from to p.0.0 both.0 in
+          (here.0, here.1, at_table es p.0 p.1 ∙ both.1)),
+      (λ (low, high, is).
+          Contains-from_lookup (λ x y e. places_apart x y (tie (place_cmp x y) e)) p d rs
+          (look p ∙ ap (λ b. cond b (lookup (is_at (place_cmp p)) es) None) (in_is from to p.0.0 low high) ∙ sym (at_table es p.0 p.1) ∙ is)),
+    );
+    once = apart;
+  }
+
+module _ (t : Tables) (from to : ℕ) (rs : List (Place × Digest)) (are : ArePlacesBetween t from to rs) where
+  abbrev Stands : Digest → Type 0
+  Stands d = (round : ℕ) × (from ≤ round) × (round < to) × StandsAt t round d
+
+  -- a digest of a place stands at its round
+  stands : (d : Digest) → Contains (values_of rs) d → Stands d
   stands d has =
       let entry : (p : Place) × Contains rs (p, d) = Contains-from_values_of rs d has in
-      let apart : IsDistinct (eq_by_cmp place_cmp) (keys_of rs) = rw there (IsDistinct-keys_filter (eq_by_cmp place_cmp) _ es distinct) in
-      let found : lookup (is_at (place_cmp entry.0)) rs ≡ Some d = lookup-from_Contains (eq_by_cmp_equiv places_total) entry.0 d rs apart entry.1 in
-      let both = kept_only (is_between from to entry.0.0.0) _ d (sym (look entry.0) ∙ found) in
-      let here = is_in from to entry.0.0.0 both.0 in
-      (entry.0.0.0, here.0, here.1, by entry.0.0.0 entry.0.0.1 entry.0.1 both.1)
+      let is = (are.exactly entry.0 d).0 entry.1 in
+      (entry.0.0.0, is.0, is.1, by entry.0.0.0 entry.0.0.1 entry.0.1 is.2)
     where
-      by : (r author : ℕ) (t : Table) → lookup (is_at (place_cmp ((r, author), t))) es ≡ Some d → StandsAt (tables_of es) r d
-      by r author First found = (author, inl (get_in First (r, author) es ∙ found))
-      by r author Certified found = (author, inr (get_in Certified (r, author) es ∙ found))
-
-  at : (d : Digest) (round author : ℕ) (t : Table) → is_between from to round ≡ true → lookup (is_at (place_cmp ((round, author), t))) es ≡ Some d → Contains (values_of rs) d
-  at d round author t here found =
-      let seen : lookup (is_at (place_cmp ((round, author), t))) rs ≡ Some d =
-      look ((round, author), t) ∙ ap (λ b. cond b (lookup (is_at (place_cmp ((round, author), t))) es) None) here ∙ found in
-      Contains-values_of rs ((round, author), t) d (Contains-from_lookup (λ p q e. places_apart p q (tie (place_cmp p q) e)) ((round, author), t) d rs seen)
+      by : (r author : ℕ) (table : Table) → get (table_of t table) (r, author) ≡ Some d → StandsAt t r d
+      by r author First found = (author, inl found)
+      by r author Certified found = (author, inr found)
 
   -- and the other way round
-  pub among : (d : Digest) → Stands d → Contains (values_of rs) d
-  among d (round, low, high, (author, inl is)) = at d round author First (in_is from to round low high) (sym (get_in First (round, author) es) ∙ is)
-  among d (round, low, high, (author, inr is)) = at d round author Certified (in_is from to round low high) (sym (get_in Certified (round, author) es) ∙ is)
+  among : (d : Digest) → Stands d → Contains (values_of rs) d
+  among d (round, low, high, (author, inl is)) = Contains-values_of rs ((round, author), First) d ((are.exactly ((round, author), First) d).1 (low, high, is))
+  among d (round, low, high, (author, inr is)) = Contains-values_of rs ((round, author), Certified) d ((are.exactly ((round, author), Certified) d).1 (low, high, is))
 
-  -- a set with the digests of the part
-  pub are_digests : (ks : List Digest) → ((d : Digest) → list_any (eq_by_cmp digest_cmp d) ks ≡ list_any (eq_by_cmp digest_cmp d) (values_of rs)) → IsStrictlySortedBy digest_cmp ks → AreDigestsBetween (tables_of es) from to ks
+  -- a set with the digests of the places
+  pub are_digests : (ks : List Digest) → ((d : Digest) → list_any (eq_by_cmp digest_cmp d) ks ≡ list_any (eq_by_cmp digest_cmp d) (values_of rs)) → IsStrictlySortedBy digest_cmp ks → AreDigestsBetween t from to ks
   are_digests ks same ascending = record {
     exactly = λ d. (
       (λ has. stands d (Contains-from_any one d (values_of rs) (sym (same d) ∙ list_any-from_Contains (eq_by_cmp_equiv digests_total) d ks has))),

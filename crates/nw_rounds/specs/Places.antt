@@ -1,8 +1,10 @@
 -- Two maps in one.
-use Rattle.std.specs.Prelude.{ℕ, ◌<◌, List, [], ◌∷◌, Bool, true, false, if◌then◌else◌}
+use Rattle.std.specs.Prelude.{◌≡◌, ◌↔◌, ℕ, ◌<◌, ◌≤◌, List, [], ◌∷◌, Bool, true, false, Some, Contains, if◌then◌else◌}
 use Rattle.std.specs.declared.cmp.Ordering.{Ordering}
-use Rattle.std.specs.Ordering.{ordering_then}
-use Rattle.std.specs.FinMap.{from_entries}
+use Rattle.std.specs.Ordering.{eq_by_cmp, ordering_then}
+use Rattle.std.specs.List.{IsDistinct}
+use Rattle.std.specs.Map.{keys_of}
+use Rattle.std.specs.FinMap.{FinMap, from_entries, get}
 use Rattle.nw_digest.specs.declared.digest.Digest.{Digest}
 use Rattle.nw_rounds.specs.declared.table.Table.{Table}
 use Rattle.nw_rounds.specs.declared.table.Table.TheVariants.{First, Certified}
@@ -37,6 +39,16 @@ in_table t (e ∷ es) = if is_table t e.0.1 then (e.0.0, e.1) ∷ in_table t es 
 -- the entries of each table, as a map
 abbrev pub tables_of : List (Place × Digest) → Tables
 tables_of es = record { firsts = from_entries (in_table First es); certified = from_entries (in_table Certified es) }
+
+-- one of the two maps
+abbrev pub table_of : Tables → Table → FinMap slot_cmp Digest
+table_of t First = t.firsts
+table_of t Certified = t.certified
+
+-- exactly the places with a digest of a round from the first of these up to the second, without it, each once
+pub record ArePlacesBetween (t : Tables) (from to : ℕ) (places : List (Place × Digest)) : Type 0 where
+  pub exactly : (p : Place) (d : Digest) → Contains places (p, d) ↔ ((from ≤ p.0.0) × (p.0.0 < to) × (get (table_of t p.1) p.0 ≡ Some d))
+  pub once : IsDistinct (eq_by_cmp place_cmp) (keys_of places)
 
 -- the first entry is of a round below this one
 abbrev pub BeginsBelow : ℕ → List (Place × Digest) → Type 0

@@ -6,4 +6,5 @@
 mod rounds;
 mod table;
 
-pub use rounds::Rounds;
+pub use rounds::{Place, Rounds};
+pub use table::Table;

@@ -1,27 +1,31 @@
 //! The digests of each slot.
 ghost use Rattle.std.specs.Prelude.{◌≡◌, ◌+◌, ◌<◌, ◌≤◌, ◌^◌};
-ghost use Rattle.std.specs.Prelude.{All, IfOk, OnOk, OnErr, IsNone, nat_le};
+ghost use Rattle.std.specs.Prelude.{All, IfOk, OnOk, OnErr, IsNone, nat_le, length};
 ghost use Rattle.std.specs.Bool.{MatchBool};
 ghost use Rattle.std.specs.BTreeMap.{keys};
 ghost use Rattle.std.specs.FinMap as map;
 ghost use Rattle.nw_rounds.specs.Slots.{AreDigestsAt, AreDigestsBetween, no_digests};
-ghost use Rattle.nw_rounds.specs.Places.{BeginsBelow, tables_of};
+ghost use Rattle.nw_rounds.specs.Places.{ArePlacesBetween, BeginsBelow, tables_of};
 
 use crate::table::Table;
 use nw_digest::{Digest, NoMemory, Round};
 use std::alloc::{Allocator, Global};
+use std::collections::btree_map::Range;
 use std::collections::{BTreeMap, BTreeSet};
 use std::marker::Model;
 
 // The number of a round, so that there is one behind the last, and an author.
 type Slot = (u64, u16);
 
+/// A slot by its round and author, and which of its two digests it is.
+pub type Place = (Slot, Table);
+
 /// The first digest and the certified digest of each round and author, in the memory of one allocator.
 ///
 /// Contracts see two finite maps.
 #[derive(Drop)]
 pub struct Rounds<A: Allocator> {
-    digests: BTreeMap<(Slot, Table), Digest, A>,
+    digests: BTreeMap<Place, Digest, A>,
 }
 
 impl<A: Allocator> Model for Rounds<A> {
@@ -116,6 +120,14 @@ impl<A: Allocator> Rounds<A> {
         Ok(found.into_iter().collect(alloc)?)
     }
 
+    /// The places of this round and those below that have a digest, and their digests. It takes no memory.
+    pub fn up_to(&self, round: Round) -> Range<'_, Place, Digest>
+        ensures places { ArePlacesBetween self.now 0 (round + 1) result }
+        ensures fits { length result < 2 ^ 63 }
+    {
+        places_between(&self.digests, 0, round.get() + 1)
+    }
+
     /// Drops the digests of all rounds below this one. It takes no memory, and costs what it drops.
     pub fn drop_below(&mut self, round: Round)
         ensures firsts { self.new.firsts
@@ -133,7 +145,7 @@ impl<A: Allocator> Rounds<A> {
 /// The digests of the places of the round.
 fn digests_at<A: Allocator>(
     alloc: Global,
-    digests: &BTreeMap<(Slot, Table), Digest, A>,
+    digests: &BTreeMap<Place, Digest, A>,
     round: u64,
 ) -> Result<BTreeSet<Digest>, NoMemory>
     requires { round < 2 ^ 48 }
@@ -145,7 +157,7 @@ fn digests_at<A: Allocator>(
 /// The digests of the places of the rounds from the first of these up to the second, without it.
 fn digests_between<A: Allocator>(
     alloc: Global,
-    digests: &BTreeMap<(Slot, Table), Digest, A>,
+    digests: &BTreeMap<Place, Digest, A>,
     from: u64,
     to: u64,
 ) -> Result<BTreeSet<Digest>, NoMemory>
@@ -154,15 +166,27 @@ fn digests_between<A: Allocator>(
         (λ found. AreDigestsBetween (tables_of digests.now.entries) from to found.keys) }
 {
     let mut found = BTreeSet::new(alloc);
-    let places = ((from, 0), Table::First)..((to, 0), Table::First);
-    for (_place, digest) in digests.range(places) {
+    for (_place, digest) in places_between(digests, from, to) {
         found.insert(*digest)?;
     }
     Ok(found)
 }
 
+/// The places of the rounds from the first of these up to the second, without it, and their digests.
+fn places_between<A: Allocator>(
+    digests: &BTreeMap<Place, Digest, A>,
+    from: u64,
+    to: u64,
+) -> Range<'_, Place, Digest>
+    requires { from < to }
+    ensures places { ArePlacesBetween (tables_of digests.now.entries) from to result }
+    ensures fits { length result < 2 ^ 63 }
+{
+    digests.range(((from, 0), Table::First)..((to, 0), Table::First))
+}
+
 /// Whether the first place is of a lower round. Otherwise none is.
-fn begins_below<A: Allocator>(digests: &BTreeMap<(Slot, Table), Digest, A>, round: u64) -> bool
+fn begins_below<A: Allocator>(digests: &BTreeMap<Place, Digest, A>, round: u64) -> bool
     ensures { MatchBool result (BeginsBelow round digests.now.entries)
         (All (λ place. round ≤ place.0.0) (keys digests.now)) }
 {
