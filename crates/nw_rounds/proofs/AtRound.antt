@@ -2,6 +2,7 @@
 use Rattle.std.proofs.Common.{◌≡◌, ◌∙◌, ◌⊎◌, inl, inr, ℕ, ◌+◌, ◌<◌, ◌≤◌, Bool, true, false, cond, not, ◌&&◌, ◌||◌, ◌++◌, List, [], ◌∷◌, map, Bor, Option, Some, None, Result, Ok, Err, zero, suc, refl, sym, ap, subst, arith}
 use Rattle.std.specs.Prelude.{All, filter, Contains, IfOk, nat_le, slice_get}
 use Rattle.std.specs.Bool.{MatchBool}
+use Rattle.std.specs.declared.cmp.Ordering.{Ordering}
 use Rattle.std.specs.declared.cmp.Ordering.TheVariants.{Less, Equal, Greater}
 use Rattle.std.specs.declared.ops.Bound.TheVariants.{Included, Excluded}
 use Rattle.std.specs.Ordering.{nat_cmp, is_gt, is_le, eq_by_cmp, ordering_then}
@@ -54,9 +55,17 @@ from_start n p = by (sides n p.0.0)
         ap (λ r. is_le (ordering_then (ordering_then r (nat_cmp 0 p.0.1)) (table_cmp First p.1))) (sym (nat_cmp_is n p.0.0 Greater behind))
         ∙ sym (lt-leb n p.0.0 (omega arith))
 
--- the first place of a lower round is before that of a higher one
-pub begins_before : (a b : ℕ) → a < b → is_gt (place_cmp ((a, 0), First) ((b, 0), First)) ≡ false
-begins_before a b lt = ap (λ r. is_gt (ordering_then (ordering_then r (nat_cmp 0 0)) (table_cmp First First))) (sym (nat_cmp_is a b Less lt))
+-- the first place of a round is not behind that of a higher one
+pub begins_before : (a b : ℕ) → a ≤ b → is_gt (place_cmp ((a, 0), First) ((b, 0), First)) ≡ false
+begins_before a b le = by (sides a b)
+  where
+    rounds : (r : Ordering) → nat_cmp a b ≡ r → is_gt (ordering_then (ordering_then r Equal) Equal) ≡ false → is_gt (place_cmp ((a, 0), First) ((b, 0), First)) ≡ false
+    rounds r is e = ap (λ o. is_gt (ordering_then (ordering_then o (nat_cmp 0 0)) (table_cmp First First))) is ∙ e
+
+    by : (a < b) ⊎ ((a ≡ b) ⊎ (b < a)) → is_gt (place_cmp ((a, 0), First) ((b, 0), First)) ≡ false
+    by (inl before) = rounds Less (sym (nat_cmp_is a b Less before)) refl
+    by (inr (inl here)) = rounds Equal (sym (nat_cmp_is a b Equal here)) refl
+    by (inr (inr behind)) = absurd (omega (arith, le, behind))
 
 -- a round from the first of these up to the second, without it
 abbrev pub is_between : ℕ → ℕ → ℕ → Bool

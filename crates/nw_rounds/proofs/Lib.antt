@@ -1,3 +1,3 @@
 mod AtRound
-mod SlotLemmas
+pub mod SlotLemmas
 mod TwoTables

@@ -120,12 +120,12 @@ impl<A: Allocator> Rounds<A> {
         Ok(found.into_iter().collect(alloc)?)
     }
 
-    /// The places of this round and those below that have a digest, and their digests. It takes no memory.
-    pub fn up_to(&self, round: Round) -> Range<'_, Place, Digest>
-        ensures places { ArePlacesBetween self.now 0 (round + 1) result }
+    /// The places of rounds below this one that have a digest, and their digests. It takes no memory.
+    pub fn below(&self, round: Round) -> Range<'_, Place, Digest>
+        ensures places { ArePlacesBetween self.now 0 round result }
         ensures fits { length result < 2 ^ 63 }
     {
-        places_between(&self.digests, 0, round.get() + 1)
+        places_between(&self.digests, 0, round.get())
     }
 
     /// Drops the digests of all rounds below this one. It takes no memory, and costs what it drops.
@@ -161,7 +161,7 @@ fn digests_between<A: Allocator>(
     from: u64,
     to: u64,
 ) -> Result<BTreeSet<Digest>, NoMemory>
-    requires { from < to }
+    requires { from ≤ to }
     ensures { IfOk result
         (λ found. AreDigestsBetween (tables_of digests.now.entries) from to found.keys) }
 {
@@ -178,7 +178,7 @@ fn places_between<A: Allocator>(
     from: u64,
     to: u64,
 ) -> Range<'_, Place, Digest>
-    requires { from < to }
+    requires { from ≤ to }
     ensures places { ArePlacesBetween (tables_of digests.now.entries) from to result }
     ensures fits { length result < 2 ^ 63 }
 {
