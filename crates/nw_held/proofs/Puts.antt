@@ -3,11 +3,11 @@ use Rattle.std.proofs.Common.{◌≡◌, ◌⊎◌, ℕ, ◌≤◌, true, false,
 use Rattle.std.specs.Option.{option_and_then}
 use Rattle.std.specs.declared.cmp.Ordering.{Ordering}
 use Rattle.std.specs.declared.cmp.Ordering.TheVariants.{Less, Equal, Greater}
-use Rattle.std.specs.Ordering.{eq_by_cmp, is_eq, match_ordering}
+use Rattle.std.specs.Ordering.{is_eq, match_ordering}
 use Rattle.std.specs.Cmp.{eq_by_cmp_equiv}
 use Rattle.std.specs.Map.{lookup, remove_entry}
 use Rattle.std.specs.BTreeMap.{is_at, insert_entry}
-use Rattle.std.specs.FinMap.{FinMap, get, insert, from_entries, get-insert}
+use Rattle.std.specs.FinMap.{FinMap, get, insert, from_entries}
 use Rattle.nw_digest.specs.declared.digest.Digest.{Digest}
 use Rattle.nw_codec.specs.declared.block.Block.{Block}
 use Rattle.nw_codec.specs.declared.certificate.Certificate.{Certificate}
@@ -17,9 +17,9 @@ use Rattle.nw_digest.specs.Order.{digest_cmp, Slot, slot_cmp}
 use Rattle.nw_model.specs.State.{State, block_slot, certificate_slot}
 use Rattle.nw_model.specs.Step.{is_elsewhere, is_digest, rival, with_block, with_certificate, certified_digest}
 use Rattle.nw_model.specs.Sound.{IsKept}
-use Rattle.nw_model.proofs.Kept.{kept_written, index_with_certificate, sound_with_certificate, index_answers, after_insert, at_insert, tie}
+use Rattle.nw_model.proofs.Kept.{kept_written, index_with_certificate, sound_with_certificate, index_answers, after_insert, after_slot, at_insert, at_slot, still_insert, still_slot}
 use Rattle.nw_model.proofs.Sames.{same_digest_decides}
-use Rattle.nw_model.proofs.Maps.{put_entries, digests_total, digests_apart, slots_total, slots_apart}
+use Rattle.nw_model.proofs.Maps.{put_entries, digests_total, digests_apart}
 use Rattle.nw_held.specs.Held.{IsHeld, IsNamed, state_of}
 
 pub absent : {A : Type 0} (found : Option A) → IsNone found → found ≡ None
@@ -44,38 +44,6 @@ taken_back (e ∷ es) d v none = by (digest_cmp d e.0) refl none (taken_back es 
         ap (λ b. cond b (insert_entry digest_cmp es d v) (e ∷ remove_entry (is_at (digest_cmp d)) (insert_entry digest_cmp es d v))) here
         ∙ ap (λ xs. e ∷ xs) (rest (sym (ap (λ b. cond b (Some e.1) (lookup (is_at (digest_cmp d)) es)) here) ∙ at))
 
--- the digest is the first of the block's slot, or certified
-abbrev pub IsKnown : Tables → List (Digest × Certificate) → Digest → Block → Type 0
-IsKnown slots certificates d b = (get slots.firsts (block_slot b) ≡ Some d) ⊎ IsSome (get (from_entries {R = digest_cmp} certificates) d)
-
--- a block more
-pub block_held : (blocks more : List (Digest × Block)) (certificates : List (Digest × Certificate)) (slots after : Tables) (floor : ℕ) (d : Digest) (b : Block)
-    → IsHeld blocks certificates slots floor → is_elsewhere certificate_slot (get (from_entries {R = digest_cmp} certificates) d) (block_slot b) ≡ false → floor ≤ b.round
-    → more ≡ insert_entry digest_cmp blocks d b → after.certified ≡ slots.certified → IsKnown after certificates d b
-    → ((slot : Slot) (e : Digest) → get slots.firsts slot ≡ Some e → get after.firsts slot ≡ Some e) → IsHeld more certificates after floor
-block_held blocks more certificates slots after floor d b held fits above put same known still = record {
-  kept = kept;
-  named = λ e x at. elim (after_insert (from_entries blocks) d b e x (subst (λ m. get m e ≡ Some x) puts at)) [
-    | inl new ↦ subst (λ y. IsNamed after e y) new.1 (subst (λ q. IsNamed after q b) (sym new.0) new_is)
-    | inr old ↦ elim (held.named e x old) [ inl first ↦ inl (still (block_slot x) e first) | inr certified ↦ inr (subst (λ m. get m (block_slot x) ≡ Some e) (sym same) certified) ]
-  ];
-  blocks_ordered = rw put (sorted_insert d b blocks held.blocks_ordered);
-  certificates_ordered = held.certificates_ordered;
-}
-  where
-    puts : from_entries {R = digest_cmp} more ≡ insert (from_entries blocks) d b
-    puts = put_entries digests_total digests_apart blocks more d b put
-
-    kept : IsKept (state_of more certificates after floor) after.certified
-    kept = rw same (kept_written (state_of blocks certificates slots floor) slots.certified d b (from_entries more) after.firsts held.kept fits above puts)
-
-    certified : (found : Option Certificate) → get (from_entries {R = digest_cmp} certificates) d ≡ found → IsSome found → IsNamed after d b
-    certified None is some = absurd cc
-    certified (Some c) is some = inr ((kept.indexed (block_slot b) d).1 (c, is, sym (kept.sound.one_slot d b c (subst (λ m. get m d ≡ Some b) (sym puts) (at_insert (from_entries blocks) d b)) is)))
-
-    new_is : IsNamed after d b
-    new_is = elim known [ inl first ↦ inl first | inr some ↦ certified (get (from_entries {R = digest_cmp} certificates) d) refl some ]
-
 -- with a vote, the slot has no first digest
 pub vacant_first : (found : Option Digest) → true ≡ not (is_some found) → found ≡ None
 vacant_first None e = refl
@@ -97,21 +65,63 @@ known_first s d slot alone voted = by (get s.certificates d) refl (get s.firsts 
         (sym (ap (λ c. cond (is_some c) None (option_and_then (λ x. cond (is_digest x d) None (Some x)) (get s.firsts slot))) is ∙ ap (λ f. option_and_then (λ x. cond (is_digest x d) None (Some x)) f) at) ∙ alone) in
         inl (at ∙ ap Some here)
 
--- the same state
-pub same_held : (blocks more : List (Digest × Block)) (certificates : List (Digest × Certificate)) (slots after : Tables) (floor : ℕ) (d : Digest) (b : Block) (vote : Bool)
-    → more ≡ insert_entry digest_cmp blocks d b → after.firsts ≡ cond vote (insert slots.firsts (block_slot b) d) slots.firsts
-    → state_of more certificates after floor ≡ with_block (state_of blocks certificates slots floor) d b vote
-same_held blocks more certificates slots after floor d b vote put first =
-    let new = put_entries digests_total digests_apart blocks more d b put in
-    λ i. record { blocks = new i; certificates = from_entries certificates; firsts = first i; floor = floor }
+-- a block more
+module _ (blocks more : List (Digest × Block)) (certificates : List (Digest × Certificate)) (slots after : Tables) (floor : ℕ) (d : Digest) (b : Block) (vote : Bool) (put : more ≡ insert_entry digest_cmp blocks d b)
+    (firsts : after.firsts ≡ cond vote (insert slots.firsts (block_slot b) d) slots.firsts) where
+  puts : from_entries {R = digest_cmp} more ≡ insert (from_entries blocks) d b
+  puts = put_entries digests_total digests_apart blocks more d b put
 
--- what a slot had, it has where another got a digest
-pub other_slot : (m : FinMap slot_cmp Digest) (k : Slot) (v : Digest) (slot : Slot) (d : Digest) → get m k ≡ None → get m slot ≡ Some d → get (insert m k v) slot ≡ Some d
-other_slot m k v slot d vacant has = get-insert slots_total m k v slot ∙ by (eq_by_cmp slot_cmp slot k) refl
-  where
-    by : (b : Bool) → eq_by_cmp slot_cmp slot k ≡ b → cond b (Some v) (get m slot) ≡ Some d
-    by true e = absurd (none_some d (sym has ∙ ap (get m) (slots_apart slot k (tie (slot_cmp slot k) e)) ∙ vacant))
-    by false e = has
+  pub same_held : state_of more certificates after floor ≡ with_block (state_of blocks certificates slots floor) d b vote
+  same_held = λ i. record { blocks = puts i; certificates = from_entries certificates; firsts = firsts i; floor = floor }
+
+  module _ (held : IsHeld blocks certificates slots floor) (none : get (from_entries {R = digest_cmp} blocks) d ≡ None) (fits : is_elsewhere certificate_slot (get (from_entries {R = digest_cmp} certificates) d) (block_slot b) ≡ false)
+      (above : floor ≤ b.round) (same : after.certified ≡ slots.certified) (first : vote ≡ not (is_some (get slots.firsts (block_slot b)))) (alone : rival (state_of blocks certificates slots floor) d (block_slot b) ≡ None) where
+    kept : IsKept (state_of more certificates after floor) after.certified
+    kept = rw same (kept_written (state_of blocks certificates slots floor) slots.certified d b (from_entries more) after.firsts held.kept fits above puts)
+
+    at_new : get (from_entries {R = digest_cmp} more) d ≡ Some b
+    at_new = subst (λ m. get m d ≡ Some b) (sym puts) (at_insert (from_entries blocks) d b)
+
+    certified : (found : Option Certificate) → get (from_entries {R = digest_cmp} certificates) d ≡ found → IsSome found → IsNamed after d b
+    certified None is some = absurd cc
+    certified (Some c) is some = inr ((kept.indexed (block_slot b) d).1 (c, is, sym (kept.sound.one_slot d b c at_new is)))
+
+    -- the block's digest is named, what was first is so still, and nothing else is but that digest
+    abbrev Votes : FinMap slot_cmp Digest → Type 0
+    Votes m = ((get m (block_slot b) ≡ Some d) ⊎ IsSome (get (from_entries {R = digest_cmp} certificates) d))
+        × ((slot : Slot) (e : Digest) → get slots.firsts slot ≡ Some e → get m slot ≡ Some e)
+        × ((slot : Slot) (e : Digest) → get m slot ≡ Some e → ((slot ≡ block_slot b) × (d ≡ e)) ⊎ (get slots.firsts slot ≡ Some e))
+
+    votes : (v : Bool) → v ≡ not (is_some (get slots.firsts (block_slot b))) → Votes (cond v (insert slots.firsts (block_slot b) d) slots.firsts)
+    votes true is = (
+      inl (at_slot slots.firsts (block_slot b) d),
+      λ slot e has. still_slot slots.firsts (block_slot b) d slot e (vacant_first (get slots.firsts (block_slot b)) is) has,
+      λ slot e has. after_slot slots.firsts (block_slot b) d slot e has,
+    )
+    votes false is = (known_first (state_of blocks certificates slots floor) d (block_slot b) alone is, λ slot e has. has, λ slot e has. inr has)
+
+    voting : Votes after.firsts
+    voting = subst Votes (sym firsts) (votes vote first)
+
+    pub block_held : IsHeld more certificates after floor
+    block_held = record {
+      kept = kept;
+      named = λ e x at. elim (after_insert (from_entries blocks) d b e x (subst (λ m. get m e ≡ Some x) puts at)) [
+        | inl new ↦ subst (λ y. IsNamed after e y) new.1 (subst (λ q. IsNamed after q b) (sym new.0) new_is)
+        | inr old ↦ elim (held.named e x old) [ inl was ↦ inl (voting.1 (block_slot x) e was) | inr was ↦ inr (subst (λ m. get m (block_slot x) ≡ Some e) (sym same) was) ]
+      ];
+      voted = λ slot e at. elim (voting.2 slot e at) [
+        | inl new ↦ (b, subst (λ q. get (from_entries {R = digest_cmp} more) q ≡ Some b) new.1 at_new, sym new.0)
+        | inr old ↦
+            let (x, there, here) = held.voted slot e old in
+            (x, subst (λ m. get m e ≡ Some x) (sym puts) (still_insert (from_entries blocks) d b e x none there), here)
+      ];
+      blocks_ordered = rw put (sorted_insert d b blocks held.blocks_ordered);
+      certificates_ordered = held.certificates_ordered;
+    }
+      where
+        new_is : IsNamed after d b
+        new_is = elim voting.0 [ inl is ↦ inl is | inr some ↦ certified (get (from_entries {R = digest_cmp} certificates) d) refl some ]
 
 -- a certificate more
 pub certificate_held : (blocks : List (Digest × Block)) (certificates more : List (Digest × Certificate)) (slots after : Tables) (floor : ℕ) (c : Certificate)
@@ -130,8 +140,9 @@ certificate_held blocks certificates more slots after floor c held none first fi
       });
       named = λ d b at. elim (held.named d b at) [
         | inl was ↦ inl (subst (λ m. get m (block_slot b) ≡ Some d) (sym firsts) was)
-        | inr was ↦ inr (subst (λ m. get m (block_slot b) ≡ Some d) (sym index) (other_slot slots.certified (certificate_slot c) c.digest (block_slot b) d vacant was))
+        | inr was ↦ inr (subst (λ m. get m (block_slot b) ≡ Some d) (sym index) (still_slot slots.certified (certificate_slot c) c.digest (block_slot b) d vacant was))
       ];
+      voted = λ slot d at. held.voted slot d (subst (λ m. get m slot ≡ Some d) firsts at);
       blocks_ordered = held.blocks_ordered;
       certificates_ordered = rw put (sorted_insert c.digest c certificates held.certificates_ordered);
     }

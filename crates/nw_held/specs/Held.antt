@@ -7,7 +7,7 @@ use Rattle.nw_digest.specs.declared.digest.Digest.{Digest}
 use Rattle.nw_codec.specs.declared.block.Block.{Block}
 use Rattle.nw_codec.specs.declared.certificate.Certificate.{Certificate}
 use Rattle.nw_rounds.specs.Slots.{Tables}
-use Rattle.nw_digest.specs.Order.{digest_cmp}
+use Rattle.nw_digest.specs.Order.{digest_cmp, Slot}
 use Rattle.nw_model.specs.State.{State, block_slot}
 use Rattle.nw_model.specs.Sound.{IsKept}
 
@@ -19,9 +19,10 @@ state_of blocks certificates slots floor = record { blocks = from_entries blocks
 abbrev pub IsNamed : Tables → Digest → Block → Type 0
 IsNamed slots d b = (get slots.firsts (block_slot b) ≡ Some d) ⊎ (get slots.certified (block_slot b) ≡ Some d)
 
--- the state is one that a legal history may reach, the slots name what is certified and what is held, and the entries stand in order
+-- the state is one that a legal history may reach, the slots name what is certified and what is held, what is first of a slot is held, and the entries stand in order
 pub record IsHeld (blocks : List (Digest × Block)) (certificates : List (Digest × Certificate)) (slots : Tables) (floor : ℕ) : Type 0 where
   pub kept : IsKept (state_of blocks certificates slots floor) slots.certified
   pub named : (d : Digest) (b : Block) → get (from_entries {R = digest_cmp} blocks) d ≡ Some b → IsNamed slots d b
+  pub voted : (slot : Slot) (d : Digest) → get slots.firsts slot ≡ Some d → (b : Block) × (get (from_entries {R = digest_cmp} blocks) d ≡ Some b) × (block_slot b ≡ slot)
   pub blocks_ordered : IsStrictlySortedBy digest_cmp (keys_of blocks)
   pub certificates_ordered : IsStrictlySortedBy digest_cmp (keys_of certificates)

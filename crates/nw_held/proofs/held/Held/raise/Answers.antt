@@ -4,16 +4,16 @@ use Rattle.nw_held.proofs.held.Held.raise.Goals as goal
 pub invariant_of-self : goal.invariant_of-self
 invariant_of-self c =
     held_raised c.self.inside.blocks c.drop_below.new.entries c.self.inside.certificates c.drop_below-2.new.entries c.self.inside.slots c.drop_below-3.new.self c.self.inside.floor c.args.round c.self.invariant
-    c.args.blocks.now c.args.certificates.now (rw (← c.self.view_is) at c.requires.blocks) (rw (← c.self.view_is) at c.requires.certificates) c.drop_below.ensures c.drop_below-2.ensures c.drop_below-3.ensures.firsts c.drop_below-3.ensures.certified
+    c.args.digests.now (rw (← c.self.view_is) at c.requires) c.drop_below.ensures c.drop_below-2.ensures c.drop_below-3.ensures.firsts c.drop_below-3.ensures.certified
 
 pub returns-clause-state : goal.returns-clause-state
 returns-clause-state c =
     rw (← c.self.view_is)
     (same_raised c.self.inside.blocks c.drop_below.new.entries c.self.inside.certificates c.drop_below-2.new.entries c.self.inside.slots c.drop_below-3.new.self c.self.inside.floor c.args.round c.self.invariant
-    c.args.blocks.now c.args.certificates.now (rw (← c.self.view_is) at c.requires.blocks) (rw (← c.self.view_is) at c.requires.certificates) c.drop_below.ensures c.drop_below-2.ensures c.drop_below-3.ensures.firsts c.drop_below-3.ensures.certified)
+    c.args.digests.now (rw (← c.self.view_is) at c.requires) c.drop_below.ensures c.drop_below-2.ensures c.drop_below-3.ensures.firsts c.drop_below-3.ensures.certified)
 
 pub returns-clause-fewer : goal.returns-clause-fewer
 returns-clause-fewer c =
     rw (← c.self.view_is)
     (fewer_raised c.self.inside.blocks c.drop_below.new.entries c.self.inside.certificates c.drop_below-2.new.entries c.self.inside.slots c.drop_below-3.new.self c.self.inside.floor c.args.round c.self.invariant
-    c.args.blocks.now c.args.certificates.now (rw (← c.self.view_is) at c.requires.blocks) (rw (← c.self.view_is) at c.requires.certificates) c.drop_below.ensures c.drop_below-2.ensures c.drop_below-3.ensures.firsts c.drop_below-3.ensures.certified)
+    c.args.digests.now (rw (← c.self.view_is) at c.requires) c.drop_below.ensures c.drop_below-2.ensures c.drop_below-3.ensures.firsts c.drop_below-3.ensures.certified)
