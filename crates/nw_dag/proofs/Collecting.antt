@@ -83,7 +83,7 @@ module _ (s : State) (round : ℕ) (unmet lacking : Pairs) (complete holders : L
         | inl below ↦ below
         | inr high ↦ absurd (true_false (sym (ap is_some (is_kept (λ (y : Block). y.round) round s.blocks x b ready.0.1.0 high)) ∙ not_true (is_some (get t.blocks x)) was.1))
       ] in
-      ((are.exactly x).1 (b, ready.0.1.0, omega (arith, low)), (ready, (b, ready.0.1.0, low)))
+      (are.blocks x b ready.0.1.0 (omega (arith, low)), (ready, (b, ready.0.1.0, low)))
 
   lost_gone : (x : Digest) → IsLost s lacking round x → Contains gone x
   lost_gone x (ready, (b, at, low)) = filter_has (λ d. not (is_some (get t.blocks d))) complete x (settled.all x ready) (none_held (get t.blocks x) refl)

@@ -68,10 +68,7 @@ module _ (s : State) (round : ℕ) (sound : IsSound s) (higher : s.floor < round
 
   -- a holder is of a round up to the new garbage round
   low_holder : (d : Digest) (b : Block) → get s.blocks d ≡ Some b → Contains holders d → b.round ≤ round
-  low_holder d b at among =
-      let (x, there, low) = (are.exactly d).0 among in
-      let same : x ≡ b = one_block x b there at in
-      omega (arith, low, ap (λ (y : Block). y.round) same)
+  low_holder d b at among = are.only d b among at
 
   -- who names a parent now named it, and is no holder
   named : (d : Digest) (w : Wanted) → Names t d w → Names s d w × (Contains holders d → ⊥) × (round ≤ w.round)
@@ -86,7 +83,7 @@ module _ (s : State) (round : ℕ) (sound : IsSound s) (higher : s.floor < round
   still_names : (d : Digest) (w : Wanted) → Names s d w → (Contains holders d → ⊥) → Names t d w
   still_names d w (b, at, above, among) apart = elim (cases_lt round b.round) [
     | inl high ↦ (b, is_kept (λ (x : Block). x.round) round s.blocks d b at (omega (arith, high)), high, among)
-    | inr low ↦ absurd (apart ((are.exactly d).1 (b, at, low)))
+    | inr low ↦ absurd (apart (are.blocks d b at low))
   ]
 
   -- the parents that do not stand
@@ -117,7 +114,7 @@ module _ (s : State) (round : ℕ) (sound : IsSound s) (higher : s.floor < round
     holder_or_not : (x : Digest) → Stands t x → Contains holders x ⊎ (Contains holders x → ⊥)
     holder_or_not x (b, stands) = elim (cases_lt round b.round) [
       | inl high ↦ inr (λ holder. let low = low_holder x b (stood x b stands).0 holder in omega (arith, low, high))
-      | inr low ↦ inl ((are.exactly x).1 (b, (stood x b stands).0, low))
+      | inr low ↦ inl (are.blocks x b (stood x b stands).0 low)
     ]
 
     module _ (due : List Digest) (exactly : (x : Digest) → Contains due x ↔ (Contains holders x × IsStuck t old x)) where

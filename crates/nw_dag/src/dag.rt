@@ -122,7 +122,7 @@ impl Dag {
         ensures bounds { self.new.bounds ≡ self.old.bounds }
         ensures unchanged { OnErr result (self.new ≡ self.old) }
     {
-        let reply = self.collect_reply(round)?;
+        let reply = self.collect_reply(round);
         self.take_collect(round, &reply)?;
         Ok(reply)
     }
@@ -141,9 +141,9 @@ impl Dag {
         self.held.certify_reply(certificate)
     }
 
-    /// The reply that a collection would get now. It is refused for want of memory alone.
-    pub fn collect_reply(&self, round: Round) -> Result<CollectReply, NoMemory>
-        ensures { IfOk result (λ reply. reply ≡ collect_reply self.now.state round) }
+    /// The reply that a collection would get now. It takes no memory.
+    pub fn collect_reply(&self, round: Round) -> CollectReply
+        ensures { result ≡ collect_reply self.now.state round }
     {
         self.held.collect_reply(round)
     }
@@ -284,10 +284,9 @@ impl Dag {
         ensures unchanged { OnErr result (self.new ≡ self.old) }
     {
         let holders = self.held.up_to(round)?;
-        let certified = self.held.certified_up_to(round)?;
         let lost = self.waits.lost(&self.held, &holders, round);
         let blocks = self.held.blocks();
-        self.held.raise(round, &holders, &certified);
+        self.held.raise(round, &holders);
         let dropped = blocks - self.held.blocks();
         self.waits.collect(&self.held, &holders, dropped - lost);
         Ok(())

@@ -63,7 +63,7 @@ impl Dag {
             Call::Certificate(digest) => Ok(Reply::Certificate(self.certificate(digest)?)),
             Call::Read(digest) => Ok(Reply::Read(self.read(digest)?)),
             Call::Causal(digest) => Ok(self.causal_reply(digest)),
-            Call::Collect(round) => Ok(Reply::Collect(self.collect_reply(*round)?)),
+            Call::Collect(round) => Ok(Reply::Collect(self.collect_reply(*round))),
             Call::Missing(most) => Ok(Reply::Missing(self.missing(alloc, *most)?)),
             Call::Status => Ok(Reply::Status(self.status())),
         }

@@ -19,8 +19,8 @@ collect-requires c =
     let waits = c.self.inside.waits in
     let low = c.in_ok-holders.holders.items in
     let fits = lost_fits s waits.lacking c.args.round c.deref.result.now c.lost-lost.result c.lost-lost.ensures in
-    collecting s c.raise.new.self.state c.args.round waits.unmet waits.lacking waits.roll.pending low c.deref-4.result.now c.lost-lost.result _ c.raise.ensures.state c.up_to.ensures.sound c.self.invariant.settled
-    (rw (← c.self.view_is) at c.requires.higher) c.in_ok-holders.ensures.digests c.deref-4.ensures.value
+    collecting s c.raise.new.self.state c.args.round waits.unmet waits.lacking waits.roll.pending low c.deref-3.result.now c.lost-lost.result _ c.raise.ensures.state c.up_to.ensures.sound c.self.invariant.settled
+    (rw (← c.self.view_is) at c.requires.higher) c.in_ok-holders.ensures.digests c.deref-3.ensures.value
     (subst (λ xs. LostCount s waits.lacking c.args.round xs c.lost-lost.result) c.deref.ensures.value c.lost-lost.ensures)
     (omega (arith, fits, c.blocks-blocks.ensures, c.blocks-2.ensures, ap (λ (t : State). len t.blocks) c.raise.ensures.state))
 
