@@ -6,7 +6,7 @@ use Rattle.std.proofs.lemmas.List.{length-reverse, get_or-reverse, get_or-append
 use Rattle.std.proofs.lemmas.List.Elements.{All-head, All-tail, All-take, All-get_or}
 use Rattle.std.proofs.lemmas.List.Concat.{get_or-flat_map}
 use Rattle.std.proofs.lemmas.Option.{slice_get_within, slice_get_read, slice_get-get_or, get_or_from_slice_get}
-use Rattle.nw_chunks.specs.Chunks.{items_of, AreChunked}
+use Rattle.nw_chunks.specs.Chunks.{AreChunked, Chunked, chunked, items_of}
 
 abbrev pub IsWhole : {T : Type 0} → List T → Type 0
 IsWhole chunk = length chunk ≡ 256
@@ -20,12 +20,12 @@ chunks_length (c ∷ cs) h =
     omega (arith, length-append c (flat_map (λ x. x) cs))
 
 -- all items together
-pub items_length : {T : Type 0} (chunks : List (List T)) (behind : List T) → All IsWhole chunks → length (items_of chunks behind) ≡ 256 * length chunks + length behind
-items_length chunks behind h = omega (arith, length-append (flat_map (λ x. x) chunks) (reverse behind), chunks_length chunks h, length-reverse behind)
+items_length : {T : Type 0} (c : Chunked T) → All IsWhole c.chunks → length (items_of c) ≡ 256 * length c.chunks + length c.behind
+items_length c h = omega (arith, length-append (flat_map (λ x. x) c.chunks) c.behind, chunks_length c.chunks h)
 
 -- an item of a chunk
 get_chunk : {T : Type 0} (chunks : List (List T)) (behind : List T) (k j : ℕ) (c : List T) (x : T) → All IsWhole chunks
-    → slice_get chunks k ≡ Some c → slice_get c j ≡ Some x → slice_get (items_of chunks behind) (256 * k + j) ≡ Some x
+    → slice_get chunks k ≡ Some c → slice_get c j ≡ Some x → slice_get (items_of (chunked chunks behind)) (256 * k + j) ≡ Some x
 get_chunk chunks behind k j c x h there item =
     let k_in : k < length chunks = slice_get_within chunks k c there in
     let j_in : j < length c = slice_get_within c j x item in
@@ -39,39 +39,38 @@ get_chunk chunks behind k j c x h there item =
     let inside : 256 * k + j < length (flat_map (λ y. y) chunks) = omega (arith, all, k_in, j_in, c_whole) in
     let found : get_or (flat_map (λ y. y) chunks) (length (flat_map (λ y. y) (take k chunks)) + j) x ≡ get_or (get_or chunks k c) j x =
     get_or-flat_map (λ y. y) chunks k j c x k_in j_at in
-    let value : x ≡ get_or (items_of chunks behind) (256 * k + j) x =
+    let value : x ≡ get_or (items_of (chunked chunks behind)) (256 * k + j) x =
     sym (get_or_append_left (flat_map (λ y. y) chunks) (reverse behind) x (256 * k + j) inside
     ∙ ap (λ n. get_or (flat_map (λ y. y) chunks) (n + j) x) (sym before) ∙ found ∙ ap (λ l. get_or l j x) chunk_is ∙ item_is) in
-    slice_get_read (items_of chunks behind) (length (items_of chunks behind)) (256 * k + j) x refl (omega (arith, inside, length-append (flat_map (λ y. y) chunks) (reverse behind))) value
+    slice_get_read (items_of (chunked chunks behind)) (length (items_of (chunked chunks behind))) (256 * k + j) x refl (omega (arith, inside, length-append (flat_map (λ y. y) chunks) (reverse behind))) value
 
 pub get_full : {T : Type 0} (chunks : List (List T)) (behind : List T) (i : ℕ) (c : List T) (x : T) → All IsWhole chunks
-    → slice_get chunks (i / 256) ≡ Some c → slice_get c (i % 256) ≡ Some x → slice_get (items_of chunks behind) i ≡ Some x
+    → slice_get chunks (i / 256) ≡ Some c → slice_get c (i % 256) ≡ Some x → slice_get (items_of (chunked chunks behind)) i ≡ Some x
 get_full chunks behind i c x h there item =
     let parts : 256 * (i / 256) + i % 256 ≡ i = omega arith in
     rw parts at (get_chunk chunks behind (i / 256) (i % 256) c x h there item)
 
 -- an item behind the chunks
 pub get_behind : {T : Type 0} (chunks : List (List T)) (behind : List T) (i place : ℕ) → All IsWhole chunks → i ≡ 256 * length chunks + place → place < length behind
-    → slice_get behind (length behind - 1 - place) ≡ slice_get (items_of chunks behind) i
+    → slice_get behind (length behind - 1 - place) ≡ slice_get (items_of (chunked chunks behind)) i
 get_behind chunks [] i place h is below = absurd (omega (arith, below))
 get_behind chunks (b ∷ bs) i place h is below =
     let behind = b ∷ bs in
     let back : length behind - 1 - place < length behind = omega (arith, below) in
     let all : length (flat_map (λ y. y) chunks) ≡ 256 * length chunks = chunks_length chunks h in
     let here : get_or (reverse behind) place b ≡ get_or behind (length behind - 1 - place) b = get_or-reverse behind place b below in
-    let there : get_or (items_of chunks behind) i b ≡ get_or (reverse behind) place b =
-    ap (λ n. get_or (items_of chunks behind) n b) (is ∙ ap (λ n. n + place) (sym all)) ∙ get_or-append-add (flat_map (λ y. y) chunks) (reverse behind) place b in
-    let inside : i < length (items_of chunks behind) = omega (arith, items_length chunks behind h, is, below) in
+    let there : get_or (items_of (chunked chunks behind)) i b ≡ get_or (reverse behind) place b =
+    ap (λ n. get_or (items_of (chunked chunks behind)) n b) (is ∙ ap (λ n. n + place) (sym all)) ∙ get_or-append-add (flat_map (λ y. y) chunks) (reverse behind) place b in
+    let inside : i < length (items_of (chunked chunks behind)) = omega (arith, items_length (chunked chunks behind) h, length-reverse behind, is, below) in
     slice_get-get_or behind (length behind - 1 - place) b back
     ∙ ap (λ n. Some (get_or behind n b)) (omega arith)
     ∙ ap Some (sym (there ∙ here))
-    ∙ sym (slice_get-get_or (items_of chunks behind) i b inside)
+    ∙ sym (slice_get-get_or (items_of (chunked chunks behind)) i b inside)
 
 -- how many items there are
-pub items_count : {T : Type 0} (chunks : List (List T)) (behind : List T) (count : ℕ) → AreChunked chunks behind count → 256 * length chunks + count ≡ length (items_of chunks behind)
-items_count chunks behind count h = omega (arith, items_length chunks behind h.whole, h.counted)
+pub items_count : {T : Type 0} (chunks : List (List T)) (behind : List T) → AreChunked (chunked chunks behind) → 256 * length chunks + length behind ≡ length (items_of (chunked chunks behind))
+items_count chunks behind h = omega (arith, items_length (chunked chunks behind) h.whole, length-reverse behind)
 
 -- how many chunks there are, and items behind them
-pub items_parts : {T : Type 0} (chunks : List (List T)) (behind : List T) (count : ℕ) → AreChunked chunks behind count
-    → length chunks + count ≡ length (items_of chunks behind) / 256 + length (items_of chunks behind) % 256
-items_parts chunks behind count h = omega (arith, items_count chunks behind count h, h.few)
+pub items_parts : {T : Type 0} (c : Chunked T) → AreChunked c → length c.chunks + length c.behind ≡ length (items_of c) / 256 + length (items_of c) % 256
+items_parts c h = omega (arith, items_length c h.whole, h.few)

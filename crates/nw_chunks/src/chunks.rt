@@ -1,7 +1,8 @@
 //! Lists in chunks.
-ghost use Rattle.std.specs.Prelude.{◌≡◌, ◌+◌, ◌/◌, ◌%◌, ◌^◌, ◌<◌, ◌==◌, ◌++◌, ◌∷◌, []};
+ghost use Rattle.std.specs.Prelude.{◌≡◌, ◌+◌, ◌^◌, ◌<◌, ◌==◌, ◌++◌, ◌∷◌, []};
 ghost use Rattle.std.specs.Prelude.{IfOk, length, reverse, slice_get};
 ghost use Rattle.std.specs.Option.{option_copied};
+ghost use Rattle.nw_chunks.specs.Chunks.{AreChunked, items_of};
 
 use crate::chunk::{CHUNK, Chunk};
 use crate::trail::Trail;
@@ -10,7 +11,7 @@ use std::alloc::Global;
 use std::marker::Model;
 
 /// A list that never changes. One more item makes another list, which shares all that came before: full chunks of 256
-/// items, and the items behind them. Contracts see the items in order.
+/// items, and the items behind them. Contracts see the chunks, and the items behind them; `items_of` are all in order.
 #[derive(Drop)]
 pub struct Chunks<T: Drop> {
     full: Shared<Sequence<Shared<Chunk<T>>>>,
@@ -20,20 +21,23 @@ pub struct Chunks<T: Drop> {
 }
 
 impl<T: Drop> Model for Chunks<T> {
-    ghost use Rattle.std.specs.Prelude.{List};
-    ghost use Rattle.nw_chunks.specs.Chunks.{items_of, AreChunked};
+    ghost use Rattle.std.specs.Prelude.{◌≡◌, length};
+    ghost use Rattle.nw_chunks.specs.Chunks.{AreChunked, Chunked, chunked, coded_chunked};
 
-    ghost Value = { List T };
+    ghost Value = { Chunked T };
 
-    ghost view = { λ c. items_of c.full c.behind };
+    ghost coded = { coded_chunked T.code };
 
-    ghost invariant = { λ c. AreChunked c.full c.behind c.count };
+    ghost view = { λ c. chunked c.full c.behind };
+
+    ghost invariant = { λ c.
+        AreChunked (chunked c.full c.behind) × (length c.behind ≡ c.count) };
 }
 
 impl<T: Drop> Chunks<T> {
     /// The list without items.
     pub fn new(alloc: Global) -> Result<Chunks<T>, NoMemory>
-        ensures { IfOk result (λ c. c ≡ []) }
+        ensures { IfOk result (λ c. items_of c ≡ []) }
     {
         Ok(Chunks {
             full: Shared::new(alloc, Sequence::new(Vec::new(alloc)))?,
@@ -56,8 +60,8 @@ impl<T: Drop> Chunks<T> {
     /// The list with one more item. It takes one node for the item; every 256th item closes a chunk, which takes room for
     /// its items and for one more chunk. A list has at most 2^32 items.
     pub fn with(&self, alloc: Global, item: Shared<T>) -> Result<Chunks<T>, NoMemory>
-        requires { length self.now < 2 ^ 32 }
-        ensures { IfOk result (λ c. c ≡ self.now ++ item ∷ []) }
+        requires { length (items_of self.now) < 2 ^ 32 }
+        ensures { IfOk result (λ c. items_of c ≡ items_of self.now ++ item ∷ []) }
     {
         if self.count + 1 < CHUNK {
             return Ok(Chunks {
@@ -76,14 +80,14 @@ impl<T: Drop> Chunks<T> {
 
     /// How many items it has.
     pub fn len(&self) -> usize
-        ensures { result ≡ length self.now }
+        ensures { result ≡ length (items_of self.now) }
     {
         CHUNK * self.full.get().as_slice().len() + self.count
     }
 
     /// Whether it has no item.
     pub fn is_empty(&self) -> bool
-        ensures { result ≡ (length self.now == 0) }
+        ensures { result ≡ (length (items_of self.now) == 0) }
     {
         self.len() == 0
     }
@@ -91,7 +95,7 @@ impl<T: Drop> Chunks<T> {
     /// The item at the index, counted from 0, or `None` where there are no more than `index`. It costs a constant number of
     /// steps in a full chunk, and at most 255 behind the last one.
     pub fn get(&self, index: usize) -> Option<&T>
-        ensures { option_copied result ≡ slice_get self.now index }
+        ensures { option_copied result ≡ slice_get (items_of self.now) index }
     {
         let full = self.full.get().as_slice();
         if let Some(chunk) = full.get(index / CHUNK) {
@@ -106,7 +110,8 @@ impl<T: Drop> Chunks<T> {
 
     /// How many links it holds: one to each full chunk, and one to each item behind them.
     pub fn parts(&self) -> usize
-        ensures { result ≡ length self.now / CHUNK + length self.now % CHUNK }
+        ensures parts { result ≡ length self.now.chunks + length self.now.behind }
+        ensures chunked { AreChunked self.now }
     {
         self.full.get().as_slice().len() + self.count
     }

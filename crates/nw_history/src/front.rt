@@ -3,6 +3,7 @@ ghost use Rattle.std.specs.Prelude.{◌≡◌, ◌↔◌, ◌==◌, ◌+◌, ◌
 ghost use Rattle.std.specs.Prelude.{IfOk, OnOk, IfSome, IsNone, IsTrue, length, slice_get};
 ghost use Rattle.std.specs.Option.{option_copied};
 ghost use mathlib.Core.List.{IsPrefix};
+ghost use Rattle.nw_chunks.specs.Chunks.{items_of};
 ghost use Rattle.nw_model.specs.State.{opening};
 ghost use Rattle.nw_model.specs.Step.{after};
 ghost use Rattle.nw_history.specs.Story.{IsLegalStory, bounds_of, reopened, story_of, tables_of};
@@ -34,6 +35,7 @@ pub struct Front<S: Scheme> {
 
 impl<S: Scheme> Model for Front<S> {
     ghost use Rattle.std.specs.Coded.{codes};
+    ghost use Rattle.nw_chunks.specs.Chunks.{items_of};
     ghost use Rattle.nw_model.specs.State.{coded_state};
     ghost use Rattle.nw_history.specs.Story.{Story, IsLegalStory, story_of};
 
@@ -41,16 +43,16 @@ impl<S: Scheme> Model for Front<S> {
 
     ghost coded = { Prim.hlevel (codes, coded_state) };
 
-    ghost view = { λ f. story_of f.start f.events };
+    ghost view = { λ f. story_of f.start (items_of f.events) };
 
-    ghost invariant = { λ f. IsLegalStory S.accepts (story_of f.start f.events) };
+    ghost invariant = { λ f. IsLegalStory S.accepts (story_of f.start (items_of f.events)) };
 }
 
 impl<S: Scheme> Front<S> {
     /// The front of these events.
     pub(crate) fn new(start: Shared<Start>, events: Chunks<Event>) -> Front<S>
-        requires { IsLegalStory S.accepts (story_of start events) }
-        ensures { result ≡ story_of start events }
+        requires { IsLegalStory S.accepts (story_of start (items_of events)) }
+        ensures { result ≡ story_of start (items_of events) }
     {
         Front {
             start,

@@ -90,7 +90,8 @@ impl<V: Drop, A: Allocator> Trie<V, A> {
     }
 
     /// Puts the value at the digest. A value that was there is handed back, and then no memory is taken. Want of memory
-    /// hands the new value back, and changes nothing.
+    /// hands the new value back, and changes nothing. It is answered too where there are `usize::MAX` entries, which no
+    /// memory has room for.
     pub fn insert(&mut self, digest: Digest, value: V) -> Result<Option<V>, (NoMemory, V)>
     where
         A: Clone,
@@ -152,7 +153,7 @@ impl<V: Drop, A: Allocator> Trie<V, A> {
         ensures unchanged { OnErr result (self.new ≡ self.old) }
     {
         match Tree::leaf(&self.alloc, digest, value) {
-            Err(value) => Err((NoMemory, value)),
+            Err(refused) => Err((NoMemory, refused)),
             Ok(leaf) => {
                 self.tree = leaf;
                 self.len = 1;

@@ -1,6 +1,9 @@
-use Rattle.std.proofs.Common.{◌+◌, length, ap, ◌∙◌}
-use Rattle.nw_chunks.proofs.Chunked.{items_parts}
+use Rattle.std.proofs.Common.{◌+◌, length, ap, sym, ◌∙◌}
+use Rattle.std.proofs.lemmas.List.{length-reverse}
 use Rattle.nw_chunks.proofs.chunks.Chunks.parts.Goals as goal
 
-pub returns : goal.returns
-returns g c = rw (← c.self.view_is) (ap (λ l. length l + c.self.inside.count) (c.as_slice.ensures ∙ c.get.ensures) ∙ items_parts _ _ _ c.self.invariant)
+pub returns-clause-parts : goal.returns-clause-parts
+returns-clause-parts g c =
+    ap (λ n. n + c.self.inside.count) (ap length (c.as_slice.ensures ∙ c.get.ensures))
+    ∙ ap (λ n. length c.self.inside.full + n) (sym c.self.invariant.1 ∙ sym (length-reverse c.self.inside.behind))
+    ∙ ap (λ l. length l.chunks + length l.behind) c.self.view_is

@@ -1,4 +1,4 @@
-use Rattle.std.proofs.Common.{◌≡◌, List, length, refl, subst, sym, ap, arith}
+use Rattle.std.proofs.Common.{List, length, refl, subst, arith}
 use Rattle.nw_model.specs.History.{AreReplies}
 use Rattle.nw_model.specs.declared.event.Event.{Event}
 use Rattle.nw_history.specs.Story.{bounds_of}

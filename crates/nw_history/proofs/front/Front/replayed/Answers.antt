@@ -1,8 +1,7 @@
 use Rattle.std.proofs.Common.{◌≡◌, ◌<◌, ◌∙◌, Some, length, ap, sym, arith}
-use Rattle.std.specs.Prelude.{slice_get, take}
+use Rattle.std.specs.Prelude.{slice_get}
 use Rattle.std.specs.Option.{option_copied}
 use Rattle.nw_model.specs.Step.{Tables, after}
-use Rattle.nw_model.specs.History.{replay}
 use Rattle.nw_history.specs.Story.{bounds_of}
 use Rattle.nw_history.proofs.Reopened.{replay_next, there}
 use Rattle.nw_history.proofs.front.Front.replayed.Goals as goal
