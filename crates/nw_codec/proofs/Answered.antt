@@ -1,11 +1,11 @@
 -- What an answer of the decoder says.
 use Rattle.std.proofs.Common.{◌≡◌, ◌≢◌, ◌↔◌, ℕ, List, Result, Ok, Err, sym, ap, ◌∙◌, subst}
-use Rattle.std.specs.Result.{IsErrOf, IsErrAnd, IfErr}
+use Rattle.std.specs.Result.{IsErrOf, IsErrAnd, IfErr, OnErr}
 use Rattle.nw_codec.specs.declared.message.Message.{Message}
 use Rattle.nw_codec.specs.declared.error.DecodeError.{DecodeError}
 use Rattle.nw_codec.specs.declared.error.DecodeError.TheVariants.{NoMemory}
 use Rattle.nw_codec.specs.Faults.{AtTag, IsWhole, IsFirstFault}
-use Rattle.nw_codec.specs.Spelled.{IsSpelled}
+use Rattle.nw_codec.specs.Spelled.{IsSpelled, TakesMemory}
 use Rattle.nw_codec.proofs.Fronts.{one_fault, not_both}
 use Rattle.nw_codec.proofs.Decided.{never_memory}
 use Rattle.nw_codec.proofs.Written.{spelled_is_whole}
@@ -26,7 +26,7 @@ says_fault text d (Err f) fault is e other = (
   λ g. ap failing (is ∙ one_fault AtTag text d e fault g),
 )
 
-pub fault_is_no_memory : (text : List ℕ) (d : DecodeError) (r : Result Message DecodeError) → IsFirstFault text d → IsErrAnd r (λ e. e ≡ d) → IsErrOf r NoMemory → IsSpelled text
+pub fault_is_no_memory : (text : List ℕ) (d : DecodeError) (r : Result Message DecodeError) → IsFirstFault text d → IsErrAnd r (λ e. e ≡ d) → IsErrOf r NoMemory → TakesMemory text
 fault_is_no_memory text d (Ok m) fault is h = absurd is
 fault_is_no_memory text d (Err f) fault is h = absurd (never_memory AtTag text (subst (λ (x : DecodeError). IsFirstFault text x) (sym is ∙ failing_is f NoMemory h) fault))
 
@@ -51,3 +51,8 @@ fault_is_not_spelled text d r fault spelled = absurd (not_both AtTag text d (spe
 pub only_memory : (r : Result Message DecodeError) → IsErrAnd r (λ e. e ≡ NoMemory) → IfErr r (λ e. e ≡ NoMemory)
 only_memory (Ok m) is = absurd is
 only_memory (Err e) is = is
+
+-- what holds anyhow holds of an error
+pub on_err : {X E P : Type 0} (r : Result X E) → P → OnErr r P
+on_err (Ok x) p = tt
+on_err (Err e) p = p

@@ -1,5 +1,5 @@
 -- The grammar: the texts of messages.
-use Rattle.std.specs.Prelude.{◌≡◌, ◌≢◌, ℕ, ◌≤◌, List, [], ◌++◌, length, All}
+use Rattle.std.specs.Prelude.{◌≡◌, ◌≢◌, ◌⊎◌, ℕ, ◌≤◌, List, [], ◌++◌, length, All}
 use Rattle.std.specs.List.{flat_map}
 use Rattle.nw_codec.specs.declared.block.Ref.{Ref}
 use Rattle.nw_codec.specs.declared.block.Block.{Block}
@@ -34,6 +34,10 @@ IsCertificateText text = (c : Certificate) × Spells text (messages.Certificate 
 
 abbrev pub IsVoteText : List ℕ → Type 0
 IsVoteText text = (v : Vote) × Spells text (messages.Vote v)
+
+-- the text is that of a message that takes memory to build: a vote takes none
+abbrev pub TakesMemory : List ℕ → Type 0
+TakesMemory text = IsBlockText text ⊎ IsCertificateText text
 
 -- bytes follow the text of a message
 abbrev pub GoesOn : List ℕ → Type 0

@@ -1,7 +1,7 @@
 //! Bytes as values: a first pass finds the first fault, and a second one builds the value.
-ghost use Rattle.std.specs.Prelude.{◌≡◌, ◌≢◌, ◌↔◌, MatchResult, IfOk, IfErr, IsErrOf};
+ghost use Rattle.std.specs.Prelude.{◌≡◌, ◌≢◌, ◌↔◌, MatchResult, IfOk, IfErr, OnErr, IsErrOf};
 ghost use Rattle.nw_codec.specs.Faults.{AtTag, AtEnd, Reaches, FaultFrom, IsWhole, IsFirstFault};
-ghost use Rattle.nw_codec.specs.Spelled.{Spells, IsSpelled};
+ghost use Rattle.nw_codec.specs.Spelled.{Spells, IsSpelled, TakesMemory};
 
 mod block;
 mod certificate;
@@ -43,7 +43,8 @@ fn check_text(text: &[u8]) -> Result<(), DecodeError>
 /// The message that the text spells.
 fn message_of(alloc: Global, text: &[u8]) -> Result<Message, NoMemory>
     requires { IsSpelled text.now }
-    ensures { IfOk result (λ m. Spells text.now m) }
+    ensures found { IfOk result (λ m. Spells text.now m) }
+    ensures memory { OnErr result (TakesMemory text.now) }
 {
     match text[0] {
         BLOCK_TAG => block_message_of(alloc, text),
@@ -54,13 +55,13 @@ fn message_of(alloc: Global, text: &[u8]) -> Result<Message, NoMemory>
 
 /// The message that the text spells. Its whole text is checked before memory is taken.
 ///
-/// A text of no message is refused by its first fault in reading order; `NoMemory` is answered only of a message's
-/// text. The time taken is linear in the text.
+/// A text of no message is refused by its first fault in reading order; `NoMemory` is answered only of a block's or a
+/// certificate's text, so a vote is always decoded. The time taken is linear in the text.
 pub fn decode_message(alloc: Global, text: &[u8]) -> Result<Message, DecodeError>
     ensures found { IfOk result (λ m. Spells text.now m) }
     ensures fault { (e : DecodeError) → e ≢ DecodeError.NoMemory
         → (IsErrOf result e ↔ IsFirstFault text.now e) }
-    ensures memory { IsErrOf result DecodeError.NoMemory → IsSpelled text.now }
+    ensures memory { IsErrOf result DecodeError.NoMemory → TakesMemory text.now }
     ensures succeeds { IsSpelled text.now → IfErr result (λ e. e ≡ DecodeError.NoMemory) }
 {
     check_text(text)?;

@@ -4,8 +4,10 @@ ghost use Rattle.std.specs.Prelude.{IfOk, OnOk, IsErrOf, All, List, length};
 ghost use Rattle.std.specs.List.{flat_map};
 ghost use Rattle.std.specs.Int.{to_be_bytes};
 ghost use Rattle.sha2.specs.Sha256.{sha256};
-ghost use Rattle.nw_codec.specs.Grammar.{body, message, parent_bytes, transaction_bytes};
+ghost use Rattle.nw_codec.specs.Grammar.{body, parent_bytes, transaction_bytes};
 ghost use Rattle.nw_codec.specs.Fits.{Fits, MessageFits};
+ghost use Rattle.nw_codec.specs.Typed.{AreBytes, IsRef, IsBlock};
+ghost use Rattle.nw_codec.specs.Spelled.{Spells};
 ghost use Rattle.nw_codec.specs.declared.limits.TheConstants.{MAX_TRANSACTION};
 
 mod certificate;
@@ -27,8 +29,9 @@ trait Sink {
     ghost holds: { Self → List ℕ → Type 0 };
 
     fn put(&mut self, piece: &[u8]) -> Result<(), Self::Refusal>
-        ensures { OnOk result
-            ((text : List ℕ) → holds self.old text → holds self.new (text ++ piece.now)) };
+        ensures text { OnOk result
+            ((text : List ℕ) → holds self.old text → holds self.new (text ++ piece.now)) }
+        ensures bytes { AreBytes piece.now };
 }
 
 impl Sink for Vec<u8> {
@@ -55,8 +58,9 @@ impl Sink for Sha256 {
 }
 
 fn put_parents<S: Sink>(sink: &mut S, parents: &[Ref]) -> Result<(), S::Refusal>
-    ensures { OnOk result ((text : List ℕ) → S.holds sink.old text
+    ensures text { OnOk result ((text : List ℕ) → S.holds sink.old text
         → S.holds sink.new (text ++ flat_map parent_bytes parents.now)) }
+    ensures typed { OnOk result (All IsRef parents.now) }
 {
     for parent in parents {
         sink.put(&parent.author.to_be_bytes())?;
@@ -67,8 +71,9 @@ fn put_parents<S: Sink>(sink: &mut S, parents: &[Ref]) -> Result<(), S::Refusal>
 
 fn put_transactions<S: Sink>(sink: &mut S, transactions: &[Sequence<u8>]) -> Result<(), S::Refusal>
     requires { All (λ t. length t ≤ MAX_TRANSACTION) transactions.now }
-    ensures { OnOk result ((text : List ℕ) → S.holds sink.old text
+    ensures text { OnOk result ((text : List ℕ) → S.holds sink.old text
         → S.holds sink.new (text ++ flat_map transaction_bytes transactions.now)) }
+    ensures typed { OnOk result (All AreBytes transactions.now) }
 {
     for transaction in transactions {
         let bytes = transaction.as_slice();
@@ -82,8 +87,9 @@ fn put_transactions<S: Sink>(sink: &mut S, transactions: &[Sequence<u8>]) -> Res
 #[tactic(auto, unfolding(crate::specs::Grammar::body))]
 fn put_body<S: Sink>(sink: &mut S, block: &Block) -> Result<(), S::Refusal>
     requires { Fits block.now }
-    ensures { OnOk result
+    ensures text { OnOk result
         ((text : List ℕ) → S.holds sink.old text → S.holds sink.new (text ++ body block.now)) }
+    ensures typed { OnOk result (IsBlock block.now) }
 {
     let parents = block.parents.as_slice();
     let transactions = block.transactions.as_slice();
@@ -122,33 +128,30 @@ pub fn encode_body(alloc: Global, block: &Block) -> Result<Vec<u8>, EncodeError>
     Ok(bytes)
 }
 
-/// The bytes of a block's message, of a block and a signature that are lent. `OverLimit` exactly where the block does not
-/// fit, else `NoMemory` where memory is refused.
-#[tactic(auto, unfolding(crate::specs::Grammar::message))]
+/// The text of a block's message, which spells the block and the signature that are lent. `OverLimit` exactly where the
+/// block does not fit, else `NoMemory` where memory is refused.
 pub fn encode_block(
     alloc: Global,
     block: &Block,
     signature: &Signature,
 ) -> Result<Vec<u8>, EncodeError>
-    ensures text { IfOk result (λ v. v.items ≡ message (Message.Block block.now signature.now)) }
-    ensures fits { OnOk result (Fits block.now) }
+    ensures spells { IfOk result (λ v. Spells v.items (Message.Block block.now signature.now)) }
     ensures over_limit { IsErrOf result EncodeError.OverLimit ↔ (Fits block.now → ⊥) }
 {
     if !block.fits() {
         return Err(EncodeError::OverLimit);
     }
     let mut text = Vec::new(alloc);
-    text.extend_from_slice(&[BLOCK_TAG])?;
+    text.put(&[BLOCK_TAG])?;
     put_body(&mut text, block)?;
-    text.extend_from_slice(&signature.0)?;
+    text.put(&signature.0)?;
     Ok(text)
 }
 
-/// The bytes of the message. `OverLimit` exactly where its block or certificate does not fit, else `NoMemory` where
+/// The text that spells the message. `OverLimit` exactly where its block or certificate does not fit, else `NoMemory` where
 /// memory is refused. A vote always fits.
 pub fn encode_message(alloc: Global, sent: &Message) -> Result<Vec<u8>, EncodeError>
-    ensures text { IfOk result (λ v. v.items ≡ message sent.now) }
-    ensures fits { OnOk result (MessageFits sent.now) }
+    ensures spells { IfOk result (λ v. Spells v.items sent.now) }
     ensures over_limit { IsErrOf result EncodeError.OverLimit ↔ (MessageFits sent.now → ⊥) }
 {
     match sent {

@@ -5,6 +5,7 @@ pub mod Complete
 pub mod Listed
 pub mod OneReply
 pub mod Replayed
+pub mod Beginnings
 pub mod Views
 pub mod Contained
 pub mod Finding

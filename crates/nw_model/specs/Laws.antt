@@ -23,6 +23,11 @@ abbrev pub LegalHistoriesLeaveSoundStates : Type 0
 LegalHistoriesLeaveSoundStates =
     (accepts : Meaning) (terms : Terms) (base : State) (es : List Event) → IsLegal accepts terms base es → IsSound (replay terms.bounds base es)
 
+-- the first events of a legal history are a legal history
+abbrev pub BeginningsOfLegalHistoriesAreLegal : Type 0
+BeginningsOfLegalHistoriesAreLegal =
+    (accepts : Meaning) (terms : Terms) (base : State) (first more : List Event) → IsLegal accepts terms base (first ++ more) → IsLegal accepts terms base first
+
 -- where a view shows a sound state, a complete block has the same ancestors in both
 abbrev pub ViewsShowTheAncestors : Type 0
 ViewsShowTheAncestors = (v : Frozen) (s : State) (d : Digest) → IsSound s → Shows v s → IsComplete s d → (a : Digest) → IsAncestorIn v d a ↔ IsAncestor s d a

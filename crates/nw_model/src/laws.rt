@@ -2,6 +2,7 @@
 ghost use Rattle.nw_model.specs.Laws.{
   CausalListsContainThoseOfTheirBlocks,
   LegalHistoriesLeaveSoundStates,
+  BeginningsOfLegalHistoriesAreLegal,
   LegalHistoriesVoteOnce,
   ViewsShowTheAncestors,
   FirstsOfABaseGetNoVote,
@@ -19,6 +20,11 @@ pub fn step_is_a_function()
 /// A legal history leaves a sound state: no two digests are ever certified for one round and author.
 pub fn a_legal_history_leaves_a_sound_state()
     ensures { LegalHistoriesLeaveSoundStates }
+{}
+
+/// The first events of a legal history are a legal history, so that each law holds at each moment of it.
+pub fn a_beginning_of_a_legal_history_is_legal()
+    ensures { BeginningsOfLegalHistoriesAreLegal }
 {}
 
 /// A complete block has the same ancestors in the state and in a view that shows it.

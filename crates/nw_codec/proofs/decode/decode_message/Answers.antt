@@ -17,7 +17,7 @@ pub returns-in_err-message_of-clause-fault : goal.returns-in_err-message_of-clau
 returns-in_err-message_of-clause-fault c = says_memory c.args.text.now c.from_residual-in_err-message_of.result c.in_ok-check_text.ensures c.from_residual-in_err-message_of.ensures.1
 
 pub returns-in_err-message_of-clause-memory : goal.returns-in_err-message_of-clause-memory
-returns-in_err-message_of-clause-memory c _ = whole_is_spelled c.args.text.now (All-from_get_or (λ b. b < 256) c.args.text.now 0 (λ i lt. omega (arith, c.type_inv.text i))) c.in_ok-check_text.ensures
+returns-in_err-message_of-clause-memory c _ = c.in_err-message_of.ensures.memory
 
 pub returns-clause-fault : goal.returns-clause-fault
 returns-clause-fault c = says_found c.args.text.now _ c.in_ok-check_text.ensures

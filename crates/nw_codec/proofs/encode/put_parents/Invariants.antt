@@ -1,8 +1,13 @@
 use Rattle.std.proofs.Common.{◌++◌, ℕ, List, take}
+use Rattle.std.specs.Prelude.{All}
 use Rattle.std.specs.List.{flat_map}
 use Rattle.nw_codec.specs.Grammar.{parent_bytes}
+use Rattle.nw_codec.specs.Typed.{IsRef}
 use Rattle.nw_codec.proofs.encode.put_parents.Given as goal
 
 -- the parents so far are put behind what was there
 abbrev pub invariant-loop-parent : goal.invariant-loop-parent
-invariant-loop-parent g l = (text : List ℕ) → g.S.Sink.holds l.fn.sink text → g.S.Sink.holds l.sink (text ++ flat_map parent_bytes (take l.parent-index l.parents))
+invariant-loop-parent g l = record {
+  text : (text : List ℕ) → g.S.Sink.holds l.fn.sink text → g.S.Sink.holds l.sink (text ++ flat_map parent_bytes (take l.parent-index l.parents));
+  typed : All IsRef (take l.parent-index l.parents);
+}
