@@ -169,3 +169,7 @@ nothing_unmet s d unmet absent are w lacks = let names = ((are d w).0 lacks).0 i
 
 pub nothing_lacking : (s : State) (d : Digest) (lacking : Pairs) → get s.blocks d ≡ None → AreLacking s lacking [] → (w : Wanted) → Lacks lacking d w → ⊥
 nothing_lacking s d lacking absent are w lacks = let names = (are.only d w lacks).0 in some_none names.0 (sym names.1 ∙ absent)
+
+-- what the holder wants is no change but to the holder
+pub wants_same : (Q P : Wanted → Type 0) (holder : Digest) (old new : Pairs) → Wants Q P holder old new → AreSameBut holder old new
+wants_same Q P holder old new wants h w other = (λ lacks. elim (wants.only h w lacks) [ inl was ↦ was | inr (here, name, none) ↦ absurd (other here) ], λ lacks. wants.still h w lacks)

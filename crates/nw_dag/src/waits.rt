@@ -1,6 +1,6 @@
 //! What held blocks lack, and which are complete.
 ghost use Rattle.std.specs.Prelude.{◌≡◌, ◌↔◌, ◌<◌, ◌≤◌, ◌+◌, [], ◌∷◌, ◌++◌};
-ghost use Rattle.std.specs.Prelude.{IfOk, OnOk, IsTrue, length, Contains};
+ghost use Rattle.std.specs.Prelude.{IfOk, OnOk, OnErr, IsTrue, length, Contains};
 ghost use Rattle.std.specs.FinSet as set;
 ghost use Rattle.std.specs.FinMap as map;
 ghost use Rattle.std.specs.Vec.{vec_capacity};
@@ -108,8 +108,8 @@ impl Waits {
         Ok(())
     }
 
-    /// Lets the holder lack the parents of this block of its that do not stand or are not complete, where the block is
-    /// above the garbage round. Want of memory may leave that half done.
+    /// Lets the holder, which lacks nothing, lack the parents of this block of its that do not stand or are not complete,
+    /// where the block is above the garbage round. Want of memory changes nothing.
     pub(crate) fn want_parents(
         &mut self,
         held: &Held,
@@ -117,6 +117,8 @@ impl Waits {
         holder: Digest,
     ) -> Result<(), NoMemory>
         requires absent { Stands held.now.state holder → ⊥ }
+        requires unmet { (w : Wanted) → Lacks self.old.unmet holder w → ⊥ }
+        requires lacking { (w : Wanted) → Lacks self.old.lacking holder w → ⊥ }
         ensures unmet { OnOk result (Wants (IsMet held.now.state)
             (λ w. (held.now.state.floor < block.now.round) × IsNamedAmong block.now.round
             block.now.parents w) holder self.old.unmet self.new.unmet) }
@@ -124,17 +126,21 @@ impl Waits {
             (Wants (λ w. IsMet held.now.state w × IsReady held.now.state self.old.lacking w.digest)
             (λ w. (held.now.state.floor < block.now.round) × IsNamedAmong block.now.round
             block.now.parents w) holder self.old.lacking self.new.lacking) }
-        ensures same_unmet { AreSameBut holder self.old.unmet self.new.unmet }
-        ensures same_lacking { AreSameBut holder self.old.lacking self.new.lacking }
         ensures roll { self.new.roll ≡ self.old.roll }
+        ensures unchanged { OnErr result
+            ((self.new.unmet ≡ self.old.unmet) × (self.new.lacking ≡ self.old.lacking)) }
     {
         if block.round <= held.floor() {
             return Ok(());
         }
-        match block.round.before() {
-            None => Ok(()),
-            Some(round) => self.want_each(held, round, block.parents.as_slice(), holder),
+        let Some(round) = block.round.before() else {
+            return Ok(());
+        };
+        if let Err(refused) = self.want_each(held, round, block.parents.as_slice(), holder) {
+            self.forget(holder);
+            return Err(refused);
         }
+        Ok(())
     }
 
     /// Lets the holder lack nothing any more.

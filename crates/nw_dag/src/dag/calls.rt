@@ -1,10 +1,12 @@
 //! The calls of the step table, each by the name that the table has for it.
 ghost use Rattle.std.specs.Prelude.{◌≡◌, IfOk, OnOk, OnErr};
 ghost use Rattle.nw_model.specs.Step.{IsReply, IsShort, after};
+ghost use Rattle.nw_model.specs.Step.{write_reply, certify_reply, collect_reply};
 
 use super::Dag;
-use nw_digest::NoMemory;
-use nw_model::{Call, Reply};
+use nw_codec::{Block, Certificate};
+use nw_digest::{Digest, NoMemory, Round, Shared};
+use nw_model::{Call, CertifyReply, CollectReply, Reply, WriteReply};
 use std::alloc::Global;
 
 impl Dag {
@@ -67,5 +69,69 @@ impl Dag {
             Call::Missing(most) => Ok(Reply::Missing(self.missing(alloc, *most)?)),
             Call::Status => Ok(Reply::Status(self.status())),
         }
+    }
+
+    /// Takes the step of a write of the block under the digest, and answers its reply. Want of memory leaves the store as
+    /// it was.
+    pub fn write(&mut self, digest: Digest, block: &Shared<Block>) -> Result<WriteReply, NoMemory>
+        ensures reply { IfOk result
+            (λ r. r ≡ write_reply self.old.bounds self.old.state digest block.now) }
+        ensures state { OnOk result
+            (self.new.state ≡ after self.old.bounds self.old.state (Call.Write digest block.now)) }
+        ensures bounds { self.new.bounds ≡ self.old.bounds }
+        ensures unchanged { OnErr result (self.new ≡ self.old) }
+    {
+        let reply = self.write_reply(&digest, block.get());
+        self.take_write(digest, block, &reply)?;
+        Ok(reply)
+    }
+
+    /// Takes the step of handing in the certificate, and answers its reply. Want of memory leaves the store as it was.
+    pub fn certify(&mut self, certificate: &Shared<Certificate>) -> Result<CertifyReply, NoMemory>
+        ensures reply { IfOk result
+            (λ r. r ≡ certify_reply self.old.bounds self.old.state certificate.now) }
+        ensures state { OnOk result
+            (self.new.state ≡ after self.old.bounds self.old.state (Call.Certify certificate.now)) }
+        ensures bounds { self.new.bounds ≡ self.old.bounds }
+        ensures unchanged { OnErr result (self.new ≡ self.old) }
+    {
+        let reply = self.certify_reply(certificate.get());
+        self.take_certify(certificate, &reply)?;
+        Ok(reply)
+    }
+
+    /// Takes the step of a collection, and answers its reply: where the round is higher than the garbage round, it is the
+    /// garbage round from now on, and what is of a round below it is dropped. Want of memory leaves the store as it was.
+    pub fn collect(&mut self, round: Round) -> Result<CollectReply, NoMemory>
+        ensures reply { IfOk result (λ r. r ≡ collect_reply self.old.state round) }
+        ensures state { OnOk result
+            (self.new.state ≡ after self.old.bounds self.old.state (Call.Collect round)) }
+        ensures bounds { self.new.bounds ≡ self.old.bounds }
+        ensures unchanged { OnErr result (self.new ≡ self.old) }
+    {
+        let reply = self.collect_reply(round);
+        self.take_collect(round, &reply)?;
+        Ok(reply)
+    }
+
+    /// The reply that a write would get now.
+    pub fn write_reply(&self, digest: &Digest, block: &Block) -> WriteReply
+        ensures { result ≡ write_reply self.now.bounds self.now.state digest.now block.now }
+    {
+        self.held.write_reply(digest, block)
+    }
+
+    /// The reply that a certificate would get now.
+    pub fn certify_reply(&self, certificate: &Certificate) -> CertifyReply
+        ensures { result ≡ certify_reply self.now.bounds self.now.state certificate.now }
+    {
+        self.held.certify_reply(certificate)
+    }
+
+    /// The reply that a collection would get now. It takes no memory.
+    pub fn collect_reply(&self, round: Round) -> CollectReply
+        ensures { result ≡ collect_reply self.now.state round }
+    {
+        self.held.collect_reply(round)
     }
 }

@@ -24,6 +24,7 @@ impl Dag {
         ensures answer { IfOk result (λ answer. MatchResult answer
             (λ view. IsComplete self.old.state digest × Shows view.frozen self.old.state)
             (λ refusal. IsCausalReply self.old.state digest (Reply.Causal refusal))) }
+        ensures sound { IsSound self.old.state }
         ensures same { self.new ≡ self.old }
     {
         if let Some(refusal) = self.refusal(&digest) {

@@ -2,43 +2,47 @@ use Rattle.std.proofs.Common.{◌≡◌, ◌+◌, None, ap, refl, sym, ◌∙◌
 use Rattle.std.specs.Prelude.{Contains}
 use Rattle.std.specs.FinMap.{get}
 use Rattle.nw_digest.specs.declared.digest.Digest.{Digest}
-use Rattle.nw_waiting.specs.Pairs.{Pairs}
 use Rattle.nw_model.specs.State.{State}
 use Rattle.nw_model.specs.Step.{with_block}
 use Rattle.nw_dag.specs.declared.roll.Roll.{Roll}
-use Rattle.nw_dag.specs.Changes.{AreSameBut}
 use Rattle.nw_dag.specs.Frozen.{AreFrozenBut}
 use Rattle.nw_dag.proofs.Freezing.{frozen_arrived, frozen_fewer}
 use Rattle.nw_held.proofs.Puts.{absent}
-use Rattle.nw_dag.proofs.Written.{block_arrives, forgotten, get_other, nothing_unmet, nothing_lacking, since_written, written}
+use Rattle.nw_dag.proofs.Written.{block_arrives, forgotten, get_other, nothing_unmet, nothing_lacking, since_written, wants_same, written}
 use Rattle.nw_dag.proofs.dag.Dag.store.Goals as goal
+
+pub invariant_of-self-in_err-want_parents : goal.invariant_of-self-in_err-want_parents
+invariant_of-self-in_err-want_parents c =
+    let waits = c.self.inside.waits in
+    rw (c.in_err-want_parents.ensures.unchanged.0, c.in_err-want_parents.ensures.unchanged.1, c.want_parents.ensures.roll, c.reserve.ensures.unmet, c.reserve.ensures.lacking, c.reserve.ensures.pending)
+    (record { settled = c.self.invariant.settled; frozen = frozen_fewer c.self.inside.held.state waits.lacking waits.roll.fresh.items c.reserve.new.self.roll.fresh.items c.self.inside.frozen.generations.blocks c.self.invariant.frozen c.reserve.ensures.kept })
 
 pub invariant_of-self-in-Err : goal.invariant_of-self-in-Err
 invariant_of-self-in-Err c =
     let s : State = c.self.inside.held.state in
-    let none : get s.blocks c.args.digest ≡ None = absent _ (rw (← c.self.view_is) at c.requires.absent) in
+    let d : Digest = c.args.digest in
+    let none : get s.blocks d ≡ None = absent _ (rw (← c.self.view_is) at c.requires.absent) in
     let waits = c.self.inside.waits in
+    let wanted = c.want_parents.new.self in
     let unmet : c.forget.new.self.unmet ≡ waits.unmet = c.forget.ensures.unmet
-    ∙ forgotten c.args.digest waits.unmet c.hold.new.waits.unmet (subst (λ (m : Pairs). AreSameBut c.args.digest m c.hold.new.waits.unmet) c.reserve.ensures.unmet c.hold.ensures.same_unmet)
-    (nothing_unmet s c.args.digest waits.unmet none c.self.invariant.settled.settling.standing) in
+    ∙ forgotten d waits.unmet wanted.unmet (wants_same _ _ d waits.unmet wanted.unmet (rw c.reserve.ensures.unmet at c.in_ok-want_parents.ensures.unmet)) (nothing_unmet s d waits.unmet none c.self.invariant.settled.settling.standing) in
     let lacking : c.forget.new.self.lacking ≡ waits.lacking = c.forget.ensures.lacking
-    ∙ forgotten c.args.digest waits.lacking c.hold.new.waits.lacking (subst (λ (m : Pairs). AreSameBut c.args.digest m c.hold.new.waits.lacking) c.reserve.ensures.lacking c.hold.ensures.same_lacking)
-    (nothing_lacking s c.args.digest waits.lacking none c.self.invariant.settled.settling.promoted) in
-    rw (c.in-Err.ensures.unchanged, unmet, lacking, c.forget.ensures.roll, c.hold.ensures.roll, c.reserve.ensures.pending)
+    ∙ forgotten d waits.lacking wanted.lacking (wants_same _ _ d waits.lacking wanted.lacking (rw c.reserve.ensures.lacking at c.in_ok-want_parents.ensures.lacking)) (nothing_lacking s d waits.lacking none c.self.invariant.settled.settling.promoted) in
+    rw (c.in-Err.ensures.unchanged, unmet, lacking, c.forget.ensures.roll, c.want_parents.ensures.roll, c.reserve.ensures.pending)
     (record { settled = c.self.invariant.settled; frozen = frozen_fewer s waits.lacking waits.roll.fresh.items c.reserve.new.self.roll.fresh.items c.self.inside.frozen.generations.blocks c.self.invariant.frozen c.reserve.ensures.kept })
 
 pub admit-requires : goal.admit-requires
-admit-requires c = rw c.hold.ensures.roll c.in_ok-reserve.ensures.room
+admit-requires c = rw c.want_parents.ensures.roll c.in_ok-reserve.ensures.room
 
 pub arrive-requires : goal.arrive-requires
 arrive-requires c =
     let s : State = c.self.inside.held.state in
     let none : get s.blocks c.args.digest ≡ None = absent _ (rw (← c.self.view_is) at c.requires.absent) in
     let waits = c.self.inside.waits in
-    let more : c.admit.new.self.roll.pending ≡ waits.roll.pending + 1 = c.admit.ensures.pending ∙ ap (λ (r : Roll). r.pending + 1) c.hold.ensures.roll ∙ ap (λ n. n + 1) c.reserve.ensures.pending in
+    let more : c.admit.new.self.roll.pending ≡ waits.roll.pending + 1 = c.admit.ensures.pending ∙ ap (λ (r : Roll). r.pending + 1) c.want_parents.ensures.roll ∙ ap (λ n. n + 1) c.reserve.ensures.pending in
     rw (c.in_default.ensures.state, c.admit.ensures.unmet, c.admit.ensures.lacking)
-    (written s c.args.digest c.args.block c.args.vote none waits.unmet waits.lacking c.hold.new.waits.unmet c.hold.new.waits.lacking waits.roll.pending c.admit.new.self.roll.pending c.self.invariant.settled
-    (rw c.reserve.ensures.unmet at c.in_default.ensures.unmet) (rw c.reserve.ensures.lacking at c.in_default.ensures.lacking) more)
+    (written s c.args.digest c.args.block c.args.vote none waits.unmet waits.lacking c.want_parents.new.self.unmet c.want_parents.new.self.lacking waits.roll.pending c.admit.new.self.roll.pending c.self.invariant.settled
+    (rw (c.reserve.ensures.unmet, c.get.ensures) at c.in_ok-want_parents.ensures.unmet) (rw (c.reserve.ensures.lacking, c.get.ensures) at c.in_ok-want_parents.ensures.lacking) more)
 
 pub invariant_of-self : goal.invariant_of-self
 invariant_of-self c =
@@ -52,16 +56,16 @@ invariant_of-self-2 c =
     let d : Digest = c.args.digest in
     let none : get s.blocks d ≡ None = absent _ (rw (← c.self.view_is) at c.requires.absent) in
     let waits = c.self.inside.waits in
-    let mid = c.hold.new.waits.lacking in
+    let mid = c.want_parents.new.self.lacking in
     let new = c.arrive.new.self in
     let listed = c.admit.new.self.roll.fresh.items in
-    let same : listed ≡ c.reserve.new.self.roll.fresh.items = ap (λ q. q.items) c.admit.ensures.fresh ∙ ap (λ (r : Roll). r.fresh.items) c.hold.ensures.roll in
+    let same : listed ≡ c.reserve.new.self.roll.fresh.items = ap (λ q. q.items) c.admit.ensures.fresh ∙ ap (λ (r : Roll). r.fresh.items) c.want_parents.ensures.roll in
     record {
       settled = c.arrive.ensures.settled;
       frozen = subst (λ (t : State). AreFrozenBut t new.lacking new.roll.fresh.items c.self.inside.frozen.generations.blocks) (sym c.in_default.ensures.state)
           (frozen_arrived s (with_block s d c.args.block c.args.vote) d waits.lacking mid new.lacking waits.roll.fresh.items listed new.roll.fresh.items c.self.inside.frozen.generations.blocks
           (block_arrives s d c.args.block c.args.vote none)
-          (since_written s d c.args.block c.args.vote none waits.lacking mid c.self.invariant.settled.settling.promoted (rw c.reserve.ensures.lacking at c.in_default.ensures.lacking))
+          (since_written s d c.args.block c.args.vote none waits.lacking mid c.self.invariant.settled.settling.promoted (rw (c.reserve.ensures.lacking, c.get.ensures) at c.in_ok-want_parents.ensures.lacking))
           (λ x other. get_other s.blocks d c.args.block x other) refl c.self.invariant.frozen
           (λ x among ready. subst (λ xs. Contains xs x) (sym same) (c.reserve.ensures.kept x among ready))
           (rw (c.in_default.ensures.state, c.admit.ensures.lacking) at c.arrive.ensures.grown));
