@@ -127,46 +127,71 @@ fn read_request<'a>(
     words: &mut Words<'a>,
 ) -> Result<Request<'a>, LineFault> {
     Ok(match keyword {
-        "block" => Request::Block(BlockLine {
-            name: words.name()?,
-            author: words.member()?,
-            round: words.round()?,
-            parents: words.names(alloc)?,
-            transactions: words.transactions(alloc)?,
-        }),
-        "body" => Request::Body(words.name()?),
-        "digest" => Request::Digest(words.name()?),
-        "hash" => Request::Hash(hashed(words.next()?)?),
-        "write" => Request::Write {
-            name: words.name()?,
-            signer: signer(words)?,
-        },
-        "read" => Request::Read(words.name()?),
-        "certify" => Request::Certify {
-            name: words.name()?,
-            signers: words.members(alloc)?,
-        },
-        "valid" => Request::Valid {
-            name: words.name()?,
-            signers: words.members(alloc)?,
-        },
-        "gather" => Request::Gather {
-            name: words.name()?,
-            signers: words.members(alloc)?,
-        },
-        "certificate" => Request::Certificate(words.name()?),
-        "causal" => Request::Causal(words.name()?),
-        "open" => Request::Open {
-            ticket: words.name()?,
-            name: words.name()?,
-        },
-        "walk" => Request::Walk(words.name()?),
+        "block" => Request::Block(block(alloc, words)?),
+        "body" | "digest" | "read" | "certificate" | "causal" | "walk" => {
+            named(keyword, words.name()?)
+        }
+        "hash" => Request::Hash(hashed(words)?),
+        "write" => write(words)?,
+        "certify" | "valid" | "gather" => signed(alloc, keyword, words)?,
+        "open" => open(words)?,
         "collect" => Request::Collect(words.round()?),
         "missing" => Request::Missing(words.member()?),
         "status" => Request::Status,
         "compact" => Request::Compact,
         "session" => Request::Session(words.member()?),
         _ => return Err(LineFault::Bad),
+    })
+}
+
+fn block<'a>(alloc: Global, words: &mut Words<'a>) -> Result<BlockLine<'a>, LineFault> {
+    Ok(BlockLine {
+        name: words.name()?,
+        author: words.member()?,
+        round: words.round()?,
+        parents: words.names(alloc)?,
+        transactions: words.transactions(alloc)?,
+    })
+}
+
+fn write<'a>(words: &mut Words<'a>) -> Result<Request<'a>, LineFault> {
+    Ok(Request::Write {
+        name: words.name()?,
+        signer: signer(words)?,
+    })
+}
+
+fn open<'a>(words: &mut Words<'a>) -> Result<Request<'a>, LineFault> {
+    Ok(Request::Open {
+        ticket: words.name()?,
+        name: words.name()?,
+    })
+}
+
+// What is asked of one name alone.
+fn named<'a>(keyword: &str, name: Name<'a>) -> Request<'a> {
+    match keyword {
+        "body" => Request::Body(name),
+        "digest" => Request::Digest(name),
+        "read" => Request::Read(name),
+        "certificate" => Request::Certificate(name),
+        "causal" => Request::Causal(name),
+        _ => Request::Walk(name),
+    }
+}
+
+// What is asked with the signatures of these members.
+fn signed<'a>(
+    alloc: Global,
+    keyword: &str,
+    words: &mut Words<'a>,
+) -> Result<Request<'a>, LineFault> {
+    let name = words.name()?;
+    let signers = words.members(alloc)?;
+    Ok(match keyword {
+        "certify" => Request::Certify { name, signers },
+        "valid" => Request::Valid { name, signers },
+        _ => Request::Gather { name, signers },
     })
 }
 
@@ -200,10 +225,10 @@ fn signer(words: &mut Words<'_>) -> Result<Option<u16>, LineFault> {
     }
 }
 
-fn hashed(word: &str) -> Result<&str, LineFault> {
-    if word == "-" {
-        Ok("")
-    } else {
-        transaction(word).ok_or(LineFault::Bad)
+// The next word, of which `-` is the empty text.
+fn hashed<'a>(words: &mut Words<'a>) -> Result<&'a str, LineFault> {
+    match words.next()? {
+        "-" => Ok(""),
+        word => transaction(word).ok_or(LineFault::Bad),
     }
 }
