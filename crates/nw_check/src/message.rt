@@ -1,6 +1,6 @@
 //! Texts from other validators, decoded and checked.
 ghost use Rattle.std.specs.Prelude.{IfOk, OnErr};
-ghost use Rattle.nw_codec.specs.Spelled.{Spells, IsSpelled};
+ghost use Rattle.nw_codec.specs.Spelled.{Spells, TakesMemory};
 ghost use Rattle.nw_codec.specs.declared.message.Message.TheVariants as messages;
 ghost use Rattle.nw_check.specs.Message.{IsChecked};
 
@@ -28,14 +28,14 @@ pub enum Checked<S: Scheme> {
     BadCert(CertFault),
 }
 
-/// Decodes the text and checks its message. `NoMemory` is answered only of a message's text.
+/// Decodes the text and checks its message. `NoMemory` is answered only of a block's or a certificate's text.
 pub fn check_message<S: Scheme>(
     alloc: Global,
     committee: &Shared<Committee>,
     text: &[u8],
 ) -> Result<Checked<S>, NoMemory>
     ensures checked { IfOk result (IsChecked S.accepts committee.now text.now) }
-    ensures memory { OnErr result (IsSpelled text.now) }
+    ensures memory { OnErr result (TakesMemory text.now) }
 {
     match decode_message(alloc, text) {
         Ok(Message::Block { block, signature }) => checked_block(
