@@ -1,12 +1,12 @@
 -- When journals are those of one history.
-use Rattle.std.specs.Prelude.{◌≡◌, ℕ, ◌+◌, ◌==◌, ◌<◌, ◌≤◌, List, [], ◌∷◌, Some, length, map, count_by, slice_get, All}
+use Rattle.std.specs.Prelude.{◌≡◌, ℕ, ◌+◌, ◌==◌, ◌<◌, ◌≤◌, List, [], ◌∷◌, Some, length, map, count_by, sum_by, slice_get, All}
 use Rattle.std.specs.List.{range_with_len}
 use Rattle.std.specs.List.Sorted.{IsPermutation}
 use mathlib.Core.Logic.{◌⊎◌}
 use Rattle.nw_model.specs.History.{events_of}
 use Rattle.nw_model.specs.declared.event.Event.{Event}
 use Rattle.nw_history.specs.Story.{Story}
-use Rattle.nw_store.specs.Journal.{Answer, Journal, AreBegun, AreComparable}
+use Rattle.nw_store.specs.Journal.{Answer, Kept, Journal, AreBegun, AreComparable}
 use Rattle.nw_store.specs.declared.error.SettleFault.{SettleFault}
 use Rattle.nw_store.specs.declared.error.SettleFault.TheVariants as faults
 
@@ -59,7 +59,8 @@ pub record Ledgers : Type 0 where
   pub made : ℕ
   pub journals : List Journal
 
--- why journals do not settle: there are fewer than sessions were made; else an id strays, and the least that does is named, with no number of a call
-abbrev pub IsFault : ℕ → List Journal → SettleFault → Type 0
-IsFault made js (faults.Unfinished m given) = (m ≡ made) × (given ≡ length js) × (given < m)
-IsFault made js (faults.Differs session number) = (made ≤ length js) × IsFirstStray made (ids_of js) session × (number ≡ 0)
+-- why journals do not settle: there are fewer than sessions were made; else there are as many, which have all calls of the history among them, an id strays, and the least that does is named, with no number of a call
+abbrev pub IsFault : Kept → List Journal → SettleFault → Type 0
+IsFault held js (faults.Unfinished m given) = (m ≡ held.made) × (given ≡ length js) × (given < m)
+IsFault held js (faults.Differs session number) =
+    (length js ≡ held.made) × (sum_by (λ j. length j.answers) js ≡ length held.history.events) × IsFirstStray held.made (ids_of js) session × (number ≡ 0)

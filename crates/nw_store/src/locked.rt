@@ -196,6 +196,7 @@ pub fn renew_locked<S: Scheme, L: Home>(locked: &mut Locked<S, L>, session: &mut
     ensures starts { origin_of locked.old.history ≡ L.origin }
     ensures legal { IsLegalStory S.accepts locked.old.history }
     ensures numbered { AreAnswers session.old.id 1 session.old.answers }
+    ensures below { session.old.id < 256 }
     ensures same { locked.new ≡ locked.old }
     ensures session { session.new ≡ session.old }
 {

@@ -1,11 +1,11 @@
 //! Settlement: the journals of all sessions, and the history that they are.
 ghost use Rattle.std.specs.Prelude.{ℕ, ◌≡◌, ◌↔◌, ◌+◌, ◌<◌, ◌^◌, ◌≤◌};
-ghost use Rattle.std.specs.Prelude.{IsOk, IsNone, IsTrue, OnOk, IfOk, IfErr, IfSome, IfNone, Some};
+ghost use Rattle.std.specs.Prelude.{IsOk, IsTrue, OnOk, OnErr, IfOk, IfErr, IfSome, IfNone, Some};
 ghost use Rattle.std.specs.Prelude.{All, length, slice_get, sum_by};
 ghost use Rattle.std.specs.List.Sorted.{IsPermutation, IsNonDecreasingBy};
 ghost use Rattle.nw_history.specs.Story.{IsLegalStory, reopened};
 ghost use Rattle.nw_store.specs.Journal.{Journal, AreBegun, AreAnswers, origin_of};
-ghost use Rattle.nw_store.specs.Settled.{AreAll, AreAllComparable, AreInOrder, AreSettled, IsFault};
+ghost use Rattle.nw_store.specs.Settled.{AreAll, AreAllComparable, AreSettled, IsFault};
 ghost use Rattle.nw_store.specs.Settled.{IsFirstStray, IsStray, ids_of};
 
 use crate::locked::renew_locked;
@@ -80,7 +80,7 @@ impl<S: Scheme, L: Home> Settled<S, L> {
 }
 
 /// Settles the sessions with what the lock held. It is done exactly where they are all sessions that were made, each once, in any
-/// order; a refusal hands everything back, the sessions perhaps in another order. No event is compared, and no memory is taken.
+/// order; a refusal hands everything back as it was. No event is compared, and no memory is taken.
 pub fn settle_locked<S: Scheme, L: Home>(
     locked: Locked<S, L>,
     sessions: Vec<Session<S, L>>,
@@ -90,8 +90,8 @@ pub fn settle_locked<S: Scheme, L: Home>(
     ensures journals { IfOk result (λ s. IsPermutation sessions.items s.journals) }
     ensures settled { IfOk result (λ s. AreSettled s.history s.journals) }
     ensures exactly { IsOk result ↔ AreAll locked.made sessions.items }
-    ensures refused { IfErr result (λ e. IsFault locked.made sessions.items e.0) }
-    ensures back { IfErr result (λ e. (e.1 ≡ locked) × IsPermutation sessions.items e.2.items) }
+    ensures refused { IfErr result (λ e. IsFault locked sessions.items e.0) }
+    ensures back { IfErr result (λ e. (e.1 ≡ locked) × (e.2.items ≡ sessions.items)) }
 {
     let mut locked = locked;
     let mut sessions = sessions;
@@ -101,15 +101,16 @@ pub fn settle_locked<S: Scheme, L: Home>(
     }
 }
 
-/// Puts the sessions in order and settles them where they are, if they are all that were made.
+/// Settles the sessions where they are, in the order of their ids, if they are all that were made.
 fn settle_in_place<S: Scheme, L: Home>(
     locked: &mut Locked<S, L>,
     sessions: &mut [Session<S, L>],
 ) -> Result<(), SettleFault>
     ensures exactly { IsOk result ↔ AreAll locked.old.made sessions.old }
     ensures settled { OnOk result (AreSettled locked.old.history sessions.new) }
-    ensures refused { IfErr result (λ fault. IsFault locked.old.made sessions.old fault) }
+    ensures refused { IfErr result (IsFault locked.old sessions.old) }
     ensures permutation { IsPermutation sessions.old sessions.new }
+    ensures unchanged { OnErr result (sessions.new ≡ sessions.old) }
     ensures same { locked.new ≡ locked.old }
 {
     let made = locked.made;
@@ -117,23 +118,13 @@ fn settle_in_place<S: Scheme, L: Home>(
     if given < usize::from(made) {
         return Err(SettleFault::Unfinished { made, given });
     }
-    if let Some(session) = put_in_order(sessions, made) {
+    add_up(&mut locked.tally.calls, sessions, &mut locked.spare);
+    renew_all(locked, sessions);
+    if let Some(session) = first_stray(sessions, made) {
         return Err(SettleFault::Differs { session, number: 0 });
     }
-    join(locked, sessions);
-    Ok(())
-}
-
-/// Puts the sessions in the order of their ids, and answers the least stray one, or `None` where they are all that were made.
-fn put_in_order<S: Scheme, L: Home>(sessions: &mut [Session<S, L>], made: u16) -> Option<u16>
-    requires enough { made ≤ length sessions.old }
-    ensures exactly { IsNone result ↔ AreAll made sessions.old }
-    ensures stray { IfSome result (λ id. IsFirstStray made (ids_of sessions.old) id) }
-    ensures in_order { IfNone result ((length sessions.new ≡ made) × AreInOrder 0 sessions.new) }
-    ensures permutation { IsPermutation sessions.old sessions.new }
-{
     sort(sessions);
-    first_stray(sessions, made)
+    Ok(())
 }
 
 /// Sorts the sessions by their ids.
@@ -144,21 +135,34 @@ fn sort<S: Scheme, L: Home>(sessions: &mut [Session<S, L>])
     sessions.sort_unstable_by_key(|session| session.id());
 }
 
-/// The sessions that were made, in order, have the history among them. Nothing is changed.
-fn join<S: Scheme, L: Home>(locked: &mut Locked<S, L>, sessions: &mut [Session<S, L>])
-    requires { (length sessions.old ≡ locked.old.made) × AreInOrder 0 sessions.old }
-    ensures settled { AreSettled locked.old.history sessions.old }
-    ensures same { locked.new ≡ locked.old }
-    ensures sessions { sessions.new ≡ sessions.old }
+/// The least id that two of these sessions have, or that one has and that is not below `made`.
+fn first_stray<S: Scheme, L: Home>(sessions: &[Session<S, L>], made: u16) -> Option<u16>
+    requires below { All (λ s. s.id < 256) sessions.now }
+    ensures stray { IfSome result (λ id. IsFirstStray made (ids_of sessions.now) id) }
+    ensures none { IfNone result ((id : ℕ) → IsStray made (ids_of sessions.now) id → ⊥) }
 {
-    renew_all(locked, sessions);
-    add_up(&mut locked.tally.calls, sessions, &mut locked.spare);
+    for id in 0..256 {
+        if is_stray(sessions, id, made) {
+            return Some(id);
+        }
+    }
+    None
 }
 
-/// Each front of these sessions begins the history, and their answers are to their calls. Nothing is changed.
+/// Whether two of these sessions have the id, or one has it and it is not below `made`.
+fn is_stray<S: Scheme, L: Home>(sessions: &[Session<S, L>], id: u16, made: u16) -> bool
+    ensures { IsTrue result ↔ IsStray made (ids_of sessions.now) id }
+{
+    let times = sessions.iter().filter(|session| session.id() == id).count();
+    times > 1 || times > 0 && id >= made
+}
+
+/// Each front of these sessions begins the history, their answers are to their calls, and their ids are those of sessions. Nothing
+/// is changed.
 fn renew_all<S: Scheme, L: Home>(locked: &mut Locked<S, L>, sessions: &mut [Session<S, L>])
     ensures begun { All
         (λ s. AreBegun locked.old.history s.answers × AreAnswers s.id 1 s.answers) sessions.old }
+    ensures below { All (λ s. s.id < 256) sessions.old }
     ensures same { locked.new ≡ locked.old }
     ensures sessions { sessions.new ≡ sessions.old }
 {
@@ -168,15 +172,17 @@ fn renew_all<S: Scheme, L: Home>(locked: &mut Locked<S, L>, sessions: &mut [Sess
     }
 }
 
-/// The calls of these sessions, and those that were gathered, are all calls. Nothing is changed: each session lends its share
-/// and gets it back.
+/// These sessions, where they are no fewer than the parts that are not gathered, are as many, and their calls and those that were
+/// gathered are all calls. Nothing is changed: each session lends its share and gets it back.
 fn add_up<S: Scheme, L: Home>(
     calls: &mut ledger::Book<L>,
     sessions: &mut [Session<S, L>],
     gathered: &mut Share<L>,
 )
-    requires parts { gathered.old.parts + length sessions.old ≡ L.parts }
+    requires enough { L.parts ≤ gathered.old.parts + length sessions.old }
+    requires few { gathered.old.parts ≤ L.parts }
     requires backed { gathered.old.parts ≡ 0 → gathered.old.amount ≡ 0 }
+    ensures whole { gathered.old.parts + length sessions.old ≡ L.parts }
     ensures total { sum_by (λ s. length s.answers) sessions.old + gathered.old.amount
         ≡ calls.old.total }
     ensures calls { calls.new.total ≡ calls.old.total }
@@ -195,29 +201,6 @@ fn add_up<S: Scheme, L: Home>(
     }
 }
 
-/// The least id of these sessions, sorted by id, that two of them have or that is not below `made`.
-fn first_stray<S: Scheme, L: Home>(sessions: &[Session<S, L>], made: u16) -> Option<u16>
-    requires sorted { IsNonDecreasingBy (λ s. s.id) sessions.now }
-    ensures stray { IfSome result (λ id. IsFirstStray made (ids_of sessions.now) id) }
-    ensures none { IfNone result ((id : ℕ) → IsStray made (ids_of sessions.now) id → ⊥) }
-{
-    let (first, rest) = sessions.split_first()?;
-    if first.id >= made || starts_at(rest, first.id) {
-        return Some(first.id);
-    }
-    first_stray(rest, made)
-}
-
-/// Whether the first of these sessions has this id.
-fn starts_at<S: Scheme, L: Home>(sessions: &[Session<S, L>], id: u16) -> bool
-    ensures { IsTrue result ↔ (slice_get (ids_of sessions.now) 0 ≡ Some id) }
-{
-    match sessions.split_first() {
-        None => false,
-        Some((first, _)) => first.id == id,
-    }
-}
-
 /// What is handed back where sessions do not settle: why, and everything that was given.
 #[derive(Drop)]
 pub struct Unsettled<S: Scheme, L: Home> {
@@ -225,7 +208,7 @@ pub struct Unsettled<S: Scheme, L: Home> {
     pub fault: SettleFault,
     /// What the lock held.
     pub locked: Locked<S, L>,
-    /// The sessions that were given.
+    /// The sessions that were given, as they were given.
     pub sessions: Vec<Session<S, L>>,
 }
 
@@ -238,8 +221,8 @@ pub fn settle<S: Scheme, L: Home>(
     ensures all { IfOk result (λ s. AreAll s.made sessions.items) }
     ensures journals { IfOk result (λ s. IsPermutation sessions.items s.journals) }
     ensures settled { IfOk result (λ s. AreSettled s.history s.journals) }
-    ensures refused { IfErr result (λ e. IsFault e.locked.made sessions.items e.fault) }
-    ensures back { IfErr result (λ e. IsPermutation sessions.items e.sessions.items) }
+    ensures refused { IfErr result (λ e. IsFault e.locked sessions.items e.fault) }
+    ensures back { IfErr result (λ e. e.sessions.items ≡ sessions.items) }
 {
     match settle_locked(store.locked.into_inner(), sessions) {
         Ok(settled) => Ok(settled),

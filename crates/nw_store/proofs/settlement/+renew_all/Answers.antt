@@ -1,4 +1,4 @@
-use Rattle.std.proofs.Common.{All}
+use Rattle.std.proofs.Common.{◌<◌, All}
 use Rattle.std.proofs.lemmas.List.Elements.{All-cons}
 use Rattle.nw_store.specs.Journal.{Journal, AreBegun, AreAnswers}
 use Rattle.nw_store.proofs.settlement.+renew_all.Goals as goal
@@ -9,3 +9,8 @@ returns-in-Some-clause-begun g t c =
     let first : P c.in-Some.first.now = (c.renew_locked.ensures.begun, c.renew_locked.ensures.numbered) in
     let rest : All P c.in-Some.rest.now = rw (← c.renew_locked.ensures.same) c.renew_all.ensures.begun in
     rw c.in-Some.ensures.cases.0 (All-cons P c.in-Some.first.now c.in-Some.rest.now first rest)
+
+pub returns-in-Some-clause-below : goal.returns-in-Some-clause-below
+returns-in-Some-clause-below g t c =
+    let P : Journal → Type 0 = λ j. j.id < 256 in
+    rw c.in-Some.ensures.cases.0 (All-cons P c.in-Some.first.now c.in-Some.rest.now c.renew_locked.ensures.below c.renew_all.ensures.below)
