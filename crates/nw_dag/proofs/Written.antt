@@ -10,10 +10,12 @@ use Rattle.nw_waiting.specs.declared.wanted.Wanted.{Wanted}
 use Rattle.nw_waiting.specs.Pairs.{Pairs, Lacks, without_holder}
 use Rattle.nw_digest.specs.Order.{digest_cmp}
 use Rattle.nw_model.specs.State.{State}
-use Rattle.nw_model.specs.Step.{with_block, with_certificate}
+use Rattle.nw_model.specs.Step.{Bounds, certify_reply, with_block, with_certificate}
+use Rattle.nw_model.specs.declared.reply.CertifyReply.TheVariants as certify
 use Rattle.nw_model.proofs.Kept.{after_insert, at_insert, same_digest}
 use Rattle.nw_model.proofs.Listed.{contains_none}
 use Rattle.nw_model.proofs.Maps.{digests_total}
+use Rattle.nw_model.proofs.Replayed.{past, is_certified}
 use Rattle.nw_held.specs.Standing.{IsMet}
 use Rattle.nw_dag.specs.Lacking.{Names, IsNamedAmong, IsReady, AreUnmet, AreLacking}
 use Rattle.nw_dag.specs.Changes.{AreSameBut, Wants}
@@ -173,3 +175,15 @@ nothing_lacking s d lacking absent are w lacks = let names = (are.only d w lacks
 -- what the holder wants is no change but to the holder
 pub wants_same : (Q P : Wanted → Type 0) (holder : Digest) (old new : Pairs) → Wants Q P holder old new → AreSameBut holder old new
 wants_same Q P holder old new wants h w other = (λ lacks. elim (wants.only h w lacks) [ inl was ↦ was | inr (here, name, none) ↦ absurd (other here) ], λ lacks. wants.still h w lacks)
+
+nothing : (found : Option Certificate) → is_some found ≡ false → found ≡ None
+nothing None e = refl
+nothing (Some c) e = absurd cc
+
+-- a certificate is kept only where none stands under its digest
+pub certified_anew : (bounds : Bounds) (s : State) (c : Certificate) → certify_reply bounds s c ≡ certify.Certified → get s.certificates c.digest ≡ None
+certified_anew bounds s c is =
+    let low = past is_certified _ (certify.Collected s.floor) _ certify.Certified refl refl is in
+    let far = past is_certified _ certify.TooFar _ certify.Certified refl refl low.1 in
+    let already = past is_certified _ certify.Already _ certify.Certified refl refl far.1 in
+    nothing (get s.certificates c.digest) (past is_certified (is_some (get s.certificates c.digest)) certify.Misfit _ certify.Certified refl refl already.1).0

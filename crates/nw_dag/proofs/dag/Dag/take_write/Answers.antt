@@ -7,9 +7,10 @@ use Rattle.nw_model.specs.Step.{with_block}
 use Rattle.nw_dag.specs.declared.roll.Roll.{Roll}
 use Rattle.nw_dag.specs.Frozen.{AreFrozenBut}
 use Rattle.nw_dag.proofs.Freezing.{frozen_arrived, frozen_fewer}
-use Rattle.nw_held.proofs.Puts.{absent}
+use Rattle.nw_codec.specs.declared.block.Block.{Block}
+use Rattle.nw_model.proofs.Carried.{stored_anew}
 use Rattle.nw_dag.proofs.Written.{block_arrives, forgotten, get_other, nothing_unmet, nothing_lacking, since_written, wants_same, written}
-use Rattle.nw_dag.proofs.dag.Dag.store.Goals as goal
+use Rattle.nw_dag.proofs.dag.Dag.take_write.Goals as goal
 
 pub invariant_of-self-in_err-want_parents : goal.invariant_of-self-in_err-want_parents
 invariant_of-self-in_err-want_parents c =
@@ -21,7 +22,7 @@ pub invariant_of-self-in-Err : goal.invariant_of-self-in-Err
 invariant_of-self-in-Err c =
     let s : State = c.self.inside.held.state in
     let d : Digest = c.args.digest in
-    let none : get s.blocks d ≡ None = absent _ (rw (← c.self.view_is) at c.requires.absent) in
+    let none : get s.blocks d ≡ None = stored_anew c.self.inside.held.bounds c.self.inside.held.state c.args.digest c.args.block.now c.in-Stored.vote (rw (← c.self.view_is) at (sym c.requires ∙ c.in-Stored.is)) in
     let waits = c.self.inside.waits in
     let wanted = c.want_parents.new.self in
     let unmet : c.forget.new.self.unmet ≡ waits.unmet = c.forget.ensures.unmet
@@ -37,11 +38,11 @@ admit-requires c = rw c.want_parents.ensures.roll c.in_ok-reserve.ensures.room
 pub arrive-requires : goal.arrive-requires
 arrive-requires c =
     let s : State = c.self.inside.held.state in
-    let none : get s.blocks c.args.digest ≡ None = absent _ (rw (← c.self.view_is) at c.requires.absent) in
+    let none : get s.blocks c.args.digest ≡ None = stored_anew c.self.inside.held.bounds c.self.inside.held.state c.args.digest c.args.block.now c.in-Stored.vote (rw (← c.self.view_is) at (sym c.requires ∙ c.in-Stored.is)) in
     let waits = c.self.inside.waits in
     let more : c.admit.new.self.roll.pending ≡ waits.roll.pending + 1 = c.admit.ensures.pending ∙ ap (λ (r : Roll). r.pending + 1) c.want_parents.ensures.roll ∙ ap (λ n. n + 1) c.reserve.ensures.pending in
-    rw (c.in_default.ensures.state, c.admit.ensures.unmet, c.admit.ensures.lacking)
-    (written s c.args.digest c.args.block c.args.vote none waits.unmet waits.lacking c.want_parents.new.self.unmet c.want_parents.new.self.lacking waits.roll.pending c.admit.new.self.roll.pending c.self.invariant.settled
+    rw (c.in_default-put_block.ensures.state, c.in_ok-owner.ensures, c.admit.ensures.unmet, c.admit.ensures.lacking)
+    (written s c.args.digest c.args.block.now c.in-Stored.vote none waits.unmet waits.lacking c.want_parents.new.self.unmet c.want_parents.new.self.lacking waits.roll.pending c.admit.new.self.roll.pending c.self.invariant.settled
     (rw (c.reserve.ensures.unmet, c.get.ensures) at c.in_ok-want_parents.ensures.unmet) (rw (c.reserve.ensures.lacking, c.get.ensures) at c.in_ok-want_parents.ensures.lacking) more)
 
 pub invariant_of-self : goal.invariant_of-self
@@ -54,19 +55,20 @@ pub invariant_of-self-2 : goal.invariant_of-self-2
 invariant_of-self-2 c =
     let s : State = c.self.inside.held.state in
     let d : Digest = c.args.digest in
-    let none : get s.blocks d ≡ None = absent _ (rw (← c.self.view_is) at c.requires.absent) in
+    let none : get s.blocks d ≡ None = stored_anew c.self.inside.held.bounds c.self.inside.held.state c.args.digest c.args.block.now c.in-Stored.vote (rw (← c.self.view_is) at (sym c.requires ∙ c.in-Stored.is)) in
     let waits = c.self.inside.waits in
     let mid = c.want_parents.new.self.lacking in
     let new = c.arrive.new.self in
     let listed = c.admit.new.self.roll.fresh.items in
+    let put : c.put_block.new.self.state ≡ with_block s d c.args.block.now c.in-Stored.vote = c.in_default-put_block.ensures.state ∙ ap (λ (x : Block). with_block s d x c.in-Stored.vote) c.in_ok-owner.ensures in
     let same : listed ≡ c.reserve.new.self.roll.fresh.items = ap (λ q. q.items) c.admit.ensures.fresh ∙ ap (λ (r : Roll). r.fresh.items) c.want_parents.ensures.roll in
     record {
       settled = c.arrive.ensures.settled;
-      frozen = subst (λ (t : State). AreFrozenBut t new.lacking new.roll.fresh.items c.self.inside.frozen.generations.blocks) (sym c.in_default.ensures.state)
-          (frozen_arrived s (with_block s d c.args.block c.args.vote) d waits.lacking mid new.lacking waits.roll.fresh.items listed new.roll.fresh.items c.self.inside.frozen.generations.blocks
-          (block_arrives s d c.args.block c.args.vote none)
-          (since_written s d c.args.block c.args.vote none waits.lacking mid c.self.invariant.settled.settling.promoted (rw (c.reserve.ensures.lacking, c.get.ensures) at c.in_ok-want_parents.ensures.lacking))
-          (λ x other. get_other s.blocks d c.args.block x other) refl c.self.invariant.frozen
+      frozen = subst (λ (t : State). AreFrozenBut t new.lacking new.roll.fresh.items c.self.inside.frozen.generations.blocks) (sym put)
+          (frozen_arrived s (with_block s d c.args.block.now c.in-Stored.vote) d waits.lacking mid new.lacking waits.roll.fresh.items listed new.roll.fresh.items c.self.inside.frozen.generations.blocks
+          (block_arrives s d c.args.block.now c.in-Stored.vote none)
+          (since_written s d c.args.block.now c.in-Stored.vote none waits.lacking mid c.self.invariant.settled.settling.promoted (rw (c.reserve.ensures.lacking, c.get.ensures) at c.in_ok-want_parents.ensures.lacking))
+          (λ x other. get_other s.blocks d c.args.block.now x other) refl c.self.invariant.frozen
           (λ x among ready. subst (λ xs. Contains xs x) (sym same) (c.reserve.ensures.kept x among ready))
-          (rw (c.in_default.ensures.state, c.admit.ensures.lacking) at c.arrive.ensures.grown));
+          (rw (put, c.admit.ensures.lacking) at c.arrive.ensures.grown));
     }
