@@ -1,0 +1,15 @@
+use Rattle.nw_store.specs.Journal.{origin_of}
+use Rattle.nw_store.specs.Kept.{parts_of_a_ledger}
+use Rattle.test_stores.proofs.tests.scenes.played.Given as goal
+
+-- the ledger that was opened
+abbrev pub ghosts-play-L-Ledger : goal.ghosts-play-L-Ledger
+ghosts-play-L-Ledger g a = record { name = a.opening.ledger; parts = parts_of_a_ledger }
+
+-- the log that was opened
+abbrev pub ghosts-play-L-Place : goal.ghosts-play-L-Place
+ghosts-play-L-Place g a = record { log = a.opening.log }
+
+-- what the book starts with
+abbrev pub ghosts-play-L-Home : goal.ghosts-play-L-Home
+ghosts-play-L-Home g a = record { origin = origin_of a.book }

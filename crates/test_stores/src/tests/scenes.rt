@@ -1,0 +1,104 @@
+//! The one function that makes stores: each test plays a scene on one.
+ghost use Rattle.std.specs.Prelude.{◌≡◌};
+ghost use Rattle.nw_store.specs.Journal.{origin_of};
+ghost use Rattle.nw_store.specs.Kept.{parts_of_a_ledger};
+
+use super::chains::Link;
+use super::crowds::in_threads;
+use super::scripts::{Row, play_script};
+use super::settling::seen_settled;
+use super::tasks::Crew;
+use super::*;
+use nw_store::{Opening, TooMany};
+use std::marker::Brand;
+use std::thread::Threads;
+
+/// What is done in the sessions of a store, whose number is given.
+#[derive(Drop)]
+pub(super) enum Scene<'a> {
+    /// They ask these rows of these blocks in turn.
+    Script(u16, &'a [Row], &'a [Link]),
+    /// Each does a task of the crew in a thread of its own.
+    Crowd(u16, &'a Crew),
+}
+
+/// Makes so many sessions, which are all that the store makes.
+fn make_sessions<L: Home, R: Wait>(
+    rt: &R,
+    alloc: Global,
+    store: &Store<DemoScheme, L>,
+    sessions: &mut Vec<Session<DemoScheme, L>>,
+    count: u16,
+) -> Result<(), Fail> {
+    for _ in 0..count {
+        sessions.push(store.session(rt, alloc)?)?;
+    }
+    match store.session(rt, alloc) {
+        Err(TooMany) => Ok(()),
+        Ok(_) => Err(Fail::from("one session more is made")),
+    }
+}
+
+/// Plays the scene in new sessions of the store.
+fn perform<L: Home, R: Threads + Wait + Sync>(
+    rt: &R,
+    alloc: Global,
+    store: &Store<DemoScheme, L>,
+    sessions: &mut Vec<Session<DemoScheme, L>>,
+    scene: &Scene<'_>,
+) -> Result<(), Fail> {
+    match scene {
+        Scene::Crowd(count, crew) => {
+            make_sessions(rt, alloc, store, sessions, *count)?;
+            in_threads(rt, alloc, store, sessions.as_mut_slice(), crew);
+            Ok(())
+        }
+        Scene::Script(count, rows, links) => {
+            make_sessions(rt, alloc, store, sessions, *count)?;
+            play_script(rt, alloc, store, sessions.as_mut_slice(), links, rows)
+        }
+    }
+}
+
+/// Plays the scene on the store, and settles its sessions: how many events there are, and how many rows the first session's journal
+/// tells of, from the first on.
+fn on_store<L: Home, R: Threads + Wait + Sync>(
+    rt: &R,
+    alloc: Global,
+    store: Store<DemoScheme, L>,
+    scene: &Scene<'_>,
+) -> Result<(usize, usize), Fail> {
+    let mut sessions = Vec::new(alloc);
+    perform(rt, alloc, &store, &mut sessions, scene)?;
+    seen_settled(alloc, store, sessions, scene)
+}
+
+/// Plays the scene on a store that goes on with the book.
+fn play<L: Home, R: Threads + Wait + Sync>(
+    rt: &R,
+    alloc: Global,
+    opening: Opening<DemoScheme>,
+    book: Book<DemoScheme>,
+    scene: &Scene<'_>,
+) -> Result<(usize, usize), Fail>
+    requires log { opening.log ≡ L.log }
+    requires ledger { (opening.ledger ≡ L.name) × (L.parts ≡ parts_of_a_ledger) }
+    requires origin { origin_of book ≡ L.origin }
+{
+    match Store::<DemoScheme, L>::over(opening, book) {
+        Ok(store) => on_store(rt, alloc, store, scene),
+        Err(_) => Err(Fail::from("the book has events")),
+    }
+}
+
+/// Plays the scene on a store of its own, which goes on with the book: how many events the store has then, and how many rows the
+/// first session's journal tells of, from the first on.
+pub(super) fn played<R: Threads + Wait + Sync>(
+    rt: &R,
+    alloc: Global,
+    book: Book<DemoScheme>,
+    scene: &Scene<'_>,
+) -> Result<(usize, usize), Fail> {
+    let opening = Opening::new(alloc)?;
+    play::<Brand, R>(rt, alloc, opening, book, scene)
+}

@@ -1,0 +1,253 @@
+//! What sessions do round one chain, each in a thread of its own.
+use super::asking::{Ask, reply_to};
+use super::chains::Link;
+use super::followers::Follower;
+use super::*;
+use nw_model::{CausalReply, CertifyReply, CollectReply, WriteReply};
+use std::sync::atomic::AtomicU64;
+use std::sync::atomic::Ordering::SeqCst;
+use std::thread::yield_now;
+
+/// How many rounds are collected.
+const COLLECTED: u16 = 32;
+
+/// How often a session waits in all for the steps of others, before it gives up.
+const TURNS: u32 = 20_000_000;
+
+/// What a session does.
+#[derive(Clone, Copy, Drop)]
+pub(super) enum Task {
+    /// It hands in the chain.
+    Write,
+    /// It hands in every second link of the chain.
+    Share,
+    /// It collects half of the chain, a round after each second link.
+    Collect,
+    /// It opens, reads and walks fifty blocks of the chain, each a few links after it was handed in.
+    Read,
+    /// It hands in the chain beside others, and opens, reads and walks each block.
+    Follow,
+}
+
+/// How a task is done: so many turns, each of which asks of one link, after so many links were handed in.
+struct Plan {
+    asks: &'static [Ask],
+    turns: u16,
+    /// The link of turn `t` is at place `first + t * stride`, and the session's id modulo `spread` further on.
+    first: u16,
+    stride: u16,
+    spread: u16,
+    /// Turn `t` waits for `lag + t * pace` links.
+    lag: u16,
+    pace: u16,
+    /// Blocks of rounds below this one may be collected.
+    floor: u64,
+    /// Whether no other session hands in the same.
+    alone: bool,
+}
+
+const WRITE: Plan = Plan {
+    asks: &[Ask::Write, Ask::Certify],
+    turns: 64,
+    first: 0,
+    stride: 1,
+    spread: 1,
+    lag: 0,
+    pace: 0,
+    floor: 0,
+    alone: true,
+};
+
+const SHARE: Plan = Plan {
+    turns: 32,
+    stride: 2,
+    spread: 2,
+    ..WRITE
+};
+
+const COLLECT: Plan = Plan {
+    asks: &[Ask::Collect],
+    turns: COLLECTED,
+    first: 1,
+    lag: 2,
+    pace: 2,
+    ..WRITE
+};
+
+const READ: Plan = Plan {
+    asks: &[Ask::Open, Ask::Read],
+    turns: 50,
+    spread: 14,
+    lag: 14,
+    pace: 1,
+    floor: 32,
+    ..WRITE
+};
+
+const FOLLOW: Plan = Plan {
+    asks: &[Ask::Write, Ask::Certify, Ask::Open, Ask::Read],
+    turns: 4,
+    alone: false,
+    ..WRITE
+};
+
+impl Task {
+    /// How it is done.
+    fn plan(&self) -> &'static Plan {
+        match self {
+            Task::Write => &WRITE,
+            Task::Share => &SHARE,
+            Task::Collect => &COLLECT,
+            Task::Read => &READ,
+            Task::Follow => &FOLLOW,
+        }
+    }
+}
+
+impl Plan {
+    /// The place of the turn's link, for the session with this id.
+    fn place(&self, turn: u16, id: u16) -> usize {
+        let further = id.checked_rem(self.spread).unwrap_or(0);
+        let place = turn.saturating_mul(self.stride).saturating_add(self.first);
+        usize::from(place.saturating_add(further))
+    }
+
+    /// How many links the turn waits for.
+    fn waits(&self, turn: u16) -> u64 {
+        u64::from(turn.saturating_mul(self.pace).saturating_add(self.lag))
+    }
+
+    /// Whether the reply to what is asked of a block of this round is as it is to be.
+    fn accepts(&self, reply: &Reply, round: u64) -> bool {
+        match reply {
+            Reply::Write(WriteReply::Stored { vote }) => *vote,
+            Reply::Certify(CertifyReply::Certified) => true,
+            Reply::Write(WriteReply::Held) | Reply::Certify(CertifyReply::Already) => !self.alone,
+            Reply::Collect(CollectReply::Raised { dropped }) => *dropped == 1,
+            Reply::Ready | Reply::Read(Some(_)) => true,
+            Reply::Read(None) | Reply::Causal(CausalReply::Unknown) => round < self.floor,
+            _ => false,
+        }
+    }
+}
+
+/// The chain, what each session does with it, and what they tell each other.
+#[derive(Drop)]
+pub(super) struct Crew {
+    links: Vec<Link>,
+    tasks: Vec<Task>,
+    /// How many links were handed in.
+    steps: AtomicU64,
+    /// How many sessions found each answer and each walk as it is to be.
+    agreeing: AtomicU64,
+}
+
+impl Crew {
+    /// Nothing is done yet.
+    pub(super) fn new(links: Vec<Link>, tasks: Vec<Task>) -> Crew {
+        Crew {
+            links,
+            tasks,
+            steps: AtomicU64::new(0),
+            agreeing: AtomicU64::new(0),
+        }
+    }
+
+    /// In how many sessions all was as it is to be.
+    pub(super) fn agreeing(&self) -> u64 {
+        self.agreeing.load(SeqCst)
+    }
+
+    /// Counts the link that was handed in, if the reply says so.
+    fn hears(&self, reply: &Reply) {
+        if matches!(reply, Reply::Certify(CertifyReply::Certified)) {
+            self.steps.fetch_add(1, SeqCst);
+        }
+    }
+
+    /// Whether so many links were handed in, after a while.
+    fn waits_for(&self, steps: u64) -> bool {
+        for _ in 0..TURNS {
+            if self.steps.load(SeqCst) >= steps {
+                return true;
+            }
+            yield_now();
+        }
+        false
+    }
+}
+
+/// Does the task of this place, and tells the crew whether all was as it is to be.
+pub(super) fn work<L: Home, R: Wait>(
+    rt: &R,
+    alloc: Global,
+    store: &Store<DemoScheme, L>,
+    session: &mut Session<DemoScheme, L>,
+    crew: &Crew,
+    place: usize,
+) {
+    if let Some(task) = crew.tasks.get(place) {
+        let plan = task.plan();
+        let mut follower = Follower::new(alloc);
+        let mut ticket = None;
+        let done = turns(
+            rt,
+            alloc,
+            store,
+            session,
+            crew,
+            &mut follower,
+            &mut ticket,
+            plan,
+        );
+        if matches!(done, Ok(true)) {
+            crew.agreeing.fetch_add(1, SeqCst);
+        }
+    }
+}
+
+/// Takes all turns: whether each answer and each walk is as it is to be.
+fn turns<L: Home, R: Wait>(
+    rt: &R,
+    alloc: Global,
+    store: &Store<DemoScheme, L>,
+    session: &mut Session<DemoScheme, L>,
+    crew: &Crew,
+    follower: &mut Follower,
+    ticket: &mut Option<Ticket<DemoScheme>>,
+    plan: &Plan,
+) -> Result<bool, NoStep> {
+    for turn in 0..plan.turns {
+        let kept = crew.waits_for(plan.waits(turn));
+        let Some(link) = crew.links.get(plan.place(turn, session.id())) else {
+            return Ok(false);
+        };
+        let asked = ask_all(rt, alloc, store, session, crew, link, ticket, plan)?;
+        if !kept || !asked || !follower.agrees(alloc, ticket)? {
+            return Ok(false);
+        }
+    }
+    Ok(true)
+}
+
+/// Asks of the link all that the plan asks: whether each answer is as it is to be.
+fn ask_all<L: Home, R: Wait>(
+    rt: &R,
+    alloc: Global,
+    store: &Store<DemoScheme, L>,
+    session: &mut Session<DemoScheme, L>,
+    crew: &Crew,
+    link: &Link,
+    ticket: &mut Option<Ticket<DemoScheme>>,
+    plan: &Plan,
+) -> Result<bool, NoStep> {
+    let round = link.block.block().get().round.get();
+    for asked in plan.asks {
+        let reply = reply_to(rt, alloc, store, session, link, ticket, asked)?;
+        crew.hears(&reply);
+        if !plan.accepts(&reply, round) {
+            return Ok(false);
+        }
+    }
+    Ok(true)
+}
