@@ -1,0 +1,16 @@
+use nw_committee::Committee;
+use nw_digest::{Digest, NoMemory, Round, Shared};
+use nw_model::Reply;
+use nw_sig::DemoScheme;
+use nw_store::{Block, Book, BookError, Command, Limits, NoStep, Ticket};
+use sample_checked::{again, refuse_all, refuse_none};
+use std::alloc::{AllocError, Global};
+use std::test::Fail;
+
+mod asking;
+mod books;
+mod desk;
+mod endings;
+mod examples;
+mod moves;
+mod stores;

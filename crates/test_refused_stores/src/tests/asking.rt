@@ -1,0 +1,153 @@
+//! A session of a store that asks the rows of an example, each again at once where memory was refused.
+use super::desk::{Desk, Link};
+use super::*;
+use nw_digest::Sequence;
+use nw_store::{Done, Home, Session, Store};
+use std::sync::Wait;
+
+/// What is asked, of a block and its certificate.
+#[derive(Clone, Copy)]
+pub(super) enum Ask {
+    Write,
+    Certify,
+    Certificate,
+    Read,
+    Open,
+    /// The ticket of this number is walked, which is no call.
+    Walk(usize),
+    /// The rounds below this one are collected.
+    Collect(u64),
+    Missing,
+    Status,
+    /// The store is compacted, which is no call.
+    Compact,
+}
+
+/// The place of a block, what is asked of it, and the text of the reply, or of how many parts the view of the last ticket has.
+pub(super) struct Row(pub(super) usize, pub(super) Ask, pub(super) &'static str);
+
+/// Makes the call, which opens nothing, and is lent what it hands in.
+fn call<L: Home, R: Wait>(
+    rt: &R,
+    alloc: Global,
+    store: &Store<DemoScheme, L>,
+    session: &mut Session<DemoScheme, L>,
+    link: &Link,
+    asked: &Ask,
+) -> Result<Done<DemoScheme>, NoStep> {
+    match asked {
+        Ask::Write => store.write(rt, alloc, session, &link.block),
+        Ask::Certify => store.certify(rt, alloc, session, &link.certificate),
+        Ask::Certificate => store.certificate(rt, alloc, session, link.block.digest()),
+        Ask::Read => store.read(rt, alloc, session, link.block.digest()),
+        Ask::Collect(number) => {
+            let round = Round::new(*number).unwrap_or(Round::ZERO);
+            store.collect(rt, alloc, session, round)
+        }
+        Ask::Missing => store.missing(rt, alloc, session, 5),
+        _ => store.status(rt, alloc, session),
+    }
+}
+
+/// Opens a causal read of the block, and keeps the ticket, if there is one: the reply that a history has of it.
+fn open<L: Home, R: Wait>(
+    rt: &R,
+    alloc: Global,
+    store: &Store<DemoScheme, L>,
+    session: &mut Session<DemoScheme, L>,
+    link: &Link,
+    tickets: &mut Vec<Ticket<DemoScheme>>,
+) -> Result<Reply, NoStep> {
+    match store.open_causal(rt, alloc, session, link.block.digest())? {
+        Err(done) => Ok(done.reply),
+        Ok(ticket) => match tickets.push(ticket) {
+            Ok(()) => Ok(Reply::Ready),
+            Err(_) => Err(NoStep::NoMemory),
+        },
+    }
+}
+
+/// The list of the ticket, if there is one.
+fn walk(alloc: Global, ticket: Option<&Ticket<DemoScheme>>) -> Result<Reply, NoStep> {
+    match ticket {
+        Some(ticket) => Ok(Reply::List(Sequence::new(ticket.walk(alloc)?))),
+        None => Err(NoStep::OutOfTurn),
+    }
+}
+
+/// The reply to what is asked.
+fn reply_to<L: Home, R: Wait>(
+    rt: &R,
+    alloc: Global,
+    store: &Store<DemoScheme, L>,
+    session: &mut Session<DemoScheme, L>,
+    link: &Link,
+    tickets: &mut Vec<Ticket<DemoScheme>>,
+    asked: &Ask,
+) -> Result<Reply, NoStep> {
+    match asked {
+        Ask::Open => open(rt, alloc, store, session, link, tickets),
+        Ask::Walk(number) => walk(alloc, tickets.get(*number)),
+        Ask::Compact => match store.compact(rt, alloc) {
+            Ok(()) => Ok(Reply::Ready),
+            Err(NoMemory) => Err(NoStep::NoMemory),
+        },
+        _ => Ok(call(rt, alloc, store, session, link, asked)?.reply),
+    }
+}
+
+/// Whether the reply has this text, where a ready one has that of the parts of the last ticket's view.
+fn is_told(
+    alloc: Global,
+    desk: &Desk,
+    reply: &Reply,
+    last: Option<&Ticket<DemoScheme>>,
+    told: &str,
+) -> Result<bool, AllocError> {
+    match (reply, last) {
+        (Reply::Ready, Some(ticket)) => {
+            let parts = ticket.view().parts();
+            Ok(again!(AllocError, format!(in alloc; "Ready({parts})"))?.as_str() == told)
+        }
+        _ => desk.is_told(alloc, reply, told),
+    }
+}
+
+/// Whether the store answers as the row says.
+fn answers<L: Home, R: Wait>(
+    rt: &R,
+    alloc: Global,
+    store: &Store<DemoScheme, L>,
+    session: &mut Session<DemoScheme, L>,
+    tickets: &mut Vec<Ticket<DemoScheme>>,
+    desk: &Desk,
+    row: &Row,
+) -> Result<bool, Fail> {
+    let Row(place, asked, told) = row;
+    let Some(link) = desk.links.get(*place) else {
+        return Ok(false);
+    };
+    let reply = again!(
+        NoStep::NoMemory,
+        reply_to(rt, alloc, store, session, link, tickets, asked)
+    )?;
+    Ok(is_told(alloc, desk, &reply, tickets.last(), told)?)
+}
+
+/// How many rows, from the first on, the store answers as they say.
+pub(super) fn answered<L: Home, R: Wait>(
+    rt: &R,
+    alloc: Global,
+    store: &Store<DemoScheme, L>,
+    session: &mut Session<DemoScheme, L>,
+    tickets: &mut Vec<Ticket<DemoScheme>>,
+    desk: &Desk,
+    rows: &[Row],
+) -> Result<usize, Fail> {
+    for (place, row) in rows.iter().enumerate() {
+        if !answers(rt, alloc, store, session, tickets, desk, row)? {
+            return Ok(place);
+        }
+    }
+    Ok(rows.len())
+}

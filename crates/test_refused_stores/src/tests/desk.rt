@@ -1,0 +1,169 @@
+//! The blocks of an example, and texts of what is told of them.
+use super::*;
+use nw_check::{BlockFault, CertFault, CheckedBlock, CheckedCert};
+use nw_codec::Ref;
+use nw_model::{Wanted, WriteReply};
+use sample_checked::refused::{checked_block, checked_certificate, committee};
+
+/// A block by its round, its author, its transaction of one byte, and its parents, by their places in the example.
+pub(super) struct Sketch(u64, u16, u8, &'static [usize]);
+
+/// Three blocks of round 0, and one over them.
+pub(super) const FOUR: [Sketch; 4] = [
+    Sketch(0, 0, b'x', &[]),
+    Sketch(0, 1, b'x', &[]),
+    Sketch(0, 2, b'x', &[]),
+    Sketch(1, 0, b'x', &[0, 1, 2]),
+];
+
+/// Two blocks of one slot.
+pub(super) const TWO: [Sketch; 2] = [Sketch(0, 0, b'x', &[]), Sketch(0, 0, b'y', &[])];
+
+/// A block and its certificate, with the votes of a quorum.
+#[derive(Drop)]
+pub(super) struct Link {
+    pub(super) block: CheckedBlock<DemoScheme>,
+    pub(super) certificate: CheckedCert<DemoScheme>,
+}
+
+/// References to the blocks at these places.
+fn references(alloc: Global, links: &[Link], places: &[usize]) -> Result<Vec<Ref>, NoMemory> {
+    let mut references = Vec::new(alloc);
+    for place in places {
+        if let Some(link) = links.get(*place) {
+            references.push(Ref {
+                author: link.block.block().get().author,
+                digest: link.block.digest(),
+            })?;
+        }
+    }
+    Ok(references)
+}
+
+/// The block of the sketch over these.
+fn made(
+    alloc: Global,
+    committee: &Shared<Committee>,
+    links: &[Link],
+    sketch: &Sketch,
+) -> Result<CheckedBlock<DemoScheme>, Fail> {
+    let Sketch(round, author, text, places) = sketch;
+    let slot = (Round::new(*round).unwrap_or(Round::ZERO), *author);
+    let parents = again!(NoMemory, references(alloc, links, places))?;
+    Ok(again!(
+        BlockFault::NoMemory,
+        checked_block(alloc, committee, slot, &parents, *text, *author)
+    )?)
+}
+
+/// The certificate of the block.
+fn certified(
+    alloc: Global,
+    committee: &Shared<Committee>,
+    block: &CheckedBlock<DemoScheme>,
+) -> Result<CheckedCert<DemoScheme>, CertFault> {
+    let slot = (block.block().get().round, block.block().get().author);
+    let signers: &[u16] = match committee.get().quorum() {
+        1 => &[0],
+        _ => &[0, 1, 2],
+    };
+    checked_certificate(alloc, committee, block.digest(), slot, signers)
+}
+
+/// The blocks of an example, with their certificates, under its committee.
+#[derive(Drop)]
+pub(super) struct Desk {
+    pub(super) committee: Shared<Committee>,
+    pub(super) links: Vec<Link>,
+}
+
+impl Desk {
+    /// The blocks for a committee of members with these numbers.
+    pub(super) fn new(alloc: Global, members: &[u8], sketches: &[Sketch]) -> Result<Desk, Fail> {
+        let committee = again!(NoMemory, committee(alloc, members))?;
+        let links = again!(AllocError, Vec::with_capacity(alloc, sketches.len()))?;
+        let mut desk = Desk { committee, links };
+        for sketch in sketches {
+            desk.add(alloc, sketch)?;
+        }
+        Ok(desk)
+    }
+
+    /// Adds the block of the sketch.
+    fn add(&mut self, alloc: Global, sketch: &Sketch) -> Result<(), Fail> {
+        let block = made(alloc, &self.committee, &self.links, sketch)?;
+        let certificate = again!(
+            CertFault::NoMemory,
+            certified(alloc, &self.committee, &block)
+        )?;
+        Ok(self.links.push(Link { block, certificate })?)
+    }
+
+    /// The place of the block; where it is none of the example, one behind the last.
+    fn place_of(&self, block: &Block) -> usize {
+        for (place, link) in self.links.iter().enumerate() {
+            if link.block.block().get() == block {
+                return place;
+            }
+        }
+        self.links.len()
+    }
+
+    /// The place of the digest; where it is none of the example, one behind the last.
+    pub(super) fn place_under(&self, digest: &Digest) -> usize {
+        for (place, link) in self.links.iter().enumerate() {
+            if link.block.digest() == *digest {
+                return place;
+            }
+        }
+        self.links.len()
+    }
+
+    /// The places of the blocks.
+    fn places_of(&self, alloc: Global, blocks: &[Shared<Block>]) -> Result<Vec<usize>, AllocError> {
+        let mut places = Vec::new(alloc);
+        for block in blocks {
+            places.push(self.place_of(block.get()))?;
+        }
+        Ok(places)
+    }
+
+    /// The text of what is missing: of a single block its place.
+    fn missing(&self, alloc: Global, wanted: &[Wanted]) -> Result<String, AllocError> {
+        match wanted {
+            [only] => format!(in alloc; "Missing({})", self.place_under(&only.digest)),
+            _ => format!(in alloc; "Missing {}", wanted.len()),
+        }
+    }
+
+    /// The text of the reply: it names a block by its place in the example, and a certificate by its block's.
+    pub(super) fn text_of(&self, alloc: Global, reply: &Reply) -> Result<String, AllocError> {
+        match reply {
+            Reply::Write(WriteReply::Equivocates(first)) => {
+                format!(in alloc; "Equivocates({})", self.place_under(first))
+            }
+            Reply::Certificate(Some(kept)) => {
+                format!(in alloc; "Certificate({})", self.place_under(&kept.get().digest))
+            }
+            Reply::Read(Some(found)) => {
+                format!(in alloc; "Read({})", self.place_of(found.get()))
+            }
+            Reply::List(blocks) => {
+                let places = self.places_of(alloc, blocks.as_slice())?;
+                format!(in alloc; "List({places:?})")
+            }
+            Reply::Missing(wanted) => self.missing(alloc, wanted.as_slice()),
+            reply => format!(in alloc; "{reply:?}"),
+        }
+    }
+
+    /// Whether this is the text of the reply.
+    pub(super) fn is_told(
+        &self,
+        alloc: Global,
+        reply: &Reply,
+        told: &str,
+    ) -> Result<bool, AllocError> {
+        Ok(again!(AllocError, self.text_of(alloc, reply))?.as_str() == told)
+    }
+}

@@ -1,0 +1,122 @@
+//! Runs of moves in books.
+use super::desk::{Desk, Link, TWO};
+use super::*;
+use nw_book::{Answer, Cause, Move, Stop};
+
+/// The limits of a book of one session.
+pub(super) const LIMITS: Limits = Limits {
+    blocks: 16,
+    events: 16,
+    window: 4,
+    sessions: 1,
+};
+
+/// A book of the committee.
+pub(super) fn new_book(
+    alloc: Global,
+    committee: &Shared<Committee>,
+    limits: Limits,
+) -> Result<Book<DemoScheme>, BookError> {
+    Book::new(alloc, committee.try_clone()?, limits)
+}
+
+/// A move of session 0 that asks this.
+fn asks(command: Command<DemoScheme>) -> Move<DemoScheme> {
+    Move::Call {
+        session: 0,
+        command,
+    }
+}
+
+/// The block is written, certified and opened, its round is collected, and its ticket is walked, and then one that the run has not.
+fn moves(made: Link) -> [Move<DemoScheme>; 6] {
+    let digest = made.block.digest();
+    [
+        asks(Command::Write(made.block)),
+        asks(Command::Certify(made.certificate)),
+        Move::Open { session: 0, digest },
+        asks(Command::Collect(Round::new(1).unwrap_or(Round::ZERO))),
+        Move::Walk { ticket: 0 },
+        Move::Walk { ticket: 5 },
+    ]
+}
+
+/// What those moves are answered, up to the last, which is not made.
+const TOLD: [&str; 5] = [
+    "Write(Stored { vote: true })",
+    "Certify(Certified)",
+    "Opened",
+    "Collect(Raised { dropped: 1 })",
+    "Walked 1",
+];
+
+/// The text of the answer.
+fn text_of(alloc: Global, answer: &Answer<DemoScheme>) -> Result<String, AllocError> {
+    match answer {
+        Answer::Opened => format!(in alloc; "Opened"),
+        Answer::Walked(blocks) => format!(in alloc; "Walked {}", blocks.as_slice().len()),
+        Answer::Done(done) => format!(in alloc; "{:?}", done.reply),
+    }
+}
+
+/// Whether the answers are the first of those, and the history has their events and no other.
+fn are_told(
+    alloc: Global,
+    answers: &[Answer<DemoScheme>],
+    events: usize,
+) -> Result<bool, AllocError> {
+    for (answer, told) in answers.iter().zip(&TOLD) {
+        if again!(AllocError, text_of(alloc, answer))?.as_str() != *told {
+            return Ok(false);
+        }
+    }
+    Ok(events == answers.len().min(4))
+}
+
+/// Makes the moves on the book: where the run stops, if all before that was answered as it is to be.
+fn stop_of(
+    book: &mut Book<DemoScheme>,
+    alloc: Global,
+    moves: &[Move<DemoScheme>],
+) -> Result<Option<Stop>, Fail> {
+    let run = book.run(alloc, moves);
+    match are_told(alloc, run.answers.as_slice(), book.history().len())? {
+        true => Ok(run.stop),
+        false => Err(Fail::from("a move is answered otherwise")),
+    }
+}
+
+/// That of a new book.
+fn stop_anew(
+    alloc: Global,
+    committee: &Shared<Committee>,
+    moves: &[Move<DemoScheme>],
+) -> Result<Option<Stop>, Fail> {
+    let mut book = again!(BookError::NoMemory, new_book(alloc, committee, LIMITS))?;
+    stop_of(&mut book, alloc, moves)
+}
+
+/// Whether the stop is want of memory.
+fn is_refused(stop: Option<Stop>) -> bool {
+    match stop {
+        Some(stop) => matches!(
+            stop.cause,
+            Cause::NoMemory | Cause::NoStep(NoStep::NoMemory)
+        ),
+        None => false,
+    }
+}
+
+#[test]
+fn a_run_of_moves_is_made_or_begun(rt: HostRuntime) -> Result<(), Fail> {
+    let alloc = rt.alloc();
+    let mut desk = Desk::new(alloc, &[0], &TWO)?;
+    let moves = moves(desk.links.pop().ok_or("an example has blocks")?);
+    let mut stop = stop_anew(alloc, &desk.committee, &moves)?;
+    if is_refused(stop) {
+        stop = stop_anew(alloc, &desk.committee, &moves)?;
+    }
+    let cause = Cause::NoTicket;
+    assert!(rt; stop == Some(Stop { at: 5, cause }));
+    Ok(())
+}

@@ -1,0 +1,89 @@
+//! Stores: from the making of a store to the settlement of its sessions.
+ghost use Rattle.std.specs.Prelude.{◌≡◌};
+ghost use Rattle.nw_store.specs.Journal.{origin_of};
+ghost use Rattle.nw_store.specs.Kept.{parts_of_a_ledger};
+
+use super::asking::{Row, answered};
+use super::desk::Desk;
+use super::endings::ended;
+use super::*;
+use nw_store::{Home, Opening, Session, Store};
+use std::marker::Brand;
+use std::sync::Wait;
+
+/// How many rows were answered as they say, how many events there were, and the book that goes on.
+#[derive(Drop)]
+pub(super) struct Outcome {
+    pub(super) answered: usize,
+    pub(super) events: usize,
+    pub(super) book: Book<DemoScheme>,
+}
+
+/// Asks the rows on the store, in the first of two sessions that it makes: how many are answered as they say.
+fn asked<L: Home, R: Wait>(
+    rt: &R,
+    alloc: Global,
+    store: &Store<DemoScheme, L>,
+    sessions: &mut Vec<Session<DemoScheme, L>>,
+    desk: &Desk,
+    rows: &[Row],
+    tickets: &mut Vec<Ticket<DemoScheme>>,
+) -> Result<usize, Fail> {
+    again!(AllocError, sessions.reserve(2))?;
+    sessions.push(store.session(rt, alloc)?)?;
+    sessions.push(store.session(rt, alloc)?)?;
+    let first = sessions.first_mut().ok_or("there are two sessions")?;
+    answered(rt, alloc, store, first, tickets, desk, rows)
+}
+
+/// Asks the rows on the store, and settles its sessions.
+fn play<L: Home, R: Wait>(
+    rt: &R,
+    alloc: Global,
+    store: Store<DemoScheme, L>,
+    desk: &Desk,
+    rows: &[Row],
+    tickets: &mut Vec<Ticket<DemoScheme>>,
+) -> Result<Outcome, Fail> {
+    let mut sessions = Vec::new(alloc);
+    let answered = asked(rt, alloc, &store, &mut sessions, desk, rows, tickets)?;
+    let (events, book) = ended(alloc, store, sessions)?;
+    Ok(Outcome {
+        answered,
+        events,
+        book,
+    })
+}
+
+/// Asks the rows on a store that goes on with the book.
+fn play_over<L: Home, R: Wait>(
+    rt: &R,
+    alloc: Global,
+    opening: Opening<DemoScheme>,
+    book: Book<DemoScheme>,
+    desk: &Desk,
+    rows: &[Row],
+    tickets: &mut Vec<Ticket<DemoScheme>>,
+) -> Result<Outcome, Fail>
+    requires log { opening.log ≡ L.log }
+    requires ledger { (opening.ledger ≡ L.name) × (L.parts ≡ parts_of_a_ledger) }
+    requires origin { origin_of book ≡ L.origin }
+{
+    match Store::<DemoScheme, L>::over(opening, book) {
+        Ok(store) => play(rt, alloc, store, desk, rows, tickets),
+        Err(_) => Err(Fail::from("the book has events")),
+    }
+}
+
+/// What becomes of a store that goes on with the book.
+pub(super) fn played<R: Wait>(
+    rt: &R,
+    alloc: Global,
+    book: Book<DemoScheme>,
+    desk: &Desk,
+    rows: &[Row],
+    tickets: &mut Vec<Ticket<DemoScheme>>,
+) -> Result<Outcome, Fail> {
+    let opening = again!(NoMemory, Opening::new(alloc))?;
+    play_over::<Brand, R>(rt, alloc, opening, book, desk, rows, tickets)
+}
