@@ -7,7 +7,7 @@ use Rattle.nw_codec.specs.declared.block.Block.{Block}
 use Rattle.nw_sig.specs.Signed.{Meaning}
 use Rattle.nw_model.specs.State.{State}
 use Rattle.nw_model.specs.Checks.{digest_of}
-use Rattle.nw_model.specs.Sound.{IsSound}
+use Rattle.nw_model.specs.Sound.{HasNoneBelow}
 use Rattle.nw_model.specs.Paths.{IsComplete, IsCausalList}
 use Rattle.nw_model.specs.View.{Frozen, Shows, IsThere, IsPathIn, IsAncestorIn, IsWalk}
 use Rattle.nw_model.proofs.Admitted.{admitted_left}
@@ -36,23 +36,23 @@ same_map f g (x ∷ xs) agree =
     cc
 
 -- the causal list of a complete block is its walk in a view that shows the state
-causal_is_walk : (v : Frozen) (s : State) (d : Digest) (blocks : List Block) → IsSound s → Shows v s → IsComplete s d → IsCausalList s d blocks → IsWalk v d blocks
-causal_is_walk v s d blocks sound shows whole causal = record {
+causal_is_walk : (v : Frozen) (s : State) (d : Digest) (blocks : List Block) → HasNoneBelow s → Shows v s → IsComplete s d → IsCausalList s d blocks → IsWalk v d blocks
+causal_is_walk v s d blocks kept shows whole causal = record {
   digests = causal.digests;
   found = same_map (get v.blocks) (get s.blocks) causal.digests (λ a among.
-      let ancestor : IsAncestorIn v d a = (ancestors_shown v s d sound shows whole a).1 ((causal.exactly a).0 among) in
+      let ancestor : IsAncestorIn v d a = (ancestors_shown v s d kept shows whole a).1 ((causal.exactly a).0 among) in
       let last = last_there v d ancestor.0 a ancestor.1 in
       last.1.0 ∙ sym (there_held v s a last.0 shows last.1)) ∙ causal.found;
   exactly = λ a. (
-    λ among. (ancestors_shown v s d sound shows whole a).1 ((causal.exactly a).0 among),
-    λ ancestor. (causal.exactly a).1 ((ancestors_shown v s d sound shows whole a).0 ancestor),
+    λ among. (ancestors_shown v s d kept shows whole a).1 ((causal.exactly a).0 among),
+    λ ancestor. (causal.exactly a).1 ((ancestors_shown v s d kept shows whole a).0 ancestor),
   );
   ascending = causal.ascending;
 }
 
 -- the list of the read that was opened is the walk in the ticket's view
 list_is_walk : (accepts : Meaning) (t : Given) (v : Frozen) (blocks : List Block) → IsTicketWith accepts t v → IsListOf t blocks → IsWalk v t.digest blocks
-list_is_walk accepts t v blocks h is = causal_is_walk v (state_of t.front) t.digest blocks (story_sound accepts t.front h.ticket.legal) h.shows is.0 is.1
+list_is_walk accepts t v blocks h is = causal_is_walk v (state_of t.front) t.digest blocks (story_sound accepts t.front h.ticket.legal).blocks_kept h.shows is.0 is.1
 
 -- ---- what is in a view
 

@@ -45,14 +45,14 @@ pub ticket_there : (accepts : Meaning) (t : Given) (v : Frozen) → IsTicketWith
 ticket_there accepts t v h =
     let whole : IsComplete (state_of t.front) t.digest = ticket_complete accepts t h.ticket in
     let stands = whole.stands in
-    (stands.0, complete_there v (state_of t.front) t.digest stands.0 (story_sound accepts t.front h.ticket.legal) h.shows whole stands.1)
+    (stands.0, complete_there v (state_of t.front) t.digest stands.0 (story_sound accepts t.front h.ticket.legal).blocks_kept h.shows whole stands.1)
 
 -- a walk in its view is the list of the read that was opened
 pub ticket_walk : (accepts : Meaning) (t : Given) (v : Frozen) (blocks : List Block) → IsTicketWith accepts t v → IsWalk v t.digest blocks
     → IsReply (bounds_of t.front.limits) (state_of t.front) (calls.Causal t.digest) (replies.List blocks)
 ticket_walk accepts t v blocks h walk =
     let whole : IsComplete (state_of t.front) t.digest = ticket_complete accepts t h.ticket in
-    (whole, walk_is_causal v (state_of t.front) t.digest blocks (story_sound accepts t.front h.ticket.legal) h.shows whole walk)
+    (whole, walk_is_causal v (state_of t.front) t.digest blocks (story_sound accepts t.front h.ticket.legal).blocks_kept h.shows whole walk)
 
 -- the front that a causal read leaves, with a view of what is complete before it, makes a ticket
 pub opened : (accepts : Meaning) (old front : Story) (session number : ℕ) (d : Digest) (v : Frozen) → front ≡ with_event old (event session number (calls.Causal d) replies.Ready) → IsLegalStory accepts front

@@ -76,17 +76,25 @@ impl<S: Scheme> Book<S> {
         ensures no_memory { IsErrOf result BookError.NoMemory → AreInRange limits }
     {
         if !limits.are_in_range() {
+            drop(committee);
             return Err(BookError::BadLimits);
         }
         let tables = DagLimits {
             blocks: limits.blocks,
             window: limits.window,
         };
-        Ok(Book {
-            history: History::new(alloc, committee, limits)?,
-            tables: Dag::new(alloc, tables),
-            calls: vec![in alloc; 0u32; limits.sessions as usize]?,
-        })
+        let history = History::new(alloc, committee, limits)?;
+        match vec![in alloc; 0u32; limits.sessions as usize] {
+            Ok(calls) => Ok(Book {
+                history,
+                tables: Dag::new(alloc, tables),
+                calls,
+            }),
+            Err(_) => {
+                drop(history);
+                Err(BookError::NoMemory)
+            }
+        }
     }
 
     /// The history so far.

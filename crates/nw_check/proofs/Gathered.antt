@@ -29,7 +29,7 @@ module _ (accepts : Meaning) (g : Gathering) (ok : IsGathering accepts g) where
   signer_numbers : All (IsMember g.committee) (signers g.seals)
   signer_numbers =
       All-map (IsMember g.committee) (λ (s : Seal). s.signer) g.seals
-      (All-weaker (IsSealOf accepts g.committee (certificate_of g)) (λ s. IsMember g.committee s.signer) (λ s own. slice_get_within g.committee s.signer own.0 own.1) g.seals ok.sealed)
+      (All-weaker (IsSealOf accepts g.committee (certificate_of g)) (λ s. IsMember g.committee s.signer) (λ s own. slice_get_within g.committee s.signer own.1 own.2) g.seals ok.sealed)
 
   -- no more votes than members
   pub gathering-few : length g.seals ≤ 100

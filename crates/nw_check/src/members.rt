@@ -2,6 +2,7 @@
 ghost use Rattle.std.specs.Prelude.{◌≡◌, ◌↔◌, ◌≤◌, ℕ, length, map, All, IsTrue};
 ghost use Rattle.std.specs.List.Sorted.{IsStrictlyIncreasing};
 ghost use Rattle.nw_committee.specs.Committee.{IsCommittee, ReachesQuorum};
+ghost use Rattle.nw_codec.specs.Typed.{AreBytes, IsSignature};
 ghost use Rattle.nw_model.specs.Checks.{IsMember, IsSignedBy};
 
 use nw_codec::{Ref, Seal, Signature};
@@ -77,8 +78,21 @@ pub(crate) fn is_signed_by<S: Scheme>(
 ) -> bool
     ensures { IsTrue result ↔ IsSignedBy S.accepts committee.now number text.now signature.now }
 {
+    note_size(signature);
     match committee.key(number) {
         Some(key) => S::verify(key, text, signature),
         None => false,
     }
 }
+
+/// A signature of a program has 64 bytes: a definition ranges over lists of any length.
+fn note_size(signature: &Signature)
+    ensures { IsSignature signature.now }
+{
+    note_bytes(&signature.0);
+}
+
+/// What a slice of a program has is bytes.
+fn note_bytes(bytes: &[u8])
+    ensures { AreBytes bytes.now }
+{}

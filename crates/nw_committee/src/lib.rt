@@ -1,7 +1,7 @@
 //! Committees: the members of a mempool, their weights, and which of them reach the quorum.
 //!
 //! Its contract: the quorum is two thirds of the total weight, rounded down, and one more, and a list of members reaches it
-//! where the weights of the distinct members listed add up to at least that. It stands on `nw_digest` alone.
+//! where the weights of the distinct members listed add up to at least that. It stands on `nw_digest`.
 #![tactic(auto)]
 
 mod committee;

@@ -21,14 +21,20 @@ impl<'a> Desk<'a> {
             return Err(LineFault::Bad);
         }
         let block = self.block_of(alloc, line)?;
-        let Some(text) = within_limits(encode_body(alloc, &block))? else {
-            return Ok(Answer::over_limit(name));
-        };
-        self.names.bind(name, block)?;
-        Ok(Answer::Bound {
-            name,
-            body: text.len(),
-        })
+        match size_of_body(alloc, &block) {
+            Ok(Some(body)) => {
+                self.names.bind(name, block)?;
+                Ok(Answer::Bound { name, body })
+            }
+            Ok(None) => {
+                drop(block);
+                Ok(Answer::over_limit(name))
+            }
+            Err(fault) => {
+                drop(block);
+                Err(fault)
+            }
+        }
     }
 
     fn block_of(&self, alloc: Global, line: &BlockLine<'a>) -> Result<Block, LineFault> {
@@ -62,6 +68,14 @@ impl<'a> Desk<'a> {
         let bound = self.bound(name)?;
         let signer = signer.unwrap_or(bound.block.author);
         Ok(block_message(alloc, signer, &bound.digest, &bound.block)?)
+    }
+}
+
+// How many bytes the body of the block has, or `None` where it does not fit.
+fn size_of_body(alloc: Global, block: &Block) -> Result<Option<usize>, LineFault> {
+    match within_limits(encode_body(alloc, block))? {
+        Some(text) => Ok(Some(text.len())),
+        None => Ok(None),
     }
 }
 

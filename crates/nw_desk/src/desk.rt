@@ -57,9 +57,11 @@ impl<'a> Desk<'a> {
         is_kept: bool,
     ) -> Result<Answer<'a>, LineFault> {
         if !is_kept {
-            return self.listed(alloc, name, &ticket);
+            let listed = self.listed(alloc, name, &ticket);
+            drop(ticket);
+            return listed;
         }
-        self.tickets.insert(name, ticket)?;
+        drop(self.tickets.insert(name, ticket)?);
         Ok(Answer::Told {
             name,
             words: "ready",

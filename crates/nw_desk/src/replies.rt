@@ -5,7 +5,7 @@ use crate::fault::LineFault;
 use crate::print::Answer;
 use nw_book::Ticket;
 use nw_codec::{Block, Seal, encode_body};
-use nw_digest::{Digest, Round};
+use nw_digest::{Digest, Round, Shared};
 use nw_model::{CausalReply, CertifyReply, CollectReply, Reply, Wanted, WriteReply};
 use nw_script::Name;
 use nw_sig::DemoScheme;
@@ -130,11 +130,24 @@ impl<'a> Desk<'a> {
         ticket: &Ticket<DemoScheme>,
     ) -> Result<Answer<'a>, LineFault> {
         let walked = ticket.walk(alloc)?;
-        let mut blocks = Vec::with_capacity(alloc, walked.len())?;
-        for block in &walked {
-            blocks.push(self.names.name_of(block.get())?)?;
+        let blocks = self.names_of(alloc, &walked);
+        drop(walked);
+        Ok(Answer::Listed {
+            name,
+            blocks: blocks?,
+        })
+    }
+
+    fn names_of(
+        &self,
+        alloc: Global,
+        blocks: &[Shared<Block>],
+    ) -> Result<Vec<Name<'a>>, LineFault> {
+        let mut names = Vec::with_capacity(alloc, blocks.len())?;
+        for block in blocks {
+            names.push(self.names.name_of(block.get())?)?;
         }
-        Ok(Answer::Listed { name, blocks })
+        Ok(names)
     }
 }
 

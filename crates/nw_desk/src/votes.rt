@@ -20,8 +20,15 @@ impl<'a> Desk<'a> {
         signers: &[u16],
     ) -> Result<Option<Vec<u8>>, LineFault> {
         let bound = self.bound(name)?;
-        let certificate = certificate(alloc, signers, bound.digest, &bound.block)?;
-        within_limits(encode_message(alloc, &Message::Certificate(certificate)))
+        let message = Message::Certificate(certificate(
+            alloc,
+            signers,
+            bound.digest,
+            &bound.block,
+        )?);
+        let text = encode_message(alloc, &message);
+        drop(message);
+        within_limits(text)
     }
 
     /// Whether such a certificate is valid.
@@ -33,11 +40,9 @@ impl<'a> Desk<'a> {
     ) -> Result<Answer<'a>, LineFault> {
         let bound = self.bound(name)?;
         let certificate = certificate(alloc, signers, bound.digest, &bound.block)?;
-        let words = if valid::<DemoScheme>(self.committee.get(), bound.digest, &certificate) {
-            "valid yes"
-        } else {
-            "valid no"
-        };
+        let is_valid = valid::<DemoScheme>(self.committee.get(), bound.digest, &certificate);
+        drop(certificate);
+        let words = if is_valid { "valid yes" } else { "valid no" };
         Ok(Answer::Told { name, words })
     }
 
@@ -57,10 +62,14 @@ impl<'a> Desk<'a> {
             block.round,
             block.author,
         ) {
-            Ok(mut gather) => Ok(Answer::Gathered {
-                name,
-                votes: gather_all(alloc, &mut gather, signers, bound)?,
-            }),
+            Ok(mut gather) => {
+                let votes = gather_all(alloc, &mut gather, signers, bound);
+                drop(gather);
+                Ok(Answer::Gathered {
+                    name,
+                    votes: votes?,
+                })
+            }
             Err(StartFault::Author) => Ok(Answer::Told {
                 name,
                 words: "refused author",

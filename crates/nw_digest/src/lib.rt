@@ -1,7 +1,7 @@
 //! Digests, rounds, and the small types that every crate above shares.
 //!
 //! Its contract: a digest is SHA-256 of the bytes, and a round is in range.
-//! It stands on `sha2` alone.
+//! It stands on the kit's `sha2` and `thiserror`.
 #![tactic(auto)]
 
 mod digest;

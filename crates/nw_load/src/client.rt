@@ -6,7 +6,7 @@ use crate::store::ClientCalls;
 use nw_digest::Digest;
 use nw_intake::{Gate, Point, pass_start};
 use nw_sig::DemoScheme;
-use nw_store::{Home, Session, Ticket};
+use nw_store::{Home, Ticket};
 use std::alloc::Global;
 use std::sync::Wait;
 
@@ -39,11 +39,6 @@ impl<'a, L: Home, G: Gate> Client<'a, L, G> {
         }
     }
 
-    /// The session, handed back.
-    pub(crate) fn session(self) -> Session<DemoScheme, L> {
-        self.store.session
-    }
-
     /// Opens and walks the node's block of each round, once told of it. Answers how many blocks the last walk listed.
     pub(crate) fn run<R: Wait>(&mut self, rt: &R) -> Result<usize, End> {
         let mut last = 0;
@@ -58,7 +53,11 @@ impl<'a, L: Home, G: Gate> Client<'a, L, G> {
     fn read<R: Wait>(&mut self, rt: &R, round: u32, digest: Digest) -> Result<usize, End> {
         let node = self.node;
         match self.store.open(rt, self.alloc, digest)? {
-            Some(ticket) => self.walk(round.saturating_add(1), &ticket),
+            Some(ticket) => {
+                let listed = self.walk(round.saturating_add(1), &ticket);
+                drop(ticket);
+                listed
+            }
             None => Err(End::Causal { node, round }),
         }
     }

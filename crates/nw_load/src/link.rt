@@ -15,7 +15,7 @@ use nw_desk::vote_message;
 use nw_digest::{Round, Sequence, Shared};
 use nw_intake::{Gate, Point, pass_start};
 use nw_sig::DemoScheme;
-use nw_store::{Home, Session};
+use nw_store::Home;
 use std::alloc::Global;
 use std::sync::Wait;
 
@@ -65,11 +65,6 @@ impl<'a, L: Home, G: Gate> Link<'a, L, G> {
             written: 0,
             certified: 0,
         }
-    }
-
-    /// The session, handed back.
-    pub(crate) fn session(self) -> Session<DemoScheme, L> {
-        self.store.session
     }
 
     /// Makes the block of each round, and answers what other nodes send, until all blocks of all nodes are written and

@@ -48,7 +48,7 @@ pub(crate) fn run_node<R: Threads + Wait + Sync, G: Gate + Sync>(
     node: u16,
     mailbox: Mailbox,
 ) -> Result<NodeReport, End> {
-    let outcome = open_store(shop, node, mailbox);
+    let outcome = open_store(shop, node, &mailbox);
     if outcome.is_err() {
         shop.office.close(shop.rt);
     }
@@ -59,7 +59,7 @@ pub(crate) fn run_node<R: Threads + Wait + Sync, G: Gate + Sync>(
 fn open_store<R: Threads + Wait + Sync, G: Gate + Sync>(
     shop: &Shop<'_, R, G>,
     node: u16,
-    mailbox: Mailbox,
+    mailbox: &Mailbox,
 ) -> Result<NodeReport, End> {
     let opening = Opening::new(shop.alloc)?;
     let committee = shop.committee.try_clone()?;
@@ -70,7 +70,7 @@ fn open_store<R: Threads + Wait + Sync, G: Gate + Sync>(
 fn run_store<L: Home, R: Threads + Wait + Sync, G: Gate + Sync>(
     shop: &Shop<'_, R, G>,
     node: u16,
-    mailbox: Mailbox,
+    mailbox: &Mailbox,
     opening: Opening<DemoScheme>,
     committee: Shared<Committee>,
     limits: Limits,
@@ -80,9 +80,12 @@ fn run_store<L: Home, R: Threads + Wait + Sync, G: Gate + Sync>(
     requires origin { first_origin committee limits ≡ L.origin }
 {
     let store = new_store::<L>(shop.alloc, opening, committee, limits)?;
-    match run_both(shop, node, mailbox, &store) {
+    match run_threads(shop, node, mailbox, &store) {
         Ok((last, sessions)) => settled(node, store, sessions, last),
-        Err(end) => Err(end),
+        Err(end) => {
+            drop(store);
+            Err(end)
+        }
     }
 }
 
@@ -118,24 +121,66 @@ fn new_session<L: Home, R: Wait, G>(
     }
 }
 
-/// Runs the client in a thread of its own, and the link in this one. Answers how many blocks the last walk listed, and gives the
-/// sessions of both.
+/// How many blocks the last walk listed, and both sessions.
+type Worked<L> = (usize, Vec<Session<DemoScheme, L>>);
+
+/// Runs the node's two threads, each with a session of the store.
+fn run_threads<L: Home, R: Threads + Wait + Sync, G: Gate + Sync>(
+    shop: &Shop<'_, R, G>,
+    node: u16,
+    mailbox: &Mailbox,
+    store: &Store<DemoScheme, L>,
+) -> Result<Worked<L>, End> {
+    let (client, news) = unbounded(shop.alloc)?;
+    let first = new_session(shop, node, store)?;
+    match new_session(shop, node, store) {
+        Ok(second) => run_both(shop, node, mailbox, store, (first, second), (client, news)),
+        Err(end) => {
+            drop(first);
+            Err(end)
+        }
+    }
+}
+
+/// Runs the client in a thread of its own, and the link in this one, over the channel from the link to the client.
 fn run_both<L: Home, R: Threads + Wait + Sync, G: Gate + Sync>(
     shop: &Shop<'_, R, G>,
     node: u16,
-    mailbox: Mailbox,
+    mailbox: &Mailbox,
     store: &Store<DemoScheme, L>,
-) -> Result<(usize, Vec<Session<DemoScheme, L>>), End> {
-    let first = new_session(shop, node, store)?;
-    let second = new_session(shop, node, store)?;
-    let (client, news) = unbounded(shop.alloc)?;
+    (first, second): (Session<DemoScheme, L>, Session<DemoScheme, L>),
+    (client, news): (Sender<Digest>, Receiver<Digest>),
+) -> Result<Worked<L>, End> {
     thread::scope(thread::scope_env(), shop.rt, move |scope| {
-        let started = start_client(scope, shop, node, store, second, news)?;
-        let (first, linked) = run_link(shop, node, store, first, mailbox, client);
-        let (second, walked) = started.join(shop.rt);
-        let last = both(linked, walked)?;
-        Ok((last, vec![in shop.alloc; first, second]?))
+        match start_client(scope, shop, node, store, second, news) {
+            Ok(started) => {
+                let (first, linked) = run_link(shop, node, store, first, mailbox, client);
+                let (second, walked) = started.join(shop.rt);
+                kept(shop.alloc, first, second, both(linked, walked))
+            }
+            Err(end) => {
+                drop(first);
+                Err(end)
+            }
+        }
     })
+}
+
+/// Both sessions, where both threads came to their ends.
+fn kept<L: Home>(
+    alloc: Global,
+    first: Session<DemoScheme, L>,
+    second: Session<DemoScheme, L>,
+    last: Result<usize, End>,
+) -> Result<Worked<L>, End> {
+    match last {
+        Ok(last) => Ok((last, vec![in alloc; first, second]?)),
+        Err(end) => {
+            drop(first);
+            drop(second);
+            Err(end)
+        }
+    }
 }
 
 /// A session that is handed back, and how many blocks its last walk listed.
@@ -170,10 +215,26 @@ fn run_link<L: Home, R: Wait, G: Gate>(
     shop: &Shop<'_, R, G>,
     node: u16,
     store: &Store<DemoScheme, L>,
-    session: Session<DemoScheme, L>,
-    mailbox: Mailbox,
+    mut session: Session<DemoScheme, L>,
+    mailbox: &Mailbox,
     client: Sender<Digest>,
 ) -> (Session<DemoScheme, L>, Result<(), End>) {
+    let linked = link_with(&*shop, node, &*store, &mut session, &*mailbox, client);
+    if linked.is_err() {
+        shop.office.close(shop.rt);
+    }
+    (session, linked)
+}
+
+/// Runs the link with the session.
+fn link_with<'a, L: Home, R: Wait, G: Gate>(
+    shop: &'a Shop<'a, R, G>,
+    node: u16,
+    store: &'a Store<DemoScheme, L>,
+    session: &'a mut Session<DemoScheme, L>,
+    mailbox: &'a Mailbox,
+    client: Sender<Digest>,
+) -> Result<(), End> {
     let store = LinkCalls {
         node: u32::from(node),
         store,
@@ -186,10 +247,8 @@ fn run_link<L: Home, R: Wait, G: Gate>(
     };
     let mut link = Link::new(shop, node, store, post);
     let linked = link.run(shop.rt);
-    if linked.is_err() {
-        shop.office.close(shop.rt);
-    }
-    (link.session(), linked)
+    drop(link);
+    linked
 }
 
 /// Runs the client, and hands its session back. Where it ends early the office is closed, so that its link ends too.
@@ -197,9 +256,24 @@ fn run_client<L: Home, R: Wait, G: Gate>(
     shop: &Shop<'_, R, G>,
     node: u16,
     store: &Store<DemoScheme, L>,
-    session: Session<DemoScheme, L>,
+    mut session: Session<DemoScheme, L>,
     link: Receiver<Digest>,
 ) -> Walked<L> {
+    let walked = walk_with(&*shop, node, &*store, &mut session, link);
+    if walked.is_err() {
+        shop.office.close(shop.rt);
+    }
+    (session, walked)
+}
+
+/// Runs the client with the session.
+fn walk_with<'a, L: Home, R: Wait, G: Gate>(
+    shop: &'a Shop<'a, R, G>,
+    node: u16,
+    store: &'a Store<DemoScheme, L>,
+    session: &'a mut Session<DemoScheme, L>,
+    link: Receiver<Digest>,
+) -> Result<usize, End> {
     let store = ClientCalls {
         node: u32::from(node),
         store,
@@ -207,10 +281,8 @@ fn run_client<L: Home, R: Wait, G: Gate>(
     };
     let mut client = Client::new(shop, node, store, ClientNews { link });
     let walked = client.run(shop.rt);
-    if walked.is_err() {
-        shop.office.close(shop.rt);
-    }
-    (client.session(), walked)
+    drop(client);
+    walked
 }
 
 /// What the node reports, once both sessions settle: how many events the history has, and this last walk.
@@ -221,12 +293,16 @@ fn settled<L: Home>(
     last: usize,
 ) -> Result<NodeReport, End> {
     match settle(store, sessions) {
-        Ok(settled) => Ok(NodeReport {
-            events: settled.history().len(),
-            last,
-        }),
-        Err(_refused) => Err(End::Unsettled {
-            node: u32::from(node),
-        }),
+        Ok(settled) => {
+            let events = settled.history().len();
+            drop(settled);
+            Ok(NodeReport { events, last })
+        }
+        Err(refused) => {
+            drop(refused);
+            Err(End::Unsettled {
+                node: u32::from(node),
+            })
+        }
     }
 }

@@ -61,7 +61,7 @@ fn sent<T: Drop>(outcome: Result<(), SendError<T>>) -> Result<(), End> {
 #[derive(Drop)]
 pub(crate) struct LinkPost<'a> {
     pub(crate) office: &'a Office,
-    pub(crate) mailbox: Mailbox,
+    pub(crate) mailbox: &'a Mailbox,
     pub(crate) client: Sender<Digest>,
 }
 

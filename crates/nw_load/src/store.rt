@@ -13,7 +13,7 @@ use std::sync::Wait;
 pub(crate) struct LinkCalls<'a, L: Home> {
     pub(crate) node: u32,
     pub(crate) store: &'a Store<DemoScheme, L>,
-    pub(crate) session: Session<DemoScheme, L>,
+    pub(crate) session: &'a mut Session<DemoScheme, L>,
 }
 
 impl<'a, L: Home> LinkCalls<'a, L> {
@@ -24,8 +24,12 @@ impl<'a, L: Home> LinkCalls<'a, L> {
         alloc: Global,
         block: &CheckedBlock<DemoScheme>,
     ) -> Result<bool, End> {
-        match self.store.write(rt, alloc, &mut self.session, block) {
-            Ok(done) => Ok(matches!(&done.reply, Reply::Write(WriteReply::Stored { vote: true }))),
+        match self.store.write(rt, alloc, self.session, block) {
+            Ok(done) => {
+                let vote = matches!(&done.reply, Reply::Write(WriteReply::Stored { vote: true }));
+                drop(done);
+                Ok(vote)
+            }
             Err(refusal) => Err(not_taken(self.node, refusal)),
         }
     }
@@ -37,11 +41,11 @@ impl<'a, L: Home> LinkCalls<'a, L> {
         alloc: Global,
         certificate: &CheckedCert<DemoScheme>,
     ) -> Result<(), End> {
-        match self
-            .store
-            .certify(rt, alloc, &mut self.session, certificate)
-        {
-            Ok(_done) => Ok(()),
+        match self.store.certify(rt, alloc, self.session, certificate) {
+            Ok(done) => {
+                drop(done);
+                Ok(())
+            }
             Err(refusal) => Err(not_taken(self.node, refusal)),
         }
     }
@@ -52,7 +56,7 @@ impl<'a, L: Home> LinkCalls<'a, L> {
 pub(crate) struct ClientCalls<'a, L: Home> {
     pub(crate) node: u32,
     pub(crate) store: &'a Store<DemoScheme, L>,
-    pub(crate) session: Session<DemoScheme, L>,
+    pub(crate) session: &'a mut Session<DemoScheme, L>,
 }
 
 impl<'a, L: Home> ClientCalls<'a, L> {
@@ -63,7 +67,7 @@ impl<'a, L: Home> ClientCalls<'a, L> {
         alloc: Global,
         digest: Digest,
     ) -> Result<Option<Ticket<DemoScheme>>, End> {
-        match self.store.open_causal(rt, alloc, &mut self.session, digest) {
+        match self.store.open_causal(rt, alloc, self.session, digest) {
             Ok(answer) => Ok(answer.ok()),
             Err(refusal) => Err(not_taken(self.node, refusal)),
         }

@@ -7,7 +7,7 @@ use Rattle.nw_digest.specs.declared.digest.Digest.{Digest}
 use Rattle.nw_codec.specs.declared.block.Block.{Block}
 use Rattle.nw_model.specs.State.{State}
 use Rattle.nw_model.specs.Paths.{IsStanding, IsSatisfied, IsParent, IsPath, IsComplete, IsCausalList}
-use Rattle.nw_model.specs.Sound.{IsSound}
+use Rattle.nw_model.specs.Sound.{HasNoneBelow}
 use Rattle.nw_model.specs.View.{Frozen, IsThere, IsParentIn, IsPathIn, IsAncestorIn, IsWalk, Shows}
 use Rattle.nw_model.specs.Laws.{ViewsShowTheAncestors}
 use Rattle.nw_model.proofs.Complete.{parent_complete, parents_complete}
@@ -18,8 +18,8 @@ pub there_held : (v : Frozen) (s : State) (d : Digest) (b : Block) → Shows v s
 there_held v s d b shows there = ((shows.complete d b).0 there).0
 
 -- a complete block that stands is in the view
-pub complete_there : (v : Frozen) (s : State) (d : Digest) (b : Block) → IsSound s → Shows v s → IsComplete s d → IsStanding s d b → IsThere v d b
-complete_there v s d b sound shows whole stands = (shows.complete d b).1 (stands.0, sound.blocks_kept d b stands.0, whole)
+pub complete_there : (v : Frozen) (s : State) (d : Digest) (b : Block) → HasNoneBelow s → Shows v s → IsComplete s d → IsStanding s d b → IsThere v d b
+complete_there v s d b kept shows whole stands = (shows.complete d b).1 (stands.0, kept d b stands.0, whole)
 
 -- the last of a path is in the view
 pub last_there : (v : Frozen) (d : Digest) (path : List Digest) (a : Digest) → IsPathIn v d path a → (b : Block) × IsThere v a b
@@ -42,23 +42,23 @@ path_to_state v s d (e ∷ path) a shows whole on =
     ((b, r, stands, parent.4, named.0, parent.5), path_to_state v s e path a shows below on.1)
 
 -- what a path in the state is in the view
-path_to_view : (v : Frozen) (s : State) (d : Digest) (path : List Digest) (a : Digest) → IsSound s → Shows v s → IsComplete s d → IsPath s d path a → IsPathIn v d path a
-path_to_view v s d [] a sound shows whole on = ((on.0.0, complete_there v s d on.0.0 sound shows whole on.0.1), on.1)
-path_to_view v s d (e ∷ path) a sound shows whole on =
+path_to_view : (v : Frozen) (s : State) (d : Digest) (path : List Digest) (a : Digest) → HasNoneBelow s → Shows v s → IsComplete s d → IsPath s d path a → IsPathIn v d path a
+path_to_view v s d [] a kept shows whole on = ((on.0.0, complete_there v s d on.0.0 kept shows whole on.0.1), on.1)
+path_to_view v s d (e ∷ path) a kept shows whole on =
     let parent : IsParent s d e = on.0 in
     let b = parent.0 in
     let r = parent.1 in
     let satisfied : IsSatisfied s b.round r = parent.4 in
     let floor : v.floor ≡ s.floor = shows.floor in
-    let kept : s.floor ≤ satisfied.0.round = sound.blocks_kept r.digest satisfied.0 satisfied.1.0 in
+    let above : s.floor ≤ satisfied.0.round = kept r.digest satisfied.0 satisfied.1.0 in
     let before : satisfied.0.round + 1 ≡ b.round = satisfied.3 in
-    ((b, r, (complete_there v s d b sound shows whole parent.2).0, omega arith, parent.3, parent.5), path_to_view v s e path a sound shows (parent_complete s d e whole parent) on.1)
+    ((b, r, (complete_there v s d b kept shows whole parent.2).0, omega arith, parent.3, parent.5), path_to_view v s e path a kept shows (parent_complete s d e whole parent) on.1)
 
 -- a complete block has the same ancestors in the state and in a view that shows it
 pub ancestors_shown : ViewsShowTheAncestors
-ancestors_shown v s d sound shows whole a = (
+ancestors_shown v s d kept shows whole a = (
   λ in_view. (in_view.0, path_to_state v s d in_view.0 a shows whole in_view.1),
-  λ in_state. (in_state.0, path_to_view v s d in_state.0 a sound shows whole in_state.1),
+  λ in_state. (in_state.0, path_to_view v s d in_state.0 a kept shows whole in_state.1),
 )
 
 -- two functions that agree at the elements of a list make one list of it
@@ -70,16 +70,16 @@ same_map f g (x ∷ xs) agree =
     cc
 
 -- a walk of a complete block in a view that shows the state is its causal list
-pub walk_is_causal : (v : Frozen) (s : State) (d : Digest) (blocks : List Block) → IsSound s → Shows v s → IsComplete s d → IsWalk v d blocks → IsCausalList s d blocks
-walk_is_causal v s d blocks sound shows whole walk = record {
+pub walk_is_causal : (v : Frozen) (s : State) (d : Digest) (blocks : List Block) → HasNoneBelow s → Shows v s → IsComplete s d → IsWalk v d blocks → IsCausalList s d blocks
+walk_is_causal v s d blocks kept shows whole walk = record {
   digests = walk.digests;
   found = same_map (get s.blocks) (get v.blocks) walk.digests (λ a among.
       let ancestor : IsAncestorIn v d a = (walk.exactly a).0 among in
       let last = last_there v d ancestor.0 a ancestor.1 in
       there_held v s a last.0 shows last.1 ∙ sym last.1.0) ∙ walk.found;
   exactly = λ a. (
-    λ among. (ancestors_shown v s d sound shows whole a).0 ((walk.exactly a).0 among),
-    λ ancestor. (walk.exactly a).1 ((ancestors_shown v s d sound shows whole a).1 ancestor),
+    λ among. (ancestors_shown v s d kept shows whole a).0 ((walk.exactly a).0 among),
+    λ ancestor. (walk.exactly a).1 ((ancestors_shown v s d kept shows whole a).1 ancestor),
   );
   ascending = walk.ascending;
 }

@@ -4,6 +4,7 @@ use Rattle.sha2.specs.Sha256.{sha256}
 use Rattle.nw_digest.specs.declared.digest.Digest.{Digest}
 use Rattle.nw_codec.specs.Fits.{Fits, CertificateFits, authors, signers}
 use Rattle.nw_codec.specs.Grammar.{body}
+use Rattle.nw_codec.specs.Typed.{IsSignature}
 use Rattle.nw_codec.specs.declared.block.Block.{Block}
 use Rattle.nw_codec.specs.declared.certificate.Signature.{Signature}
 use Rattle.nw_codec.specs.declared.certificate.Seal.{Seal}
@@ -20,9 +21,9 @@ digest_of b = record { 0 = sha256 (body b) }
 abbrev pub IsMember : List Member → ℕ → Type 0
 IsMember members number = number < length members
 
--- the scheme accepts the signature of the text under the key of the member with this number
+-- the signature has 64 bytes, and the scheme accepts it for the text under the key of the member with this number
 abbrev pub IsSignedBy : Meaning → List Member → ℕ → List ℕ → Signature → Type 0
-IsSignedBy accepts members number text signature = (m : Member) × (slice_get members number ≡ Some m) × (accepts m.key text signature ≡ true)
+IsSignedBy accepts members number text signature = IsSignature signature × (m : Member) × (slice_get members number ≡ Some m) × (accepts m.key text signature ≡ true)
 
 -- the block fits, its author and the authors of its parents are members, it has no parents in round 0 and parents that reach the quorum in a later one, and its author signed its digest
 pub record IsWellFormedWith (accepts : Meaning) (members : List Member) (b : Block) (signature : Signature) : Type 0 where

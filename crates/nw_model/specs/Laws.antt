@@ -10,7 +10,7 @@ use Rattle.nw_model.specs.State.{State, block_slot}
 use Rattle.nw_model.specs.Checks.{digest_of}
 use Rattle.nw_model.specs.Paths.{IsAncestor, IsComplete, IsCausalList}
 use Rattle.nw_model.specs.View.{Frozen, IsAncestorIn, Shows}
-use Rattle.nw_model.specs.Sound.{IsSound}
+use Rattle.nw_model.specs.Sound.{IsSound, HasNoneBelow}
 use Rattle.nw_model.specs.History.{Terms, IsLegal, replay}
 use Rattle.nw_model.specs.declared.call.Call.TheVariants as call
 use Rattle.nw_model.specs.declared.event.Event.{Event}
@@ -28,9 +28,9 @@ abbrev pub BeginningsOfLegalHistoriesAreLegal : Type 0
 BeginningsOfLegalHistoriesAreLegal =
     (accepts : Meaning) (terms : Terms) (base : State) (first more : List Event) → IsLegal accepts terms base (first ++ more) → IsLegal accepts terms base first
 
--- where a view shows a sound state, a complete block has the same ancestors in both
+-- where a view shows a state that holds no block below its garbage round, a complete block has the same ancestors in both
 abbrev pub ViewsShowTheAncestors : Type 0
-ViewsShowTheAncestors = (v : Frozen) (s : State) (d : Digest) → IsSound s → Shows v s → IsComplete s d → (a : Digest) → IsAncestorIn v d a ↔ IsAncestor s d a
+ViewsShowTheAncestors = (v : Frozen) (s : State) (d : Digest) → HasNoneBelow s → Shows v s → IsComplete s d → (a : Digest) → IsAncestorIn v d a ↔ IsAncestor s d a
 
 -- each block of the causal list of a complete block is complete, and its own causal list is contained in that list
 abbrev pub CausalListsContainThoseOfTheirBlocks : Type 0

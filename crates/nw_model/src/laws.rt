@@ -17,7 +17,7 @@ pub fn step_is_a_function()
     ensures { StepIsAFunction }
 {}
 
-/// A legal history leaves a sound state: no two digests are ever certified for one round and author.
+/// A legal history, from whatever base it begins, leaves a sound state: no two digests are ever certified for one round and author.
 pub fn a_legal_history_leaves_a_sound_state()
     ensures { LegalHistoriesLeaveSoundStates }
 {}
@@ -27,12 +27,13 @@ pub fn a_beginning_of_a_legal_history_is_legal()
     ensures { BeginningsOfLegalHistoriesAreLegal }
 {}
 
-/// A complete block has the same ancestors in the state and in a view that shows it.
+/// A complete block has the same ancestors in the state and in a view that shows it, where the state holds no block below its
+/// garbage round.
 pub fn ancestors_in_a_view_are_the_states()
     ensures { ViewsShowTheAncestors }
 {}
 
-/// The causal list of a block contains the causal list of each block in it.
+/// The causal list of a complete block contains the causal list of each block in it.
 pub fn a_causal_list_contains_those_of_its_blocks()
     ensures { CausalListsContainThoseOfTheirBlocks }
 {}
@@ -47,18 +48,19 @@ pub fn a_first_of_the_base_gets_no_vote()
     ensures { FirstsOfABaseGetNoVote }
 {}
 
-/// The causal list of a complete block stays, but for blocks of rounds below a later garbage round.
+/// Within a legal history the causal list of a complete block stays, but for blocks of rounds below a later garbage round, as long
+/// as the block itself is not below it.
 pub fn a_causal_list_stays()
     ensures { CausalListsStay }
 {}
 
-/// In each round from the garbage round up to the one before its own, a complete block has in its causal list blocks whose
-/// authors reach the quorum.
+/// After a legal history a complete block has in its causal list, in each round from the garbage round up to the one before its
+/// own, blocks whose authors reach the quorum.
 pub fn a_causal_list_reaches_a_quorum_in_each_round()
     ensures { CausalListsReachQuorums }
 {}
 
-/// Two reads of a digest give one block, or the first block was collected in between and the two share the digest.
+/// Two reads of a digest in a legal history give one block, or the first block was collected in between and the two share the digest.
 pub fn reads_of_a_digest_agree()
     ensures { ReadsAgree }
 {}

@@ -41,7 +41,10 @@ impl<L: Home> Calls<L> {
                 current: 0,
                 may_limit,
             }),
-            Err(_book) => Err(LineFault::Bad),
+            Err(book) => {
+                drop(book);
+                Err(LineFault::Bad)
+            }
         }
     }
 
@@ -56,7 +59,11 @@ impl<L: Home> Calls<L> {
         self.may_limit = false;
         match desk.asked(alloc, request)? {
             Asked::Nothing(answer) => Ok(answer),
-            Asked::Call { name, command } => self.call(rt, alloc, desk, name, &command),
+            Asked::Call { name, command } => {
+                let answer = self.call(rt, alloc, desk, name, &command);
+                drop(command);
+                answer
+            }
             Asked::Open {
                 name,
                 digest,
@@ -77,7 +84,7 @@ impl<L: Home> Calls<L> {
         command: &Command<DemoScheme>,
     ) -> Result<Answer<'a>, LineFault> {
         match self.step(rt, alloc, command) {
-            Ok(done) => desk.told(alloc, name, &done.reply),
+            Ok(done) => told(alloc, desk, name, done),
             Err(refusal) => refused(refusal),
         }
     }
@@ -116,7 +123,7 @@ impl<L: Home> Calls<L> {
     ) -> Result<Answer<'a>, LineFault> {
         match self.step_open(rt, alloc, digest) {
             Ok(Ok(ticket)) => desk.opened(alloc, name, ticket, is_kept),
-            Ok(Err(done)) => desk.told(alloc, Some(name), &done.reply),
+            Ok(Err(done)) => told(alloc, desk, Some(name), done),
             Err(refusal) => refused(refusal),
         }
     }
@@ -173,6 +180,18 @@ impl<L: Home> Calls<L> {
             Err(_too_many) => Ok(false),
         }
     }
+}
+
+// What the call was answered, told of the name where the reply has one.
+fn told<'a>(
+    alloc: Global,
+    desk: &Desk<'a>,
+    name: Option<Name<'a>>,
+    done: Done<DemoScheme>,
+) -> Result<Answer<'a>, LineFault> {
+    let answer = desk.told(alloc, name, &done.reply);
+    drop(done);
+    answer
 }
 
 // A full history is an answer; another refusal ends the play. Each number is in turn, and what is handed in

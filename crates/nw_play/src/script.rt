@@ -36,7 +36,7 @@ pub fn play<Rt: Wait, R: Read + Drop, W: Write + Drop>(
         _ => written(out.flush()).and(played),
     };
     // What a failed writer did not take is not offered again.
-    let _ = out.into_parts();
+    drop(out.into_parts());
     outcome
 }
 
@@ -64,7 +64,9 @@ fn play_stores<Rt: Wait, W: Write>(
     let committee = first_committee(alloc, &mut lines)?;
     let start = first(alloc, &committee, lines.taken())?;
     let mut desk = Desk::new(alloc, committee);
-    play_from(rt, alloc, start, &mut desk, &mut lines, out, script.len())
+    let played = play_from(rt, alloc, start, &mut desk, &mut lines, out, script.len());
+    drop(desk);
+    played
 }
 
 // Plays a store, and so many more at most that go on behind it.

@@ -19,7 +19,11 @@ pub fn settled<L: Home, W: Write>(
 ) -> Result<Option<Start>, PlayFault> {
     match settle(calls.store, calls.sessions) {
         Ok(settled) => told(alloc, settled, lines, out),
-        Err(refused) => Err(PlayFault::unsettled(lines.taken(), refused.fault)),
+        Err(refused) => {
+            let fault = PlayFault::unsettled(lines.taken(), refused.fault);
+            drop(refused);
+            Err(fault)
+        }
     }
 }
 
@@ -30,10 +34,16 @@ fn told<L: Home, W: Write>(
     lines: &mut Lines<'_>,
     out: &mut W,
 ) -> Result<Option<Start>, PlayFault> {
-    if goes_on(alloc, &settled, lines, out)? {
-        reopened(alloc, settled, out)
-    } else {
-        Ok(None)
+    match goes_on(alloc, &settled, lines, out) {
+        Ok(true) => reopened(alloc, settled, out),
+        Ok(false) => {
+            drop(settled);
+            Ok(None)
+        }
+        Err(fault) => {
+            drop(settled);
+            Err(fault)
+        }
     }
 }
 
@@ -59,11 +69,22 @@ fn reopened<L: Home, W: Write>(
     out: &mut W,
 ) -> Result<Option<Start>, PlayFault> {
     match settled.reopen(alloc) {
-        Ok(book) => {
-            print(out, &Answer::Words("reopened"))?;
-            Ok(Some(Start::behind(book)))
+        Ok(book) => printed(Start::behind(book), out),
+        Err(refused) => {
+            drop(refused);
+            Err(PlayFault::NoMemory)
         }
-        Err(_refused) => Err(PlayFault::NoMemory),
+    }
+}
+
+// The start, once its line is printed.
+fn printed<W: Write>(start: Start, out: &mut W) -> Result<Option<Start>, PlayFault> {
+    match print(out, &Answer::Words("reopened")) {
+        Ok(()) => Ok(Some(start)),
+        Err(fault) => {
+            drop(start);
+            Err(fault)
+        }
     }
 }
 

@@ -55,11 +55,14 @@ fn play_calls<'a, L: Home, R: Wait, W: Write>(
     lines: &mut Lines<'a>,
     out: &mut W,
 ) -> Result<Option<Start>, PlayFault> {
-    match play_all(rt, alloc, &mut calls, desk, lines, out) {
-        Ok(End::Script) => Ok(None),
-        Ok(End::Limits(line)) => limited(alloc, desk.committee(), line, lines.taken()),
-        Ok(End::Settle) => settled(alloc, calls, lines, out),
-        Err(fault) => Err(fault),
+    let end = play_all(rt, alloc, &mut calls, desk, lines, out);
+    if let Ok(End::Settle) = end {
+        return settled(alloc, calls, lines, out);
+    }
+    drop(calls);
+    match end? {
+        End::Limits(line) => limited(alloc, desk.committee(), line, lines.taken()),
+        End::Script | End::Settle => Ok(None),
     }
 }
 

@@ -114,13 +114,13 @@ pub fn parse_line(alloc: Global, bytes: &[u8]) -> Result<Line<'_>, LineFault> {
         keyword => Line::Request(read_request(alloc, keyword, &mut words)?),
     };
     if words.is_empty() {
-        Ok(line)
-    } else {
-        Err(LineFault::Bad)
+        return Ok(line);
     }
+    drop(line);
+    Err(LineFault::Bad)
 }
 
-// The request that begins with this word and goes on with these. Each kind of request has its arm here.
+// The request that begins with this word and goes on with these. Words that ask the same are told apart by `named` and `signed`.
 fn read_request<'a>(
     alloc: Global,
     keyword: &str,

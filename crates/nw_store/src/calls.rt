@@ -167,7 +167,10 @@ fn take_call<S: Scheme, L: Home>(
     let number = locked
         .tally
         .next_number(&mut session.pass, session.journal.len());
-    session.journal.reserve(1)?;
+    if let Err(error) = session.journal.reserve(1) {
+        drop(call);
+        return Err(NoMemory::from(error));
+    }
     let (done, kept) = locked.book.take_step(alloc, session.id, number, call)?;
     locked.tally.tell(&mut session.pass, &kept);
     session.journal.push_reserved(Entry::of(kept));

@@ -136,7 +136,11 @@ impl<S: Scheme, L: Home> Locked<S, L> {
             spare,
         } = self;
         match book.reopen(alloc) {
-            Ok(book) => Ok(book),
+            Ok(book) => {
+                drop(tally);
+                drop(spare);
+                Ok(book)
+            }
             Err((error, book)) => {
                 let locked = Locked {
                     book,

@@ -61,7 +61,10 @@ impl<S: Scheme, L: Home> Settled<S, L> {
     {
         let Settled { locked, sessions } = self;
         match locked.reopen(alloc) {
-            Ok(book) => Ok(book),
+            Ok(book) => {
+                drop(sessions);
+                Ok(book)
+            }
             Err((error, locked)) => Err((error, Settled { locked, sessions })),
         }
     }

@@ -91,10 +91,15 @@ impl<S: Scheme, L: Home> Store<S, L> {
         ensures bad_limits { IsErrOf result BookError.BadLimits ↔ (AreInRange limits → ⊥) }
         ensures no_memory { IsErrOf result BookError.NoMemory → AreInRange limits }
     {
-        let book = Book::new(alloc, committee, limits)?;
-        Ok(Store {
-            locked: Mutex::new(Locked::over(opening, book)),
-        })
+        match Book::new(alloc, committee, limits) {
+            Ok(book) => Ok(Store {
+                locked: Mutex::new(Locked::over(opening, book)),
+            }),
+            Err(error) => {
+                drop(opening);
+                Err(error)
+            }
+        }
     }
 
     /// A store that goes on with the book, without sessions. The book is handed back exactly where its history is not empty. It
@@ -107,6 +112,7 @@ impl<S: Scheme, L: Home> Store<S, L> {
         ensures back { IfErr result (λ refused. refused ≡ book) }
     {
         if !book.history().is_empty() {
+            drop(opening);
             return Err(book);
         }
         Ok(Store {

@@ -1,12 +1,12 @@
 use nw_book::{Book, Command, Done, Front, Limits, Move, NoStep, Ticket};
-use nw_digest::{Digest, Round};
+use nw_committee::Committee;
+use nw_digest::{Digest, Round, Shared};
 use nw_sig::DemoScheme;
 use sample_checked::{block, certificate, committee};
 use std::alloc::Global;
 use std::test::Fail;
 
 mod compacted;
-mod fronts;
 mod reopened;
 mod runs;
 mod turns;
@@ -37,48 +37,81 @@ enum Plan {
 /// A block of the chain and its child.
 const TWO: [Plan; 2] = [Plan::Block, Plan::Block];
 
-/// The moves of the plan, and the digests of the blocks.
-fn planned(alloc: Global, plan: &[Plan]) -> Result<(Vec<Move<DemoScheme>>, Vec<Digest>), Fail> {
-    let mut moves = Vec::new(alloc);
-    let mut digests = Vec::new(alloc);
-    for part in plan {
-        match part {
-            Plan::Block => add_block(&mut moves, &mut digests, alloc)?,
-            Plan::Collect(number) => moves.push(Move::Call {
-                session: 0,
-                command: Command::Collect(Round::new(*number).ok_or("a round has 48 bits")?),
-            })?,
-            Plan::Walk(ticket) => moves.push(Move::Walk { ticket: *ticket })?,
-        }
-    }
-    Ok((moves, digests))
+/// The moves of a plan, and the digests of the blocks.
+#[derive(Drop)]
+struct Planned {
+    moves: Vec<Move<DemoScheme>>,
+    digests: Vec<Digest>,
 }
 
-/// Adds the moves of the block over the last one.
-fn add_block(
-    moves: &mut Vec<Move<DemoScheme>>,
-    digests: &mut Vec<Digest>,
-    alloc: Global,
-) -> Result<(), Fail> {
-    let one = committee(alloc, 1)?;
-    let round = digests.len() as u64;
-    let parents = digests.chunks(1).last().unwrap_or(&[]);
-    let block = block(alloc, &one, 0, round, parents)?;
-    let digest = block.digest();
-    let certificate = certificate(alloc, &one, 0, round, digest)?;
-    for command in [Command::Write(block), Command::Certify(certificate)] {
-        moves.push(Move::Call {
-            session: 0,
-            command,
-        })?;
+/// What the plan comes to.
+fn plan_of(alloc: Global, plan: &[Plan]) -> Result<Planned, Fail> {
+    let mut planned = Planned {
+        moves: Vec::new(alloc),
+        digests: Vec::new(alloc),
+    };
+    match planned.add_all(alloc, plan) {
+        Ok(()) => Ok(planned),
+        Err(fail) => {
+            drop(planned);
+            Err(fail)
+        }
     }
-    moves.push(Move::Open { session: 0, digest })?;
-    Ok(digests.push(digest)?)
+}
+
+impl Planned {
+    /// Adds what the plan says.
+    fn add_all(&mut self, alloc: Global, plan: &[Plan]) -> Result<(), Fail> {
+        for part in plan {
+            match part {
+                Plan::Block => self.add_block(alloc)?,
+                Plan::Collect(number) => {
+                    let round = Round::new(*number).ok_or("a round has 48 bits")?;
+                    self.ask(Command::Collect(round))?;
+                }
+                Plan::Walk(ticket) => self.moves.push(Move::Walk { ticket: *ticket })?,
+            }
+        }
+        Ok(())
+    }
+
+    /// Adds a call.
+    fn ask(&mut self, command: Command<DemoScheme>) -> Result<(), Fail> {
+        Ok(
+            self.moves.push(Move::Call {
+                session: 0,
+                command,
+            })?,
+        )
+    }
+
+    /// Adds the moves of the block over the last one.
+    fn add_block(&mut self, alloc: Global) -> Result<(), Fail> {
+        let one = committee(alloc, 1)?;
+        let added = self.add_block_of(alloc, &one);
+        drop(one);
+        added
+    }
+
+    /// Adds those of a block of this committee.
+    fn add_block_of(&mut self, alloc: Global, one: &Shared<Committee>) -> Result<(), Fail> {
+        let round = self.digests.len() as u64;
+        let parents = self.digests.chunks(1).last().unwrap_or(&[]);
+        let block = block(alloc, one, 0, round, parents)?;
+        let digest = block.digest();
+        self.ask(Command::Write(block))?;
+        self.ask(Command::Certify(certificate(alloc, one, 0, round, digest)?))?;
+        self.moves.push(Move::Open { session: 0, digest })?;
+        Ok(self.digests.push(digest)?)
+    }
 }
 
 /// Whether all moves are made.
 fn are_made(book: &mut Book<DemoScheme>, alloc: Global, moves: &[Move<DemoScheme>]) -> bool {
-    book.run(alloc, moves).stop.is_none()
+    let run = book.run(alloc, moves);
+    let are_made = run.stop.is_none();
+    drop(run);
+    are_made
 }
 
 /// Takes the next step of session 0.

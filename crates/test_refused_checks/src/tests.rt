@@ -24,8 +24,13 @@ fn four(alloc: Global) -> Result<Shared<Committee>, NoMemory> {
 /// The message of a block of round 0 of member 0, which this member signs.
 fn block_message(alloc: Global, four: &Committee, signer: u16) -> Result<Message, Fail> {
     let block = again!(NoMemory, unsigned(alloc, SLOT, &[], b'x'))?;
-    let signature = signature(four, &block, signer).ok_or("the block breaks a limit")?;
-    Ok(Message::Block { block, signature })
+    match signature(four, &block, signer) {
+        Some(signature) => Ok(Message::Block { block, signature }),
+        None => {
+            drop(block);
+            Err(Fail::from("the block breaks a limit"))
+        }
+    }
 }
 
 /// The message of the certificate of these signers.

@@ -24,7 +24,7 @@ mod tasks;
 const BLOCKS: u32 = 1024;
 
 /// How many rounds it takes: as many as the longest chain has.
-const WINDOW: u32 = 64;
+const WINDOW: u32 = 200;
 
 /// A book of so many members without events.
 fn book(alloc: Global, members: u16, events: u32, sessions: u32) -> Result<Book<DemoScheme>, Fail> {

@@ -16,8 +16,13 @@ fn answers(
     writes: [&Command<DemoScheme>; 2],
 ) -> Result<([Reply; 2], Front<DemoScheme>), NoStep> {
     let first = ask(book, alloc, writes[0])?.reply;
-    let Done { reply, front } = ask(book, alloc, writes[1])?;
-    Ok(([first, reply], front))
+    match ask(book, alloc, writes[1]) {
+        Ok(Done { reply, front }) => Ok(([first, reply], front)),
+        Err(refusal) => {
+            drop(first);
+            Err(refusal)
+        }
+    }
 }
 
 /// Whether the front starts from a base with this certified block of round 0 and author 0, and nothing else.
@@ -41,34 +46,81 @@ fn votes_for_none(
     first: Digest,
 ) -> Result<bool, NoStep> {
     let (replies, front) = answers(book, alloc, writes)?;
-    Ok(
-        front.len() == 2
-            && starts_with(&front, first)
-            && matches!(&replies[0], Reply::Write(WriteReply::Equivocates(other)) if *other == first)
-            && matches!(&replies[1], Reply::Write(WriteReply::Held)),
-    )
+    let is_so = front.len() == 2 && starts_with(&front, first) && are_refused(&replies, first);
+    drop(replies);
+    drop(front);
+    Ok(is_so)
+}
+
+/// Whether the first write has another first digest, and the second one's block is held.
+fn are_refused(replies: &[Reply; 2], first: Digest) -> bool {
+    matches!(&replies[0], Reply::Write(WriteReply::Equivocates(other)) if *other == first)
+        && matches!(&replies[1], Reply::Write(WriteReply::Held))
+}
+
+/// Whether the book, once it has no history, votes for no second block; and the book.
+fn goes_on(
+    alloc: Global,
+    book: Book<DemoScheme>,
+    writes: [&Command<DemoScheme>; 2],
+    first: Digest,
+) -> Option<Book<DemoScheme>> {
+    let mut book = reopened(book, alloc)?;
+    match votes_for_none(&mut book, alloc, writes, first) {
+        Ok(true) => Some(book),
+        _ => {
+            drop(book);
+            None
+        }
+    }
+}
+
+/// Whether a book of these moves does, and does once more.
+fn goes_on_twice(
+    alloc: Global,
+    moves: &[Move<DemoScheme>],
+    writes: [&Command<DemoScheme>; 2],
+    first: Digest,
+) -> Result<bool, Fail> {
+    let mut book = book_of_one(alloc, LIMITS)?;
+    if !are_made(&mut book, alloc, moves) {
+        drop(book);
+        return Ok(false);
+    }
+    let Some(book) = goes_on(alloc, book, writes, first) else {
+        return Ok(false);
+    };
+    Ok(goes_on(alloc, book, writes, first).is_some())
+}
+
+/// The two blocks, each to be written.
+fn writes(alloc: Global) -> Result<[Command<DemoScheme>; 2], Fail> {
+    let one = committee(alloc, 1)?;
+    let other = block_with(alloc, &one, b"x")?;
+    Ok([
+        Command::Write(other),
+        Command::Write(block(alloc, &one, 0, 0, &[])?),
+    ])
+}
+
+/// Whether a book of one block does.
+fn goes_on_without_a_vote(alloc: Global, planned: &Planned) -> Result<bool, Fail> {
+    let [other, again] = writes(alloc)?;
+    let goes_on = match planned.digests.as_slice() {
+        [first] => goes_on_twice(alloc, &planned.moves, [&other, &again], *first),
+        _ => Ok(false),
+    };
+    drop(other);
+    drop(again);
+    goes_on
 }
 
 #[test]
 fn a_reopened_book_votes_for_no_second_block_of_a_slot(rt: HostRuntime) -> Result<(), Fail> {
-    let alloc = rt.alloc();
-    let one = committee(alloc, 1)?;
-    let other = Command::Write(block_with(alloc, &one, b"x")?);
-    let again = Command::Write(block(alloc, &one, 0, 0, &[])?);
-    let (moves, digests) = planned(alloc, &[Plan::Block])?;
-    assert_eq!(rt; digests.len(), 1);
-    let mut book = book_of_one(alloc, LIMITS)?;
-    assert!(rt; are_made(&mut book, alloc, &moves));
-    let mut book = reopened(book, alloc).expect(&rt, "a book");
-    assert_eq!(rt;
-        votes_for_none(&mut book, alloc, [&other, &again], digests[0]),
-        Ok(true)
-    );
-    let mut book = reopened(book, alloc).expect(&rt, "a book");
-    assert_eq!(rt;
-        votes_for_none(&mut book, alloc, [&other, &again], digests[0]),
-        Ok(true)
-    );
+    let planned = plan_of(rt.alloc(), &[Plan::Block])?;
+    let goes_on = goes_on_without_a_vote(rt.alloc(), &planned);
+    drop(planned);
+    assert!(rt; goes_on?);
     Ok(())
 }
 
@@ -86,8 +138,13 @@ fn opened_anew(
     digest: Digest,
 ) -> Result<(Ticket<DemoScheme>, Book<DemoScheme>), Fail> {
     let mut book = book_of_one(alloc, LIMITS)?;
-    let ticket = opened(&mut book, alloc, moves, digest).ok_or("a ticket is opened")?;
-    Ok((ticket, book))
+    match opened(&mut book, alloc, moves, digest) {
+        Some(ticket) => Ok((ticket, book)),
+        None => {
+            drop(book);
+            Err(Fail::from("a ticket is opened"))
+        }
+    }
 }
 
 /// A ticket for the digest of the book without its history.
@@ -96,7 +153,10 @@ fn opened_later(
     alloc: Global,
     digest: Digest,
 ) -> Option<Ticket<DemoScheme>> {
-    open(&mut reopened(book, alloc)?, alloc, digest)
+    let mut book = reopened(book, alloc)?;
+    let ticket = open(&mut book, alloc, digest);
+    drop(book);
+    ticket
 }
 
 /// Whether a ticket for the digest of the book without its history agrees with this one.
@@ -108,7 +168,11 @@ fn later_agrees(
 ) -> bool {
     match opened_later(book, alloc, digest) {
         None => false,
-        Some(later) => agree(alloc, ticket, &later) && agree(alloc, &later, ticket),
+        Some(later) => {
+            let agrees = agree(alloc, ticket, &later) && agree(alloc, &later, ticket);
+            drop(later);
+            agrees
+        }
     }
 }
 
@@ -119,21 +183,30 @@ fn other_agrees(
     ticket: &Ticket<DemoScheme>,
     digest: Digest,
 ) -> Result<bool, Fail> {
-    let opened = opened_anew(alloc, moves, digest)?;
-    Ok(agree(alloc, ticket, &opened.0))
+    let (other, book) = opened_anew(alloc, moves, digest)?;
+    drop(book);
+    let agrees = agree(alloc, ticket, &other);
+    drop(other);
+    Ok(agrees)
 }
 
 /// Whether tickets for the digest of two books, and of one of them without its history, agree.
 fn three_agree(alloc: Global, moves: &[Move<DemoScheme>], digest: Digest) -> Result<bool, Fail> {
     let (ticket, book) = opened_anew(alloc, moves, digest)?;
     let later = later_agrees(alloc, book, &ticket, digest);
-    Ok(later && other_agrees(alloc, moves, &ticket, digest)?)
+    let other = other_agrees(alloc, moves, &ticket, digest);
+    drop(ticket);
+    Ok(other? && later)
 }
 
 #[test]
 fn tickets_of_two_books_and_of_a_reopened_one_agree(rt: HostRuntime) -> Result<(), Fail> {
-    let (moves, digests) = planned(rt.alloc(), &TWO)?;
-    assert_eq!(rt; digests.len(), 2);
-    assert!(rt; three_agree(rt.alloc(), &moves, digests[1])?);
+    let planned = plan_of(rt.alloc(), &TWO)?;
+    let agree = match planned.digests.as_slice() {
+        [_, child] => three_agree(rt.alloc(), &planned.moves, *child),
+        _ => Ok(false),
+    };
+    drop(planned);
+    assert!(rt; agree?);
     Ok(())
 }

@@ -83,13 +83,26 @@ fn is_answered(
     moves: &[Move<DemoScheme>],
     case: &Case,
 ) -> bool {
-    is_told(&book.run(alloc, moves), case.answers)
+    let run = book.run(alloc, moves);
+    let is_told = is_told(&run, case.answers);
+    drop(run);
+    is_told
 }
 
 /// Whether a run of the case in a new book does.
 fn is_answered_anew(alloc: Global, case: &Case) -> Result<bool, Fail> {
-    let (moves, _) = planned(alloc, case.plan)?;
-    Ok(is_answered(&mut book_of_one(alloc, LIMITS)?, alloc, &moves, case))
+    let planned = plan_of(alloc, case.plan)?;
+    let is_answered = is_answered_by(alloc, &planned.moves, case);
+    drop(planned);
+    is_answered
+}
+
+/// Whether a run of the moves in a new book does.
+fn is_answered_by(alloc: Global, moves: &[Move<DemoScheme>], case: &Case) -> Result<bool, Fail> {
+    let mut book = book_of_one(alloc, LIMITS)?;
+    let is_answered = is_answered(&mut book, alloc, moves, case);
+    drop(book);
+    Ok(is_answered)
 }
 
 #[test]

@@ -23,13 +23,18 @@ fn refusals(
 ) -> [Option<NoStep>; 2] {
     let command = Command::Write(block);
     let said = book.may_step(0, number, command.committee()).err();
-    [said, book.step(alloc, 0, number, &command).err()]
+    let refused = book.step(alloc, 0, number, &command).err();
+    drop(command);
+    [said, refused]
 }
 
 /// What becomes of the calls, one after the other: the first that is refused otherwise than it should be.
 fn first_other(book: &mut Book<DemoScheme>, alloc: Global) -> Result<Option<u32>, Fail> {
     for (number, members, why) in ASKED {
-        let block = block(alloc, &committee(alloc, members)?, 0, 0, &[])?;
+        let under = committee(alloc, members)?;
+        let block = block(alloc, &under, 0, 0, &[]);
+        drop(under);
+        let block = block?;
         if refusals(book, alloc, number, block) != [why; 2] {
             return Ok(Some(number));
         }
@@ -46,8 +51,11 @@ fn a_call_out_of_turn_is_refused_and_then_a_block_of_another_committee(
         ..LIMITS
     };
     let mut book = book_of_one(rt.alloc(), limits)?;
-    assert_eq!(rt; first_other(&mut book, rt.alloc())?, None);
-    assert_eq!(rt; book.may_step(0, 2, None), Err(NoStep::HistoryFull));
+    let other = first_other(&mut book, rt.alloc());
+    let full = book.may_step(0, 2, None);
+    drop(book);
+    assert_eq!(rt; other?, None);
+    assert_eq!(rt; full, Err(NoStep::HistoryFull));
     Ok(())
 }
 

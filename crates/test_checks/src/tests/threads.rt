@@ -73,31 +73,82 @@ const FIVE: [Found; 5] = [
     Found::BadBlock(BlockFault::Signature),
 ];
 
-/// Whether so many workers find the first texts of these to be what they are, as each check alone does, or the fault.
+/// Whether both checks answered the same: of a block, a certificate or a vote the same value.
+fn is_same(one: &Checked<DemoScheme>, other: &Checked<DemoScheme>) -> bool {
+    match (one, other) {
+        (Checked::Block(one), Checked::Block(other)) => one.block().get() == other.block().get(),
+        (Checked::Cert(one), Checked::Cert(other)) => {
+            one.certificate().get() == other.certificate().get()
+        }
+        (Checked::Vote(one), Checked::Vote(other)) => one == other,
+        _ => found_in(one) == found_in(other),
+    }
+}
+
+/// Whether the answers are those that each check of the first texts alone gives, and what these are.
+fn are_answers(
+    alloc: Global,
+    four: &Shared<Committee>,
+    texts: &[Vec<u8>],
+    answers: &[Checked<DemoScheme>],
+) -> Result<bool, NoMemory> {
+    for (place, (text, answer)) in texts.iter().zip(answers).enumerate() {
+        let alone = check_message(alloc, four, text)?;
+        let is_it = is_same(&alone, answer);
+        drop(alone);
+        if !is_it || FIVE.get(place) != Some(&found_in(answer)) {
+            return Ok(false);
+        }
+    }
+    Ok(true)
+}
+
+/// Whether these are as many answers as that, and those of each check alone.
+fn are_alone(
+    alloc: Global,
+    four: &Shared<Committee>,
+    count: u8,
+    answers: &[Checked<DemoScheme>],
+) -> Result<bool, Fail> {
+    let texts = five_texts(alloc, four.get())?;
+    let are_answers = are_answers(alloc, four, &texts, answers);
+    drop(texts);
+    Ok(are_answers? && answers.len() == usize::from(count))
+}
+
+/// Whether so many workers answer the first of these texts as each check alone does, or the fault.
+fn checked_under<G: Gate + Sync, R: Threads + Wait + Sync>(
+    rt: &R,
+    alloc: Global,
+    four: &Shared<Committee>,
+    count: u8,
+    workers: usize,
+    gate: &G,
+) -> Result<Result<bool, IntakeFault>, Fail> {
+    let mut texts = five_texts(alloc, four.get())?;
+    texts.truncate(usize::from(count));
+    match check_all(rt, alloc, four, texts, workers, gate) {
+        Ok(answers) => {
+            let are_alone = are_alone(alloc, four, count, &answers);
+            drop(answers);
+            Ok(Ok(are_alone?))
+        }
+        Err(fault) => Ok(Err(fault)),
+    }
+}
+
+/// The same, under a committee of four.
 fn checked_by<G: Gate + Sync, R: Threads + Wait + Sync>(
     rt: &R,
     alloc: Global,
-    count: usize,
+    count: u8,
     workers: usize,
     gate: &G,
 ) -> Result<Result<bool, IntakeFault>, Fail> {
     let four = members(alloc, &[1; 4])?;
-    let mut texts = five_texts(alloc, four.get())?;
-    texts.truncate(count);
-    let mut alone = Vec::new(alloc);
-    for text in &texts {
-        alone.push(judge(alloc, &four, text)?)?;
-    }
-    if texts.len() > 5 {
-        return Err(Fail::from("there are five texts"));
-    }
-    match check_all(rt, alloc, &four, texts, workers, gate) {
-        Ok(answers) => {
-            let together: Vec<Found> = answers.iter().map(found_in).collect(alloc)?;
-            Ok(Ok(together == alone && FIVE.starts_with(&together)))
-        }
-        Err(fault) => Ok(Err(fault)),
-    }
+    let found = checked_under(rt, alloc, &four, count, workers, gate);
+    drop(four);
+    found
 }
 
 #[test]

@@ -5,11 +5,13 @@ use sample_checked::refused::keys;
 
 /// The quorum of a committee of members with these numbers.
 fn quorum(alloc: Global, numbers: &[u8]) -> Result<u32, CommitteeFault> {
-    let made = match keys(alloc, numbers) {
-        Ok(keys) => Committee::new(alloc, keys)?,
-        Err(NoMemory) => return Err(CommitteeFault::NoMemory),
+    let Ok(keys) = keys(alloc, numbers) else {
+        return Err(CommitteeFault::NoMemory);
     };
-    Ok(made.quorum())
+    let made = Committee::new(alloc, keys)?;
+    let quorum = made.quorum();
+    drop(made);
+    Ok(quorum)
 }
 
 /// The fault of such a committee, which is made while all memory is refused.

@@ -1,5 +1,5 @@
 //! Faults of texts, blocks and certificates, which are found while all memory is refused.
-use super::texts::text_of;
+use super::texts::{text_of, word};
 use super::*;
 use nw_check::{BlockFault, CertFault, Checked, check_block, check_cert, check_message, valid};
 use nw_codec::{
@@ -76,24 +76,43 @@ fn long_text(alloc: Global) -> Result<Vec<u8>, AllocError> {
 #[test]
 fn faults_of_texts_take_no_memory(rt: HostRuntime) -> Result<(), Fail> {
     let alloc = rt.alloc();
-    let four = four(alloc)?;
     let first = Round::new(1).ok_or("a round has 48 bits")?;
-    let block = again!(NoMemory, block_over(alloc, (first, 0), &[0, 1]))?;
-    let signature = Signature([0; 64]);
-    let block = text_of(alloc, &Message::Block { block, signature })?;
+    let block = text_of_block(alloc, (first, 0))?;
     for (place, byte, fault) in OF_BLOCKS {
         assert_eq!(rt; altered(alloc, &block, place, byte)?, Some(fault));
     }
-    let three = text_of(alloc, &certificate_message(alloc, four.get(), &[0, 1, 2])?)?;
+    drop(block);
+    let three = text_of_three(alloc)?;
     for (place, byte, fault) in OF_CERTIFICATES {
         assert_eq!(rt; altered(alloc, &three, place, byte)?, Some(fault));
     }
+    drop(three);
     let long = again!(AllocError, long_text(alloc))?;
-    assert_eq!(rt;
-        altered(alloc, &long, 0, 1)?,
-        Some(DecodeError::BodyTooLong)
-    );
+    let found = altered(alloc, &long, 0, 1);
+    drop(long);
+    assert_eq!(rt; found?, Some(DecodeError::BodyTooLong));
     Ok(())
+}
+
+/// The text of a block over two.
+fn text_of_block(alloc: Global, slot: Slot) -> Result<Vec<u8>, Fail> {
+    let block = again!(NoMemory, block_over(alloc, slot, &[0, 1]))?;
+    let signature = Signature([0; 64]);
+    let message = Message::Block { block, signature };
+    let text = text_of(alloc, &message);
+    drop(message);
+    Ok(text?)
+}
+
+/// The text of a certificate of three votes.
+fn text_of_three(alloc: Global) -> Result<Vec<u8>, Fail> {
+    let four = four(alloc)?;
+    let message = certificate_message(alloc, four.get(), &[0, 1, 2]);
+    drop(four);
+    let message = message?;
+    let text = text_of(alloc, &message);
+    drop(message);
+    Ok(text?)
 }
 
 /// Why a block whose parents descend, and a certificate whose signers repeat, have no text, and whether they fit.
@@ -116,8 +135,9 @@ fn over_limit(
 #[test]
 fn that_a_value_does_not_fit_takes_no_memory(rt: HostRuntime) -> Result<(), Fail> {
     let four = four(rt.alloc())?;
-    let found = over_limit(rt.alloc(), four.get())?;
-    assert!(rt; found == ([Some(EncodeError::OverLimit); 3], [false; 2]));
+    let found = over_limit(rt.alloc(), four.get());
+    drop(four);
+    assert!(rt; found? == ([Some(EncodeError::OverLimit); 3], [false; 2]));
     Ok(())
 }
 
@@ -130,7 +150,10 @@ fn fault_of_block(
     signer: u16,
 ) -> Result<Option<BlockFault>, Fail> {
     let block = again!(NoMemory, block_over(alloc, slot, parents))?;
-    let signature = signature(four.get(), &block, signer).ok_or("the block breaks a limit")?;
+    let Some(signature) = signature(four.get(), &block, signer) else {
+        drop(block);
+        return Err(Fail::from("the block breaks a limit"));
+    };
     refuse_all(alloc);
     let fault = check_block::<DemoScheme>(alloc, four, block, signature).err();
     refuse_none(alloc);
@@ -171,6 +194,7 @@ fn fault_of_certificate(
     )?;
     let votes = Certificate { round, ..votes };
     if !votes.fits() {
+        drop(votes);
         return Err(Fail::from("the certificate breaks a limit"));
     }
     refuse_all(alloc);
@@ -197,20 +221,37 @@ fn faults_of_certificates_take_no_memory(rt: HostRuntime) -> Result<(), Fail> {
     Ok(())
 }
 
-/// Whether a text of one byte is short, and a vote's text a vote.
-fn are_found(alloc: Global, four: &Shared<Committee>) -> Result<bool, Fail> {
+/// What a text of one byte and a vote's text are found to be.
+fn are_found(
+    alloc: Global,
+    four: &Shared<Committee>,
+) -> Result<(&'static str, &'static str), EncodeError> {
     let text = text_of(alloc, &Message::Vote(vote(four.get(), VOTED, SLOT, 9)))?;
     refuse_all(alloc);
     let short = check_message::<DemoScheme>(alloc, four, b"\x01");
     let found = check_message::<DemoScheme>(alloc, four, &text);
     refuse_none(alloc);
-    let is_short = matches!(short?, Checked::BadText(DecodeError::Short));
-    Ok(is_short && matches!(found?, Checked::Vote(_)))
+    drop(text);
+    Ok((word_of(short), word_of(found)))
+}
+
+/// The word for what a text was found to be.
+fn word_of(found: Result<Checked<DemoScheme>, NoMemory>) -> &'static str {
+    match found {
+        Ok(checked) => {
+            let word = word(&checked);
+            drop(checked);
+            word
+        }
+        Err(NoMemory) => "no memory",
+    }
 }
 
 #[test]
 fn votes_and_bad_texts_take_no_memory(rt: HostRuntime) -> Result<(), Fail> {
     let four = four(rt.alloc())?;
-    assert!(rt; are_found(rt.alloc(), &four)?);
+    let found = are_found(rt.alloc(), &four);
+    drop(four);
+    assert_eq!(rt; found?, ("short", "vote"));
     Ok(())
 }

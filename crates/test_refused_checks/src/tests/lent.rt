@@ -36,47 +36,71 @@ fn are_signed() -> bool {
         && Round::ZERO.before().is_none()
 }
 
-/// Whether a checked block and a checked certificate lend what was checked.
-fn lend(
-    block: &CheckedBlock<DemoScheme>,
-    certificate: &CheckedCert<DemoScheme>,
-    four: &Committee,
-) -> bool {
+/// Whether the checked block lends its block, digest and committee.
+fn lends_block(block: &CheckedBlock<DemoScheme>, four: &Committee) -> bool {
     let inside = block.block().get();
+    inside.fits() && block.digest() == block_digest(inside) && block.committee().get() == four
+}
+
+/// Whether the checked certificate lends its digest, committee and votes.
+fn lends_certificate(certificate: &CheckedCert<DemoScheme>, four: &Committee) -> bool {
     let votes = certificate.certificate().get();
-    inside.fits()
-        && block.digest() == block_digest(inside)
-        && block.committee().get() == four
-        && certificate.digest() == VOTED
+    certificate.digest() == VOTED
         && certificate.committee().get() == four
         && valid::<DemoScheme>(four, VOTED, votes)
 }
 
 /// Whether each of these is so while all memory is refused.
 fn are_told(alloc: Global, four: &Shared<Committee>) -> Result<[bool; 3], Fail> {
+    Ok([
+        committee_tells(alloc, four.get())?,
+        block_is_lent(alloc, four)?,
+        certificate_is_lent(alloc, four)?,
+    ])
+}
+
+/// Whether the committee tells its members, and digests, rounds and signatures are what they are.
+fn committee_tells(alloc: Global, four: &Committee) -> Result<bool, NoMemory> {
     let others = again!(NoMemory, committee(alloc, &[0, 1, 2, 4]))?;
+    refuse_all(alloc);
+    let is_so = tells(four, others.get()) && are_signed();
+    refuse_none(alloc);
+    drop(others);
+    Ok(is_so)
+}
+
+/// Whether a checked block lends what was checked.
+fn block_is_lent(alloc: Global, four: &Shared<Committee>) -> Result<bool, BlockFault> {
     let block = again!(
         BlockFault::NoMemory,
         checked_block(alloc, four, SLOT, &[], b'x', 0)
     )?;
+    refuse_all(alloc);
+    let is_so = lends_block(&block, four.get());
+    refuse_none(alloc);
+    drop(block);
+    Ok(is_so)
+}
+
+/// Whether a checked certificate lends what was checked.
+fn certificate_is_lent(alloc: Global, four: &Shared<Committee>) -> Result<bool, CertFault> {
     let votes = again!(
         CertFault::NoMemory,
         checked_certificate(alloc, four, VOTED, SLOT, &[0, 1, 2])
     )?;
     refuse_all(alloc);
-    let told = [
-        tells(four.get(), others.get()),
-        are_signed(),
-        lend(&block, &votes, four.get()),
-    ];
+    let is_so = lends_certificate(&votes, four.get());
     refuse_none(alloc);
-    Ok(told)
+    drop(votes);
+    Ok(is_so)
 }
 
 #[test]
 fn what_is_lent_takes_no_memory(rt: HostRuntime) -> Result<(), Fail> {
     let four = four(rt.alloc())?;
-    assert_eq!(rt; are_told(rt.alloc(), &four)?, [true; 3]);
+    let told = are_told(rt.alloc(), &four);
+    drop(four);
+    assert_eq!(rt; told?, [true; 3]);
     Ok(())
 }
 
@@ -102,24 +126,35 @@ fn refuses(alloc: Global, gather: &mut Gather<DemoScheme>, four: &Committee) -> 
     is_so
 }
 
-/// Whether a gatherer does, and one for a block whose author is no member is refused.
-fn refuses_votes(alloc: Global, four: &Shared<Committee>) -> Result<bool, Fail> {
+/// Whether a gatherer does.
+fn refuses_votes(alloc: Global, four: &Shared<Committee>) -> Result<bool, StartFault> {
     let mut gather = again!(
         StartFault::NoMemory,
         Gather::<DemoScheme>::new(alloc, four, VOTED, Round::ZERO, 0)
     )?;
     let first = vote(four.get(), VOTED, SLOT, 0);
-    let counted = again!(GatherFault::NoMemory, gather.add(&first))?;
+    let counted = again!(GatherFault::NoMemory, gather.add(&first));
     refuse_all(alloc);
-    let stranger = Gather::<DemoScheme>::new(alloc, four, VOTED, Round::ZERO, 9).err();
     let refuses = refuses(alloc, &mut gather, four.get());
     refuse_none(alloc);
-    Ok(refuses && stranger == Some(StartFault::Author) && counted == Counted::Counted)
+    drop(gather);
+    Ok(refuses && counted == Ok(Counted::Counted))
+}
+
+/// Whether a gatherer for a block whose author is no member is refused.
+fn refuses_strangers(alloc: Global, four: &Shared<Committee>) -> bool {
+    refuse_all(alloc);
+    let stranger = Gather::<DemoScheme>::new(alloc, four, VOTED, Round::ZERO, 9).err();
+    refuse_none(alloc);
+    stranger == Some(StartFault::Author)
 }
 
 #[test]
 fn refusals_of_votes_take_no_memory(rt: HostRuntime) -> Result<(), Fail> {
     let four = four(rt.alloc())?;
-    assert!(rt; refuses_votes(rt.alloc(), &four)?);
+    let refuses = refuses_votes(rt.alloc(), &four);
+    let is_refused = refuses_strangers(rt.alloc(), &four);
+    drop(four);
+    assert!(rt; refuses? && is_refused);
     Ok(())
 }

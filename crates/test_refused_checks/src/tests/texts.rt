@@ -13,9 +13,14 @@ pub(super) fn text_of(alloc: Global, message: &Message) -> Result<Vec<u8>, Encod
 /// How many bytes the message has, which are read as the message again.
 fn spelled(alloc: Global, message: &Message) -> Result<usize, Fail> {
     let text = text_of(alloc, message)?;
-    let read = again!(DecodeError::NoMemory, decode_message(alloc, &text))?;
-    if read == *message {
-        Ok(text.len())
+    let read = again!(DecodeError::NoMemory, decode_message(alloc, &text));
+    let length = text.len();
+    drop(text);
+    let read = read?;
+    let is_same = read == *message;
+    drop(read);
+    if is_same {
+        Ok(length)
     } else {
         Err(Fail::from("read as another message"))
     }
@@ -23,15 +28,35 @@ fn spelled(alloc: Global, message: &Message) -> Result<usize, Fail> {
 
 #[test]
 fn messages_are_spelled_and_read_again(rt: HostRuntime) -> Result<(), Fail> {
-    let alloc = rt.alloc();
-    let four = four(alloc)?;
-    let block = spelled(alloc, &block_message(alloc, four.get(), 0)?)?;
-    let three = spelled(alloc, &certificate_message(alloc, four.get(), &[0, 1, 2])?)?;
-    let vote = spelled(alloc, &Message::Vote(vote(four.get(), VOTED, SLOT, 1)))?;
-    let unsigned = again!(NoMemory, unsigned(alloc, SLOT, &[], b'x'))?;
-    let body = again!(EncodeError::NoMemory, encode_body(alloc, &unsigned))?;
-    assert_eq!(rt; [block, three, vote, body.len()], [83, 241, 107, 18]);
+    let four = four(rt.alloc())?;
+    let lengths = lengths(rt.alloc(), four.get());
+    drop(four);
+    assert_eq!(rt; lengths?, [83, 241, 107]);
+    assert_eq!(rt; length_of_body(rt.alloc())?, 18);
     Ok(())
+}
+
+/// How many bytes the texts of a block, a certificate and a vote have.
+fn lengths(alloc: Global, four: &Committee) -> Result<[usize; 3], Fail> {
+    let block = length_of(alloc, block_message(alloc, four, 0)?)?;
+    let three = length_of(alloc, certificate_message(alloc, four, &[0, 1, 2])?)?;
+    let vote = length_of(alloc, Message::Vote(vote(four, VOTED, SLOT, 1)))?;
+    Ok([block, three, vote])
+}
+
+/// How many bytes the message has, which is used up.
+fn length_of(alloc: Global, message: Message) -> Result<usize, Fail> {
+    let length = spelled(alloc, &message);
+    drop(message);
+    length
+}
+
+/// How many bytes a block's body has.
+fn length_of_body(alloc: Global) -> Result<usize, Fail> {
+    let unsigned = again!(NoMemory, unsigned(alloc, SLOT, &[], b'x'))?;
+    let body = again!(EncodeError::NoMemory, encode_body(alloc, &unsigned));
+    drop(unsigned);
+    Ok(body?.len())
 }
 
 /// A word for what a text is.
@@ -40,6 +65,7 @@ pub(super) fn word(checked: &Checked<DemoScheme>) -> &'static str {
         Checked::Block(_) => "block",
         Checked::Cert(_) => "certificate",
         Checked::Vote(_) => "vote",
+        Checked::BadText(DecodeError::Short) => "short",
         Checked::BadText(_) => "bad text",
         Checked::BadBlock(BlockFault::Signature) => "signature",
         Checked::BadBlock(_) => "bad block",
@@ -50,21 +76,43 @@ pub(super) fn word(checked: &Checked<DemoScheme>) -> &'static str {
 
 /// The word for the text of the message.
 fn found(alloc: Global, four: &Shared<Committee>, message: Message) -> Result<&'static str, Fail> {
-    let text = text_of(alloc, &message)?;
-    let checked = again!(NoMemory, check_message(alloc, four, &text))?;
-    Ok(word(&checked))
+    let text = text_of(alloc, &message);
+    drop(message);
+    let text = text?;
+    let checked = again!(NoMemory, check_message(alloc, four, &text));
+    drop(text);
+    let checked = checked?;
+    let word = word(&checked);
+    drop(checked);
+    Ok(word)
 }
 
 #[test]
 fn texts_are_decoded_and_checked(rt: HostRuntime) -> Result<(), Fail> {
-    let alloc = rt.alloc();
-    let four = four(alloc)?;
-    let block = found(alloc, &four, block_message(alloc, four.get(), 0)?)?;
-    let forged = found(alloc, &four, block_message(alloc, four.get(), 1)?)?;
-    let three = certificate_message(alloc, four.get(), &[0, 1, 2])?;
-    let two = certificate_message(alloc, four.get(), &[0, 1])?;
-    let (three, two) = (found(alloc, &four, three)?, found(alloc, &four, two)?);
-    let wanted = ["block", "signature", "certificate", "few votes"];
-    assert_eq!(rt; [block, forged, three, two], wanted);
+    let four = four(rt.alloc())?;
+    let words = words(rt.alloc(), &four);
+    drop(four);
+    let wanted = ("block", "signature", "certificate", "few votes");
+    assert_eq!(rt; words?, wanted);
     Ok(())
+}
+
+/// Words for four texts.
+type Words = (&'static str, &'static str, &'static str, &'static str);
+
+/// The words for a block's text, a forged one's, and those of certificates of three votes and of two.
+fn words(alloc: Global, four: &Shared<Committee>) -> Result<Words, Fail> {
+    let block = found(alloc, four, block_message(alloc, four.get(), 0)?)?;
+    let forged = found(alloc, four, block_message(alloc, four.get(), 1)?)?;
+    let three = found(
+        alloc,
+        four,
+        certificate_message(alloc, four.get(), &[0, 1, 2])?,
+    )?;
+    let two = found(
+        alloc,
+        four,
+        certificate_message(alloc, four.get(), &[0, 1])?,
+    )?;
+    Ok((block, forged, three, two))
 }

@@ -40,10 +40,12 @@ fn find_both<R: Threads + Wait + Sync>(
         Err(IntakeFault::NoMemory | IntakeFault::Spawn) => together(rt, alloc, four)??,
         answers => answers?,
     };
-    match answers.as_slice() {
-        [one, other] => Ok(word(one) == "block" && word(other) == "vote"),
-        _ => Ok(false),
-    }
+    let are_found = match answers.as_slice() {
+        [one, other] => word(one) == "block" && word(other) == "vote",
+        _ => false,
+    };
+    drop(answers);
+    Ok(are_found)
 }
 
 /// Whether no workers are refused, and a free gate lets a start pass, while all memory is refused.
@@ -64,7 +66,9 @@ fn refuses_none_at_work<R: Threads + Wait + Sync>(
 #[test]
 fn two_workers_check_two_messages(rt: HostRuntime) -> Result<(), Fail> {
     let four = four(rt.alloc())?;
-    assert!(rt; find_both(&rt, rt.alloc(), &four)?);
-    assert!(rt; refuses_none_at_work(&rt, rt.alloc(), &four));
+    let are_found = find_both(&rt, rt.alloc(), &four);
+    let is_refused = refuses_none_at_work(&rt, rt.alloc(), &four);
+    drop(four);
+    assert!(rt; are_found? && is_refused);
     Ok(())
 }

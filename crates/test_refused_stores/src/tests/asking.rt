@@ -131,7 +131,9 @@ fn answers<L: Home, R: Wait>(
         NoStep::NoMemory,
         reply_to(rt, alloc, store, session, link, tickets, asked)
     )?;
-    Ok(is_told(alloc, desk, &reply, tickets.last(), told)?)
+    let is_told = is_told(alloc, desk, &reply, tickets.last(), told);
+    drop(reply);
+    Ok(is_told?)
 }
 
 /// How many rows, from the first on, the store answers as they say.

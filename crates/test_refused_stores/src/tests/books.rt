@@ -72,11 +72,24 @@ fn told(
     stranger: &Command<DemoScheme>,
 ) -> Result<(bool, [Option<NoStep>; 5]), NoStep> {
     let one = front(book, alloc, 1, own)?;
+    let told = told_behind(book, alloc, &one, stranger);
+    drop(one);
+    told
+}
+
+/// The same, once the first event is there, whose front is given.
+fn told_behind(
+    book: &mut Book<DemoScheme>,
+    alloc: Global,
+    one: &Front<DemoScheme>,
+    stranger: &Command<DemoScheme>,
+) -> Result<(bool, [Option<NoStep>; 5]), NoStep> {
     let two = front(book, alloc, 2, &Command::Status)?;
     refuse_all(alloc);
     let refusals = refusals(book, alloc, stranger);
-    let told = are_fronts(&one, &two) && is_of(&one, book);
+    let told = are_fronts(one, &two) && is_of(one, book);
     refuse_none(alloc);
+    drop(two);
     Ok((told, refusals))
 }
 
@@ -86,15 +99,29 @@ fn write_of(desk: &mut Desk) -> Result<Command<DemoScheme>, Fail> {
     Ok(Command::Write(made.block))
 }
 
+/// That of this book, to which the last block of the desk is written.
+fn told_of(
+    book: &mut Book<DemoScheme>,
+    alloc: Global,
+    desk: &mut Desk,
+    stranger: &Command<DemoScheme>,
+) -> Result<(bool, [Option<NoStep>; 5]), Fail> {
+    let own = write_of(desk)?;
+    let told = told(book, alloc, &own, stranger);
+    drop(own);
+    Ok(told?)
+}
+
 /// That of a new book of the desk's committee.
 fn told_anew(
     alloc: Global,
     desk: &mut Desk,
     stranger: &Command<DemoScheme>,
 ) -> Result<(bool, [Option<NoStep>; 5]), Fail> {
-    let own = write_of(desk)?;
     let mut book = again!(BookError::NoMemory, new_book(alloc, &desk.committee, FEW))?;
-    Ok(told(&mut book, alloc, &own, stranger)?)
+    let told = told_of(&mut book, alloc, desk, stranger);
+    drop(book);
+    told
 }
 
 #[test]

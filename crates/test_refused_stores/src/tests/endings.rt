@@ -29,7 +29,10 @@ fn reopened<L: Home>(
         Ok(book) => Ok(book),
         Err((NoMemory, settled)) => match settled.reopen(alloc) {
             Ok(book) => Ok(book),
-            Err((refused, _settled)) => Err(refused),
+            Err((refused, settled)) => {
+                drop(settled);
+                Err(refused)
+            }
         },
     }
 }
@@ -54,6 +57,9 @@ pub(super) fn ended<L: Home>(
     refuse_none(alloc);
     match settled {
         Ok(settled) => goes_on(alloc, settled),
-        Err(_) => Err(Fail::from("two sessions of two do not settle")),
+        Err(refused) => {
+            drop(refused);
+            Err(Fail::from("two sessions of two do not settle"))
+        }
     }
 }

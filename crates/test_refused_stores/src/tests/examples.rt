@@ -87,7 +87,9 @@ fn seen<R: Wait>(
 ) -> Result<(usize, usize), Fail> {
     let book = again!(BookError::NoMemory, new_book(alloc, desk))?;
     let outcome = played(rt, alloc, book, desk, rows, tickets)?;
-    Ok((outcome.answered, outcome.events))
+    let seen = (outcome.answered, outcome.events);
+    drop(outcome);
+    Ok(seen)
 }
 
 #[test]
@@ -130,10 +132,11 @@ fn gone_on<R: Wait>(
     tickets: &mut Vec<Ticket<DemoScheme>>,
 ) -> Result<Book<DemoScheme>, Fail> {
     let outcome = played(rt, alloc, book, desk, rows, tickets)?;
-    match (outcome.answered, outcome.events) == (rows.len(), events) {
-        true => Ok(outcome.book),
-        false => Err(Fail::from("a store answers otherwise")),
+    if (outcome.answered, outcome.events) == (rows.len(), events) {
+        return Ok(outcome.book);
     }
+    drop(outcome);
+    Err(Fail::from("a store answers otherwise"))
 }
 
 #[test]

@@ -80,8 +80,11 @@ fn stop_of(
     moves: &[Move<DemoScheme>],
 ) -> Result<Option<Stop>, Fail> {
     let run = book.run(alloc, moves);
-    match are_told(alloc, run.answers.as_slice(), book.history().len())? {
-        true => Ok(run.stop),
+    let are_told = are_told(alloc, run.answers.as_slice(), book.history().len());
+    let stop = run.stop;
+    drop(run);
+    match are_told? {
+        true => Ok(stop),
         false => Err(Fail::from("a move is answered otherwise")),
     }
 }
@@ -93,7 +96,9 @@ fn stop_anew(
     moves: &[Move<DemoScheme>],
 ) -> Result<Option<Stop>, Fail> {
     let mut book = again!(BookError::NoMemory, new_book(alloc, committee, LIMITS))?;
-    stop_of(&mut book, alloc, moves)
+    let stop = stop_of(&mut book, alloc, moves);
+    drop(book);
+    stop
 }
 
 /// Whether the stop is want of memory.
@@ -107,15 +112,35 @@ fn is_refused(stop: Option<Stop>) -> bool {
     }
 }
 
+/// That of a new book, asked once more where memory was refused.
+fn stop_again(
+    alloc: Global,
+    committee: &Shared<Committee>,
+    moves: &[Move<DemoScheme>],
+) -> Result<Option<Stop>, Fail> {
+    let stop = stop_anew(alloc, committee, moves)?;
+    if is_refused(stop) {
+        stop_anew(alloc, committee, moves)
+    } else {
+        Ok(stop)
+    }
+}
+
+/// That of the moves of the last block of the desk.
+fn stop_with(alloc: Global, desk: &mut Desk) -> Result<Option<Stop>, Fail> {
+    let moves = moves(desk.links.pop().ok_or("an example has blocks")?);
+    let stop = stop_again(alloc, &desk.committee, &moves);
+    drop(moves);
+    stop
+}
+
 #[test]
 fn a_run_of_moves_is_made_or_begun(rt: HostRuntime) -> Result<(), Fail> {
     let alloc = rt.alloc();
     let mut desk = Desk::new(alloc, &[0], &TWO)?;
-    let moves = moves(desk.links.pop().ok_or("an example has blocks")?);
-    let mut stop = stop_anew(alloc, &desk.committee, &moves)?;
-    if is_refused(stop) {
-        stop = stop_anew(alloc, &desk.committee, &moves)?;
-    }
+    let stop = stop_with(alloc, &mut desk);
+    drop(desk);
+    let stop = stop?;
     let cause = Cause::NoTicket;
     assert!(rt; stop == Some(Stop { at: 5, cause }));
     Ok(())

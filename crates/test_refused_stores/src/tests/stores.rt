@@ -46,13 +46,21 @@ fn play<L: Home, R: Wait>(
     tickets: &mut Vec<Ticket<DemoScheme>>,
 ) -> Result<Outcome, Fail> {
     let mut sessions = Vec::new(alloc);
-    let answered = asked(rt, alloc, &store, &mut sessions, desk, rows, tickets)?;
-    let (events, book) = ended(alloc, store, sessions)?;
-    Ok(Outcome {
-        answered,
-        events,
-        book,
-    })
+    match asked(rt, alloc, &store, &mut sessions, desk, rows, tickets) {
+        Ok(answered) => {
+            let (events, book) = ended(alloc, store, sessions)?;
+            Ok(Outcome {
+                answered,
+                events,
+                book,
+            })
+        }
+        Err(fail) => {
+            drop(sessions);
+            drop(store);
+            Err(fail)
+        }
+    }
 }
 
 /// Asks the rows on a store that goes on with the book.
@@ -71,7 +79,10 @@ fn play_over<L: Home, R: Wait>(
 {
     match Store::<DemoScheme, L>::over(opening, book) {
         Ok(store) => play(rt, alloc, store, desk, rows, tickets),
-        Err(_) => Err(Fail::from("the book has events")),
+        Err(book) => {
+            drop(book);
+            Err(Fail::from("the book has events"))
+        }
     }
 }
 
@@ -84,6 +95,11 @@ pub(super) fn played<R: Wait>(
     rows: &[Row],
     tickets: &mut Vec<Ticket<DemoScheme>>,
 ) -> Result<Outcome, Fail> {
-    let opening = again!(NoMemory, Opening::new(alloc))?;
-    play_over::<Brand, R>(rt, alloc, opening, book, desk, rows, tickets)
+    match again!(NoMemory, Opening::new(alloc)) {
+        Ok(opening) => play_over::<Brand, R>(rt, alloc, opening, book, desk, rows, tickets),
+        Err(refused) => {
+            drop(book);
+            Err(Fail::from(refused))
+        }
+    }
 }

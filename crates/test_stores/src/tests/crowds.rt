@@ -23,32 +23,46 @@ pub(super) fn in_threads<L: Home, R: Threads + Wait + Sync>(
     );
 }
 
-/// How many events a store has once a crew did these tasks round a chain of so many blocks, and in how many threads all was as it
-/// is to be.
+/// How many events a store has once a crew did these tasks round a chain of so many blocks, how many calls of its first two sessions
+/// are told in order, and in how many threads all was as it is to be.
 fn worked<R: Threads + Wait + Sync>(
     rt: &R,
     alloc: Global,
     rounds: u64,
     tasks: &[Task],
-) -> Result<(usize, u64), Fail> {
+) -> Result<(usize, usize, u64), Fail> {
     let sessions = u16::try_from(tasks.len())?;
     let crew = Crew::new(chain(alloc, rounds)?, tasks.to_vec(alloc)?);
     let book = book(alloc, 1, 2048, u32::from(sessions))?;
-    let (events, _) = played(rt, alloc, book, &Scene::Crowd(sessions, &crew))?;
-    Ok((events, crew.agreeing()))
+    let (events, told) = played(rt, alloc, book, &Scene::Crowd(sessions, &crew))?;
+    let agreeing = crew.agreeing();
+    drop(crew);
+    Ok((events, told, agreeing))
+}
+
+#[test]
+fn fronts_of_513_events_share_two_chunks(rt: HostRuntime) -> Result<(), Fail> {
+    assert_eq!(rt; worked(&rt, rt.alloc(), 1, &[Task::Count])?, (513, 513, 1));
+    Ok(())
 }
 
 #[test]
 fn what_two_threads_write_settles(rt: HostRuntime) -> Result<(), Fail> {
     let tasks = [Task::Share; 2];
-    assert_eq!(rt; worked(&rt, rt.alloc(), 64, &tasks)?, (2 * 64, 2));
+    assert_eq!(rt;
+        worked(&rt, rt.alloc(), 200, &tasks)?,
+        (2 * 100, 2 * 100, 2)
+    );
     Ok(())
 }
 
 #[test]
 fn sixteen_threads_follow_a_chain_and_settle(rt: HostRuntime) -> Result<(), Fail> {
     let tasks = [Task::Follow; 16];
-    assert_eq!(rt; worked(&rt, rt.alloc(), 4, &tasks)?, (16 * 4 * 4, 16));
+    assert_eq!(rt;
+        worked(&rt, rt.alloc(), 4, &tasks)?,
+        (16 * 4 * 4, 2 * 4 * 4, 16)
+    );
     Ok(())
 }
 
@@ -59,7 +73,7 @@ fn fourteen_threads_walk_beside_a_writer_and_a_collector(rt: HostRuntime) -> Res
     tasks[1] = Task::Collect;
     assert_eq!(rt;
         worked(&rt, rt.alloc(), 64, &tasks)?,
-        (2 * 64 + 32 + 14 * 100, 16)
+        (2 * 64 + 32 + 14 * 100, 2 * 64 + 32, 16)
     );
     Ok(())
 }

@@ -35,8 +35,23 @@ fn is_recorded(
     Ok(is_it && entry.front().len() == calls)
 }
 
+/// Whether the front of each entry ends with the session's call of that place, and has a part for each full chunk of 256 events and
+/// for each event behind them: none copies what is in a full chunk.
+pub(super) fn are_fronts(journal: &[Entry<DemoScheme>]) -> bool {
+    for (place, entry) in journal.iter().enumerate() {
+        let front = entry.front();
+        let length = front.len();
+        let last = front.event(length.saturating_sub(1));
+        let number = last.map(|event| event.number as usize);
+        if number != Some(place.saturating_add(1)) || front.parts() != length / 256 + length % 256 {
+            return false;
+        }
+    }
+    true
+}
+
 /// Whether each front of the journal begins the next one, which does not begin it.
-fn grows(journal: &[Entry<DemoScheme>]) -> bool {
+pub(super) fn grows(journal: &[Entry<DemoScheme>]) -> bool {
     for (earlier, later) in journal.iter().zip(journal.iter().skip(1)) {
         let (earlier, later) = (earlier.front(), later.front());
         if !earlier.is_prefix_of(later) || later.is_prefix_of(earlier) {

@@ -35,7 +35,10 @@ fn make_sessions<L: Home, R: Wait>(
     }
     match store.session(rt, alloc) {
         Err(TooMany) => Ok(()),
-        Ok(_) => Err(Fail::from("one session more is made")),
+        Ok(more) => {
+            drop(more);
+            Err(Fail::from("one session more is made"))
+        }
     }
 }
 
@@ -60,8 +63,8 @@ fn perform<L: Home, R: Threads + Wait + Sync>(
     }
 }
 
-/// Plays the scene on the store, and settles its sessions: how many events there are, and how many rows the first session's journal
-/// tells of, from the first on.
+/// Plays the scene on the store, and settles its sessions: how many events there are, and how many of the calls the journals tell
+/// of as they should.
 fn on_store<L: Home, R: Threads + Wait + Sync>(
     rt: &R,
     alloc: Global,
@@ -69,8 +72,14 @@ fn on_store<L: Home, R: Threads + Wait + Sync>(
     scene: &Scene<'_>,
 ) -> Result<(usize, usize), Fail> {
     let mut sessions = Vec::new(alloc);
-    perform(rt, alloc, &store, &mut sessions, scene)?;
-    seen_settled(alloc, store, sessions, scene)
+    match perform(rt, alloc, &store, &mut sessions, scene) {
+        Ok(()) => seen_settled(alloc, store, sessions, scene),
+        Err(fail) => {
+            drop(sessions);
+            drop(store);
+            Err(fail)
+        }
+    }
 }
 
 /// Plays the scene on a store that goes on with the book.
@@ -87,12 +96,15 @@ fn play<L: Home, R: Threads + Wait + Sync>(
 {
     match Store::<DemoScheme, L>::over(opening, book) {
         Ok(store) => on_store(rt, alloc, store, scene),
-        Err(_) => Err(Fail::from("the book has events")),
+        Err(book) => {
+            drop(book);
+            Err(Fail::from("the book has events"))
+        }
     }
 }
 
-/// Plays the scene on a store of its own, which goes on with the book: how many events the store has then, and how many rows the
-/// first session's journal tells of, from the first on.
+/// Plays the scene on a store of its own, which goes on with the book: how many events the store has then, and how many of the
+/// calls the journals tell of as they should.
 pub(super) fn played<R: Threads + Wait + Sync>(
     rt: &R,
     alloc: Global,

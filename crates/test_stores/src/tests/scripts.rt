@@ -84,7 +84,9 @@ fn is_answered<L: Home, R: Wait>(
     match (sessions.get_mut(*session), links.get(*place)) {
         (Some(session), Some(link)) => {
             let reply = reply_to(rt, alloc, store, session, link, ticket, asked);
-            is_told(alloc, &reply, link, told)
+            let is_told = is_told(alloc, &reply, link, told);
+            drop(reply);
+            is_told
         }
         _ => Ok(false),
     }
@@ -118,5 +120,7 @@ pub(super) fn play_script<L: Home, R: Wait>(
     rows: &[Row],
 ) -> Result<(), Fail> {
     let mut ticket = None;
-    ask_all(rt, alloc, store, sessions, links, &mut ticket, rows)
+    let played = ask_all(rt, alloc, store, sessions, links, &mut ticket, rows);
+    drop(ticket);
+    played
 }

@@ -19,7 +19,7 @@ const TURNS: u32 = 20_000_000;
 pub(super) enum Task {
     /// It hands in the chain.
     Write,
-    /// It hands in every second link of the chain.
+    /// It hands in every second block of the chain.
     Share,
     /// It collects half of the chain, a round after each second link.
     Collect,
@@ -27,6 +27,8 @@ pub(super) enum Task {
     Read,
     /// It hands in the chain beside others, and opens, reads and walks each block.
     Follow,
+    /// It reads a block that is not held, 513 times.
+    Count,
 }
 
 /// How a task is done: so many turns, each of which asks of one link, after so many links were handed in.
@@ -59,7 +61,8 @@ const WRITE: Plan = Plan {
 };
 
 const SHARE: Plan = Plan {
-    turns: 32,
+    asks: &[Ask::Write],
+    turns: 100,
     stride: 2,
     spread: 2,
     ..WRITE
@@ -91,6 +94,14 @@ const FOLLOW: Plan = Plan {
     ..WRITE
 };
 
+const COUNT: Plan = Plan {
+    asks: &[Ask::Read],
+    turns: 513,
+    stride: 0,
+    floor: 1,
+    ..WRITE
+};
+
 impl Task {
     /// How it is done.
     fn plan(&self) -> &'static Plan {
@@ -100,6 +111,7 @@ impl Task {
             Task::Collect => &COLLECT,
             Task::Read => &READ,
             Task::Follow => &FOLLOW,
+            Task::Count => &COUNT,
         }
     }
 }
@@ -200,6 +212,8 @@ pub(super) fn work<L: Home, R: Wait>(
             &mut ticket,
             plan,
         );
+        drop(follower);
+        drop(ticket);
         if matches!(done, Ok(true)) {
             crew.agreeing.fetch_add(1, SeqCst);
         }

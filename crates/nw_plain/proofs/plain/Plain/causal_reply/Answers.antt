@@ -10,11 +10,11 @@ walk-requires c =
     let s : State = c.args.self.now.state in
     let sound : IsSound s = rw (← c.self.view_is) c.self.invariant.sound in
     let frozen : IsComplete s c.args.digest × Shows c.in-Ok.view s = rw (c.in-Ok.is) at c.in_ok-refusal.ensures in
-    (frozen.0.stands.0, complete_there c.in-Ok.view s c.args.digest frozen.0.stands.0 sound frozen.1 frozen.0 frozen.0.stands.1)
+    (frozen.0.stands.0, complete_there c.in-Ok.view s c.args.digest frozen.0.stands.0 sound.blocks_kept frozen.1 frozen.0 frozen.0.stands.1)
 
 pub returns-in_ok-blocks-in-Ok-clause-reply : goal.returns-in_ok-blocks-in-Ok-clause-reply
 returns-in_ok-blocks-in-Ok-clause-reply c =
     let s : State = c.args.self.now.state in
     let sound : IsSound s = rw (← c.self.view_is) c.self.invariant.sound in
     let frozen : IsComplete s c.args.digest × Shows c.in-Ok.view s = rw (c.in-Ok.is) at c.in_ok-refusal.ensures in
-    (frozen.0, rw c.new.ensures (walk_is_causal c.in-Ok.view s c.args.digest c.in_ok-blocks-in-Ok.blocks.items sound frozen.1 frozen.0 c.in_ok-blocks-in-Ok.ensures))
+    (frozen.0, rw c.new.ensures (walk_is_causal c.in-Ok.view s c.args.digest c.in_ok-blocks-in-Ok.blocks.items sound.blocks_kept frozen.1 frozen.0 c.in_ok-blocks-in-Ok.ensures))

@@ -1,0 +1,178 @@
+//! The consensus: it decides leaders, and gives out the blocks of their causal reads in one order.
+ghost use Rattle.std.specs.Prelude.{IfOk, IsTrue};
+ghost use Rattle.nw_book.specs.Ticket.{HaveOneList};
+
+use crate::end::End;
+use crate::messages::MEMBERS;
+use crate::scheme::NetworkScheme;
+use crate::validator::Host;
+use crossbeam_channel::Receiver;
+use nw_store::{Agreement, Block, Digest, Home, NoMemory, Round, Session, Shared, Store, Ticket};
+use std::alloc::Global;
+use std::sync::Wait;
+
+/// A round and an author, of which one block is certified at most.
+#[derive(Clone, Copy, Debug, PartialEq, Eq)]
+pub(crate) struct Slot {
+    pub(crate) round: Round,
+    pub(crate) author: u16,
+}
+
+/// A slot, and the digest that is certified for it.
+#[derive(Clone, Copy, Debug, PartialEq, Eq)]
+pub(crate) struct Certified {
+    pub(crate) slot: Slot,
+    pub(crate) digest: Digest,
+}
+
+/// What is decided. It outlives the store.
+#[derive(Drop)]
+pub(crate) struct Consensus {
+    /// The round whose leader is decided next.
+    next: u64,
+    /// Leaders that are certified.
+    leaders: Vec<Certified>,
+    /// The blocks that were given out, in their order.
+    pub(crate) order: Vec<Slot>,
+    /// The causal read of the last leader that was decided.
+    pub(crate) last: Option<Ticket<NetworkScheme>>,
+}
+
+impl Consensus {
+    /// Nothing is decided yet.
+    pub(crate) fn new(alloc: Global) -> Consensus {
+        Consensus {
+            next: 2,
+            leaders: Vec::new(alloc),
+            order: Vec::new(alloc),
+            last: None,
+        }
+    }
+
+    /// Keeps the leaders among what was certified.
+    fn hear(&mut self, certified: &[Certified]) -> Result<(), End> {
+        for one in certified {
+            if is_leader(one.slot) {
+                self.leaders.push(*one)?;
+            }
+        }
+        Ok(())
+    }
+
+    /// The digest of the leader that is decided next, if it is certified.
+    fn leader(&self) -> Option<Digest> {
+        let leader = self
+            .leaders
+            .iter()
+            .find(|one| one.slot.round.get() == self.next)?;
+        Some(leader.digest)
+    }
+
+    /// Gives out the blocks that were not given out yet, in this order.
+    fn give_out(&mut self, blocks: &[Shared<Block>]) -> Result<(), End> {
+        for block in blocks {
+            let slot = Slot {
+                round: block.get().round,
+                author: block.get().author,
+            };
+            if !self.order.contains(&slot) {
+                self.order.push(slot)?;
+            }
+        }
+        Ok(())
+    }
+}
+
+/// Whether the author leads the round: every second round has a leader, by turns.
+fn is_leader(slot: Slot) -> bool {
+    let round = slot.round.get();
+    round % 2 == 0 && round / 2 % u64::from(MEMBERS) == u64::from(slot.author)
+}
+
+/// What decides: its session, and what is decided.
+#[derive(Drop)]
+pub(crate) struct Decider<'a, L: Home, R> {
+    pub(crate) host: &'a Host<'a, R>,
+    pub(crate) store: &'a Store<NetworkScheme, L>,
+    pub(crate) session: &'a mut Session<NetworkScheme, L>,
+    pub(crate) consensus: &'a mut Consensus,
+}
+
+impl<'a, L: Home, R: Wait> Decider<'a, L, R> {
+    /// Decides leaders as the intake tells what is certified, until it ends.
+    pub(crate) fn run(&mut self, intake: &Receiver<Vec<Certified>>) -> Result<(), End> {
+        for _ in 0..u64::MAX {
+            let Ok(certified) = intake.recv(self.host.rt) else {
+                return Ok(());
+            };
+            again!(self.consensus.hear(&certified))?;
+            self.decide_all()?;
+        }
+        Ok(())
+    }
+
+    /// Decides one leader after the other, as long as they are complete.
+    fn decide_all(&mut self) -> Result<(), End> {
+        for _ in 0..u64::MAX {
+            if !again!(self.decide())? {
+                return Ok(());
+            }
+        }
+        Ok(())
+    }
+
+    /// Decides the next leader, if it is complete, and raises the garbage round to the one before it.
+    fn decide(&mut self) -> Result<bool, End> {
+        let Some(digest) = self.consensus.leader() else {
+            return Ok(false);
+        };
+        let Some(ticket) = self.open(digest)? else {
+            return Ok(false);
+        };
+        let given = self.walk(&ticket);
+        self.consensus.last = Some(ticket);
+        given?;
+        let floor = Round::new(self.consensus.next.saturating_sub(1)).unwrap_or(Round::ZERO);
+        let Host { rt, alloc, .. } = *self.host;
+        drop(self.store.collect(rt, alloc, self.session, floor)?);
+        self.consensus.next = self.consensus.next.saturating_add(2);
+        Ok(true)
+    }
+
+    /// Opens a causal read of the digest, if it is complete.
+    fn open(&mut self, digest: Digest) -> Result<Option<Ticket<NetworkScheme>>, End> {
+        let Host { rt, alloc, .. } = *self.host;
+        match self.store.open_causal(rt, alloc, self.session, digest)? {
+            Ok(ticket) => Ok(Some(ticket)),
+            Err(why_not) => {
+                drop(why_not);
+                Ok(None)
+            }
+        }
+    }
+
+    /// Gives out what the ticket lists. It takes no lock, so the intake goes on meanwhile.
+    fn walk(&mut self, ticket: &Ticket<NetworkScheme>) -> Result<(), End> {
+        let blocks = ticket.walk(self.host.alloc)?;
+        let given = self.consensus.give_out(&blocks);
+        drop(blocks);
+        given
+    }
+}
+
+/// Whether the lists of two tickets are equal, which are for one digest and have one garbage round.
+pub(crate) fn have_one_list(
+    alloc: Global,
+    one: &Ticket<NetworkScheme>,
+    other: &Ticket<NetworkScheme>,
+) -> Result<bool, NoMemory>
+    ensures { IfOk result (λ same. IsTrue same → HaveOneList one.now other.now) }
+{
+    if one.digest() != other.digest() || one.view().floor() != other.view().floor() {
+        return Ok(false);
+    }
+    let agreement = one.agree(alloc, other)?;
+    let same = matches!(&agreement, Agreement::Same);
+    drop(agreement);
+    Ok(same)
+}

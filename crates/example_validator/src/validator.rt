@@ -1,0 +1,305 @@
+//! One validator: its store, its two threads, and how it goes on once the history is long.
+ghost use Rattle.std.specs.Prelude.{◌≡◌};
+ghost use Rattle.nw_store.specs.Journal.{origin_of};
+ghost use Rattle.nw_store.specs.Kept.{parts_of_a_ledger};
+
+use crate::consensus::{Certified, Consensus, Decider};
+use crate::end::End;
+use crate::intake::{Inbox, Intake, Text};
+use crate::messages::{Network, inbox};
+use crate::scheme::NetworkScheme;
+use crossbeam_channel::{Receiver, Sender, unbounded};
+use nw_store::{Book, Committee, Home, Limits, Opening, Session, Settled, Shared, Store, settle};
+use std::alloc::Global;
+use std::marker::Brand;
+use std::mem::replace;
+use std::sync::Wait;
+use std::thread;
+use std::thread::Threads;
+
+/// The limits of a validator's store.
+const LIMITS: Limits = Limits {
+    blocks: 1024,
+    events: 1024,
+    window: 64,
+    sessions: 2,
+};
+
+/// What all validators work with.
+#[derive(Drop)]
+pub(crate) struct Host<'a, R> {
+    pub(crate) rt: &'a R,
+    pub(crate) alloc: Global,
+    pub(crate) committee: &'a Shared<Committee>,
+}
+
+/// What a validator keeps beside its store.
+#[derive(Drop)]
+pub(crate) struct Validator {
+    pub(crate) consensus: Consensus,
+    kept: Vec<Text>,
+}
+
+impl Validator {
+    /// A validator that has seen nothing.
+    pub(crate) fn new(alloc: Global) -> Validator {
+        Validator {
+            consensus: Consensus::new(alloc),
+            kept: Vec::new(alloc),
+        }
+    }
+}
+
+/// Runs the validator on the first rounds, settles and reopens its store, and runs it on the others.
+pub(crate) fn run_validator<R: Threads + Wait + Sync>(
+    host: &Host<'_, R>,
+    validator: &mut Validator,
+    network: &Network,
+    number: u16,
+) -> Result<(), End> {
+    let book = again!(new_book(host))?;
+    let book = go_on(host, validator, book, &network.first, number)?;
+    let book = go_on(host, validator, book, &network.second, number)?;
+    drop(book);
+    Ok(())
+}
+
+/// A book with an empty history.
+fn new_book<R>(host: &Host<'_, R>) -> Result<Book<NetworkScheme>, End> {
+    Ok(Book::new(host.alloc, host.committee.try_clone()?, LIMITS)?)
+}
+
+/// Lets the validator take the messages, on a store that goes on with the book. Gives the book for the next store.
+fn go_on<R: Threads + Wait + Sync>(
+    host: &Host<'_, R>,
+    validator: &mut Validator,
+    book: Book<NetworkScheme>,
+    texts: &[Text],
+    number: u16,
+) -> Result<Book<NetworkScheme>, End> {
+    match again!(prepare(host, texts, number)) {
+        Ok((opening, inbox)) => {
+            let next = open::<Brand, R>(host, validator, &inbox, opening, book);
+            drop(inbox);
+            next
+        }
+        Err(end) => {
+            drop(book);
+            Err(end)
+        }
+    }
+}
+
+/// What a store is opened with, and what will come.
+fn prepare<R: Wait>(
+    host: &Host<'_, R>,
+    texts: &[Text],
+    number: u16,
+) -> Result<(Opening<NetworkScheme>, Inbox), End> {
+    let inbox = inbox(host.rt, host.alloc, texts, number)?;
+    Ok((Opening::new(host.alloc)?, inbox))
+}
+
+/// Opens the store that `L` names, and runs it.
+fn open<L: Home, R: Threads + Wait + Sync>(
+    host: &Host<'_, R>,
+    validator: &mut Validator,
+    inbox: &Inbox,
+    opening: Opening<NetworkScheme>,
+    book: Book<NetworkScheme>,
+) -> Result<Book<NetworkScheme>, End>
+    requires log { opening.log ≡ L.log }
+    requires ledger { (opening.ledger ≡ L.name) × (L.parts ≡ parts_of_a_ledger) }
+    requires origin { origin_of book ≡ L.origin }
+{
+    match Store::<NetworkScheme, L>::over(opening, book) {
+        Ok(store) => run_store(host, validator, inbox, store),
+        Err(book) => {
+            drop(book);
+            Err(End::Unasked)
+        }
+    }
+}
+
+/// Runs the store until the inbox ends, settles it, and gives the book for the next store.
+fn run_store<L: Home, R: Threads + Wait + Sync>(
+    host: &Host<'_, R>,
+    validator: &mut Validator,
+    inbox: &Inbox,
+    store: Store<NetworkScheme, L>,
+) -> Result<Book<NetworkScheme>, End> {
+    let mut sessions = Vec::new(host.alloc);
+    match run_sessions(host, validator, inbox, &store, &mut sessions) {
+        Ok(()) => close(host.alloc, store, sessions),
+        Err(end) => {
+            drop(sessions);
+            drop(store);
+            Err(end)
+        }
+    }
+}
+
+/// Makes two sessions of the store, and runs a thread with each.
+fn run_sessions<L: Home, R: Threads + Wait + Sync>(
+    host: &Host<'_, R>,
+    validator: &mut Validator,
+    inbox: &Inbox,
+    store: &Store<NetworkScheme, L>,
+    sessions: &mut Vec<Session<NetworkScheme, L>>,
+) -> Result<(), End> {
+    again!(sessions.reserve(2))?;
+    let channel = again!(unbounded(host.alloc))?;
+    let one = store.session(host.rt, host.alloc);
+    let other = store.session(host.rt, host.alloc);
+    match (one, other) {
+        (Ok(one), Ok(other)) => {
+            let state = replace(validator, Validator::new(host.alloc));
+            let ((one, consensus, decided), (other, kept, taken)) = run_both(
+                host,
+                store,
+                inbox,
+                channel,
+                (one, other),
+                state,
+            );
+            *validator = Validator { consensus, kept };
+            let given = give_back(sessions, one, other);
+            given.and(taken).and(decided)
+        }
+        (one, other) => {
+            drop(one);
+            drop(other);
+            drop(channel);
+            Err(End::Unasked)
+        }
+    }
+}
+
+/// The sessions, for which there is room.
+fn give_back<L: Home>(
+    sessions: &mut Vec<Session<NetworkScheme, L>>,
+    one: Session<NetworkScheme, L>,
+    other: Session<NetworkScheme, L>,
+) -> Result<(), End> {
+    let first = sessions.push(one);
+    let second = sessions.push(other);
+    first?;
+    second?;
+    Ok(())
+}
+
+/// A session that is handed back, with what its thread decided, and why it ended.
+type Decided<L> = (Session<NetworkScheme, L>, Consensus, Result<(), End>);
+/// A session that is handed back, with what its thread keeps for later, and why it ended.
+type Taken<L> = (Session<NetworkScheme, L>, Vec<Text>, Result<(), End>);
+
+/// Runs the consensus in a thread of its own, and the intake in this one. Where no thread is to be had, one comes after the other.
+fn run_both<L: Home, R: Threads + Wait + Sync>(
+    host: &Host<'_, R>,
+    store: &Store<NetworkScheme, L>,
+    inbox: &Inbox,
+    (certified, news): (Sender<Vec<Certified>>, Receiver<Vec<Certified>>),
+    (one, other): (Session<NetworkScheme, L>, Session<NetworkScheme, L>),
+    Validator { consensus, kept }: Validator,
+) -> (Decided<L>, Taken<L>) {
+    thread::join(
+        host.rt,
+        move || decide(host, store, one, consensus, news),
+        move || take(host, store, other, kept, inbox, certified),
+    )
+}
+
+/// Lets the consensus decide by the session, and hands both back.
+fn decide<L: Home, R: Wait>(
+    host: &Host<'_, R>,
+    store: &Store<NetworkScheme, L>,
+    mut session: Session<NetworkScheme, L>,
+    mut consensus: Consensus,
+    intake: Receiver<Vec<Certified>>,
+) -> Decided<L> {
+    let decided = run_consensus(&*host, &*store, &mut session, &mut consensus, intake);
+    (session, consensus, decided)
+}
+
+fn run_consensus<'a, L: Home, R: Wait>(
+    host: &'a Host<'a, R>,
+    store: &'a Store<NetworkScheme, L>,
+    session: &'a mut Session<NetworkScheme, L>,
+    consensus: &'a mut Consensus,
+    intake: Receiver<Vec<Certified>>,
+) -> Result<(), End> {
+    let mut decider = Decider {
+        host,
+        store,
+        session,
+        consensus,
+    };
+    let decided = decider.run(&intake);
+    drop(decider);
+    drop(intake);
+    decided
+}
+
+/// Lets the intake take what comes by the session, and hands it back with what is kept.
+fn take<L: Home, R: Threads + Wait + Sync>(
+    host: &Host<'_, R>,
+    store: &Store<NetworkScheme, L>,
+    mut session: Session<NetworkScheme, L>,
+    mut kept: Vec<Text>,
+    inbox: &Inbox,
+    consensus: Sender<Vec<Certified>>,
+) -> Taken<L> {
+    let taken = run_intake(&*host, &*store, &mut session, &mut kept, inbox, consensus);
+    (session, kept, taken)
+}
+
+fn run_intake<'a, L: Home, R: Threads + Wait + Sync>(
+    host: &'a Host<'a, R>,
+    store: &'a Store<NetworkScheme, L>,
+    session: &'a mut Session<NetworkScheme, L>,
+    kept: &mut Vec<Text>,
+    inbox: &Inbox,
+    consensus: Sender<Vec<Certified>>,
+) -> Result<(), End> {
+    let mut intake = Intake {
+        host,
+        store,
+        session,
+        consensus,
+    };
+    let taken = intake.run(inbox, kept);
+    drop(intake);
+    taken
+}
+
+/// Settles the sessions, which are all, and gives the book for the next store.
+fn close<L: Home>(
+    alloc: Global,
+    store: Store<NetworkScheme, L>,
+    sessions: Vec<Session<NetworkScheme, L>>,
+) -> Result<Book<NetworkScheme>, End> {
+    match settle(store, sessions) {
+        Ok(settled) => reopen(alloc, settled),
+        Err(refused) => {
+            drop(refused);
+            Err(End::Unasked)
+        }
+    }
+}
+
+/// The book for the next store. A refusal gives back what was settled.
+fn reopen<L: Home>(
+    alloc: Global,
+    settled: Settled<NetworkScheme, L>,
+) -> Result<Book<NetworkScheme>, End> {
+    match settled.reopen(alloc) {
+        Ok(book) => Ok(book),
+        Err((_, settled)) => match settled.reopen(alloc) {
+            Ok(book) => Ok(book),
+            Err((error, settled)) => {
+                drop(settled);
+                Err(End::from(error))
+            }
+        },
+    }
+}

@@ -1,0 +1,17 @@
+//! What the curve's numbers are.
+ghost use Rattle.std.specs.Prelude.{◌≡◌, ◌+◌, ◌*◌, ◌%◌};
+ghost use Rattle.nw_field.specs.Field.{prime, plus, minus, times};
+ghost use Rattle.nw_curve.specs.Curve.{base, curve_d};
+ghost use Rattle.nw_curve.specs.Coding.{root_of_minus_one};
+
+/// d is -121665 / 121666, the root of -1 is one, and the base point is a point: its y is 4 / 5, and its x is even.
+#[tactic(auto, unfolding(crate::specs::Curve::base, crate::specs::Curve::curve_d, crate::specs::Coding::root_of_minus_one, nw_field::specs::Field::prime))]
+pub fn numbers_of_the_curve()
+    ensures d { plus (times curve_d 121666) 121665 ≡ 0 }
+    ensures root { plus (times root_of_minus_one root_of_minus_one) 1 ≡ 0 }
+    ensures base_y { times base.y 5 ≡ 4 }
+    ensures base_even { base.x % 2 ≡ 0 }
+    ensures base_t { base.t ≡ times base.x base.y }
+    ensures on_curve { minus (times base.y base.y) (times base.x base.x)
+        ≡ plus 1 (times curve_d (times base.t base.t)) }
+{}

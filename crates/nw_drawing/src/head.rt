@@ -1,0 +1,78 @@
+//! The head of a picture: its size, styles and marks.
+
+use crate::frame::{garbage_at, legend_at};
+use crate::grid::Grid;
+use crate::legend;
+use crate::scale::Scale;
+use std::io::{self, Write};
+
+// How much room the words of the garbage round want.
+const GARBAGE_WORDS: u64 = 216;
+// The room on the right of all else and below it.
+const MARGIN: u64 = 16;
+
+const STYLES: &str = "<style>\n\
+text{font:12px 'DejaVu Sans Mono',Menlo,Consolas,monospace;fill:#222}\n\
+.mid{text-anchor:middle}\n\
+.paper{fill:#fff}\n\
+.row{fill:#f4f4f4}\n\
+.held,.certified,.complete,.collected,.wanted,.absent{stroke:#444}\n\
+.held{fill:#fff}\n\
+.certified{fill:#cfe2ff}\n\
+.complete{fill:#c8edcc}\n\
+.collected{fill:#d9d9d9;stroke:#999}\n\
+.wanted{fill:#ffe3b0;stroke-dasharray:4 3}\n\
+.absent{fill:#fff;stroke:#aaa;stroke-dasharray:1 3}\n\
+.read{fill:none;stroke:#c2185b;stroke-width:2}\n\
+.met{stroke:#888}\n\
+.unmet{stroke:#888;stroke-dasharray:5 4}\n\
+.garbage{stroke:#b00020;stroke-width:2;stroke-dasharray:8 4}\n\
+.ink{fill:none;stroke:#222;stroke-width:2}\n\
+.dot{fill:#222}\n\
+</style>\n";
+
+const MARKS: &str = "<defs>\n\
+<circle id=\"held\" class=\"ink\" r=\"4\"/>\n\
+<circle id=\"certified\" class=\"dot\" r=\"5\"/>\n\
+<path id=\"complete\" class=\"ink\" d=\"M-5 0l4 4l6 -9\"/>\n\
+<path id=\"collected\" class=\"ink\" d=\"M-4 -4l8 8m0 -8l-8 8\"/>\n\
+<path id=\"wanted\" class=\"ink\" d=\"M0 -6v7m0 3v2\"/>\n\
+<path id=\"absent\" class=\"ink\" d=\"M-4 0h8\"/>\n\
+<path id=\"vote\" class=\"dot\" d=\"M0 0h-9l9 9z\"/>\n\
+</defs>\n";
+
+/// Opens the picture, and writes its styles and marks.
+pub(crate) fn write_head<W: Write>(
+    out: &mut W,
+    grid: &Grid,
+    scale: Scale,
+    garbage_round: u64,
+) -> io::Result<()> {
+    let width = width_of(grid, scale, garbage_round);
+    let height = height_of(grid);
+    out.write_all(b"<svg xmlns=\"http://www.w3.org/2000/svg\"")?;
+    write!(out, " width=\"{width}\" height=\"{height}\"")?;
+    writeln!(out, " viewBox=\"0 0 {width} {height}\">")?;
+    out.write_all(STYLES.as_bytes())?;
+    out.write_all(MARKS.as_bytes())?;
+    out.write_all(b"<rect class=\"paper\" width=\"100%\" height=\"100%\"/>\n")
+}
+
+/// Closes the picture.
+pub(crate) fn write_tail<W: Write>(out: &mut W) -> io::Result<()> {
+    out.write_all(b"</svg>\n")
+}
+
+// How wide the picture is: the columns, the legend and the words of the garbage round are in it.
+fn width_of(grid: &Grid, scale: Scale, garbage_round: u64) -> u64 {
+    let columns = scale.column(grid.columns()).max(legend::WIDTH);
+    let words = match garbage_at(grid, scale, garbage_round) {
+        Some(x) => x.saturating_add(GARBAGE_WORDS),
+        None => 0,
+    };
+    columns.max(words).saturating_add(MARGIN)
+}
+
+fn height_of(grid: &Grid) -> u64 {
+    legend_at(grid).y.saturating_add(legend::HEIGHT + MARGIN)
+}

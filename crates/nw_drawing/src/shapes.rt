@@ -1,0 +1,94 @@
+//! Shapes, a line each.
+
+use std::io::{self, Write};
+
+/// A place in a picture.
+#[derive(Clone, Copy)]
+pub(crate) struct Point {
+    pub x: u64,
+    pub y: u64,
+}
+
+impl Point {
+    pub fn at(x: u64, y: u64) -> Point {
+        Point { x, y }
+    }
+
+    /// The point so far to the right and below.
+    pub fn beside(self, right: u64, below: u64) -> Point {
+        Point {
+            x: self.x.saturating_add(right),
+            y: self.y.saturating_add(below),
+        }
+    }
+
+    /// The point so far to the left and above.
+    pub fn outside(self, margin: u64) -> Point {
+        Point {
+            x: self.x.saturating_sub(margin),
+            y: self.y.saturating_sub(margin),
+        }
+    }
+}
+
+/// A rectangle of this style.
+pub(crate) fn write_box<W: Write>(
+    out: &mut W,
+    style: &str,
+    at: Point,
+    width: u64,
+    height: u64,
+) -> io::Result<()> {
+    let Point { x, y } = at;
+    write!(out, "<rect class=\"{style}\" x=\"{x}\" y=\"{y}\"")?;
+    writeln!(out, " width=\"{width}\" height=\"{height}\" rx=\"5\"/>")
+}
+
+/// A straight line of this style.
+pub(crate) fn write_line<W: Write>(
+    out: &mut W,
+    style: &str,
+    from: Point,
+    to: Point,
+) -> io::Result<()> {
+    write!(
+        out,
+        "<line class=\"{style}\" x1=\"{}\" y1=\"{}\"",
+        from.x, from.y
+    )?;
+    writeln!(out, " x2=\"{}\" y2=\"{}\"/>", to.x, to.y)
+}
+
+/// A mark that the head defines, round this point.
+pub(crate) fn write_mark<W: Write>(out: &mut W, mark: &str, at: Point) -> io::Result<()> {
+    let Point { x, y } = at;
+    writeln!(out, "<use href=\"#{mark}\" x=\"{x}\" y=\"{y}\"/>")
+}
+
+/// A text of this style, whose bytes are as XML writes them.
+pub(crate) fn write_text<W: Write>(
+    out: &mut W,
+    style: &str,
+    at: Point,
+    bytes: &[u8],
+) -> io::Result<()> {
+    let Point { x, y } = at;
+    write!(out, "<text class=\"{style}\" x=\"{x}\" y=\"{y}\">")?;
+    out.write_all(bytes)?;
+    out.write_all(b"</text>\n")
+}
+
+/// Words and a number, in this style.
+pub(crate) fn write_count<W: Write>(
+    out: &mut W,
+    style: &str,
+    at: Point,
+    words: &str,
+    number: u64,
+) -> io::Result<()> {
+    let Point { x, y } = at;
+    writeln!(
+        out,
+        "<text class=\"{style}\" x=\"{x}\" y=\"{y}\">{words}{number}</text>"
+    )
+}

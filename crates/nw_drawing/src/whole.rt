@@ -1,0 +1,133 @@
+//! A whole picture.
+
+ghost use Rattle.std.specs.Prelude.{◌<◌, ◌↔◌, IsErrOf, vec_len};
+ghost use Rattle.nw_drawing.specs.declared.fault.DrawFault.TheVariants as DrawFault;
+
+use crate::fault::DrawFault;
+use crate::frame::{legend_at, write_authors, write_garbage, write_rounds};
+use crate::grid::{Grid, Place};
+use crate::head::{write_head, write_tail};
+use crate::legend::write_legend;
+use crate::picture::{Link, Picture, Tile};
+use crate::scale::{BOX_HEIGHT, Scale};
+use crate::shapes::{Point, write_box, write_line, write_mark, write_text};
+use crate::text::escaped;
+use std::alloc::Global;
+use std::io::{self, Write};
+
+/// Draws the picture as SVG, a line after the other.
+pub fn draw<W: Write>(alloc: Global, picture: &Picture, out: &mut W) -> Result<(), DrawFault>
+    ensures too_many { IsErrOf result DrawFault.TooMany
+        ↔ (65535 < vec_len picture.now.tiles) }
+{
+    let grid = Grid::new(alloc, &picture.tiles)?;
+    let scale = Scale::new(letters_of(&picture.tiles, &grid.rounds), grid.lanes());
+    let drawn = write_picture(alloc, picture, &grid, scale, out);
+    drop(grid);
+    Ok(drawn?)
+}
+
+// How many letters the longest name or round has.
+fn letters_of(tiles: &[Tile], rounds: &[u64]) -> u16 {
+    let names = tiles.iter().map(|tile| tile.name.len()).max().unwrap_or(0);
+    let letters = names.max(digits_of(rounds.last().copied().unwrap_or(0)));
+    u16::try_from(letters).unwrap_or(u16::MAX)
+}
+
+// How many digits the number has.
+fn digits_of(number: u64) -> usize {
+    let mut rest = number;
+    for digits in 1..20 {
+        rest /= 10;
+        if rest == 0 {
+            return digits;
+        }
+    }
+    20
+}
+
+fn write_picture<W: Write>(
+    alloc: Global,
+    picture: &Picture,
+    grid: &Grid,
+    scale: Scale,
+    out: &mut W,
+) -> io::Result<()> {
+    write_head(out, grid, scale, picture.garbage_round)?;
+    write_authors(out, grid, scale)?;
+    write_rounds(out, grid, scale)?;
+    write_links(out, &picture.links, grid, scale)?;
+    write_garbage(out, grid, scale, picture.garbage_round)?;
+    write_tiles(alloc, &picture.tiles, grid, scale, out)?;
+    write_legend(out, legend_at(grid))?;
+    write_tail(out)
+}
+
+fn write_links<W: Write>(out: &mut W, links: &[Link], grid: &Grid, scale: Scale) -> io::Result<()> {
+    for link in links {
+        if let (Some(child), Some(parent)) = (grid.place(link.child), grid.place(link.parent)) {
+            write_link(out, child, parent, link.is_met, scale)?;
+        }
+    }
+    Ok(())
+}
+
+// A line from the left of the child to the right of the parent.
+fn write_link<W: Write>(
+    out: &mut W,
+    child: Place,
+    parent: Place,
+    is_met: bool,
+    scale: Scale,
+) -> io::Result<()> {
+    let from = corner(child, scale).beside(0, BOX_HEIGHT / 2);
+    let to = corner(parent, scale).beside(u64::from(scale.width), BOX_HEIGHT / 2);
+    write_line(out, if is_met { "met" } else { "unmet" }, from, to)
+}
+
+fn write_tiles<W: Write>(
+    alloc: Global,
+    tiles: &[Tile],
+    grid: &Grid,
+    scale: Scale,
+    out: &mut W,
+) -> io::Result<()> {
+    for (tile, place) in tiles.iter().zip(&grid.places) {
+        write_tile(alloc, tile, corner(*place, scale), scale, out)?;
+    }
+    Ok(())
+}
+
+// The box of a block, with its name and marks.
+fn write_tile<W: Write>(
+    alloc: Global,
+    tile: &Tile,
+    at: Point,
+    scale: Scale,
+    out: &mut W,
+) -> io::Result<()> {
+    let width = u64::from(scale.width);
+    if tile.is_read {
+        write_box(
+            out,
+            "read",
+            at.outside(4),
+            width.saturating_add(8),
+            BOX_HEIGHT + 8,
+        )?;
+    }
+    write_box(out, tile.state.style(), at, width, BOX_HEIGHT)?;
+    write_mark(out, tile.state.style(), at.beside(14, BOX_HEIGHT / 2))?;
+    if tile.has_vote {
+        write_mark(out, "vote", at.beside(width, 0))?;
+    }
+    let name = escaped(alloc, tile.name.as_bytes())?;
+    let written = write_text(out, "left", at.beside(25, 17), &name);
+    drop(name);
+    written
+}
+
+// The upper left corner of the box at the place.
+fn corner(place: Place, scale: Scale) -> Point {
+    Point::at(scale.left(place.column), Scale::top(place.lane))
+}

@@ -1,0 +1,2 @@
+mod Remainders
+mod Verdicts

@@ -1,0 +1,15 @@
+use Rattle.std.proofs.Common.{sym, ◌∙◌, ap, List, ℕ}
+use Rattle.nw_codec.specs.Same.{same_bytes}
+use Rattle.std.specs.Prelude.{take}
+use Rattle.nw_ed25519.proofs.Verdicts.{out_of_order, compared}
+use Rattle.nw_ed25519.proofs.scheme.Ed25519Scheme.verify.Goals as goal
+
+pub returns-then-not-is_below : goal.returns-then-not-is_below
+returns-then-not-is_below c =
+    out_of_order c.args.key.now c.args.text.now c.args.signature.now c.from_bytes-s.result c.the_order.result c.from_bytes-s.ensures.number c.the_order.ensures (sym c.is_below.ensures ∙ c.if-not-is_below.true)
+
+pub returns-in-Some : goal.returns-in-Some
+returns-in-Some c =
+    compared c.args.key.now c.args.text.now c.args.signature.now c.from_bytes-s.result c.the_order.result c.challenge.result c.in-Some.point c.expected.result c.eq.result
+    c.from_bytes-s.ensures.number c.the_order.ensures (sym c.is_below.ensures ∙ c.if-not-is_below.false) (sym c.decoded.ensures ∙ c.in-Some.is) c.challenge.ensures c.expected.ensures
+    (c.eq.ensures ∙ ap (λ (bytes : List ℕ). same_bytes (take 32 c.args.signature.now.0) bytes) c.as_slice.ensures)

@@ -1,0 +1,55 @@
+//! The signature scheme.
+ghost use Rattle.std.specs.Prelude.{◌≡◌, ◌<◌, length, take};
+ghost use Rattle.nw_ed25519.specs.Accepts.{accepts, challenge, expected};
+
+use crate::order::{modulo_order, the_order};
+use nw_codec::Signature;
+use nw_committee::Key;
+use nw_curve::Point;
+use nw_field::Whole;
+use nw_sig::Scheme;
+use sha2::{Digest, Sha512};
+
+/// Ed25519, for which keys and signatures are made elsewhere.
+#[derive(Clone, Copy, Debug, PartialEq, Eq)]
+pub struct Ed25519;
+
+impl Scheme for Ed25519 {
+    ghost accepts = { accepts };
+
+    #[tactic(auto, unfolding(crate::specs::Accepts::accepts))]
+    fn verify(key: &Key, text: &[u8], signature: &Signature) -> bool {
+        let r = &signature.0[..32];
+        let s = Whole::from_bytes(&signature.0[32..]);
+        if !s.is_below(&the_order()) {
+            return false;
+        }
+        match Point::decoded(&key.0) {
+            None => false,
+            Some(point) => r == expected(&s, &challenge(r, key, text), &point).as_slice(),
+        }
+    }
+}
+
+/// The hash of R, the key and the text, modulo the order.
+#[tactic(auto, unfolding(crate::specs::Accepts::challenge))]
+fn challenge(r: &[u8], key: &Key, text: &[u8]) -> Whole
+    ensures { result ≡ challenge r.now key.now.0 text.now }
+{
+    let mut hasher = Sha512::new();
+    hasher.update(r);
+    hasher.update(&key.0);
+    hasher.update(text);
+    modulo_order(&hasher.finalize())
+}
+
+/// The bytes of the difference of s times the base point and k times the key's point.
+#[tactic(auto, unfolding(crate::specs::Accepts::expected))]
+fn expected(s: &Whole, k: &Whole, point: &Point) -> [u8; 32]
+    ensures { result ≡ expected s.now k.now point.now }
+{
+    let base = Point::base();
+    base.multiple(s)
+        .added(&point.multiple(k).negated())
+        .encoded()
+}

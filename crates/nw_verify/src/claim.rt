@@ -1,0 +1,77 @@
+//! One line: a key, a message, and a signature that may be its.
+ghost use Rattle.std.specs.Prelude.{◌≡◌};
+ghost use Rattle.nw_ed25519.specs.Accepts.{accepts};
+
+use crate::fault::VerifyFault;
+use hex::{FromHex, FromHexError};
+use nw_codec::Signature;
+use nw_committee::Key;
+use nw_ed25519::Ed25519;
+use nw_sig::Scheme;
+use std::alloc::Global;
+
+/// How many bytes a message has at most.
+const MAX_MESSAGE: usize = 1_048_576;
+/// How many characters a key has, and a signature.
+const KEY: usize = 64;
+
+const SIGNATURE: usize = 128;
+/// How many characters a line has at least and at most.
+const LEAST: usize = KEY + SIGNATURE + 3;
+
+pub const MAX_LINE: usize = KEY + SIGNATURE + 2 + 2 * MAX_MESSAGE;
+
+/// A key, a message, and a signature that may be its.
+#[derive(Debug, Drop)]
+pub struct Claim {
+    key: Key,
+    message: Vec<u8>,
+    signature: Signature,
+}
+
+impl Claim {
+    /// The claim that a line is, or `None` where it is none. The message is `-`, or an even number of hex digits.
+    pub fn parse(alloc: Global, line: &[u8]) -> Result<Option<Claim>, VerifyFault> {
+        if line.len() < LEAST || line.len() > MAX_LINE {
+            return Ok(None);
+        }
+        let end = line.len() - SIGNATURE;
+        if line[KEY] != b' ' || line[end - 1] != b' ' {
+            return Ok(None);
+        }
+        let (key, signature) = (&line[..KEY], &line[end..]);
+        let Some(message) = message(alloc, &line[KEY + 1..end - 1])? else {
+            return Ok(None);
+        };
+        let Ok(key) = <[u8; 32] as FromHex>::from_hex(key) else {
+            return Ok(None);
+        };
+        let Ok(signature) = <[u8; 64] as FromHex>::from_hex(signature) else {
+            return Ok(None);
+        };
+        Ok(Some(Claim {
+            key: Key(key),
+            message,
+            signature: Signature(signature),
+        }))
+    }
+
+    /// Whether the signature is accepted.
+    pub fn holds(&self) -> bool
+        ensures { result ≡ accepts self.now.key self.now.message.items self.now.signature }
+    {
+        Ed25519::verify(&self.key, self.message.as_slice(), &self.signature)
+    }
+}
+
+// The message of these characters.
+fn message(alloc: Global, text: &[u8]) -> Result<Option<Vec<u8>>, VerifyFault> {
+    if text == b"-".as_slice() {
+        return Ok(Some(Vec::new(alloc)));
+    }
+    match hex::decode(alloc, text) {
+        Ok(message) => Ok(Some(message)),
+        Err(FromHexError::OutOfMemory) => Err(VerifyFault::NoMemory),
+        Err(_) => Ok(None),
+    }
+}

@@ -1,0 +1,32 @@
+//! Why the program ends before the end of its input.
+use std::alloc::{AllocError, AllocFailed};
+use thiserror::Error;
+
+/// Why the program ends before the end of its input. The answers to the lines before stand.
+#[derive(Clone, Copy, Debug, PartialEq, Eq, Error)]
+pub enum VerifyFault {
+    /// The line of this number, from 1, is none.
+    #[error("{line}")]
+    BadLine { line: u64 },
+    /// The input can't be read.
+    #[error("the input can't be read")]
+    Read,
+    /// The answers can't be written.
+    #[error("the answers can't be written")]
+    Write,
+    /// Memory was refused.
+    #[error("out of memory")]
+    NoMemory,
+}
+
+impl From<AllocError> for VerifyFault {
+    fn from(_error: AllocError) -> VerifyFault {
+        VerifyFault::NoMemory
+    }
+}
+
+impl<T: Drop> From<AllocFailed<T>> for VerifyFault {
+    fn from(_error: AllocFailed<T>) -> VerifyFault {
+        VerifyFault::NoMemory
+    }
+}

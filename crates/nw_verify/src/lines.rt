@@ -1,0 +1,92 @@
+//! The input, line by line.
+use crate::claim::{Claim, MAX_LINE};
+use crate::fault::VerifyFault;
+use std::alloc::Global;
+use std::io::{BufWriter, ErrorKind, Read, Write};
+
+/// Answers each line of the reader, a line each. It keeps one line at a time, however long the input is.
+pub fn answer_lines<R: Read, W: Write + Drop>(
+    alloc: Global,
+    reader: &mut R,
+    writer: W,
+) -> Result<(), VerifyFault> {
+    let Ok(mut out) = BufWriter::new(alloc, writer) else {
+        return Err(VerifyFault::NoMemory);
+    };
+    let answered = answer_all(alloc, reader, &mut out);
+    let outcome = match out.flush() {
+        Ok(()) => answered,
+        Err(_) => answered.and(Err(VerifyFault::Write)),
+    };
+    drop(out.into_parts());
+    outcome
+}
+
+// A line without an end is one where it is the last and not empty.
+fn answer_all<R: Read, W: Write>(
+    alloc: Global,
+    reader: &mut R,
+    out: &mut W,
+) -> Result<(), VerifyFault> {
+    let mut part = Part {
+        line: Vec::new(alloc),
+        number: 1,
+    };
+    let mut chunk = [0u8; 4096];
+    for _ in 0..u64::MAX {
+        match reader.read(&mut chunk) {
+            Ok(0) => break,
+            Ok(count) => part.take(alloc, &chunk[..count], out)?,
+            Err(error) if error.kind() == ErrorKind::Interrupted => {}
+            Err(_) => return Err(VerifyFault::Read),
+        }
+    }
+    if part.line.is_empty() {
+        return Ok(());
+    }
+    part.finish(alloc, out)
+}
+
+/// The line that is being read, and its number.
+#[derive(Debug, Drop)]
+struct Part {
+    line: Vec<u8>,
+    number: u64,
+}
+
+impl Part {
+    /// Takes more bytes, and answers each line that ends in them.
+    fn take<W: Write>(
+        &mut self,
+        alloc: Global,
+        bytes: &[u8],
+        out: &mut W,
+    ) -> Result<(), VerifyFault> {
+        for byte in bytes {
+            if *byte == b'\n' {
+                self.finish(alloc, out)?;
+            } else if self.line.len() < MAX_LINE {
+                self.line.push(*byte)?;
+            } else {
+                return Err(VerifyFault::BadLine { line: self.number });
+            }
+        }
+        Ok(())
+    }
+
+    /// Answers the line, and begins the next.
+    fn finish<W: Write>(&mut self, alloc: Global, out: &mut W) -> Result<(), VerifyFault> {
+        let Some(claim) = Claim::parse(alloc, self.line.as_slice())? else {
+            return Err(VerifyFault::BadLine { line: self.number });
+        };
+        let answer = if claim.holds() {
+            b"yes\n".as_slice()
+        } else {
+            b"no\n".as_slice()
+        };
+        drop(claim);
+        self.line.clear();
+        self.number = self.number.saturating_add(1);
+        out.write_all(answer).map_err(|_error| VerifyFault::Write)
+    }
+}

@@ -1,0 +1,28 @@
+mod edges;
+mod standard;
+
+use hex::{FromHex, FromHexError};
+use nw_codec::Signature;
+use nw_committee::Key;
+use nw_ed25519::Ed25519;
+use nw_sig::Scheme;
+use std::alloc::Global;
+
+/// A key, a message and a signature in hex, and whether it is accepted.
+struct Case {
+    key: &'static str,
+    message: &'static str,
+    r: &'static str,
+    s: &'static str,
+    accepted: bool,
+}
+
+/// Whether the answer is the one that the case has.
+fn is_right(alloc: Global, case: &Case) -> Result<bool, FromHexError> {
+    let key = Key(<[u8; 32] as FromHex>::from_hex(case.key)?);
+    let message = hex::decode(alloc, case.message)?;
+    let mut bytes = [0; 64];
+    hex::decode_to_slice(case.r, &mut bytes[..32])?;
+    hex::decode_to_slice(case.s, &mut bytes[32..])?;
+    Ok(Ed25519::verify(&key, message.as_slice(), &Signature(bytes)) == case.accepted)
+}

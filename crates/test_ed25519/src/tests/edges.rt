@@ -1,0 +1,175 @@
+//! What is refused, and what only looks as if it were; the answers are those of bench/ed25519.py.
+use super::{Case, is_right};
+use std::test::Fail;
+
+#[test]
+fn each_edge_has_the_answer_of_the_reference(rt: HostRuntime) -> Result<(), Fail> {
+    for case in CASES.iter() {
+        assert!(rt; is_right(rt.alloc(), case)?, "R is {}", case.r);
+    }
+    Ok(())
+}
+
+/// A true signature changed, keys and R that are not canonical or of small order, and S at its bound.
+const CASES: [Case; 20] = [
+    // S and the order: S is not below the order.
+    Case {
+        key: "fc51cd8e6218a1a38da47ed00230f0580816ed13ba3303ac5deb911548908025",
+        message: "af82",
+        r: "6291d657deec24024827e69c3abe01a30ce548a284743a445e3680d7db5ac3ac",
+        s: "05d391b0a77904e98404ef037747a56e4a7c15e9716ed28dc027beceea1ec41a",
+        accepted: false,
+    },
+    // A bit of R.
+    Case {
+        key: "fc51cd8e6218a1a38da47ed00230f0580816ed13ba3303ac5deb911548908025",
+        message: "af82",
+        r: "6391d657deec24024827e69c3abe01a30ce548a284743a445e3680d7db5ac3ac",
+        s: "18ff9b538d16f290ae67f760984dc6594a7c15e9716ed28dc027beceea1ec40a",
+        accepted: false,
+    },
+    // A bit of S.
+    Case {
+        key: "fc51cd8e6218a1a38da47ed00230f0580816ed13ba3303ac5deb911548908025",
+        message: "af82",
+        r: "6291d657deec24024827e69c3abe01a30ce548a284743a445e3680d7db5ac3ac",
+        s: "19ff9b538d16f290ae67f760984dc6594a7c15e9716ed28dc027beceea1ec40a",
+        accepted: false,
+    },
+    // The sign in R.
+    Case {
+        key: "fc51cd8e6218a1a38da47ed00230f0580816ed13ba3303ac5deb911548908025",
+        message: "af82",
+        r: "6291d657deec24024827e69c3abe01a30ce548a284743a445e3680d7db5ac32c",
+        s: "18ff9b538d16f290ae67f760984dc6594a7c15e9716ed28dc027beceea1ec40a",
+        accepted: false,
+    },
+    // The sign in the key.
+    Case {
+        key: "fc51cd8e6218a1a38da47ed00230f0580816ed13ba3303ac5deb9115489080a5",
+        message: "af82",
+        r: "6291d657deec24024827e69c3abe01a30ce548a284743a445e3680d7db5ac3ac",
+        s: "18ff9b538d16f290ae67f760984dc6594a7c15e9716ed28dc027beceea1ec40a",
+        accepted: false,
+    },
+    // A bit of the key.
+    Case {
+        key: "fd51cd8e6218a1a38da47ed00230f0580816ed13ba3303ac5deb911548908025",
+        message: "af82",
+        r: "6291d657deec24024827e69c3abe01a30ce548a284743a445e3680d7db5ac3ac",
+        s: "18ff9b538d16f290ae67f760984dc6594a7c15e9716ed28dc027beceea1ec40a",
+        accepted: false,
+    },
+    // A bit of the message.
+    Case {
+        key: "fc51cd8e6218a1a38da47ed00230f0580816ed13ba3303ac5deb911548908025",
+        message: "a782",
+        r: "6291d657deec24024827e69c3abe01a30ce548a284743a445e3680d7db5ac3ac",
+        s: "18ff9b538d16f290ae67f760984dc6594a7c15e9716ed28dc027beceea1ec40a",
+        accepted: false,
+    },
+    // The neutral point is a key, under which R = [S]B of any message.
+    Case {
+        key: "0100000000000000000000000000000000000000000000000000000000000000",
+        message: "af82",
+        r: "0100000000000000000000000000000000000000000000000000000000000000",
+        s: "0000000000000000000000000000000000000000000000000000000000000000",
+        accepted: true,
+    },
+    // R is the neutral point, but its y is the prime and one.
+    Case {
+        key: "0100000000000000000000000000000000000000000000000000000000000000",
+        message: "af82",
+        r: "eeffffffffffffffffffffffffffffffffffffffffffffffffffffffffffff7f",
+        s: "0000000000000000000000000000000000000000000000000000000000000000",
+        accepted: false,
+    },
+    // R is the neutral point, but with a sign.
+    Case {
+        key: "0100000000000000000000000000000000000000000000000000000000000000",
+        message: "af82",
+        r: "0100000000000000000000000000000000000000000000000000000000000080",
+        s: "0000000000000000000000000000000000000000000000000000000000000000",
+        accepted: false,
+    },
+    // The key's y is the prime and one.
+    Case {
+        key: "eeffffffffffffffffffffffffffffffffffffffffffffffffffffffffffff7f",
+        message: "af82",
+        r: "0100000000000000000000000000000000000000000000000000000000000000",
+        s: "0000000000000000000000000000000000000000000000000000000000000000",
+        accepted: false,
+    },
+    // The key's x is 0, and its sign is set.
+    Case {
+        key: "0100000000000000000000000000000000000000000000000000000000000080",
+        message: "af82",
+        r: "0100000000000000000000000000000000000000000000000000000000000000",
+        s: "0000000000000000000000000000000000000000000000000000000000000000",
+        accepted: false,
+    },
+    // S is the order.
+    Case {
+        key: "0100000000000000000000000000000000000000000000000000000000000000",
+        message: "af82",
+        r: "0100000000000000000000000000000000000000000000000000000000000000",
+        s: "edd3f55c1a631258d69cf7a2def9de1400000000000000000000000000000010",
+        accepted: false,
+    },
+    // S is one less than the order.
+    Case {
+        key: "0100000000000000000000000000000000000000000000000000000000000000",
+        message: "af82",
+        r: "58666666666666666666666666666666666666666666666666666666666666e6",
+        s: "ecd3f55c1a631258d69cf7a2def9de1400000000000000000000000000000010",
+        accepted: true,
+    },
+    // A key of order 2, and k is even.
+    Case {
+        key: "ecffffffffffffffffffffffffffffffffffffffffffffffffffffffffffff7f",
+        message: "01",
+        r: "0100000000000000000000000000000000000000000000000000000000000000",
+        s: "0000000000000000000000000000000000000000000000000000000000000000",
+        accepted: true,
+    },
+    // A key of order 2, and k is odd.
+    Case {
+        key: "ecffffffffffffffffffffffffffffffffffffffffffffffffffffffffffff7f",
+        message: "00",
+        r: "0100000000000000000000000000000000000000000000000000000000000000",
+        s: "0000000000000000000000000000000000000000000000000000000000000000",
+        accepted: false,
+    },
+    // A key of order 8.
+    Case {
+        key: "c7176a703d4dd84fba3c0b760d10670f2a2053fa2c39ccc64ec7fd7792ac037a",
+        message: "07",
+        r: "26e8958fc2b227b045c3f489f2ef98f0d5dfac05d3c63339b13802886d53fc05",
+        s: "0000000000000000000000000000000000000000000000000000000000000000",
+        accepted: true,
+    },
+    // No point has this y.
+    Case {
+        key: "0200000000000000000000000000000000000000000000000000000000000000",
+        message: "af82",
+        r: "6291d657deec24024827e69c3abe01a30ce548a284743a445e3680d7db5ac3ac",
+        s: "18ff9b538d16f290ae67f760984dc6594a7c15e9716ed28dc027beceea1ec40a",
+        accepted: false,
+    },
+    // The points are equal only eight times over.
+    Case {
+        key: "fc51cd8e6218a1a38da47ed00230f0580816ed13ba3303ac5deb911548908025",
+        message: "af82",
+        r: "40a4cf5c611d737a2f1c6fcca84d9cabfed80987f186a5a6c57e629bff1af27f",
+        s: "6027b1e4d5bfc5b045ec91c9ba188f77cc122235908dd1d9abe190b26509420a",
+        accepted: false,
+    },
+    // A signer that chose R in another way.
+    Case {
+        key: "fc51cd8e6218a1a38da47ed00230f0580816ed13ba3303ac5deb911548908025",
+        message: "af82",
+        r: "ef4f62f8479733ad879cfaced3c89a9c39dd4fc795ef2efa1c3eafe4d729a081",
+        s: "21c636a6215cc220928cc8a4f9752c9df8c40b8593bf228b35d3e9a8136b270f",
+        accepted: true,
+    },
+];
