@@ -65,6 +65,18 @@ module _ {E : Type 0} where
             (at_snoc (slice_set s.views id (knower all)) (claimant all) u j there),
       )
 
+  -- a copy of a claim is the same beginning
+  copies : (id : ℕ) (seen : List E) → Splits Kept id (claimant seen) (claimant seen) (claimant seen)
+  copies id seen s h at =
+      let mine = h.2 id (claimant seen) at in (
+        h.0,
+        h.1,
+        λ j u there. ⊎_elim
+            (λ was. h.2 j u (subst (λ l. get_elem? l j ≡ some u) (set_again s.views id (claimant seen) at) was))
+            (λ (same : claimant seen ≡ u). subst (Fits h.0 h.1 j) same ((λ k. absurd (off k)), mine.1))
+            (at_snoc (slice_set s.views id (claimant seen)) (claimant seen) u j there),
+      )
+
   joins : (id : ℕ) (all : List E) (other : ℕ) (seen : List E) → Joins Kept id (knower all) other (claimant seen) (shown (knower all) (claimant seen)) nobody
   joins id all other seen s h at apart there =
       let w = shown (knower all) (claimant seen) in
@@ -111,6 +123,9 @@ module _ {E : Type 0} (table log : Name) (named : table ≡ log) (seat : Seat E 
           has_word,
           subst (λ (x : View E × View E). Joins Kept seat.id x.0 other.id x.1 (shown x.0 x.1) nobody) (λ i. ((sym keeper.knows i).0, (sym claim.claims i).0)) (joins seat.id mine other.id theirs),
         )
+
+    pub may_copy : (other.table_id ≡ table) × (0 < table.words) × Splits Kept other.id other.me.0 other.me.0 other.me.0
+    may_copy = (claim.seated ∙ sym named, has_word, subst (λ (v : View E). Splits Kept other.id v v v) (sym (ap (λ (me : Me E (View E)). me.0) claim.claims)) (copies other.id other.me.0.seen))
 
     -- the same seat, once the claim is shown to it
     pub may_check : (after : Seat E (View E)) → after.table_id ≡ seat.table_id → after.me ≡ (shown seat.me.0 other.me.0, seat.me.1)

@@ -2,7 +2,7 @@
 ghost use Rattle.std.specs.Prelude.{◌≡◌, ◌++◌, ◌∷◌, []};
 ghost use mathlib.Core.List.{IsPrefix};
 
-use crate::rule::{Appends, Checks, OneLog, View, Whole};
+use crate::rule::{Again, Appends, Checks, OneLog, View, Whole};
 use atomic_table::{Seat, Table};
 use std::alloc::{AllocError, Global};
 use std::marker::{Brand, Model, PhantomData};
@@ -141,6 +141,19 @@ impl<E, L: Place> Keeper<E, L> {
         let Claim { claimant, of: _ } = claim;
         table.shared.join_seat::<Whole>(seat, claimant);
         table.shared.load::<Checks>(seat, 0);
+    }
+
+    /// The same of a claim that stays as it is.
+    pub fn compare(&mut self, claim: &mut Claim<E, L>)
+        ensures begins { IsPrefix claim.old self.old }
+        ensures claim { claim.new ≡ claim.old }
+        ensures same { self.new ≡ self.old }
+    {
+        let claimant = self.table.shared.split_seat::<Again>(&mut claim.claimant);
+        self.check(Claim {
+            claimant,
+            of: PhantomData,
+        });
     }
 
     /// A claim of the whole log in exchange for an earlier one, with which the log begins.

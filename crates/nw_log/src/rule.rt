@@ -51,6 +51,15 @@ impl<E> Split<View<E>> for Whole {
     ghost right = { claim_of };
 }
 
+/// How a claim is copied.
+pub(crate) struct Again;
+
+impl<E> Split<View<E>> for Again {
+    ghost left = { λ v. v };
+
+    ghost right = { λ v. v };
+}
+
 impl<E> Join<View<E>> for Whole {
     ghost use Rattle.nw_log.specs.Claims.{shown, nobody};
 

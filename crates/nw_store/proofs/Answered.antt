@@ -9,21 +9,24 @@ use Rattle.nw_history.specs.Story.{Story, Origin, IsLegalStory}
 use Rattle.nw_book.specs.Answer.{Takes}
 use Rattle.nw_book.specs.Turn.{IsRefusal, event}
 use Rattle.nw_book.specs.declared.error.NoStep.{NoStep}
-use Rattle.nw_store.specs.Journal.{Answer, Journal, AreBegun, IsHistoryOf, next_number, next_event, with_answer}
+use Rattle.std.specs.List.{Contains}
+use Rattle.nw_history.specs.Prefix.{IsPrefixOf}
+use Rattle.nw_store.specs.Journal.{Answer, Journal, AreBegun, KnowsAll, IsHistoryOf, next_number, next_event, with_answer}
 use Rattle.nw_store.specs.Answered.{IsAnswered, IsExplained, TakesNoStep}
 
 -- the session with the answer that was pushed
-keeps_it : (id number : ℕ) (answers after : List Answer) (a : Answer) (asked : Call) (reply : Reply) (front : Story)
+keeps_it : (id number : ℕ) (answers after : List Answer) (known later : List Story) (a : Answer) (asked : Call) (reply : Reply) (front : Story)
     → number ≡ length answers + 1 → after ≡ answers ++ a ∷ [] → a.front ≡ front → a.event ≡ event id number asked reply
-    → record { id = id; answers = after } ≡ with_answer (record { id = id; answers = answers }) (next_event (record { id = id; answers = answers }) asked reply) front
-keeps_it id number answers after a asked reply front next items same is =
+    → record { id = id; answers = after; known = later } ≡ with_answer (record { id = id; answers = answers; known = known }) (next_event (record { id = id; answers = answers; known = known }) asked reply) front later
+keeps_it id number answers after known later a asked reply front next items same is =
     let pushed : a ≡ record { event = event id (length answers + 1) asked reply; front = front } = λ i. record { event = (is ∙ ap (λ n. event id n asked reply) next) i; front = same i } in
-    ap (λ (l : List Answer). record { id = id; answers = l }) (items ∙ ap (λ (x : Answer). answers ++ x ∷ []) pushed)
+    ap (λ (l : List Answer). record { id = id; answers = l; known = later }) (items ∙ ap (λ (x : Answer). answers ++ x ∷ []) pushed)
 
-pub answered : (accepts : Meaning) (h next : Story) (id number : ℕ) (asked : Call) (reply : Reply) (front : Story) (answers after : List Answer) (a : Answer)
+pub answered : (accepts : Meaning) (h next : Story) (id number : ℕ) (asked : Call) (reply : Reply) (front : Story) (answers after : List Answer) (known later : List Story) (a : Answer)
     → Takes accepts h next id number asked reply front → number ≡ length answers + 1 → AreBegun next answers → after ≡ answers ++ a ∷ [] → a.front ≡ front → a.event ≡ event id number asked reply
-    → IsAnswered accepts h (record { id = id; answers = answers }) (record { id = id; answers = after }) asked reply front
-answered accepts h next id number asked reply front answers after a t is begins items same event_is = record {
+    → ((s : Story) → Contains known s → IsPrefixOf s next) → Contains later front → KnowsAll later known
+    → IsAnswered accepts h (record { id = id; answers = answers; known = known }) (record { id = id; answers = after; known = later }) asked reply front
+answered accepts h next id number asked reply front answers after known later a t is begins items same event_is heard knows knew = record {
   takes = subst (λ n. Takes accepts h front id n asked reply front) is (record {
     history = t.front_is ∙ t.history;
     is_reply = t.is_reply;
@@ -31,7 +34,10 @@ answered accepts h next id number asked reply front answers after a t is begins 
     legal = subst (λ (s : Story). IsLegalStory accepts s) (sym t.front_is) t.legal;
   });
   begins = subst (λ (s : Story). AreBegun s answers) (sym t.front_is) begins;
-  keeps = keeps_it id number answers after a asked reply front is items same event_is;
+  heard = λ s c. subst (λ (f : Story). IsPrefixOf s f) (sym t.front_is) (heard s c);
+  keeps = keeps_it id number answers after known later a asked reply front is items same event_is;
+  knows = knows;
+  knew = knew;
 }
 
 -- what is known under the lock, once it is let go

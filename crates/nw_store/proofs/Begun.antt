@@ -42,6 +42,14 @@ begun_claimed h told claim answers begun p among =
     All-weaker (λ (a : Answer). Contains told a.front) (λ (a : Answer). IsPrefixOf a.front h)
     (λ a c. All-contains (λ (f : Story). IsPrefixOf f h) told a.front begun c) answers (among_longer claim told answers p among)
 
+-- what is claimed is among what was told
+pub claimed_told : (claim told : List Story) → IsPrefix claim told → (s : Story) → Contains claim s → Contains told s
+claimed_told claim told p s c = subst (λ l. Contains l s) p.1 (Contains-append_left claim p.0 s c)
+
+-- where each front that was told begins the history, so does each history that is claimed
+pub begun_known : (h : Story) (told claim : List Story) → All (λ f. IsPrefixOf f h) told → IsPrefix claim told → (s : Story) → Contains claim s → IsPrefixOf s h
+begun_known h told claim begun p s c = All-contains (λ (f : Story). IsPrefixOf f h) told s begun (claimed_told claim told p s c)
+
 -- the history with one more event, which is told
 pub told_more : (h next : Story) (e : Event) (told : List Story) → next ≡ with_event h e → All (λ f. IsPrefixOf f h) told → All (λ f. IsPrefixOf f next) (told ++ next ∷ [])
 told_more h next e told is begun =

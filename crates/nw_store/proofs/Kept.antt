@@ -33,9 +33,9 @@ starts_so h next e o is starts = ap origin_of is ∙ starts
 
 -- the session with one more answer, whose front is claimed
 pub session_more : (id parts same amount more : ℕ) (claim longer : List Story) (answers after : List Answer) (a : Answer)
-    → IsSession parts amount claim (record { id = id; answers = answers })
+    → IsSession parts amount (record { id = id; answers = answers; known = claim })
     → same ≡ parts → more ≡ amount + 1 → IsPrefix claim longer → Contains longer a.front → after ≡ answers ++ a ∷ [] → IsAnswer id (1 + length answers) a
-    → IsSession same more longer (record { id = id; answers = after })
+    → IsSession same more (record { id = id; answers = after; known = longer })
 session_more id parts same amount more claim longer answers after a s part one p claimed items is = record {
   id_below = s.id_below;
   part = part ∙ s.part;
@@ -56,12 +56,13 @@ pub told_last : (told longer claim : List Story) (front f : Story) → longer �
 told_last told longer claim front f tell is same = subst (λ l. Contains l f) (sym (is ∙ tell ∙ ap (λ (x : Story). told ++ x ∷ []) (sym same))) (Contains-push told f)
 
 -- the session once its claim is renewed
-pub session_renewed : (parts amount : ℕ) (claim told longer : List Story) (j : Journal) → IsSession parts amount claim j → IsPrefix claim told → longer ≡ told → IsSession parts amount longer j
-session_renewed parts amount claim told longer j s p is = record {
+pub session_renewed : (parts amount : ℕ) (told longer : List Story) (j : Journal) → IsSession parts amount j → IsPrefix j.known told → longer ≡ told
+    → IsSession parts amount (record { id = j.id; answers = j.answers; known = longer })
+session_renewed parts amount told longer j s p is = record {
   id_below = s.id_below;
   part = s.part;
   counted = s.counted;
-  claimed = subst (λ l. AreAmong l j.answers) (sym is) (among_longer claim told j.answers p s.claimed);
+  claimed = subst (λ l. AreAmong l j.answers) (sym is) (among_longer j.known told j.answers p s.claimed);
   numbered = s.numbered;
 }
 

@@ -1,4 +1,4 @@
--- Sessions may cross to another thread, and stores be shared by threads.
+-- Sessions and notes may cross to another thread, and stores be shared by threads.
 use denote.RattleType.{RattleType}
 use denote.Param.Send.{IsSend, IsSync, sendable, view_send}
 use denote.Param.SendFields.{declared_send, declared_sync}
@@ -14,6 +14,8 @@ use Rattle.nw_history.specs.contracts.front.Front as front
 use Rattle.nw_history.proofs.Sent.{front_send}
 use Rattle.nw_book.proofs.Sent.{book_send}
 use Rattle.nw_store.specs.declared.home.Home.{Ghosts as HomeGhosts}
+use Rattle.nw_store.specs.contracts.notes.Note as note
+use Rattle.nw_store.specs.contracts.notes.Note.TheInside as note_inside
 use Rattle.nw_store.specs.contracts.session.Entry as entry
 use Rattle.nw_store.specs.contracts.session.Entry.TheInside as entry_inside
 use Rattle.nw_store.specs.contracts.session.Session as session
@@ -34,6 +36,10 @@ module _ (S L : RattleType) (g : Ghosts S.Denot) (home : HomeGhosts L.Denot) (pl
 
   tally_send : IsSend (tally.the_row S L g place ledger)
   tally_send = declared_send (tally.the_type S L g place ledger) (counted.the_send L ledger, (keeper.the_send (front.the_row S g) L place ledger (front_send S g), tt))
+
+  pub note_send : IsSend (note.the_row S L g home place ledger)
+  note_send = view_send (note_inside.the_row S L g home place ledger) _ _ _ _ (declared_send (note_inside.the_type S L g home place ledger)
+      (claim.the_send (front.the_row S g) L place ledger (front_send S g), tt))
 
   pub session_send : IsSend (session.the_row S L g home place ledger)
   session_send = view_send (session_inside.the_row S L g home place ledger) _ _ _ _ (declared_send (session_inside.the_type S L g home place ledger)

@@ -45,10 +45,11 @@ pub record Answer : Type 0 where
   pub event : Event
   pub front : Story
 
--- a session: its id, and its answers in order
+-- a session: its id, its answers in order, and the histories that it knows of
 pub record Journal : Type 0 where
   pub id : ℕ
   pub answers : List Answer
+  pub known : List Story
 
 -- each front is a beginning of the history
 abbrev pub AreBegun : Story → List Answer → Type 0
@@ -61,6 +62,10 @@ AreComparable answers others = All (λ a. All (λ b. IsPrefixOf a.front b.front 
 -- each front is one of these
 abbrev pub AreAmong : List Story → List Answer → Type 0
 AreAmong fronts answers = All (λ a. Contains fronts a.front) answers
+
+-- who knows of the first knows of each of the others
+abbrev pub KnowsAll : List Story → List Story → Type 0
+KnowsAll known others = (s : Story) → Contains others s → Contains known s
 
 -- the answer is to the call of this session with this number, and its front ends with that call
 pub record IsAnswer (id number : ℕ) (a : Answer) : Type 0 where
@@ -81,6 +86,6 @@ next_number j = length j.answers + 1
 abbrev pub next_event : Journal → Call → Reply → Event
 next_event j asked reply = record { session = j.id; number = next_number j; call = asked; reply = reply }
 
--- the session with one more answer
-abbrev pub with_answer : Journal → Event → Story → Journal
-with_answer j e front = record { id = j.id; answers = j.answers ++ record { event = e; front = front } ∷ [] }
+-- the session with one more answer, which knows of these histories then
+abbrev pub with_answer : Journal → Event → Story → List Story → Journal
+with_answer j e front known = record { id = j.id; answers = j.answers ++ record { event = e; front = front } ∷ []; known = known }

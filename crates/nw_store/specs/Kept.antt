@@ -20,10 +20,10 @@ pub record IsKept (accepts : Meaning) (held : Kept) (total spare idle : ℕ) (to
   pub counted : total ≡ length held.history.events
   pub begun : All (λ front. IsPrefixOf front held.history) told
 
--- the session has one part of the ledger, which counts its answers; each of their fronts is claimed; and they are to its calls, numbered from 1
-pub record IsSession (parts amount : ℕ) (claim : List Story) (j : Journal) : Type 0 where
+-- the session has one part of the ledger, which counts its answers; it knows of each of their fronts; and they are to its calls, numbered from 1
+pub record IsSession (parts amount : ℕ) (j : Journal) : Type 0 where
   pub id_below : j.id < 256
   pub part : parts ≡ 1
   pub counted : amount ≡ length j.answers
-  pub claimed : AreAmong claim j.answers
+  pub claimed : AreAmong j.known j.answers
   pub numbered : AreAnswers j.id 1 j.answers

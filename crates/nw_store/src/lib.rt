@@ -11,6 +11,7 @@ mod calls;
 mod error;
 mod home;
 mod locked;
+mod notes;
 mod session;
 mod settlement;
 mod store;
@@ -19,6 +20,7 @@ pub use calls::{call_locked, open_locked};
 pub use error::{SettleFault, TooMany};
 pub use home::Home;
 pub use locked::{Locked, compact_locked, compare_locked, renew_locked, session_locked};
+pub use notes::{Note, hear_locked, note_locked};
 pub use nw_book::{
     Agreement, Base, Block, Book, BookError, Call, CheckedBlock, CheckedCert, Command, Committee,
     Digest, Done, Event, Front, History, Limits, NoMemory, NoStep, Reply, Round, Scheme, Sequence,

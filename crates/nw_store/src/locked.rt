@@ -161,7 +161,7 @@ pub fn session_locked<S: Scheme, L: Home>(
     alloc: Global,
 ) -> Result<Session<S, L>, TooMany>
     ensures session { IfOk result
-        (λ session. session ≡ record { id = locked.old.made; answers = [] }) }
+        (λ session. (session.id ≡ locked.old.made) × (session.answers ≡ [])) }
     ensures made { OnOk result
         (locked.new ≡ record { history = locked.old.history; made = locked.old.made + 1 }) }
     ensures too_many { IsErr result ↔ (locked.old.made ≡ locked.old.history.limits.sessions) }
@@ -204,7 +204,7 @@ pub fn renew_locked<S: Scheme, L: Home>(locked: &mut Locked<S, L>, session: &mut
     ensures same { locked.new ≡ locked.old }
     ensures session { session.new ≡ session.old }
 {
-    locked.tally.keeper.renew_in_place(&mut session.pass.claim);
+    locked.tally.keeper.compare(&mut session.pass.claim);
 }
 
 /// Of any two answers of the two sessions, one's history is a beginning of the other's. Nothing is changed, and no event is

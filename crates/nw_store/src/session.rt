@@ -75,7 +75,8 @@ impl<S: Scheme> Entry<S> {
     }
 }
 
-/// One caller's calls: its id, and a journal of the answers that it got. Contracts see these.
+/// One caller's calls: its id, and a journal of the answers that it got. Contracts see these, and of which histories the session
+/// knows: those that were handed out when it was last answered, or when a note was taken that it heard.
 ///
 /// It may cross to another thread, and it is of the one store that `L` names.
 #[derive(Drop)]
@@ -95,10 +96,11 @@ impl<S: Scheme, L: Home> Model for Session<S, L> {
 
     ghost coded = { Prim.hlevel (codes, coded_state) };
 
-    ghost view = { λ s. record { id = s.id; answers = s.journal.items } };
+    ghost view = { λ s.
+        record { id = s.id; answers = s.journal.items; known = s.pass.claim } };
 
-    ghost invariant = { λ s. IsSession s.pass.mine.parts s.pass.mine.amount s.pass.claim
-        (record { id = s.id; answers = s.journal.items }) };
+    ghost invariant = { λ s. IsSession s.pass.mine.parts s.pass.mine.amount
+        (record { id = s.id; answers = s.journal.items; known = s.pass.claim }) };
 }
 
 impl<S: Scheme, L: Home> Session<S, L> {

@@ -18,13 +18,14 @@ ghost use Rattle.nw_model.specs.declared.call.Call.TheVariants as Call;
 ghost use Rattle.nw_history.specs.Limits.{AreInRange};
 ghost use Rattle.nw_book.specs.Answer.{IsFor, front_of, reply_of};
 ghost use Rattle.nw_book.specs.Command.{call_of, committee_of};
-ghost use Rattle.nw_store.specs.Journal.{first_origin, origin_of};
+ghost use Rattle.nw_store.specs.Journal.{KnowsAll, first_origin, origin_of};
 ghost use Rattle.nw_store.specs.Kept.{parts_of_a_ledger};
 ghost use Rattle.nw_store.specs.Answered.{IsExplained, TakesNoStep};
 
 use crate::calls::{call_locked, certify_locked, open_locked, write_locked};
 use crate::locked::{compact_locked, session_locked};
-use crate::{Home, Locked, Session, TooMany};
+use crate::notes::{hear_locked, note_locked};
+use crate::{Home, Locked, Note, Session, TooMany};
 use nw_book::{Book, BookError, Command, Done, Front, Limits, NoStep, Ticket};
 use nw_check::{CheckedBlock, CheckedCert};
 use nw_committee::Committee;
@@ -125,6 +126,26 @@ impl<S: Scheme, L: Home> Store<S, L> {
         ensures { IfOk result (λ session. (session.answers ≡ []) × (session.id < 256)) }
     {
         session_locked(&mut *self.locked.lock(rt), alloc)
+    }
+
+    /// A note of what the session knows: that it may be told to another session of this store, in whatever thread. It is no call
+    /// of a session, and takes no memory.
+    pub fn note<R: Wait>(&self, rt: &R, session: &mut Session<S, L>) -> Note<S, L>
+        ensures knows { KnowsAll result session.old.known }
+        ensures session { session.new ≡ session.old }
+    {
+        note_locked(&mut *self.locked.lock(rt), session)
+    }
+
+    /// Tells the session what the note knows: from here on the history of each of its answers begins with every history that the
+    /// note knew of. It is no call of the session, and takes no memory.
+    pub fn hear<R: Wait>(&self, rt: &R, session: &mut Session<S, L>, note: Note<S, L>)
+        ensures heard { KnowsAll session.new.known note }
+        ensures knew { KnowsAll session.new.known session.old.known }
+        ensures id { session.new.id ≡ session.old.id }
+        ensures answers { session.new.answers ≡ session.old.answers }
+    {
+        hear_locked(&mut *self.locked.lock(rt), session, note)
     }
 
     /// Stores the block under its digest: a call of the session. The block is lent: a refused write can be made again.

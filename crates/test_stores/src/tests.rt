@@ -14,6 +14,7 @@ mod chains;
 mod crowds;
 mod examples;
 mod followers;
+mod notes;
 mod records;
 mod scenes;
 mod scripts;

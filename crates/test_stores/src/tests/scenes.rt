@@ -5,6 +5,7 @@ ghost use Rattle.nw_store.specs.Kept.{parts_of_a_ledger};
 
 use super::chains::Link;
 use super::crowds::in_threads;
+use super::notes::tell;
 use super::scripts::{Row, play_script};
 use super::settling::seen_settled;
 use super::tasks::Crew;
@@ -20,6 +21,8 @@ pub(super) enum Scene<'a> {
     Script(u16, &'a [Row], &'a [Link]),
     /// Each does a task of the crew in a thread of its own.
     Crowd(u16, &'a Crew),
+    /// One of two writes these blocks, and tells the other of each.
+    Notes(&'a [Link]),
 }
 
 /// Makes so many sessions, which are all that the store makes.
@@ -59,6 +62,10 @@ fn perform<L: Home, R: Threads + Wait + Sync>(
         Scene::Script(count, rows, links) => {
             make_sessions(rt, alloc, store, sessions, *count)?;
             play_script(rt, alloc, store, sessions.as_mut_slice(), links, rows)
+        }
+        Scene::Notes(links) => {
+            make_sessions(rt, alloc, store, sessions, 2)?;
+            tell(rt, alloc, store, sessions.as_mut_slice(), links)
         }
     }
 }

@@ -27,7 +27,7 @@ fn seen<L: Home>(
     let journal = settled.journal(0).unwrap_or(&[]);
     match scene {
         Scene::Script(_, rows, links) => Ok((events, recorded(alloc, journal, links, rows)?)),
-        Scene::Crowd(_, _) => Ok((events, in_order(settled))),
+        Scene::Crowd(_, _) | Scene::Notes(_) => Ok((events, in_order(settled))),
     }
 }
 

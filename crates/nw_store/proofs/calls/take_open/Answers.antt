@@ -7,7 +7,7 @@ use Rattle.nw_book.specs.Answer.{front_of, reply_of}
 use Rattle.nw_book.specs.Turn.{event}
 use Rattle.nw_store.specs.Journal.{Kept, Journal, Answer}
 use Rattle.nw_store.specs.Answered.{IsAnswered}
-use Rattle.nw_store.proofs.Begun.{begun_claimed}
+use Rattle.nw_store.proofs.Begun.{begun_claimed, begun_known, claimed_told}
 use Rattle.nw_store.proofs.Kept.{kept_more, starts_so, session_more, answer_is, told_last}
 use Rattle.nw_store.proofs.Answered.{answered}
 use Rattle.nw_store.proofs.calls.take_open.Goals as goal
@@ -42,7 +42,7 @@ returns-clause-answered g c =
     let t = c.in_ok-answer.ensures.taken in
     let n = c.next_number-number.ensures in
     let e : Event = event c.session.inside.id c.next_number-number.result (calls.Causal c.args.digest) (reply_of c.in_ok-answer.answer) in
-    let after : Journal = record { id = c.session.inside.id; answers = c.push_reserved.new.self.items } in
+    let after : Journal = record { id = c.session.inside.id; answers = c.push_reserved.new.self.items; known = c.tell.new.pass.claim } in
     let items : c.push_reserved.new.self.items ≡ c.session.inside.journal.items ++ c.of.result ∷ [] = c.push_reserved.ensures.items ∙ ap (λ (l : List Answer). l ++ c.of.result ∷ []) c.reserve.ensures.items in
     let number : c.next_number-number.result ≡ length c.session.inside.journal.items + 1 = (let m = n.number in let len = c.len.ensures in omega (arith, m, len)) in
     let event_is : c.of.result.event ≡ e = c.of.ensures.event c.locked.inside.book.events e (ap (λ (s : Story). s.events) (c.in_ok-answer.ensures.kept ∙ t.history)) in
@@ -51,6 +51,7 @@ returns-clause-answered g c =
     let begins : IsPrefix c.session.inside.pass.claim c.tell.new.self.keeper = subst (λ l. IsPrefix l c.tell.new.self.keeper) n.claim c.tell.ensures.begins in
     let begun = begun_claimed c.take_open.new.self c.tell.new.self.keeper c.session.inside.pass.claim c.session.inside.journal.items kept.begun begins c.session.invariant.claimed in
     let whole = answered g.S.Scheme.accepts c.locked.inside.book c.take_open.new.self c.session.inside.id c.next_number-number.result (calls.Causal c.args.digest) (reply_of c.in_ok-answer.answer) (front_of c.in_ok-answer.answer) c.session.inside.journal.items
-    c.push_reserved.new.self.items c.of.result t number begun items (c.of.ensures.front ∙ c.in_ok-answer.ensures.kept ∙ sym t.front_is) event_is in
+    c.push_reserved.new.self.items c.session.inside.pass.claim c.tell.new.pass.claim c.of.result t number begun items (c.of.ensures.front ∙ c.in_ok-answer.ensures.kept ∙ sym t.front_is) event_is
+    (begun_known c.take_open.new.self c.tell.new.self.keeper c.session.inside.pass.claim kept.begun begins) (told_last _ _ _ _ _ c.tell.ensures.told c.tell.ensures.claim (t.front_is ∙ sym c.in_ok-answer.ensures.kept)) (claimed_told c.session.inside.pass.claim c.tell.new.pass.claim (subst (λ l. IsPrefix c.session.inside.pass.claim l) (sym c.tell.ensures.claim) begins)) in
     subst (λ (h : Kept). IsAnswered g.S.Scheme.accepts h.history c.args.session.now after (calls.Causal c.args.digest) (reply_of c.in_ok-answer.answer) (front_of c.in_ok-answer.answer)) c.locked.view_is
     (subst (λ (j : Journal). IsAnswered g.S.Scheme.accepts c.locked.inside.book j after (calls.Causal c.args.digest) (reply_of c.in_ok-answer.answer) (front_of c.in_ok-answer.answer)) c.session.view_is whole)

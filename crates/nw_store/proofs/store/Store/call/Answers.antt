@@ -11,4 +11,4 @@ returns-clause-answered g c =
 pub returns-clause-no_step : goal.returns-clause-no_step
 returns-clause-no_step g c =
     let known : IsHistoryOf g.S.Scheme.accepts g.L.Home.origin _ = record { starts = c.call_locked.ensures.starts; legal = c.call_locked.ensures.legal } in
-    unanswered g.S.Scheme.accepts _ _ _ (committee_of c.args.command.now) c.call_locked.result known c.call_locked.ensures.refused
+    unanswered g.S.Scheme.accepts _ _ c.args.session.now (committee_of c.args.command.now) c.call_locked.result known c.call_locked.ensures.refused

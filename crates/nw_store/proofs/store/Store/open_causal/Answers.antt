@@ -12,4 +12,4 @@ returns-clause-answered g c =
 pub returns-clause-no_step : goal.returns-clause-no_step
 returns-clause-no_step g c =
     let known : IsHistoryOf g.S.Scheme.accepts g.L.Home.origin _ = record { starts = c.open_locked.ensures.starts; legal = c.open_locked.ensures.legal } in
-    unanswered g.S.Scheme.accepts _ _ _ None c.open_locked.result known c.open_locked.ensures.refused
+    unanswered g.S.Scheme.accepts _ _ c.args.session.now None c.open_locked.result known c.open_locked.ensures.refused

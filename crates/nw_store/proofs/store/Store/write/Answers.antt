@@ -11,4 +11,4 @@ returns-clause-answered g c =
 pub returns-clause-no_step : goal.returns-clause-no_step
 returns-clause-no_step g c =
     let known : IsHistoryOf g.S.Scheme.accepts g.L.Home.origin _ = record { starts = c.write_locked.ensures.starts; legal = c.write_locked.ensures.legal } in
-    unanswered g.S.Scheme.accepts _ _ _ (Some c.args.block.now.committee) c.write_locked.result known c.write_locked.ensures.refused
+    unanswered g.S.Scheme.accepts _ _ c.args.session.now (Some c.args.block.now.committee) c.write_locked.result known c.write_locked.ensures.refused
