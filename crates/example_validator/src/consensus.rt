@@ -94,8 +94,8 @@ fn is_leader(slot: Slot) -> bool {
 pub(crate) struct Decider<'a, L: Home, R> {
     pub(crate) host: &'a Host<'a, R>,
     pub(crate) store: &'a Store<NetworkScheme, L>,
-    pub(crate) session: &'a mut Session<NetworkScheme, L>,
-    pub(crate) consensus: &'a mut Consensus,
+    pub(crate) session: Session<NetworkScheme, L>,
+    pub(crate) consensus: Consensus,
 }
 
 impl<'a, L: Home, R: Wait> Decider<'a, L, R> {
@@ -134,7 +134,7 @@ impl<'a, L: Home, R: Wait> Decider<'a, L, R> {
         given?;
         let floor = Round::new(self.consensus.next.saturating_sub(1)).unwrap_or(Round::ZERO);
         let Host { rt, alloc, .. } = *self.host;
-        drop(self.store.collect(rt, alloc, self.session, floor)?);
+        drop(self.store.collect(rt, alloc, &mut self.session, floor)?);
         self.consensus.next = self.consensus.next.saturating_add(2);
         Ok(true)
     }
@@ -142,7 +142,10 @@ impl<'a, L: Home, R: Wait> Decider<'a, L, R> {
     /// Opens a causal read of the digest, if it is complete.
     fn open(&mut self, digest: Digest) -> Result<Option<Ticket<NetworkScheme>>, End> {
         let Host { rt, alloc, .. } = *self.host;
-        match self.store.open_causal(rt, alloc, self.session, digest)? {
+        match self
+            .store
+            .open_causal(rt, alloc, &mut self.session, digest)?
+        {
             Ok(ticket) => Ok(Some(ticket)),
             Err(why_not) => {
                 drop(why_not);

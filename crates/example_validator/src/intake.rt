@@ -27,19 +27,21 @@ const MOST_TEXTS: usize = 1024;
 pub(crate) struct Intake<'a, L: Home, R> {
     pub(crate) host: &'a Host<'a, R>,
     pub(crate) store: &'a Store<NetworkScheme, L>,
-    pub(crate) session: &'a mut Session<NetworkScheme, L>,
+    pub(crate) session: Session<NetworkScheme, L>,
+    /// Messages of blocks that may be stored later.
+    pub(crate) kept: Vec<Text>,
     pub(crate) consensus: Sender<Vec<Certified>>,
 }
 
 impl<'a, L: Home, R: Threads + Wait + Sync> Intake<'a, L, R> {
-    /// Takes what comes, until the inbox ends. `kept` are blocks that may be stored later.
-    pub(crate) fn run(&mut self, inbox: &Inbox, kept: &mut Vec<Text>) -> Result<(), End> {
+    /// Takes what comes, until the inbox ends.
+    pub(crate) fn run(&mut self, inbox: &Inbox) -> Result<(), End> {
         for _ in 0..u64::MAX {
             let Ok(mut texts) = inbox.recv(self.host.rt) else {
                 return Ok(());
             };
-            again!(texts.append(kept))?;
-            *kept = again!(self.take(&texts))?;
+            again!(texts.append(&mut self.kept))?;
+            self.kept = again!(self.take(&texts))?;
         }
         Ok(())
     }
@@ -96,7 +98,10 @@ impl<'a, L: Home, R: Threads + Wait + Sync> Intake<'a, L, R> {
     /// Certifies what the certificate is for, and tells what that is.
     fn certify(&mut self, certificate: &CheckedCert<NetworkScheme>) -> Result<Certified, End> {
         let Host { rt, alloc, .. } = *self.host;
-        drop(self.store.certify(rt, alloc, self.session, certificate)?);
+        drop(
+            self.store
+                .certify(rt, alloc, &mut self.session, certificate)?,
+        );
         let digest = certificate.digest();
         let certificate = certificate.certificate().get();
         let slot = Slot {
@@ -109,7 +114,7 @@ impl<'a, L: Home, R: Threads + Wait + Sync> Intake<'a, L, R> {
     /// Writes the block: whether it is to be written again later, since it is early, or not certified and not the first of its slot.
     fn write(&mut self, block: &CheckedBlock<NetworkScheme>) -> Result<bool, End> {
         let Host { rt, alloc, .. } = *self.host;
-        let done = self.store.write(rt, alloc, self.session, block)?;
+        let done = self.store.write(rt, alloc, &mut self.session, block)?;
         let later = matches!(
             &done.reply,
             Reply::Write(WriteReply::TooFar | WriteReply::Equivocates(_) | WriteReply::Full)

@@ -57,16 +57,11 @@ pub(crate) fn run_validator<R: Threads + Wait + Sync>(
     network: &Network,
     number: u16,
 ) -> Result<(), End> {
-    let book = again!(new_book(host))?;
+    let book = again!(Book::new(host.alloc, host.committee.try_clone()?, LIMITS))?;
     let book = go_on(host, validator, book, &network.first, number)?;
     let book = go_on(host, validator, book, &network.second, number)?;
     drop(book);
     Ok(())
-}
-
-/// A book with an empty history.
-fn new_book<R>(host: &Host<'_, R>) -> Result<Book<NetworkScheme>, End> {
-    Ok(Book::new(host.alloc, host.committee.try_clone()?, LIMITS)?)
 }
 
 /// Lets the validator take the messages, on a store that goes on with the book. Gives the book for the next store.
@@ -100,7 +95,7 @@ fn prepare<R: Wait>(
     Ok((Opening::new(host.alloc)?, inbox))
 }
 
-/// Opens the store that `L` names, and runs it.
+/// Opens the store that `L` names, runs it until the inbox ends, settles it, and gives the book for the next store.
 fn open<L: Home, R: Threads + Wait + Sync>(
     host: &Host<'_, R>,
     validator: &mut Validator,
@@ -129,7 +124,7 @@ fn run_store<L: Home, R: Threads + Wait + Sync>(
     store: Store<NetworkScheme, L>,
 ) -> Result<Book<NetworkScheme>, End> {
     let mut sessions = Vec::new(host.alloc);
-    match run_sessions(host, validator, inbox, &store, &mut sessions) {
+    match run_threads(host, validator, inbox, &store, &mut sessions) {
         Ok(()) => close(host.alloc, store, sessions),
         Err(end) => {
             drop(sessions);
@@ -140,7 +135,7 @@ fn run_store<L: Home, R: Threads + Wait + Sync>(
 }
 
 /// Makes two sessions of the store, and runs a thread with each.
-fn run_sessions<L: Home, R: Threads + Wait + Sync>(
+fn run_threads<L: Home, R: Threads + Wait + Sync>(
     host: &Host<'_, R>,
     validator: &mut Validator,
     inbox: &Inbox,
@@ -163,8 +158,11 @@ fn run_sessions<L: Home, R: Threads + Wait + Sync>(
                 state,
             );
             *validator = Validator { consensus, kept };
-            let given = give_back(sessions, one, other);
-            given.and(taken).and(decided)
+            let first = sessions.push(one);
+            let second = sessions.push(other);
+            first?;
+            second?;
+            taken.and(decided)
         }
         (one, other) => {
             drop(one);
@@ -173,19 +171,6 @@ fn run_sessions<L: Home, R: Threads + Wait + Sync>(
             Err(End::Unasked)
         }
     }
-}
-
-/// The sessions, for which there is room.
-fn give_back<L: Home>(
-    sessions: &mut Vec<Session<NetworkScheme, L>>,
-    one: Session<NetworkScheme, L>,
-    other: Session<NetworkScheme, L>,
-) -> Result<(), End> {
-    let first = sessions.push(one);
-    let second = sessions.push(other);
-    first?;
-    second?;
-    Ok(())
 }
 
 /// A session that is handed back, with what its thread decided, and why it ended.
@@ -213,21 +198,10 @@ fn run_both<L: Home, R: Threads + Wait + Sync>(
 fn decide<L: Home, R: Wait>(
     host: &Host<'_, R>,
     store: &Store<NetworkScheme, L>,
-    mut session: Session<NetworkScheme, L>,
-    mut consensus: Consensus,
+    session: Session<NetworkScheme, L>,
+    consensus: Consensus,
     intake: Receiver<Vec<Certified>>,
 ) -> Decided<L> {
-    let decided = run_consensus(&*host, &*store, &mut session, &mut consensus, intake);
-    (session, consensus, decided)
-}
-
-fn run_consensus<'a, L: Home, R: Wait>(
-    host: &'a Host<'a, R>,
-    store: &'a Store<NetworkScheme, L>,
-    session: &'a mut Session<NetworkScheme, L>,
-    consensus: &'a mut Consensus,
-    intake: Receiver<Vec<Certified>>,
-) -> Result<(), End> {
     let mut decider = Decider {
         host,
         store,
@@ -235,41 +209,27 @@ fn run_consensus<'a, L: Home, R: Wait>(
         consensus,
     };
     let decided = decider.run(&intake);
-    drop(decider);
-    drop(intake);
-    decided
+    (decider.session, decider.consensus, decided)
 }
 
 /// Lets the intake take what comes by the session, and hands it back with what is kept.
 fn take<L: Home, R: Threads + Wait + Sync>(
     host: &Host<'_, R>,
     store: &Store<NetworkScheme, L>,
-    mut session: Session<NetworkScheme, L>,
-    mut kept: Vec<Text>,
+    session: Session<NetworkScheme, L>,
+    kept: Vec<Text>,
     inbox: &Inbox,
     consensus: Sender<Vec<Certified>>,
 ) -> Taken<L> {
-    let taken = run_intake(&*host, &*store, &mut session, &mut kept, inbox, consensus);
-    (session, kept, taken)
-}
-
-fn run_intake<'a, L: Home, R: Threads + Wait + Sync>(
-    host: &'a Host<'a, R>,
-    store: &'a Store<NetworkScheme, L>,
-    session: &'a mut Session<NetworkScheme, L>,
-    kept: &mut Vec<Text>,
-    inbox: &Inbox,
-    consensus: Sender<Vec<Certified>>,
-) -> Result<(), End> {
     let mut intake = Intake {
         host,
         store,
         session,
+        kept,
         consensus,
     };
-    let taken = intake.run(inbox, kept);
-    drop(intake);
-    taken
+    let taken = intake.run(inbox);
+    (intake.session, intake.kept, taken)
 }
 
 /// Settles the sessions, which are all, and gives the book for the next store.

@@ -1,5 +1,6 @@
 //! What the arguments ask for.
 ghost use Rattle.std.specs.Prelude.{◌≤◌, IfSome};
+ghost use Rattle.nw_bench.specs.declared.plan.TheConstants.{MOST_BYTES, MOST_WORKERS};
 
 // The most workers that a check takes.
 const MOST_WORKERS: usize = 16;
@@ -16,10 +17,10 @@ pub struct Plan {
 }
 
 impl Plan {
-    /// The plan of the program's name and three numbers: at most 65,536 bytes and 1 to 16 workers.
+    /// The plan of the program's name and three numbers: at most `MOST_BYTES` bytes and 1 to `MOST_WORKERS` workers.
     pub fn read(words: &[String]) -> Option<Plan>
-        ensures bytes { IfSome result (λ plan. plan.bytes ≤ 65536) }
-        ensures workers { IfSome result (λ plan. (1 ≤ plan.workers) × (plan.workers ≤ 16)) }
+        ensures bytes { IfSome result (λ plan. plan.bytes ≤ MOST_BYTES) }
+        ensures workers { IfSome result (λ plan. (1 ≤ plan.workers) × (plan.workers ≤ MOST_WORKERS)) }
     {
         let [_, messages, bytes, workers] = words else {
             return None;

@@ -22,5 +22,8 @@ pub use nw_causal::Agreement;
 pub use nw_check::{CheckedBlock, CheckedCert};
 pub use nw_codec::Block;
 pub use nw_dag::{Call, Digest, Reply, Round, Sequence, View};
-pub use nw_history::{Base, Committee, Event, Front, History, Limits, NoMemory, Scheme, Shared};
+pub use nw_history::{
+    Base, Committee, Event, Front, History, Limits, MOST_BLOCKS, MOST_EVENTS, MOST_ROUNDS,
+    MOST_SESSIONS, NoMemory, Scheme, Shared,
+};
 pub use ticket::Ticket;

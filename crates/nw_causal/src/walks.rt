@@ -45,7 +45,7 @@ pub(crate) fn ancestors<A: Allocator>(
 {
     let mut found = BTreeMap::new(alloc);
     let mut frontier = Vec::new(alloc);
-    let first = Ancestor::look_up(view, digest)?;
+    let first = Ancestor::look_up(view, None, digest)?;
     let (round, author) = (first.block.get().round, first.block.get().author);
     frontier.push(first.try_clone()?)?;
     found.insert((round, author), first)?;
@@ -105,7 +105,7 @@ fn find_parents<A: Allocator>(
     for reference in references {
         let slot = (round, reference.author);
         if !found.contains_key(&slot) {
-            let parent = Ancestor::look_up(view, reference.digest)?;
+            let parent = Ancestor::look_up(view, Some(round), reference.digest)?;
             parents.push(parent.try_clone()?)?;
             found.insert(slot, parent)?;
         }

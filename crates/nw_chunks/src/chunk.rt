@@ -5,7 +5,7 @@ use nw_digest::Shared;
 use std::marker::Model;
 
 /// How many items a chunk has.
-pub(crate) const CHUNK: usize = 256;
+pub const CHUNK: usize = 256;
 
 /// Items of a list that never change, as many as a chunk has. Contracts see the items.
 #[derive(Drop)]

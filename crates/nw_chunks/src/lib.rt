@@ -8,4 +8,5 @@ mod chunk;
 mod chunks;
 mod trail;
 
+pub use chunk::CHUNK;
 pub use chunks::Chunks;

@@ -1,7 +1,7 @@
 //! Blocks of transactions, and references to blocks.
 ghost use Rattle.std.specs.Prelude.{◌≡◌, ◌↔◌, ◌+◌, ◌*◌, ◌<◌, ◌≤◌, IsTrue, All, length};
 ghost use Rattle.std.specs.List.Sorted.{IsStrictlyIncreasing};
-ghost use Rattle.nw_codec.specs.Fits.{Fits, authors, transactions_size};
+ghost use Rattle.nw_codec.specs.Fits.{Fits, authors, body_size, transactions_size};
 
 use crate::limits::{MAX_BODY, MAX_PARENTS, MAX_TRANSACTION, MAX_TRANSACTIONS};
 use nw_digest::{Digest, InRound, Round, Sequence};
@@ -34,7 +34,16 @@ impl Block {
             && is_ascending(parents)
             && transactions.len() <= MAX_TRANSACTIONS
             && are_short(transactions)
-            && 13 + 34 * parents.len() + size_of_all(transactions) <= MAX_BODY
+            && size_of(parents, transactions) <= MAX_BODY
+    }
+
+    /// How many bytes its body has.
+    pub fn body_size(&self) -> usize
+        requires { Fits self.now }
+        ensures size { result ≡ body_size self.now }
+        ensures small { result ≤ MAX_BODY }
+    {
+        size_of(self.parents.as_slice(), self.transactions.as_slice())
     }
 }
 
@@ -58,6 +67,16 @@ fn are_short(transactions: &[Sequence<u8>]) -> bool
     ensures { IsTrue result ↔ All (λ t. length t ≤ MAX_TRANSACTION) transactions.now }
 {
     transactions.iter().all(|transaction| transaction.as_slice().len() <= MAX_TRANSACTION)
+}
+
+/// How many bytes a body of these has.
+fn size_of(parents: &[Ref], transactions: &[Sequence<u8>]) -> usize
+    requires parents { length parents.now ≤ MAX_PARENTS }
+    requires few { length transactions.now ≤ MAX_TRANSACTIONS }
+    requires short { All (λ t. length t ≤ MAX_TRANSACTION) transactions.now }
+    ensures { result ≡ 13 + 34 * length parents.now + transactions_size transactions.now }
+{
+    13 + 34 * parents.len() + size_of_all(transactions)
 }
 
 /// How many bytes the transactions take in a body, each with its length before it.

@@ -123,7 +123,7 @@ pub fn encode_body(alloc: Global, block: &Block) -> Result<Vec<u8>, EncodeError>
     if !block.fits() {
         return Err(EncodeError::OverLimit);
     }
-    let mut bytes = Vec::new(alloc);
+    let mut bytes = Vec::with_capacity(alloc, block.body_size())?;
     put_body(&mut bytes, block)?;
     Ok(bytes)
 }
@@ -141,7 +141,7 @@ pub fn encode_block(
     if !block.fits() {
         return Err(EncodeError::OverLimit);
     }
-    let mut text = Vec::new(alloc);
+    let mut text = Vec::with_capacity(alloc, 65 + block.body_size())?;
     text.put(&[BLOCK_TAG])?;
     put_body(&mut text, block)?;
     text.put(&signature.0)?;

@@ -76,7 +76,7 @@ impl Waits {
         if !held.is_met(&wanted) {
             self.unmet.want(wanted, holder)?;
             self.lacking.want(wanted, holder)
-        } else if !self.is_ready(held, wanted.digest) {
+        } else if !self.lacks_nothing(wanted.digest) {
             self.lacking.want(wanted, holder)
         } else {
             Ok(())

@@ -1,7 +1,7 @@
 //! The blocks that names stand for, and their messages.
 
 use crate::desk::Desk;
-use crate::fault::{LineFault, within_limits};
+use crate::fault::LineFault;
 use crate::members::block_message;
 use crate::print::Answer;
 use nw_codec::{Block, encode_body};
@@ -17,24 +17,17 @@ impl<'a> Desk<'a> {
         line: &BlockLine<'a>,
     ) -> Result<Answer<'a>, LineFault> {
         let name = line.name;
-        if self.names.bound(name).is_ok() {
+        if self.names.has(name) {
             return Err(LineFault::Bad);
         }
         let block = self.block_of(alloc, line)?;
-        match size_of_body(alloc, &block) {
-            Ok(Some(body)) => {
-                self.names.bind(name, block)?;
-                Ok(Answer::Bound { name, body })
-            }
-            Ok(None) => {
-                drop(block);
-                Ok(Answer::over_limit(name))
-            }
-            Err(fault) => {
-                drop(block);
-                Err(fault)
-            }
+        if !block.fits() {
+            drop(block);
+            return Ok(Answer::over_limit(name));
         }
+        let body = block.body_size();
+        self.names.bind(name, block)?;
+        Ok(Answer::Bound { name, body })
     }
 
     fn block_of(&self, alloc: Global, line: &BlockLine<'a>) -> Result<Block, LineFault> {
@@ -71,14 +64,6 @@ impl<'a> Desk<'a> {
     }
 }
 
-// How many bytes the body of the block has, or `None` where it does not fit.
-fn size_of_body(alloc: Global, block: &Block) -> Result<Option<usize>, LineFault> {
-    match within_limits(encode_body(alloc, block))? {
-        Some(text) => Ok(Some(text.len())),
-        None => Ok(None),
-    }
-}
-
 fn in_hex<'a>(alloc: Global, name: Name<'a>, bytes: &[u8]) -> Result<Answer<'a>, LineFault> {
     let hex = hex::encode(alloc, bytes)?;
     Ok(Answer::Bytes { name, hex })
@@ -86,7 +71,7 @@ fn in_hex<'a>(alloc: Global, name: Name<'a>, bytes: &[u8]) -> Result<Answer<'a>,
 
 // The words as the transactions of a block.
 fn copied(alloc: Global, words: &[&str]) -> Result<Sequence<Sequence<u8>>, LineFault> {
-    let mut transactions = Vec::new(alloc);
+    let mut transactions = Vec::with_capacity(alloc, words.len())?;
     for word in words {
         transactions.push(Sequence::new(word.as_bytes().to_vec(alloc)?))?;
     }

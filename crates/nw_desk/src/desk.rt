@@ -39,7 +39,7 @@ impl<'a> Desk<'a> {
         Ok(self.bound(name)?.digest)
     }
 
-    pub(crate) fn bound(&self, name: Name<'a>) -> Result<&Bound, LineFault> {
+    pub(crate) fn bound(&self, name: Name<'a>) -> Result<&Bound<'a>, LineFault> {
         self.names.bound(name)
     }
 

@@ -4,7 +4,7 @@ use crate::desk::Desk;
 use crate::fault::LineFault;
 use crate::print::Answer;
 use nw_book::Ticket;
-use nw_codec::{Block, Seal, encode_body};
+use nw_codec::{Block, Seal};
 use nw_digest::{Digest, Round, Shared};
 use nw_model::{CausalReply, CertifyReply, CollectReply, Reply, Wanted, WriteReply};
 use nw_script::Name;
@@ -39,7 +39,7 @@ impl<'a> Desk<'a> {
                 signed(alloc, name, certificate.get().votes.as_slice())
             }
             Reply::Certificate(None) => Ok(told(name, "none")),
-            Reply::Read(Some(block)) => found(alloc, name, block.get()),
+            Reply::Read(Some(block)) => found(name, block.get()),
             Reply::Read(None) => Ok(told(name, "unknown")),
             Reply::Causal(reply) => Ok(told(name, word_of(*reply))),
             Reply::Ready | Reply::List(_) => Err(LineFault::Bad),
@@ -68,15 +68,19 @@ impl<'a> Desk<'a> {
         if wanted.is_empty() {
             return Ok(Answer::Words("missing none"));
         }
-        let names = self.first_names(alloc, wanted)?;
+        let names = self.names_of_wanted(alloc, wanted)?;
         let wanted = wanted.to_vec(alloc)?;
         Ok(Answer::Missing { wanted, names })
     }
 
-    fn first_names(&self, alloc: Global, wanted: &[Wanted]) -> Result<Vec<Name<'a>>, LineFault> {
+    fn names_of_wanted(
+        &self,
+        alloc: Global,
+        wanted: &[Wanted],
+    ) -> Result<Vec<Name<'a>>, LineFault> {
         let mut names = Vec::with_capacity(alloc, wanted.len())?;
         for parent in wanted {
-            names.push(self.names.first_name(&parent.digest)?)?;
+            names.push(self.names.name_of_wanted(parent)?)?;
         }
         Ok(names)
     }
@@ -163,12 +167,14 @@ fn collected(name: Name<'_>, floor: Round) -> Answer<'_> {
     }
 }
 
-fn found<'a>(alloc: Global, name: Name<'a>, block: &Block) -> Result<Answer<'a>, LineFault> {
-    let body = encode_body(alloc, block)?;
+fn found<'a>(name: Name<'a>, block: &Block) -> Result<Answer<'a>, LineFault> {
+    if !block.fits() {
+        return Err(LineFault::Bad);
+    }
     Ok(Answer::ToldCount {
         name,
         words: "found",
-        number: body.len() as u64,
+        number: block.body_size() as u64,
     })
 }
 

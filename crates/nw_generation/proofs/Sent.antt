@@ -31,10 +31,10 @@ module _ (A : RattleType) (g : Ghosts A.Denot) (alloc_send : IsSend A) (alloc_sy
   blocks_sync = trie_sync (owner.the_row block.the_row) A g block_send block_sync alloc_send alloc_sync frees
 
   pub generation_send : IsSend (generation.the_row A g)
-  generation_send = view_send (generation_inside.the_row A g) _ _ _ _ (declared_send (generation_inside.the_type A g) (search (sendable, crosses, blocks_send, blocks_sync) depth 30, tt))
+  generation_send = view_send (generation_inside.the_row A g) _ _ _ _ (declared_send (generation_inside.the_type A g) (search (sendable, crosses, blocks_send, blocks_sync) depth 30, (search (sendable, crosses) depth 30, tt)))
 
   pub generation_sync : IsSync (generation.the_row A g)
-  generation_sync = view_sync (generation_inside.the_row A g) _ _ _ _ (declared_sync (generation_inside.the_type A g) (search (sendable, crosses, blocks_send, blocks_sync) depth 30, tt))
+  generation_sync = view_sync (generation_inside.the_row A g) _ _ _ _ (declared_sync (generation_inside.the_type A g) (search (sendable, crosses, blocks_send, blocks_sync) depth 30, (search (sendable, crosses) depth 30, tt)))
 
   pub generations_send : IsSend (generations.the_row A g)
   generations_send = view_send (generations_inside.the_row A g) _ _ _ _ (declared_send (generations_inside.the_type A g) (search (sendable, crosses, generation_send) depth 30, tt))

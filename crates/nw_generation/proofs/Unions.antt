@@ -1,15 +1,19 @@
 -- What a union of generations answers.
-use Rattle.std.proofs.Common.{◌≡◌, Bool, true, false, List, [], ◌∷◌, ◌++◌, Option, Some, None, cond, refl, ap, sym, ◌∙◌, append_assoc, append-nil, length, arith}
+use Rattle.std.proofs.Common.{◌≡◌, ℕ, Bool, true, false, List, [], ◌∷◌, ◌++◌, Option, Some, None, IfSome, All, cond, refl, ap, sym, ◌∙◌, subst, append_assoc, append-nil, length, arith}
 use Rattle.std.specs.Option.{option_or}
 use Rattle.std.specs.declared.cmp.Ordering.{Ordering}
 use Rattle.std.specs.BTreeMap.{is_at}
-use Rattle.std.specs.FinMap.{FinMap, entries, get, get-empty, get-entries, get-from_entries, same_map}
+use Rattle.std.specs.List.{AllByRecursion}
+use Rattle.std.specs.Map.{lookup}
+use Rattle.std.proofs.lemmas.List.Elements.{recursion_from_All}
+use Rattle.std.specs.FinMap.{FinMap, entries, from_entries, get, get-empty, get-entries, get-from_entries, same_map}
 use Rattle.std.specs.FinMap.Entries.{find}
 use Rattle.nw_digest.specs.declared.digest.Digest.{Digest}
 use Rattle.nw_codec.specs.declared.block.Block.{Block}
 use Rattle.nw_digest.specs.Order.{digest_cmp}
-use Rattle.nw_model.proofs.Maps.{digests_total, digests_apart}
-use Rattle.nw_generation.specs.Seen.{latest_first, union}
+use Rattle.nw_trie.specs.Span.{IsWithin}
+use Rattle.nw_model.proofs.Maps.{digests_total, digests_apart, get_lookup}
+use Rattle.nw_generation.specs.Seen.{IsOf, latest_first, union}
 
 or_later : {X : Type 0} (b : Bool) (v : X) (first later : Option X) → cond b (Some v) (option_or first later) ≡ option_or (cond b (Some v) first) later
 or_later true v first later = refl
@@ -42,6 +46,36 @@ get_here left older latest d b is here = ap (λ gs. get (union gs) d) is ∙ get
 -- the latest generation lacks the digest
 pub get_older : (left older : List (FinMap digest_cmp Block)) (latest : FinMap digest_cmp Block) (d : Digest) → left ≡ older ++ latest ∷ [] → None ≡ get latest d → get (union older) d ≡ get (union left) d
 get_older left older latest d is lacks = ap (λ found. option_or found (get (union older) d)) lacks ∙ sym (get_latest older latest d) ∙ ap (λ gs. get (union gs) d) (sym is)
+
+-- what all generations have is of the round, so what the latest has is
+pub of_latest : (left older : List (FinMap digest_cmp Block)) (latest : FinMap digest_cmp Block) (round : Option ℕ) (d : Digest) → left ≡ older ++ latest ∷ [] → IsOf round (get (union left) d) → IsOf round (get latest d)
+of_latest left older latest None d is of = tt
+of_latest left older latest (Some round) d is of = by (get latest d) (subst (λ o. IfSome o (λ (b : Block). b.round ≡ round)) (ap (λ gs. get (union gs) d) is ∙ get_latest older latest d) of)
+  where
+    by : (found : Option Block) → IfSome (option_or found (get (union older) d)) (λ (b : Block). b.round ≡ round) → IfSome found (λ (b : Block). b.round ≡ round)
+    by None h = tt
+    by (Some b) h = h
+
+-- entries of other rounds alone have no block of this one
+pub none_of : (es : List (Digest × Block)) (rounds : Option (ℕ × ℕ)) (round : ℕ) (d : Digest) → All (λ (e : Digest × Block). IsWithin rounds e.1.round) es → (IsWithin rounds round → ⊥)
+    → IsOf (Some round) (get (from_entries {R = digest_cmp} es) d) → None ≡ get (from_entries {R = digest_cmp} es) d
+none_of es rounds round d within out of = by (get (from_entries es) d) found of
+  where
+    pick : (t : Bool) (b : Block) (o : Option Block) → IsWithin rounds b.round → IfSome o (λ (x : Block). IsWithin rounds x.round) → IfSome (cond t (Some b) o) (λ (x : Block). IsWithin rounds x.round)
+    pick true b o here later = here
+    pick false b o here later = later
+
+    look : (fs : List (Digest × Block)) → AllByRecursion (λ (e : Digest × Block). IsWithin rounds e.1.round) fs → IfSome (lookup (is_at (digest_cmp d)) fs) (λ (b : Block). IsWithin rounds b.round)
+    look [] all = tt
+    look (e ∷ fs) all = pick (is_at (digest_cmp d) e.0) e.1 (lookup (is_at (digest_cmp d)) fs) all.0 (look fs all.1)
+
+    found : IfSome (get (from_entries {R = digest_cmp} es) d) (λ (b : Block). IsWithin rounds b.round)
+    found = subst (λ o. IfSome o (λ (b : Block). IsWithin rounds b.round)) (sym (get_lookup digests_total es d))
+        (look es (recursion_from_All (λ (e : Digest × Block). IsWithin rounds e.1.round) es within))
+
+    by : (o : Option Block) → IfSome o (λ (b : Block). IsWithin rounds b.round) → IfSome o (λ (b : Block). b.round ≡ round) → None ≡ o
+    by None w is = refl
+    by (Some b) w is = absurd (out (subst (IsWithin rounds) is w))
 
 -- no generation is left
 pub get_nowhere : (left : List (FinMap digest_cmp Block)) (d : Digest) → length left ≡ 0 → get (union left) d ≡ None

@@ -1,5 +1,5 @@
 -- What is seen of a view.
-use Rattle.std.specs.Prelude.{◌≡◌, ℕ, ◌≤◌, List, [], ◌∷◌, ◌++◌, length, refl}
+use Rattle.std.specs.Prelude.{◌≡◌, ℕ, ◌≤◌, List, [], ◌∷◌, ◌++◌, Option, IfSome, length, refl}
 use Rattle.std.specs.Coded.{Coded, code_by, coded×, coded_ℕ}
 use Rattle.std.specs.Option.{option_or}
 use Rattle.std.specs.FinMap as map
@@ -36,6 +36,10 @@ joined generations = record { blocks = union generations; parts = length generat
 -- a digest has the newer block where there is one, else the older one
 abbrev pub IsOver : FinMap digest_cmp Block → FinMap digest_cmp Block → FinMap digest_cmp Block → Type 0
 IsOver newer older both = (d : Digest) → get both d ≡ option_or (get newer d) (get older d)
+
+-- a block, where there is one, is of the round, where one is named
+abbrev pub IsOf : Option ℕ → Option Block → Type 0
+IsOf round found = IfSome round (λ r. IfSome found (λ b. b.round ≡ r))
 
 -- frozen blocks, and how many generations they come from
 pub record Seen : Type 0 where

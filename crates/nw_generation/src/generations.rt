@@ -1,8 +1,10 @@
 //! The generations of a store, of which its views are made.
-ghost use Rattle.std.specs.Prelude.{◌≡◌, ◌+◌, ◌<◌, ◌≤◌, IfOk, OnOk, OnErr};
+ghost use Rattle.std.specs.Prelude.{◌≡◌, ◌+◌, ◌<◌, ◌≤◌, ◌++◌, List, IfOk, OnOk, OnErr};
 ghost use Rattle.std.specs.FinMap as map;
+ghost use Rattle.nw_codec.specs.declared.block.Block.{Block as BlockValue};
+ghost use Rattle.nw_digest.specs.Order.{digest_cmp};
 ghost use Rattle.nw_model.specs.View.{IsClosed};
-ghost use Rattle.nw_generation.specs.Seen.{IsOver};
+ghost use Rattle.nw_generation.specs.Seen.{IsOver, union};
 
 use crate::{Generation, View};
 use nw_codec::Block;
@@ -77,14 +79,16 @@ impl<A: Allocator> Generations<A> {
         Ok(())
     }
 
-    /// What they hold together, as a trie of its own, which shares the blocks.
+    /// What they hold together, as a trie of its own, which shares the blocks. It copies the oldest and puts the blocks of the
+    /// later ones one by one.
     pub fn joined(&self, alloc: Global) -> Result<Trie<Shared<Block>, Global>, NoMemory>
         ensures { IfOk result (λ trie. map.from_entries trie ≡ self.now.blocks) }
     {
-        let mut trie = Trie::new_in(alloc);
-        for generation in self.list.as_slice() {
-            generation.lay_over(&mut trie)?;
-        }
+        let Some((oldest, later)) = self.list.as_slice().split_first() else {
+            return Ok(Trie::new_in(alloc));
+        };
+        let mut trie = oldest.copied(alloc)?;
+        lay_each(later, &mut trie)?;
         Ok(trie)
     }
 
@@ -98,6 +102,21 @@ impl<A: Allocator> Generations<A> {
     {
         Ok(View::new(shared(alloc, self.list.as_slice())?, floor))
     }
+}
+
+/// Puts the blocks of these generations into the trie, one generation over the other.
+fn lay_each<A: Allocator>(
+    generations: &[Generation<A>],
+    trie: &mut Trie<Shared<Block>, Global>,
+) -> Result<(), NoMemory>
+    ensures { OnOk result ((older : List (map.FinMap digest_cmp BlockValue))
+        → map.from_entries trie.old ≡ union older
+        → map.from_entries trie.new ≡ union (older ++ generations.now)) }
+{
+    for generation in generations {
+        generation.lay_over(trie)?;
+    }
+    Ok(())
 }
 
 /// One more owner of each of these.

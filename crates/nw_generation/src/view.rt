@@ -3,7 +3,7 @@ ghost use Rattle.std.specs.Prelude.{◌≡◌, ◌≤◌, length};
 ghost use Rattle.std.specs.Option.{option_copied};
 ghost use Rattle.std.specs.FinMap as map;
 ghost use Rattle.nw_model.specs.View.{IsClosed};
-ghost use Rattle.nw_generation.specs.Seen.{seen_of};
+ghost use Rattle.nw_generation.specs.Seen.{IsOf, seen_of};
 ghost use Rattle.nw_generation.specs.declared.generations.TheConstants.{MOST_PARTS};
 
 use crate::Generation;
@@ -49,9 +49,20 @@ impl<A: Allocator> View<A> {
         ensures block { option_copied result ≡ map.get self.now.frozen.blocks digest.now }
         ensures closed { IsClosed self.now.frozen }
     {
+        self.get_of(None, digest)
+    }
+
+    /// The block under the digest, which is of this round where one is named. It looks into those generations alone that have
+    /// blocks of the round.
+    pub fn get_of(&self, round: Option<Round>, digest: &Digest) -> Option<&Shared<Block>>
+        requires { IsOf round (map.get self.now.frozen.blocks digest.now) }
+        ensures block { option_copied result ≡ map.get self.now.frozen.blocks digest.now }
+        ensures closed { IsClosed self.now.frozen }
+    {
+        let named = &round;
         let mut left = self.generations.as_slice();
         while let Some((generation, older)) = left.split_last() {
-            if let Some(block) = generation.get(digest) {
+            if let Some(block) = generation.get(*named, digest) {
                 return Some(block);
             }
             left = older;

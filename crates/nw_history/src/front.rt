@@ -4,6 +4,7 @@ ghost use Rattle.std.specs.Prelude.{IfOk, OnOk, IfSome, IsNone, IsTrue, length, 
 ghost use Rattle.std.specs.Option.{option_copied};
 ghost use mathlib.Core.List.{IsPrefix};
 ghost use Rattle.nw_chunks.specs.Chunks.{items_of};
+ghost use Rattle.nw_chunks.specs.declared.chunk.TheConstants.{CHUNK};
 ghost use Rattle.nw_model.specs.State.{opening};
 ghost use Rattle.nw_model.specs.Step.{after};
 ghost use Rattle.nw_history.specs.Story.{IsLegalStory, bounds_of, reopened, story_of, tables_of};
@@ -97,7 +98,7 @@ impl<S: Scheme> Front<S> {
 
     /// How many links it holds: one to each full chunk of 256 events, and one to each event behind them.
     pub fn parts(&self) -> usize
-        ensures parts { result ≡ length self.now.events / 256 + length self.now.events % 256 }
+        ensures parts { result ≡ length self.now.events / CHUNK + length self.now.events % CHUNK }
         ensures legal { IsLegalStory S.accepts self.now }
     {
         self.events.parts()

@@ -13,7 +13,7 @@ mod start;
 
 pub use front::Front;
 pub use history::History;
-pub use limits::Limits;
+pub use limits::{Limits, MOST_BLOCKS, MOST_EVENTS, MOST_ROUNDS, MOST_SESSIONS};
 pub use nw_committee::Committee;
 pub use nw_digest::{NoMemory, Shared};
 pub use nw_model::Event;

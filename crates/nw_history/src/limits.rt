@@ -2,16 +2,25 @@
 ghost use Rattle.std.specs.Prelude.{◌≡◌, ◌↔◌, IsTrue};
 ghost use Rattle.nw_history.specs.Limits.{AreInRange};
 
+/// How many blocks may be held at most.
+pub const MOST_BLOCKS: u32 = 65_536;
+/// How many events a history may have at most.
+pub const MOST_EVENTS: u32 = 65_536;
+/// How many rounds may be taken at most.
+pub const MOST_ROUNDS: u32 = 4_096;
+/// How many sessions there may be at most.
+pub const MOST_SESSIONS: u32 = 256;
+
 /// How much a book takes.
 #[derive(Clone, Copy, Debug, PartialEq, Eq)]
 pub struct Limits {
-    /// How many blocks are held at most: 1 to 65,536.
+    /// How many blocks are held at most: 1 to `MOST_BLOCKS`.
     pub blocks: u32,
-    /// How many events the history has at most: 1 to 65,536.
+    /// How many events the history has at most: 1 to `MOST_EVENTS`.
     pub events: u32,
-    /// How many rounds are taken from the garbage round on: 1 to 4,096.
+    /// How many rounds are taken from the garbage round on: 1 to `MOST_ROUNDS`.
     pub window: u32,
-    /// How many sessions there are at most: 1 to 256.
+    /// How many sessions there are at most: 1 to `MOST_SESSIONS`.
     pub sessions: u32,
 }
 
@@ -20,10 +29,10 @@ impl Limits {
     pub fn are_in_range(&self) -> bool
         ensures { IsTrue result ↔ AreInRange self.now }
     {
-        (1..=65_536).contains(&self.blocks)
-            && (1..=65_536).contains(&self.events)
-            && (1..=4_096).contains(&self.window)
-            && (1..=256).contains(&self.sessions)
+        (1..=MOST_BLOCKS).contains(&self.blocks)
+            && (1..=MOST_EVENTS).contains(&self.events)
+            && (1..=MOST_ROUNDS).contains(&self.window)
+            && (1..=MOST_SESSIONS).contains(&self.sessions)
     }
 
     /// Whether each limit is the other's.

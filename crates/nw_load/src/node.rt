@@ -14,7 +14,9 @@ use nw_committee::Committee;
 use nw_digest::{Digest, Shared};
 use nw_intake::Gate;
 use nw_sig::DemoScheme;
-use nw_store::{BookError, Home, Limits, Opening, Session, Store, settle};
+use nw_store::{
+    BookError, Home, Limits, MOST_BLOCKS, MOST_EVENTS, MOST_ROUNDS, Opening, Session, Store, settle,
+};
 use std::alloc::Global;
 use std::marker::Brand;
 use std::sync::Wait;
@@ -23,9 +25,9 @@ use std::thread::{JoinHandle, Scope, Threads};
 
 /// The limits of a node's store.
 const LIMITS: Limits = Limits {
-    blocks: 65_536,
-    events: 65_536,
-    window: 4096,
+    blocks: MOST_BLOCKS,
+    events: MOST_EVENTS,
+    window: MOST_ROUNDS,
     sessions: 2,
 };
 

@@ -1,5 +1,6 @@
 //! Reading a whole script.
 ghost use Rattle.std.specs.Prelude.{◌≡◌, ◌≤◌, IfOk, IfSome, vec_len};
+ghost use Rattle.nw_play.specs.declared.input.TheConstants.{MAX_SCRIPT};
 
 use crate::PlayFault;
 use std::alloc::Global;
@@ -8,10 +9,10 @@ use std::io::{ErrorKind, Read};
 /// How many bytes a script has at most.
 pub const MAX_SCRIPT: usize = 1_048_576;
 
-/// All that the reader gives up to its end: at most 1,048,576 bytes, for which it is asked at most 1,048,577 times.
+/// All that the reader gives up to its end: at most `MAX_SCRIPT` bytes, for which it is asked once more at most.
 /// A read that was interrupted is asked again.
 pub fn read_script<R: Read>(alloc: Global, reader: &mut R) -> Result<Vec<u8>, PlayFault>
-    ensures within { IfOk result (λ script. vec_len script ≤ 1048576) }
+    ensures within { IfOk result (λ script. vec_len script ≤ MAX_SCRIPT) }
     ensures whole { IfOk result (λ script.
         IfSome (R.remaining reader.old) (λ bytes. script.items ≡ bytes)) }
 {

@@ -1,5 +1,6 @@
 //! A whole script.
 ghost use Rattle.std.specs.Prelude.{◌<◌, length, IfSome, IsErr};
+ghost use Rattle.nw_play.specs.declared.input.TheConstants.{MAX_SCRIPT};
 
 use crate::books::{Start, first, first_committee};
 use crate::fault::{PlayFault, print, written};
@@ -24,7 +25,7 @@ pub fn play<Rt: Wait, R: Read + Drop, W: Write + Drop>(
     mut reader: R,
     writer: W,
 ) -> Result<(), PlayFault>
-    ensures { IfSome (R.remaining reader) (λ bytes. 1048576 < length bytes → IsErr result) }
+    ensures { IfSome (R.remaining reader) (λ bytes. MAX_SCRIPT < length bytes → IsErr result) }
 {
     let script = read_script(alloc, &mut reader)?;
     let Ok(mut out) = BufWriter::new(alloc, writer) else {

@@ -7,7 +7,7 @@ use nw_digest::Round;
 use std::alloc::Global;
 
 /// What a line says, before it is known whether it can be played there.
-#[derive(Debug, Drop)]
+#[derive(Drop)]
 pub enum Line<'a> {
     /// An empty line or a comment.
     Skipped,
@@ -24,7 +24,7 @@ pub enum Line<'a> {
 }
 
 /// The members of the committee.
-#[derive(Debug, Drop)]
+#[derive(Drop)]
 pub enum CommitteeLine {
     /// `committee v1 <members>`: so many members of equal weight.
     Equal { members: u32 },
@@ -46,7 +46,7 @@ pub struct LimitsLine {
 }
 
 /// `block <name> <author> <round> <parents> <words>`: a block by the names of its parents, and its transactions.
-#[derive(Debug, Drop)]
+#[derive(Drop)]
 pub struct BlockLine<'a> {
     pub name: Name<'a>,
     pub author: u16,
@@ -56,7 +56,7 @@ pub struct BlockLine<'a> {
 }
 
 /// A line that asks a store that is not settled, and prints an answer.
-#[derive(Debug, Drop)]
+#[derive(Drop)]
 pub enum Request<'a> {
     /// `block <name> <author> <round> <parents> <words>`
     Block(BlockLine<'a>),

@@ -23,8 +23,8 @@ pub use locked::{Locked, compact_locked, compare_locked, renew_locked, session_l
 pub use notes::{Note, hear_locked, note_locked};
 pub use nw_book::{
     Agreement, Base, Block, Book, BookError, Call, CheckedBlock, CheckedCert, Command, Committee,
-    Digest, Done, Event, Front, History, Limits, NoMemory, NoStep, Reply, Round, Scheme, Sequence,
-    Shared, Ticket, View,
+    Digest, Done, Event, Front, History, Limits, MOST_BLOCKS, MOST_EVENTS, MOST_ROUNDS,
+    MOST_SESSIONS, NoMemory, NoStep, Reply, Round, Scheme, Sequence, Shared, Ticket, View,
 };
 pub use session::{Entry, Session};
 pub use settlement::{Settled, Unsettled, settle, settle_locked};

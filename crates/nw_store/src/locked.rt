@@ -3,6 +3,7 @@ ghost use Rattle.std.specs.Prelude.{◌≡◌, ◌↔◌, ◌+◌, ◌<◌, ◌�
 ghost use Rattle.std.specs.Prelude.{IsErr, IfOk, IfErr, OnOk, OnErr};
 ghost use mathlib.Core.List.{IsPrefix};
 ghost use Rattle.nw_history.specs.Limits.{AreInRange};
+ghost use Rattle.nw_history.specs.declared.limits.TheConstants.{MOST_EVENTS, MOST_SESSIONS};
 ghost use Rattle.nw_history.specs.Story.{IsLegalStory, reopened};
 ghost use Rattle.nw_store.specs.Journal.{AreBegun, AreComparable, AreAnswers, origin_of};
 ghost use Rattle.nw_store.specs.Kept.{parts_of_a_ledger};
@@ -53,7 +54,7 @@ impl<S: Scheme, L: Home> Tally<S, L> {
     /// One more than the session's calls so far, which are no more than all calls.
     pub(crate) fn next_number(&mut self, pass: &mut Pass<S, L>, calls: usize) -> u32
         requires counted { pass.old.mine.amount ≡ calls }
-        requires few { self.old.calls.total ≤ 65536 }
+        requires few { self.old.calls.total ≤ MOST_EVENTS }
         ensures number { result ≡ calls + 1 }
         ensures total { self.new.calls.total ≡ self.old.calls.total }
         ensures keeper { self.new.keeper ≡ self.old.keeper }
@@ -200,7 +201,7 @@ pub fn renew_locked<S: Scheme, L: Home>(locked: &mut Locked<S, L>, session: &mut
     ensures starts { origin_of locked.old.history ≡ L.origin }
     ensures legal { IsLegalStory S.accepts locked.old.history }
     ensures numbered { AreAnswers session.old.id 1 session.old.answers }
-    ensures below { session.old.id < 256 }
+    ensures below { session.old.id < MOST_SESSIONS }
     ensures same { locked.new ≡ locked.old }
     ensures session { session.new ≡ session.old }
 {

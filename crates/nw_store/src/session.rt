@@ -1,6 +1,7 @@
 //! Sessions, and what they keep.
 ghost use Rattle.std.specs.Prelude.{◌≡◌, ◌<◌, ◌++◌, ◌∷◌, [], List, length};
 ghost use Rattle.nw_model.specs.declared.event.Event.{Event};
+ghost use Rattle.nw_history.specs.declared.limits.TheConstants.{MOST_SESSIONS};
 
 use crate::Home;
 use crate::locked::Pass;
@@ -107,7 +108,7 @@ impl<S: Scheme, L: Home> Session<S, L> {
     /// The session's id: sessions are numbered from 0 in the order in which they were made.
     pub fn id(&self) -> u16
         ensures id { result ≡ self.now.id }
-        ensures below { result < 256 }
+        ensures below { result < MOST_SESSIONS }
     {
         self.id
     }

@@ -16,6 +16,7 @@ ghost use Rattle.std.specs.Result.{IsErrOf};
 ghost use Rattle.nw_model.specs.Checks.{digest_of};
 ghost use Rattle.nw_model.specs.declared.call.Call.TheVariants as Call;
 ghost use Rattle.nw_history.specs.Limits.{AreInRange};
+ghost use Rattle.nw_history.specs.declared.limits.TheConstants.{MOST_SESSIONS};
 ghost use Rattle.nw_book.specs.Answer.{IsFor, front_of, reply_of};
 ghost use Rattle.nw_book.specs.Command.{call_of, committee_of};
 ghost use Rattle.nw_store.specs.Journal.{KnowsAll, first_origin, origin_of};
@@ -26,7 +27,7 @@ use crate::calls::{call_locked, certify_locked, open_locked, write_locked};
 use crate::locked::{compact_locked, session_locked};
 use crate::notes::{hear_locked, note_locked};
 use crate::{Home, Locked, Note, Session, TooMany};
-use nw_book::{Book, BookError, Command, Done, Front, Limits, NoStep, Ticket};
+use nw_book::{Book, BookError, Command, Done, Front, Limits, MOST_SESSIONS, NoStep, Ticket};
 use nw_check::{CheckedBlock, CheckedCert};
 use nw_committee::Committee;
 use nw_digest::{Digest, NoMemory, Round, Shared};
@@ -61,7 +62,7 @@ impl<S: Scheme> Opening<S> {
     pub fn new(alloc: Global) -> Result<Opening<S>, NoMemory> {
         Ok(Opening {
             log: Opened::new(alloc)?,
-            blank: Blank::new(257),
+            blank: Blank::new(u64::from(MOST_SESSIONS) + 1),
         })
     }
 }
@@ -123,7 +124,7 @@ impl<S: Scheme, L: Home> Store<S, L> {
 
     /// A new session. `TooMany` where as many were made as the limit allows.
     pub fn session<R: Wait>(&self, rt: &R, alloc: Global) -> Result<Session<S, L>, TooMany>
-        ensures { IfOk result (λ session. (session.answers ≡ []) × (session.id < 256)) }
+        ensures { IfOk result (λ session. (session.answers ≡ []) × (session.id < MOST_SESSIONS)) }
     {
         session_locked(&mut *self.locked.lock(rt), alloc)
     }

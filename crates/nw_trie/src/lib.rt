@@ -5,8 +5,10 @@
 
 mod bits;
 mod iter;
+mod share;
 mod tree;
 mod trie;
 
 pub use iter::Iter;
+pub use share::Share;
 pub use trie::Trie;

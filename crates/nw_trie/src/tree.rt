@@ -16,6 +16,7 @@ ghost use Rattle.nw_trie.specs.Tree.{side_of, with_side};
 
 mod descent;
 mod removal;
+mod whole;
 
 use crate::bits::{first_difference, is_set, note_bytes};
 use nw_digest::Digest;

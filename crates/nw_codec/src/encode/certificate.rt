@@ -12,9 +12,10 @@ use crate::{Certificate, Message, Seal, Vote};
 use nw_digest::{Digest, Round};
 use std::alloc::{AllocError, Global};
 
-/// A text of the tag and of what a vote speaks of: the digest, the round and the author of a block.
+/// A text of the tag and of what a vote speaks of: the digest, the round and the author of a block. It has room for so many bytes in all.
 fn subject_text(
     alloc: Global,
+    size: usize,
     tag: u8,
     digest: &Digest,
     round: Round,
@@ -24,7 +25,7 @@ fn subject_text(
         (λ v. v.items ≡ (tag ∷ []) ++ subject_bytes digest.now round author) }
     ensures typed { OnOk result (IsSubject digest.now round author) }
 {
-    let mut text = Vec::new(alloc);
+    let mut text = Vec::with_capacity(alloc, size)?;
     text.put(&[tag])?;
     text.put(&digest.0)?;
     text.put(&round.get().to_be_bytes()[2..])?;
@@ -54,6 +55,7 @@ pub(super) fn encode_certificate_message(
     let seals = certificate.votes.as_slice();
     let mut text = subject_text(
         alloc,
+        43 + 66 * seals.len(),
         CERTIFICATE_TAG,
         &certificate.digest,
         certificate.round,
@@ -68,7 +70,7 @@ pub(super) fn encode_certificate_message(
 pub(super) fn encode_vote_message(alloc: Global, vote: &Vote) -> Result<Vec<u8>, AllocError>
     ensures { IfOk result (λ v. Spells v.items (Message.Vote vote.now)) }
 {
-    let mut text = subject_text(alloc, VOTE_TAG, &vote.digest, vote.round, vote.author)?;
+    let mut text = subject_text(alloc, 107, VOTE_TAG, &vote.digest, vote.round, vote.author)?;
     text.put(&vote.signer.to_be_bytes())?;
     text.put(&vote.signature.0)?;
     Ok(text)

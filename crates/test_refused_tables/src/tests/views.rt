@@ -21,7 +21,9 @@ fn a_refused_freeze_hands_its_blocks_back(rt: HostRuntime) {
     let trie = again!(NoMemory, older(rt.alloc(), b"x")).expect(&rt, "there is memory");
     let generation = frozen(rt.alloc(), trie).expect(&rt, "there is memory");
     refuse_all(rt.alloc());
-    let found = [name(0, 2), name(1, 0)].map(|digest: Digest| generation.get(&digest).is_some());
+    let found = [name(0, 2), name(1, 0)].map(|digest: Digest| generation
+        .get(None, &digest)
+        .is_some());
     refuse_none(rt.alloc());
     assert_eq!(rt; found, [true, false]);
 }

@@ -1,69 +1,156 @@
-//! What one session tells another.
+//! What one thread tells another by notes.
 use super::asking::{Ask, reply_to};
 use super::chains::{Link, chain};
 use super::scenes::{Scene, played};
 use super::*;
-use nw_model::{CertifyReply, WriteReply};
+use crossbeam_channel::{Receiver, Sender, unbounded};
+use nw_model::CertifyReply;
+use nw_store::Note;
+use std::thread;
+use std::thread::Threads;
 
-/// Whether the first session writes and certifies the block, and the second, which hears a note of that, opens it.
-fn is_heard<L: Home, R: Wait>(
+/// A session that is handed back, and of how many blocks its thread was answered as it is to be.
+type Told<L> = (Session<DemoScheme, L>, usize);
+
+/// Whether the block is written and certified.
+fn is_certified<L: Home, R: Wait>(
     rt: &R,
     alloc: Global,
     store: &Store<DemoScheme, L>,
-    one: &mut Session<DemoScheme, L>,
-    other: &mut Session<DemoScheme, L>,
+    session: &mut Session<DemoScheme, L>,
     link: &Link,
-    ticket: &mut Option<Ticket<DemoScheme>>,
 ) -> Result<bool, NoStep> {
-    let written = reply_to(rt, alloc, store, one, link, ticket, &Ask::Write)?;
-    let certified = reply_to(rt, alloc, store, one, link, ticket, &Ask::Certify)?;
-    let note = store.note(rt, one);
-    store.hear(rt, other, note);
-    let opened = reply_to(rt, alloc, store, other, link, ticket, &Ask::Open)?;
-    Ok(
-        matches!(&written, Reply::Write(WriteReply::Stored { vote: true }))
-            && matches!(&certified, Reply::Certify(CertifyReply::Certified))
-            && matches!(&opened, Reply::Ready),
+    let mut ticket = None;
+    let written = reply_to(rt, alloc, store, session, link, &mut ticket, &Ask::Write);
+    let certified = reply_to(rt, alloc, store, session, link, &mut ticket, &Ask::Certify);
+    drop(ticket);
+    drop(written?);
+    Ok(matches!(&certified?, Reply::Certify(CertifyReply::Certified)))
+}
+
+/// Writes and certifies each block, and then sends a note of it.
+fn write_all<L: Home, R: Wait>(
+    rt: &R,
+    alloc: Global,
+    store: &Store<DemoScheme, L>,
+    mut session: Session<DemoScheme, L>,
+    links: &[Link],
+    notes: Sender<Note<DemoScheme, L>>,
+) -> Told<L> {
+    let mut told = 0usize;
+    for link in links {
+        if matches!(is_certified(rt, alloc, store, &mut session, link), Ok(true)) {
+            let note = store.note(rt, &mut session);
+            if notes.send(rt, note).is_ok() {
+                told = told.saturating_add(1);
+            }
+        }
+    }
+    drop(notes);
+    (session, told)
+}
+
+/// Whether a causal read of the block is opened, and its walk lists the chain up to the block.
+fn is_walked<L: Home, R: Wait>(
+    rt: &R,
+    alloc: Global,
+    store: &Store<DemoScheme, L>,
+    session: &mut Session<DemoScheme, L>,
+    link: &Link,
+) -> Result<bool, NoStep> {
+    let mut ticket = None;
+    let opened = reply_to(rt, alloc, store, session, link, &mut ticket, &Ask::Open);
+    let listed = reply_to(rt, alloc, store, session, link, &mut ticket, &Ask::Walk);
+    drop(ticket);
+    drop(opened?);
+    let blocks = link.block.block().get().round.get() as usize + 1;
+    Ok(matches!(&listed?, Reply::List(list) if list.as_slice().len() == blocks))
+}
+
+/// Hears a note of each block, and then reads it with all that came before.
+fn walk_all<L: Home, R: Wait>(
+    rt: &R,
+    alloc: Global,
+    store: &Store<DemoScheme, L>,
+    mut session: Session<DemoScheme, L>,
+    links: &[Link],
+    notes: Receiver<Note<DemoScheme, L>>,
+) -> Told<L> {
+    let mut heard = 0usize;
+    for link in links {
+        if let Ok(note) = notes.recv(rt) {
+            store.hear(rt, &mut session, note);
+            if matches!(is_walked(rt, alloc, store, &mut session, link), Ok(true)) {
+                heard = heard.saturating_add(1);
+            }
+        }
+    }
+    drop(notes);
+    (session, heard)
+}
+
+/// Writes the blocks by the first session, in a thread of its own, and reads each by the second, as notes tell of it.
+pub(super) fn in_both<L: Home, R: Threads + Wait + Sync>(
+    rt: &R,
+    alloc: Global,
+    store: &Store<DemoScheme, L>,
+    (one, other): (Session<DemoScheme, L>, Session<DemoScheme, L>),
+    links: &[Link],
+    (told, heard): (Sender<Note<DemoScheme, L>>, Receiver<Note<DemoScheme, L>>),
+) -> (Told<L>, Told<L>) {
+    thread::join(
+        rt,
+        move || write_all(rt, alloc, store, one, links, told),
+        move || walk_all(rt, alloc, store, other, links, heard),
     )
 }
 
-/// Tells the second session of each block that the first one writes, in turn.
-pub(super) fn tell<L: Home, R: Wait>(
+/// Lets two new sessions of the store tell each other, and gives both back.
+pub(super) fn tell<L: Home, R: Threads + Wait + Sync>(
     rt: &R,
     alloc: Global,
     store: &Store<DemoScheme, L>,
-    sessions: &mut [Session<DemoScheme, L>],
+    sessions: &mut Vec<Session<DemoScheme, L>>,
     links: &[Link],
 ) -> Result<(), Fail> {
-    let [one, other] = sessions else {
-        return Err(Fail::from("there are two sessions"));
-    };
-    let mut ticket = None;
-    let mut heard = 0usize;
-    for link in links {
-        if matches!(
-            is_heard(rt, alloc, store, one, other, link, &mut ticket),
-            Ok(true)
-        ) {
-            heard = heard.saturating_add(1);
+    let channel = unbounded(alloc)?;
+    match (sessions.pop(), sessions.pop()) {
+        (Some(other), Some(one)) => {
+            let ((one, told), (other, heard)) = in_both(
+                rt,
+                alloc,
+                store,
+                (one, other),
+                links,
+                channel,
+            );
+            let first = sessions.push(one);
+            let second = sessions.push(other);
+            first?;
+            second?;
+            if told == links.len() && heard == links.len() {
+                Ok(())
+            } else {
+                Err(Fail::from("a block was not read that was heard of"))
+            }
         }
-    }
-    drop(ticket);
-    if heard == links.len() {
-        Ok(())
-    } else {
-        Err(Fail::from("a block was not opened that was heard of"))
+        (one, other) => {
+            drop(one);
+            drop(other);
+            drop(channel);
+            Err(Fail::from("there are two sessions"))
+        }
     }
 }
 
 #[test]
-fn what_one_session_wrote_another_opens_once_it_heard_of_it(rt: HostRuntime) -> Result<(), Fail> {
+fn what_one_thread_wrote_another_walks_once_it_heard_of_it(rt: HostRuntime) -> Result<(), Fail> {
     let alloc = rt.alloc();
-    let links = chain(alloc, 8)?;
+    let links = chain(alloc, 32)?;
     let scene = Scene::Notes(&links);
     assert_eq!(rt;
-        played(&rt, alloc, book(alloc, 1, 32, 2)?, &scene)?,
-        (3 * 8, 3 * 8)
+        played(&rt, alloc, book(alloc, 1, 96, 2)?, &scene)?,
+        (3 * 32, 3 * 32)
     );
     Ok(())
 }

@@ -21,7 +21,7 @@ pub(super) enum Scene<'a> {
     Script(u16, &'a [Row], &'a [Link]),
     /// Each does a task of the crew in a thread of its own.
     Crowd(u16, &'a Crew),
-    /// One of two writes these blocks, and tells the other of each.
+    /// One of two threads writes these blocks, and tells the other of each.
     Notes(&'a [Link]),
 }
 
@@ -65,7 +65,7 @@ fn perform<L: Home, R: Threads + Wait + Sync>(
         }
         Scene::Notes(links) => {
             make_sessions(rt, alloc, store, sessions, 2)?;
-            tell(rt, alloc, store, sessions.as_mut_slice(), links)
+            tell(rt, alloc, store, sessions, links)
         }
     }
 }

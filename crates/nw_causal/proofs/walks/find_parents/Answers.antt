@@ -1,7 +1,8 @@
-use Rattle.std.proofs.Common.{◌≡◌, true, false, List, [], get_or, sym, ◌∙◌}
+use Rattle.std.proofs.Common.{◌≡◌, ◌+◌, true, false, List, [], IfSome, get_or, sym, ◌∙◌, subst, arith}
 use Rattle.std.specs.Option.{is_some}
 use Rattle.std.specs.FinMap.{get}
 use Rattle.nw_codec.specs.declared.block.Ref.{Ref}
+use Rattle.nw_codec.specs.declared.block.Block.{Block}
 use Rattle.nw_digest.specs.Order.{Slot}
 use Rattle.nw_model.specs.View.{Frozen}
 use Rattle.nw_causal.specs.Looked.{found_in}
@@ -10,10 +11,16 @@ use Rattle.nw_causal.proofs.Looking.{found_taken, looked_on}
 use Rattle.nw_causal.proofs.walks.find_parents.Goals as goal
 use Rattle.nw_causal.proofs.walks.find_parents.Goals.{then-not-contains_key+in_ok-parent+in_ok-try_clone+in_ok-push+in_ok-insert+in-Some-1, then-not-contains_key+in_ok-parent+in_ok-try_clone+in_ok-push+in_ok-insert+in-None-1, else-not-contains_key}
 
-pub look_up-requires : goal.look_up-requires
-look_up-requires g c =
+pub look_up-requires-clause-there : goal.look_up-requires-clause-there
+look_up-requires-clause-there g c =
     let there = c.requires.there c.loop-reference.reference-index (record { author = 0; digest = record { 0 = [] } }) c.loop-reference-test.true in
     (there.0, there.1)
+
+pub look_up-requires-clause-round : goal.look_up-requires-clause-round
+look_up-requires-clause-round g c =
+    let there = c.requires.there c.loop-reference.reference-index (record { author = 0; digest = record { 0 = [] } }) c.loop-reference-test.true in
+    let before : there.0.round + 1 ≡ c.args.round + 1 = there.3 in
+    subst (λ found. IfSome found (λ (b : Block). b.round ≡ c.args.round)) (sym there.1) (omega (arith, before))
 
 pub loop-reference-preserved : goal.loop-reference-preserved
 loop-reference-preserved g c =

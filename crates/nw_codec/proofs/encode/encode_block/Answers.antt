@@ -7,5 +7,5 @@ unfolding message
 returns-clause-spells c = record {
   typed = (c.in_ok-put_body.ensures.typed, record { len = search rules; bytes = c.put-2.ensures.bytes });
   fits = search rules;
-  bytes = c.in_ok-put-2.ensures.text _ (c.in_ok-put_body.ensures.text (1 ∷ []) (c.in_ok-put.ensures.text [] c.new-text.ensures.items));
+  bytes = c.in_ok-put-2.ensures.text _ (c.in_ok-put_body.ensures.text (1 ∷ []) (c.in_ok-put.ensures.text [] c.in_ok-text.ensures.items));
 }

@@ -1,3 +1,4 @@
+use Rattle.nw_waiting.specs.Pairs.{Lacks}
 use Rattle.nw_waiting.specs.declared.wanted.Wanted.{Wanted}
 use Rattle.nw_held.specs.Standing.{IsMet}
 use Rattle.nw_dag.specs.Lacking.{IsReady}
@@ -21,12 +22,12 @@ returns-in_ok-want-clause-same_unmet c = same_inserted c.args.holder c.args.want
 pub returns-in_ok-want-clause-same_lacking : goal.returns-in_ok-want-clause-same_lacking
 returns-in_ok-want-clause-same_lacking c = same_either c.want-then-not-is_met.result c.args.holder c.args.wanted c.args.self.now.lacking c.want-then-not-is_met.new.self c.want-then-not-is_met.ensures.added c.want-then-not-is_met.ensures.unchanged
 
-pub returns-then-not-is_ready-clause-lacking : goal.returns-then-not-is_ready-clause-lacking
-returns-then-not-is_ready-clause-lacking c =
-    let lacks_it = refuted c.is_ready.result (IsReady c.args.held.now.state c.args.self.now.lacking c.args.wanted.digest) c.is_ready.ensures c.if-not-is_ready.true in
-    wants_on_ok c.want-then-not-is_ready.result (λ (w : Wanted). IsMet c.args.held.now.state w × IsReady c.args.held.now.state c.args.self.now.lacking w.digest) c.args.wanted c.args.holder c.args.self.now.lacking
-    c.want-then-not-is_ready.new.self (λ both. lacks_it both.1) c.want-then-not-is_ready.ensures.added
+pub returns-then-not-lacks_nothing-clause-lacking : goal.returns-then-not-lacks_nothing-clause-lacking
+returns-then-not-lacks_nothing-clause-lacking c =
+    let lacks_it = refuted c.lacks_nothing.result ((w : Wanted) → Lacks c.args.self.now.lacking c.args.wanted.digest w → ⊥) c.lacks_nothing.ensures c.if-not-lacks_nothing.true in
+    wants_on_ok c.want-then-not-lacks_nothing.result (λ (w : Wanted). IsMet c.args.held.now.state w × IsReady c.args.held.now.state c.args.self.now.lacking w.digest) c.args.wanted c.args.holder c.args.self.now.lacking
+    c.want-then-not-lacks_nothing.new.self (λ both. lacks_it both.1.1) c.want-then-not-lacks_nothing.ensures.added
 
-pub returns-then-not-is_ready-clause-same_lacking : goal.returns-then-not-is_ready-clause-same_lacking
-returns-then-not-is_ready-clause-same_lacking c =
-    same_either c.want-then-not-is_ready.result c.args.holder c.args.wanted c.args.self.now.lacking c.want-then-not-is_ready.new.self c.want-then-not-is_ready.ensures.added c.want-then-not-is_ready.ensures.unchanged
+pub returns-then-not-lacks_nothing-clause-same_lacking : goal.returns-then-not-lacks_nothing-clause-same_lacking
+returns-then-not-lacks_nothing-clause-same_lacking c =
+    same_either c.want-then-not-lacks_nothing.result c.args.holder c.args.wanted c.args.self.now.lacking c.want-then-not-lacks_nothing.new.self c.want-then-not-lacks_nothing.ensures.added c.want-then-not-lacks_nothing.ensures.unchanged
