@@ -12,7 +12,7 @@ ghost use Rattle.nw_codec.specs.declared.limits.TheConstants.{MAX_TRANSACTION};
 
 mod certificate;
 
-use crate::limits::{BLOCK_TAG, VERSION};
+use crate::limits::{BLOCK_TAG, SIGNATURE_BYTES, VERSION};
 use crate::{Block, EncodeError, Message, Ref, Signature};
 use certificate::{encode_certificate_message, encode_vote_message};
 use nw_digest::{Digest, Sequence};
@@ -141,7 +141,7 @@ pub fn encode_block(
     if !block.fits() {
         return Err(EncodeError::OverLimit);
     }
-    let mut text = Vec::with_capacity(alloc, 65 + block.body_size())?;
+    let mut text = Vec::with_capacity(alloc, 1 + block.body_size() + SIGNATURE_BYTES)?;
     text.put(&[BLOCK_TAG])?;
     put_body(&mut text, block)?;
     text.put(&signature.0)?;

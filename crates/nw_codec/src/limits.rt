@@ -9,6 +9,13 @@ pub const VOTE_TAG: u8 = 3;
 /// The first byte of a body.
 pub const VERSION: u8 = 1;
 
+/// The bytes of a signature.
+pub(crate) const SIGNATURE_BYTES: usize = 64;
+/// The bytes of a tag, a digest, a round and an author.
+pub(crate) const SUBJECT_BYTES: usize = 41;
+/// The bytes of a seal: its signer and the signature.
+pub(crate) const SEAL_BYTES: usize = 66;
+
 /// How many parents a block names at most.
 pub const MAX_PARENTS: usize = 100;
 /// How many transactions a block holds at most.

@@ -8,7 +8,6 @@ use std::alloc::Global;
 use std::test::Fail;
 
 mod altered;
-mod blocks;
 mod lengths;
 mod texts;
 mod threads;

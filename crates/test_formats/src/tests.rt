@@ -1,4 +1,3 @@
-mod committees;
 mod digests;
 mod limits;
 mod lines;

@@ -4,7 +4,6 @@ use rand_core::utils::NextWord;
 use rand_pcg::Pcg32;
 use std::alloc::{Allocator, Global};
 use std::process::Abort;
-use std::test::Fail;
 
 mod chunks;
 mod log;

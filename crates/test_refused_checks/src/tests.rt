@@ -8,8 +8,6 @@ use std::test::Fail;
 
 mod checks;
 mod committees;
-mod free;
-mod lent;
 mod texts;
 mod workers;
 

@@ -8,7 +8,6 @@ use std::alloc::{AllocError, Global};
 use std::test::Fail;
 
 mod asking;
-mod books;
 mod desk;
 mod endings;
 mod examples;

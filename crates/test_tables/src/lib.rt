@@ -1,5 +1,4 @@
-//! Tests of tables: what small stores are answered, that a `Dag` answers as a `Plain`, what views share, what walks list and
-//! whether they agree, and how a store goes on from a base.
+//! Tests of tables: what small stores are answered, and that a `Dag` answers as a `Plain`.
 //!
 //! Its contract: it has tests alone, and nothing stands on it.
 #![tactic(auto)]

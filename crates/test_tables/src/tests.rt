@@ -5,15 +5,12 @@ use nw_digest::{Digest, NoMemory, Round, Sequence, Shared};
 use nw_generation::View;
 use std::alloc::Global;
 
-mod bases;
 mod both;
 mod examples;
 mod floods;
-mod frozen;
 mod grids;
 mod orders;
 mod random;
-mod views;
 mod words;
 
 /// A round and an author.

@@ -7,7 +7,7 @@ ghost use Rattle.nw_codec.specs.Typed.{IsSubject, IsSeal};
 ghost use Rattle.nw_codec.specs.Spelled.{Spells};
 
 use super::Sink;
-use crate::limits::{CERTIFICATE_TAG, VOTE_TAG};
+use crate::limits::{CERTIFICATE_TAG, SEAL_BYTES, SUBJECT_BYTES, VOTE_TAG};
 use crate::{Certificate, Message, Seal, Vote};
 use nw_digest::{Digest, Round};
 use std::alloc::{AllocError, Global};
@@ -55,7 +55,7 @@ pub(super) fn encode_certificate_message(
     let seals = certificate.votes.as_slice();
     let mut text = subject_text(
         alloc,
-        43 + 66 * seals.len(),
+        SUBJECT_BYTES + 2 + SEAL_BYTES * seals.len(),
         CERTIFICATE_TAG,
         &certificate.digest,
         certificate.round,
@@ -70,7 +70,14 @@ pub(super) fn encode_certificate_message(
 pub(super) fn encode_vote_message(alloc: Global, vote: &Vote) -> Result<Vec<u8>, AllocError>
     ensures { IfOk result (λ v. Spells v.items (Message.Vote vote.now)) }
 {
-    let mut text = subject_text(alloc, 107, VOTE_TAG, &vote.digest, vote.round, vote.author)?;
+    let mut text = subject_text(
+        alloc,
+        SUBJECT_BYTES + SEAL_BYTES,
+        VOTE_TAG,
+        &vote.digest,
+        vote.round,
+        vote.author,
+    )?;
     text.put(&vote.signer.to_be_bytes())?;
     text.put(&vote.signature.0)?;
     Ok(text)

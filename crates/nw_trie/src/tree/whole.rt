@@ -8,7 +8,7 @@ use nw_digest::{InRound, NoMemory, Round};
 use std::alloc::{Allocator, Global};
 
 impl<V: Drop, A: Allocator> Tree<V, A> {
-    /// The least and the greatest round of its values, or `None` where it has none.
+    /// The least and the greatest round of its values, or `None` where it has none. Its clause says that they lie between.
     pub(crate) fn rounds(&self) -> Option<(Round, Round)>
     where
         V: InRound,

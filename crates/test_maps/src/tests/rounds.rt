@@ -4,8 +4,8 @@ use nw_rounds::Rounds;
 use std::collections::{BTreeMap, BTreeSet};
 
 /// Makes the digest the first of the slot, where it has none. Whether it had none.
-fn put_first<A: Allocator + Clone>(
-    rounds: &mut Rounds<A>,
+fn put_first(
+    rounds: &mut Rounds<Global>,
     slot: (Round, u16),
     digest: Digest,
 ) -> Result<bool, NoMemory> {
@@ -17,8 +17,8 @@ fn put_first<A: Allocator + Clone>(
 }
 
 /// Certifies the digest for the slot, where none is. Whether none was.
-fn put_certified<A: Allocator + Clone>(
-    rounds: &mut Rounds<A>,
+fn put_certified(
+    rounds: &mut Rounds<Global>,
     slot: (Round, u16),
     digest: Digest,
 ) -> Result<bool, NoMemory> {
@@ -27,57 +27,6 @@ fn put_certified<A: Allocator + Clone>(
     }
     rounds.put_certified(slot.0, slot.1, digest)?;
     Ok(true)
-}
-
-/// The two digests of one slot, and what stands in another.
-fn two_digests<A: Allocator + Clone>(
-    rounds: &mut Rounds<A>,
-) -> Result<[Option<Digest>; 3], NoMemory> {
-    let third = round(3)?;
-    put_first(rounds, (third, 1), digest(1, 0))?;
-    put_certified(rounds, (third, 1), digest(2, 0))?;
-    Ok([
-        rounds.first(third, 1),
-        rounds.certified(third, 1),
-        rounds.first(third, 2),
-    ])
-}
-
-#[test]
-fn a_slot_has_a_first_and_a_certified_digest(rt: HostRuntime) {
-    let alloc = rt.alloc();
-    let found = two_digests(&mut Rounds::new_in(&alloc)).expect(&rt, "there is memory");
-    assert_eq!(rt; found, [Some(digest(1, 0)), Some(digest(2, 0)), None]);
-}
-
-/// The digests of round 3, those of the rounds up to it, and those of round 3 once lower rounds than 4 are dropped.
-fn listed(
-    rounds: &mut Rounds<Global>,
-    alloc: Global,
-) -> Result<(Vec<Digest>, Vec<Digest>, Vec<Digest>), NoMemory> {
-    let third = round(3)?;
-    put_first(rounds, (third, 1), digest(2, 0))?;
-    put_first(rounds, (third, 2), digest(1, 0))?;
-    put_certified(rounds, (third, 1), digest(3, 0))?;
-    put_first(rounds, (Round::ZERO, 7), digest(0, 0))?;
-    put_first(rounds, (round(4)?, 1), digest(4, 0))?;
-    let before = rounds.digests(alloc, third)?;
-    let lower = rounds.digests_up_to(alloc, third)?;
-    rounds.drop_below(round(4)?);
-    Ok((before, lower, rounds.digests(alloc, third)?))
-}
-
-#[test]
-fn a_round_lists_its_digests_until_it_is_dropped(rt: HostRuntime) {
-    let alloc = rt.alloc();
-    let (before, lower, after) = listed(&mut Rounds::new_in(alloc), alloc).expect(
-        &rt,
-        "there is memory",
-    );
-    let all = [0, 1, 2, 3].map(|first: u8| digest(first, 0));
-    assert_eq!(rt; before.as_slice(), &all[1..]);
-    assert_eq!(rt; lower.as_slice(), all.as_slice());
-    assert!(rt; after.is_empty());
 }
 
 /// The digests of rounds and authors, the first ones and those that are certified.

@@ -16,30 +16,6 @@ fn entries<A: Allocator>(
     Ok(seen)
 }
 
-#[test]
-fn three_keys_a_replaced_value_a_removal_and_the_order(rt: HostRuntime) {
-    let (k1, k2, k3) = (digest(0, 0), digest(0, 1), digest(128, 0));
-    let mut trie = Trie::new_in(rt.alloc());
-    assert!(rt; trie.is_empty());
-    for (key, value, old) in [
-        (k1, 1, None),
-        (k2, 2, None),
-        (k3, 3, None),
-        (k1, 9, Some(1)),
-    ] {
-        assert!(rt; trie.insert(key, value) == Ok(old));
-    }
-    assert_eq!(rt; trie.len(), 3);
-    assert_eq!(rt; trie.get(&k1).copied(), Some(9));
-    assert_eq!(rt; trie.get(&digest(1, 0)).copied(), None);
-    let in_order = entries(rt.alloc(), &trie).expect(&rt, "there is memory");
-    assert_eq!(rt; in_order.as_slice(), [(k1, 9), (k2, 2), (k3, 3)].as_slice());
-    assert_eq!(rt; trie.remove(&k2), Some(2));
-    assert_eq!(rt; trie.remove(&k2), None);
-    assert_eq!(rt; trie.len(), 2);
-    assert_eq!(rt; trie.get(&k3).copied(), Some(3));
-}
-
 /// Whether one of three inserts is refused in this heap. It then hands its value back, and the entries are as before.
 fn is_refused(rt: &impl Abort, alloc: Global, heap: &LocalHeap) -> Result<bool, NoMemory> {
     let all = [(digest(0, 0), 1), (digest(0, 1), 2), (digest(128, 0), 3)];

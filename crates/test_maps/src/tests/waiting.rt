@@ -3,44 +3,6 @@ use super::*;
 use nw_waiting::{Waiting, Wanted};
 use std::collections::BTreeSet;
 
-fn wanted(author: u16, first: u8) -> Wanted {
-    Wanted {
-        round: Round::ZERO,
-        author,
-        digest: digest(first, 0),
-    }
-}
-
-/// Two holders wait for what the first of them is satisfied of, and then gives up.
-fn two_holders_wait<A: Allocator + Copy + Drop>(
-    rt: &impl Abort,
-    alloc: Global,
-    waiting: &mut Waiting<A>,
-) -> Result<(), NoMemory> {
-    let (one, two) = (wanted(0, 1), wanted(1, 2));
-    let (early, late) = (digest(8, 0), digest(9, 0));
-    waiting.want(one, early)?;
-    waiting.want(two, early)?;
-    waiting.want(one, late)?;
-    assert_eq!(rt; (waiting.count(), waiting.lacks(early)), (2, 2));
-    let first = waiting.first_wanted(alloc, 1)?;
-    assert_eq!(rt; first.as_slice(), [one].as_slice());
-    let holders = waiting.satisfy(&one);
-    assert_eq!(rt; holders.as_slice(), [early, late].as_slice());
-    assert_eq!(rt; (waiting.lacks(early), waiting.lacks(late)), (1, 0));
-    waiting.unwant(early);
-    assert_eq!(rt; waiting.count(), 0);
-    assert!(rt; waiting.first_wanted(alloc, 5)?.is_empty());
-    Ok(())
-}
-
-#[test]
-fn what_is_wanted_is_satisfied_or_given_up(rt: HostRuntime) {
-    let alloc = rt.alloc();
-    let ended = two_holders_wait(&rt, alloc, &mut Waiting::new_in(&alloc));
-    assert!(rt; ended.is_ok());
-}
-
 /// What is wanted, with who lacks it.
 type Pairs = BTreeSet<(Wanted, Digest)>;
 

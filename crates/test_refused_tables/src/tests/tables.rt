@@ -36,6 +36,8 @@ fn is_changed(trie: &mut Trie<u64, Global>, k1: Digest, k2: Digest, k3: Digest) 
         && listed
         && trie.get(&k3).copied() == Some(4)
         && trie.remove(&k2) == Some(2)
+        && trie.remove(&k2).is_none()
+        && trie.get(&digest(1, 0)).is_none()
         && trie.len() == 2
         && !trie.is_empty()
 }

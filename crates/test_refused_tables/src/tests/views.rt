@@ -91,11 +91,11 @@ fn text_of(block: &Block) -> &[u8] {
     }
 }
 
-/// Whether the walks of a first block agree in views where it has "x", and this text.
-fn is_same(alloc: Global, text: &[u8]) -> Result<bool, NoMemory> {
-    let one = again!(NoMemory, view_of_older(alloc, b"x"))?;
-    let other = again!(NoMemory, view_of_older(alloc, text))?;
-    match compared(alloc, &one, &other, name(0, 0))? {
+/// Whether the walks from the digest agree in views of this floor, where the first blocks of one have "x", and of the other this text.
+fn is_same(alloc: Global, floor: u8, digest: Digest, text: &[u8]) -> Result<bool, NoMemory> {
+    let one = again!(NoMemory, view_of_both(alloc, b"x", round(floor)))?;
+    let other = again!(NoMemory, view_of_both(alloc, text, round(floor)))?;
+    match compared(alloc, &one, &other, digest)? {
         Agreement::Same => Ok(true),
         Agreement::Collision { one, other }
             if text_of(one.get()) == b"x".as_slice() && text_of(other.get()) == text => {
@@ -107,8 +107,15 @@ fn is_same(alloc: Global, text: &[u8]) -> Result<bool, NoMemory> {
 
 #[test]
 fn walks_agree_or_two_blocks_collide(rt: HostRuntime) {
-    assert_eq!(rt; is_same(rt.alloc(), b"x"), Ok(true));
-    assert_eq!(rt; is_same(rt.alloc(), b"y"), Ok(false));
+    for (floor, digest, text, same) in [
+        (0, name(0, 0), b"x", true),
+        (0, name(0, 0), b"y", false),
+        (0, name(1, 0), b"x", true),
+        (0, name(1, 0), b"y", false),
+        (1, name(1, 0), b"y", true),
+    ] {
+        assert_eq!(rt; is_same(rt.alloc(), floor, digest, text), Ok(same));
+    }
 }
 
 /// Whether the view has one part, the floor 0 and three blocks, and a view of no generation has none.

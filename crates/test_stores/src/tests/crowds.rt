@@ -25,7 +25,7 @@ pub(super) fn in_threads<L: Home, R: Threads + Wait + Sync>(
 
 /// How many events a store has once a crew did these tasks round a chain of so many blocks, how many calls of its first two sessions
 /// are told in order, and in how many threads all was as it is to be.
-fn worked<R: Threads + Wait + Sync>(
+pub(super) fn worked<R: Threads + Wait + Sync>(
     rt: &R,
     alloc: Global,
     rounds: u64,

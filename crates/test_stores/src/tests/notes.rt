@@ -1,7 +1,9 @@
 //! What one thread tells another by notes.
 use super::asking::{Ask, reply_to};
 use super::chains::{Link, chain};
+use super::crowds::worked;
 use super::scenes::{Scene, played};
+use super::tasks::Task;
 use super::*;
 use crossbeam_channel::{Receiver, Sender, unbounded};
 use nw_model::CertifyReply;
@@ -141,6 +143,15 @@ pub(super) fn tell<L: Home, R: Threads + Wait + Sync>(
             Err(Fail::from("there are two sessions"))
         }
     }
+}
+
+// Where nothing was heard, nothing is promised: this read found nothing, though its thread may have been told by other means that
+// the block was on its way. A note of the write is there after it alone, so that who hears it reads after it.
+#[test]
+fn without_a_note_a_read_may_come_before_the_write(rt: HostRuntime) -> Result<(), Fail> {
+    let tasks = [Task::Early, Task::Late];
+    assert_eq!(rt; worked(&rt, rt.alloc(), 1, &tasks)?, (3, 3, 2));
+    Ok(())
 }
 
 #[test]

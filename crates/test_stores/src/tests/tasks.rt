@@ -29,6 +29,10 @@ pub(super) enum Task {
     Follow,
     /// It reads a block that is not held, 513 times.
     Count,
+    /// It reads the first block before it is handed in, and lets the one go on that waits for this.
+    Early,
+    /// It hands the first block in once another session read in vain.
+    Late,
 }
 
 /// How a task is done: so many turns, each of which asks of one link, after so many links were handed in.
@@ -46,6 +50,8 @@ struct Plan {
     floor: u64,
     /// Whether no other session hands in the same.
     alone: bool,
+    /// Whether it reads what is not handed in yet, and others wait for that.
+    early: bool,
 }
 
 const WRITE: Plan = Plan {
@@ -58,6 +64,7 @@ const WRITE: Plan = Plan {
     pace: 0,
     floor: 0,
     alone: true,
+    early: false,
 };
 
 const SHARE: Plan = Plan {
@@ -102,6 +109,20 @@ const COUNT: Plan = Plan {
     ..WRITE
 };
 
+const EARLY: Plan = Plan {
+    asks: &[Ask::Read],
+    turns: 1,
+    floor: 1,
+    early: true,
+    ..WRITE
+};
+
+const LATE: Plan = Plan {
+    turns: 1,
+    lag: 1,
+    ..WRITE
+};
+
 impl Task {
     /// How it is done.
     fn plan(&self) -> &'static Plan {
@@ -112,6 +133,8 @@ impl Task {
             Task::Read => &READ,
             Task::Follow => &FOLLOW,
             Task::Count => &COUNT,
+            Task::Early => &EARLY,
+            Task::Late => &LATE,
         }
     }
 }
@@ -136,7 +159,7 @@ impl Plan {
             Reply::Certify(CertifyReply::Certified) => true,
             Reply::Write(WriteReply::Held) | Reply::Certify(CertifyReply::Already) => !self.alone,
             Reply::Collect(CollectReply::Raised { dropped }) => *dropped == 1,
-            Reply::Ready | Reply::Read(Some(_)) => true,
+            Reply::Ready | Reply::Read(Some(_)) => !self.early,
             Reply::Read(None) | Reply::Causal(CausalReply::Unknown) => round < self.floor,
             _ => false,
         }
@@ -148,7 +171,7 @@ impl Plan {
 pub(super) struct Crew {
     links: Vec<Link>,
     tasks: Vec<Task>,
-    /// How many links were handed in.
+    /// How many links were handed in, or read in vain by a session that others wait for.
     steps: AtomicU64,
     /// How many sessions found each answer and each walk as it is to be.
     agreeing: AtomicU64,
@@ -170,14 +193,19 @@ impl Crew {
         self.agreeing.load(SeqCst)
     }
 
-    /// Counts the link that was handed in, if the reply says so.
-    fn hears(&self, reply: &Reply) {
-        if matches!(reply, Reply::Certify(CertifyReply::Certified)) {
+    /// Counts the link, if the reply to this plan's call says that others may go on.
+    fn hears(&self, reply: &Reply, plan: &Plan) {
+        let counts = match reply {
+            Reply::Certify(CertifyReply::Certified) => true,
+            Reply::Read(None) => plan.early,
+            _ => false,
+        };
+        if counts {
             self.steps.fetch_add(1, SeqCst);
         }
     }
 
-    /// Whether so many links were handed in, after a while.
+    /// Whether so many links were counted, after a while.
     fn waits_for(&self, steps: u64) -> bool {
         for _ in 0..TURNS {
             if self.steps.load(SeqCst) >= steps {
@@ -258,7 +286,7 @@ fn ask_all<L: Home, R: Wait>(
     let round = link.block.block().get().round.get();
     for asked in plan.asks {
         let reply = reply_to(rt, alloc, store, session, link, ticket, asked)?;
-        crew.hears(&reply);
+        crew.hears(&reply, plan);
         if !plan.accepts(&reply, round) {
             return Ok(false);
         }
