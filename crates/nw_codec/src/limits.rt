@@ -11,8 +11,8 @@ pub const VERSION: u8 = 1;
 
 /// The bytes of a signature.
 pub(crate) const SIGNATURE_BYTES: usize = 64;
-/// The bytes of a tag, a digest, a round and an author.
-pub(crate) const SUBJECT_BYTES: usize = 41;
+/// The bytes of a subject: a digest, a round and an author.
+pub(crate) const SUBJECT_BYTES: usize = 40;
 /// The bytes of a seal: its signer and the signature.
 pub(crate) const SEAL_BYTES: usize = 66;
 

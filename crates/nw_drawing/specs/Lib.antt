@@ -1,2 +1,1 @@
 pub mod Scale
-pub mod Text

@@ -56,7 +56,7 @@ impl State {
 /// A block in a picture.
 #[derive(Drop)]
 pub struct Tile {
-    /// At most 64 letters of it stand in the box.
+    /// Letters and digits, which XML writes as they are. At most 64 of them stand in the box.
     pub name: String,
     pub round: u64,
     pub author: u16,

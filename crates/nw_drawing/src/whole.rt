@@ -11,7 +11,6 @@ use crate::legend::write_legend;
 use crate::picture::{Link, Picture, Tile};
 use crate::scale::{BOX_HEIGHT, Scale};
 use crate::shapes::{Point, write_box, write_line, write_mark, write_text};
-use crate::text::escaped;
 use std::alloc::Global;
 use std::io::{self, Write};
 
@@ -22,7 +21,7 @@ pub fn draw<W: Write>(alloc: Global, picture: &Picture, out: &mut W) -> Result<(
 {
     let grid = Grid::new(alloc, &picture.tiles)?;
     let scale = Scale::new(letters_of(&picture.tiles, &grid.rounds), grid.lanes());
-    let drawn = write_picture(alloc, picture, &grid, scale, out);
+    let drawn = write_picture(out, picture, &grid, scale);
     drop(grid);
     Ok(drawn?)
 }
@@ -47,18 +46,17 @@ fn digits_of(number: u64) -> usize {
 }
 
 fn write_picture<W: Write>(
-    alloc: Global,
+    out: &mut W,
     picture: &Picture,
     grid: &Grid,
     scale: Scale,
-    out: &mut W,
 ) -> io::Result<()> {
     write_head(out, grid, scale, picture.garbage_round)?;
     write_authors(out, grid, scale)?;
     write_rounds(out, grid, scale)?;
     write_links(out, &picture.links, grid, scale)?;
     write_garbage(out, grid, scale, picture.garbage_round)?;
-    write_tiles(alloc, &picture.tiles, grid, scale, out)?;
+    write_tiles(out, &picture.tiles, grid, scale)?;
     write_legend(out, legend_at(grid))?;
     write_tail(out)
 }
@@ -85,27 +83,15 @@ fn write_link<W: Write>(
     write_line(out, if is_met { "met" } else { "unmet" }, from, to)
 }
 
-fn write_tiles<W: Write>(
-    alloc: Global,
-    tiles: &[Tile],
-    grid: &Grid,
-    scale: Scale,
-    out: &mut W,
-) -> io::Result<()> {
+fn write_tiles<W: Write>(out: &mut W, tiles: &[Tile], grid: &Grid, scale: Scale) -> io::Result<()> {
     for (tile, place) in tiles.iter().zip(&grid.places) {
-        write_tile(alloc, tile, corner(*place, scale), scale, out)?;
+        write_tile(out, tile, corner(*place, scale), scale)?;
     }
     Ok(())
 }
 
 // The box of a block, with its name and marks.
-fn write_tile<W: Write>(
-    alloc: Global,
-    tile: &Tile,
-    at: Point,
-    scale: Scale,
-    out: &mut W,
-) -> io::Result<()> {
+fn write_tile<W: Write>(out: &mut W, tile: &Tile, at: Point, scale: Scale) -> io::Result<()> {
     let width = u64::from(scale.width);
     if tile.is_read {
         write_box(
@@ -121,10 +107,7 @@ fn write_tile<W: Write>(
     if tile.has_vote {
         write_mark(out, "vote", at.beside(width, 0))?;
     }
-    let name = escaped(alloc, tile.name.as_bytes())?;
-    let written = write_text(out, "left", at.beside(25, 17), &name);
-    drop(name);
-    written
+    write_text(out, "left", at.beside(25, 17), tile.name.as_bytes())
 }
 
 // The upper left corner of the box at the place.

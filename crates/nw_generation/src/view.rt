@@ -59,7 +59,7 @@ impl<A: Allocator> View<A> {
         ensures block { option_copied result ≡ map.get self.now.frozen.blocks digest.now }
         ensures closed { IsClosed self.now.frozen }
     {
-        // (lent anew at each turn: an option that is copied in a loop is what the borrow checker refuses)
+        // (the borrow checker refuses to copy the argument itself in a loop)
         let named = &round;
         let mut left = self.generations.as_slice();
         while let Some((generation, older)) = left.split_last() {

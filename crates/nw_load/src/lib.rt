@@ -3,7 +3,8 @@
 //! Its contract: other numbers of nodes and of rounds than are taken are refused, each before anything else (`load`). What a
 //! load reports is shown by tests; that it ends is not claimed, since its threads wait for one another. What a thread may do
 //! is seen in the type of its work: a link writes, certifies and sends (`Link`), a client opens and walks (`Client`). It stands
-//! on `nw_store` for the stores, on `nw_check` for the messages, and on `nw_intake` for the gates.
+//! on `nw_store` for the stores, on `nw_check` for the messages, on `nw_desk` for the committee and the messages that nodes
+//! make, and on `nw_intake` for the gates.
 #![tactic(auto)]
 
 mod client;

@@ -188,8 +188,8 @@ impl<V: Drop, A: Allocator> Trie<V, A> {
         dropped
     }
 
-    /// Rounds that those of all its values lie between, or `None` where it has none. They are the least and the greatest, so
-    /// that what is not between them need not be looked for; no clause says that none are closer.
+    /// Two rounds between which those of all its values lie, or `None` where it has none. They are the least and the greatest,
+    /// but no clause says that none are closer.
     pub fn rounds(&self) -> Option<(Round, Round)>
     where
         V: InRound,

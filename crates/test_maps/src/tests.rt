@@ -1,4 +1,4 @@
-//! Worked examples, and random calls beside ordered maps and sets.
+//! Random calls beside ordered maps and sets, and what these do not reach.
 use nw_digest::{Digest, NoMemory, Round};
 use rand_core::utils::NextWord;
 use rand_pcg::Pcg32;

@@ -55,7 +55,7 @@ pub(super) fn encode_certificate_message(
     let seals = certificate.votes.as_slice();
     let mut text = subject_text(
         alloc,
-        SUBJECT_BYTES + 2 + SEAL_BYTES * seals.len(),
+        1 + SUBJECT_BYTES + 2 + SEAL_BYTES * seals.len(),
         CERTIFICATE_TAG,
         &certificate.digest,
         certificate.round,
@@ -72,7 +72,7 @@ pub(super) fn encode_vote_message(alloc: Global, vote: &Vote) -> Result<Vec<u8>,
 {
     let mut text = subject_text(
         alloc,
-        SUBJECT_BYTES + SEAL_BYTES,
+        1 + SUBJECT_BYTES + SEAL_BYTES,
         VOTE_TAG,
         &vote.digest,
         vote.round,

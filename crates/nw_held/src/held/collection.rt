@@ -27,7 +27,8 @@ impl Held {
 
     /// How many blocks of rounds below this one are held.
     fn blocks_below(&self, round: Round) -> usize
-        ensures { result ≡ map.len self.now.state.blocks - map.len (raised self.now.state round).blocks }
+        ensures { result
+            ≡ map.len self.now.state.blocks - map.len (raised self.now.state round).blocks }
     {
         let mut count = 0;
         for (place, digest) in self.slots.below(round) {

@@ -8,7 +8,8 @@ use nw_digest::{InRound, NoMemory, Round};
 use std::alloc::{Allocator, Global};
 
 impl<V: Drop, A: Allocator> Tree<V, A> {
-    /// The least and the greatest round of its values, or `None` where it has none. Its clause says that they lie between.
+    /// The least and the greatest round of its values, or `None` where it has none. Its clause says only that the rounds of all
+    /// values lie between these two.
     pub(crate) fn rounds(&self) -> Option<(Round, Round)>
     where
         V: InRound,

@@ -65,7 +65,6 @@ pub(super) fn word(checked: &Checked<DemoScheme>) -> &'static str {
         Checked::Block(_) => "block",
         Checked::Cert(_) => "certificate",
         Checked::Vote(_) => "vote",
-        Checked::BadText(DecodeError::Short) => "short",
         Checked::BadText(_) => "bad text",
         Checked::BadBlock(BlockFault::Signature) => "signature",
         Checked::BadBlock(_) => "bad block",

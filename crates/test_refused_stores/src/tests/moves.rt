@@ -4,7 +4,7 @@ use super::*;
 use nw_book::{Answer, Cause, Move, Stop};
 
 /// The limits of a book of one session.
-pub(super) const LIMITS: Limits = Limits {
+const LIMITS: Limits = Limits {
     blocks: 16,
     events: 16,
     window: 4,
@@ -12,12 +12,8 @@ pub(super) const LIMITS: Limits = Limits {
 };
 
 /// A book of the committee.
-pub(super) fn new_book(
-    alloc: Global,
-    committee: &Shared<Committee>,
-    limits: Limits,
-) -> Result<Book<DemoScheme>, BookError> {
-    Book::new(alloc, committee.try_clone()?, limits)
+fn new_book(alloc: Global, committee: &Shared<Committee>) -> Result<Book<DemoScheme>, BookError> {
+    Book::new(alloc, committee.try_clone()?, LIMITS)
 }
 
 /// A move of session 0 that asks this.
@@ -95,7 +91,7 @@ fn stop_anew(
     committee: &Shared<Committee>,
     moves: &[Move<DemoScheme>],
 ) -> Result<Option<Stop>, Fail> {
-    let mut book = again!(BookError::NoMemory, new_book(alloc, committee, LIMITS))?;
+    let mut book = again!(BookError::NoMemory, new_book(alloc, committee))?;
     let stop = stop_of(&mut book, alloc, moves);
     drop(book);
     stop

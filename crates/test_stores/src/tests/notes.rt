@@ -146,7 +146,7 @@ pub(super) fn tell<L: Home, R: Threads + Wait + Sync>(
 }
 
 // Where nothing was heard, nothing is promised: this read found nothing, though its thread may have been told by other means that
-// the block was on its way. A note of the write is there after it alone, so that who hears it reads after it.
+// the block was on its way. A note of the write can only be taken after the write, so whoever hears it reads after the write.
 #[test]
 fn without_a_note_a_read_may_come_before_the_write(rt: HostRuntime) -> Result<(), Fail> {
     let tasks = [Task::Early, Task::Late];

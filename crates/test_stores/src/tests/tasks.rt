@@ -11,7 +11,7 @@ use std::thread::yield_now;
 /// How many rounds are collected.
 const COLLECTED: u16 = 32;
 
-/// How often a session waits in all for the steps of others, before it gives up.
+/// How often a session looks at each turn for the steps of others, before it gives up.
 const TURNS: u32 = 20_000_000;
 
 /// What a session does.
@@ -35,7 +35,7 @@ pub(super) enum Task {
     Late,
 }
 
-/// How a task is done: so many turns, each of which asks of one link, after so many links were handed in.
+/// How a task is done: so many turns, each of which asks of one link, after so many links were counted (`Crew::steps`).
 struct Plan {
     asks: &'static [Ask],
     turns: u16,
@@ -46,7 +46,7 @@ struct Plan {
     /// Turn `t` waits for `lag + t * pace` links.
     lag: u16,
     pace: u16,
-    /// Blocks of rounds below this one may be collected.
+    /// Blocks of rounds below this one may be not held.
     floor: u64,
     /// Whether no other session hands in the same.
     alone: bool,
