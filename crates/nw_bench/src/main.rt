@@ -1,25 +1,46 @@
-//! Times the check of block messages by several threads: `nw_bench MESSAGES BYTES WORKERS`.
+//! Times what a node does with the messages that it gets.
 //!
-//! It makes so many messages, each of a block with one transaction of so many bytes, signed by the one member of a committee,
-//! checks them all with so many workers, and prints the milliseconds that the check took. The making is not counted.
+//! `nw_bench MESSAGES BYTES WORKERS` makes so many messages, each of a block with one transaction of so many bytes, signed by the
+//! one member of a committee, checks them all with so many workers, and prints the milliseconds that the check took.
 //!
-//! The exit status is 0 where each answer is a checked block, 1 where one is not, memory or a thread was refused, the clock
-//! could not be read or the time not printed, and 2 where the arguments are bad.
+//! `nw_bench node MEMBERS ROUNDS THREADS` makes the messages of a full DAG of so many members and rounds: of each block, which has
+//! as many transactions of 512 bytes as it may, and of its certificate. So many threads decode and check them, write and certify
+//! them in one store, and read a block of each round causally. It prints how many blocks were written and certified, how many
+//! the walks listed, and in milliseconds how long it all took, how long the threads together were in calls that write and certify,
+//! and how long one thread needs for the digests of the bodies alone.
+//!
+//! The making is not counted. The exit status is 0 where each answer was as it is to be, 1 where one was not, memory or a thread
+//! was refused, the clock could not be read or the line not printed, and 2 where the arguments are bad.
 #![tactic(auto)]
 
-use crate::plan::Plan;
+use crate::node::{Report, timed_node};
+use crate::plan::{NodePlan, Plan};
 use crate::run::timed;
-use std::env;
 use std::io::ErrorKind;
 use std::process::ExitCode;
 use std::time::Duration;
+use std::{env, fmt};
 
+mod crew;
+mod dag;
 mod messages;
+mod node;
 mod plan;
 mod run;
 
 // The status of bad arguments, which are judged before anything is made.
 const BAD_ARGUMENTS: u8 = 2;
+
+/// A time in milliseconds, with three digits behind the point.
+#[derive(Drop)]
+struct Millis(Duration);
+
+impl fmt::Display for Millis {
+    fn fmt<W: fmt::Write>(&self, f: &mut fmt::Formatter<W>) -> fmt::Result {
+        let micros = self.0.as_micros();
+        write!(f, "{}.{:03}", micros / 1000, micros % 1000)
+    }
+}
 
 fn main(rt: HostRuntime) -> ExitCode {
     let words = match env::args(&rt) {
@@ -30,19 +51,36 @@ fn main(rt: HostRuntime) -> ExitCode {
     let Ok(words) = words.collect::<Vec<String>>(rt.alloc()) else {
         return ExitCode::FAILURE;
     };
-    let Some(plan) = Plan::read(&words) else {
-        return ExitCode::from(BAD_ARGUMENTS);
-    };
-    match timed(&rt, rt.alloc(), &plan) {
-        Ok(took) => printed(&rt, took),
+    if let Some(plan) = Plan::read(&words) {
+        return match timed(&rt, rt.alloc(), &plan) {
+            Ok(took) => print_time(&rt, took),
+            Err(_) => ExitCode::FAILURE,
+        };
+    }
+    match NodePlan::read(&words) {
+        None => ExitCode::from(BAD_ARGUMENTS),
+        Some(plan) => match timed_node(&rt, rt.alloc(), &plan) {
+            Ok(report) => print_report(&rt, &report),
+            Err(_) => ExitCode::FAILURE,
+        },
+    }
+}
+
+/// Prints the time of a check.
+fn print_time<R: Print>(rt: &R, took: Duration) -> ExitCode {
+    match println!(rt; "{}", Millis(took)) {
+        Ok(()) => ExitCode::SUCCESS,
         Err(_) => ExitCode::FAILURE,
     }
 }
 
-/// Prints the milliseconds, with three digits behind the point.
-fn printed<R: Print>(rt: &R, took: Duration) -> ExitCode {
-    let micros = took.as_micros();
-    match println!(rt; "{}.{:03}", micros / 1000, micros % 1000) {
+/// Prints what a node reports.
+fn print_report<R: Print>(rt: &R, report: &Report) -> ExitCode {
+    let [whole, called, digested] = [report.whole, report.called, report.digested].map(Millis);
+    match println!(rt;
+        "{} {} {whole} {called} {digested}",
+        report.taken, report.listed
+    ) {
         Ok(()) => ExitCode::SUCCESS,
         Err(_) => ExitCode::FAILURE,
     }

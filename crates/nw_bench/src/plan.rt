@@ -34,3 +34,28 @@ impl Plan {
         is_good.then_some(plan)
     }
 }
+
+/// Of how many members and rounds the full DAG is that a node takes, and by how many threads.
+#[derive(Clone, Copy, Debug, PartialEq, Eq)]
+pub struct NodePlan {
+    pub members: u16,
+    pub rounds: u64,
+    pub threads: u16,
+}
+
+impl NodePlan {
+    /// The plan of the program's name, the word `node` and three numbers.
+    pub fn read(words: &[String]) -> Option<NodePlan> {
+        let [_, word, members, rounds, threads] = words else {
+            return None;
+        };
+        if word.as_str() != "node" {
+            return None;
+        }
+        Some(NodePlan {
+            members: members.parse().ok()?,
+            rounds: rounds.parse().ok()?,
+            threads: threads.parse().ok()?,
+        })
+    }
+}

@@ -12,6 +12,7 @@ mod error;
 mod home;
 mod locked;
 mod notes;
+mod opening;
 mod session;
 mod settlement;
 mod store;
@@ -20,12 +21,13 @@ pub use calls::{call_locked, open_locked};
 pub use error::{SettleFault, TooMany};
 pub use home::Home;
 pub use locked::{Locked, compact_locked, compare_locked, renew_locked, session_locked};
-pub use notes::{Note, hear_locked, note_locked};
+pub use notes::{Note, hear_locked, note_locked, what_was_heard_of_begins_an_answer};
 pub use nw_book::{
     Agreement, Base, Block, Book, BookError, Call, CheckedBlock, CheckedCert, Command, Committee,
     Digest, Done, Event, Front, History, Limits, MOST_BLOCKS, MOST_EVENTS, MOST_ROUNDS,
     MOST_SESSIONS, NoMemory, NoStep, Reply, Round, Scheme, Sequence, Shared, Ticket, View,
 };
+pub use opening::Opening;
 pub use session::{Entry, Session};
 pub use settlement::{Settled, Unsettled, settle, settle_locked};
-pub use store::{Opening, Store};
+pub use store::Store;

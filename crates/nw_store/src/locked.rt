@@ -8,8 +8,8 @@ ghost use Rattle.nw_history.specs.Story.{IsLegalStory, reopened};
 ghost use Rattle.nw_store.specs.Journal.{AreBegun, AreComparable, AreAnswers, origin_of};
 ghost use Rattle.nw_store.specs.Kept.{parts_of_a_ledger};
 
+use crate::opening::Opening;
 use crate::session::Session;
-use crate::store::Opening;
 use crate::{Home, TooMany};
 use nw_book::{Book, Front, History};
 use nw_digest::NoMemory;

@@ -26,46 +26,14 @@ ghost use Rattle.nw_store.specs.Answered.{IsExplained, TakesNoStep};
 use crate::calls::{call_locked, certify_locked, open_locked, write_locked};
 use crate::locked::{compact_locked, session_locked};
 use crate::notes::{hear_locked, note_locked};
-use crate::{Home, Locked, Note, Session, TooMany};
-use nw_book::{Book, BookError, Command, Done, Front, Limits, MOST_SESSIONS, NoStep, Ticket};
+use crate::{Home, Locked, Note, Opening, Session, TooMany};
+use nw_book::{Book, BookError, Command, Done, Limits, NoStep, Ticket};
 use nw_check::{CheckedBlock, CheckedCert};
 use nw_committee::Committee;
 use nw_digest::{Digest, NoMemory, Round, Shared};
-use nw_log::Opened;
 use nw_sig::Scheme;
 use std::alloc::Global;
-use std::marker::Model;
-use std::sync::ledger::Blank;
 use std::sync::{Mutex, Wait};
-
-/// An empty log and an empty ledger that no type stands for yet. Contracts see which they are.
-#[derive(Drop)]
-pub struct Opening<S: Scheme> {
-    pub(crate) log: Opened<Front<S>>,
-    pub(crate) blank: Blank,
-}
-
-impl<S: Scheme> Model for Opening<S> {
-    ghost use Rattle.std.specs.Prelude.{◌≡◌};
-    ghost use Rattle.nw_store.specs.Journal.{Names};
-    ghost use Rattle.nw_store.specs.Kept.{parts_of_a_ledger};
-
-    ghost Value = { Names };
-
-    ghost view = { λ o. record { log = o.log; ledger = o.blank.name } };
-
-    ghost invariant = { λ o. o.blank.parts ≡ parts_of_a_ledger };
-}
-
-impl<S: Scheme> Opening<S> {
-    /// An empty log and an empty ledger. It takes two blocks of a few bytes.
-    pub fn new(alloc: Global) -> Result<Opening<S>, NoMemory> {
-        Ok(Opening {
-            log: Opened::new(alloc)?,
-            blank: Blank::new(u64::from(MOST_SESSIONS) + 1),
-        })
-    }
-}
 
 /// A store that threads share: one lock round a book. `L` names it, so that no session of another store fits, and says with
 /// which committee and limits it was made, and on which base.

@@ -8,8 +8,6 @@
 mod claim;
 mod fault;
 mod lines;
-#[cfg(test)]
-mod tests;
 
 use lines::answer_lines;
 use std::process::ExitCode;

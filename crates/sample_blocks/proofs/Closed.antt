@@ -8,11 +8,10 @@ use Rattle.nw_codec.specs.declared.block.Block.{Block}
 use Rattle.nw_digest.specs.Order.{digest_cmp, Slot}
 use Rattle.nw_model.specs.State.{block_slot}
 use Rattle.nw_model.specs.View.{HasParent, IsClosed}
-use Rattle.nw_model.proofs.Finding.{none_some}
 use Rattle.nw_generation.specs.Seen.{union, seen_of}
 use Rattle.sample_blocks.specs.Sample.{name_of, AreNamed, AreBases, AreNext}
 use Rattle.sample_blocks.proofs.Bases.{names_apart}
-use Rattle.nw_generation.proofs.Unions.{alone, get_latest, get_nowhere}
+use Rattle.nw_generation.proofs.Unions.{alone, get_latest}
 
 -- a block is of the later generation, or of the older one
 of_either : {X : Type 0} (first later : Option X) (x : X) → option_or first later ≡ Some x → (first ≡ Some x) ⊎ (later ≡ Some x)
@@ -30,18 +29,6 @@ both older newer d = get_latest (older ∷ []) newer d ∙ ap (option_or (get ne
 -- what the two generations hold is of one of them
 held_by : (older newer : FinMap digest_cmp Block) (d : Digest) (b : Block) → get (union (older ∷ newer ∷ [])) d ≡ Some b → (get newer d ≡ Some b) ⊎ (get older d ≡ Some b)
 held_by older newer d b at = of_either (get newer d) (get older d) b (sym (both older newer d) ∙ at)
-
-pub closed_none : (floor : ℕ) → IsClosed (seen_of [] floor).frozen
-closed_none floor = record {
-  parents = λ d b at above. absurd (none_some b (sym (get_nowhere [] d refl) ∙ at));
-  apart = λ d e b c at there kept slots. absurd (none_some b (sym (get_nowhere [] d refl) ∙ at));
-}
-
-pub closed_bases : (n : ℕ) (older : FinMap digest_cmp Block) (floor : ℕ) → AreBases n older → IsClosed (seen_of (older ∷ []) floor).frozen
-closed_bases n older floor bases = record {
-  parents = λ d b at above. let first = bases.first d b (sym (alone older d) ∙ at) in absurd (omega arith);
-  apart = λ d e b c at there kept slots. bases.named d b (sym (alone older d) ∙ at) ∙ ap (λ (s : Slot). name_of s) slots ∙ sym (bases.named e c (sym (alone older e) ∙ there));
-}
 
 pub closed_both : (n : ℕ) (older newer : FinMap digest_cmp Block) (floor : ℕ) → n ≤ 16 → AreBases n older → AreNext n newer → IsClosed (seen_of (older ∷ newer ∷ []) floor).frozen
 closed_both n older newer floor few bases next = record {

@@ -7,23 +7,7 @@ use nw_digest::{NoMemory, Round};
 use nw_generation::{Generation, View, freeze};
 use std::alloc::Global;
 
-/// The view of no generation. It takes no memory.
-pub fn empty_view(alloc: Global, floor: Round) -> View<Global>
-    ensures { result.frozen.floor ≡ floor }
-{
-    View::new(Vec::new(alloc), floor)
-}
-
-/// The view of three blocks of round 0, each with this transaction, with the garbage round 0.
-pub fn view_of_older(alloc: Global, text: &[u8]) -> Result<View<Global>, NoMemory>
-    ensures { IfOk result (λ view. view.frozen.floor ≡ 0) }
-{
-    let mut generations = Vec::new(alloc);
-    generations.push(frozen(alloc, older(alloc, text)?)?)?;
-    Ok(View::new(generations, Round::ZERO))
-}
-
-/// The view of these, and of the block of round 1 over them as a later generation.
+/// The view of the blocks of round 0, each with this transaction, and of the one of round 1 over them as a later generation.
 pub fn view_of_both(alloc: Global, text: &[u8], floor: Round) -> Result<View<Global>, NoMemory>
     ensures { IfOk result (λ view. view.frozen.floor ≡ floor) }
 {

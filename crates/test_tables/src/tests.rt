@@ -9,7 +9,6 @@ mod both;
 mod examples;
 mod floods;
 mod grids;
-mod orders;
 mod random;
 mod words;
 

@@ -1,14 +1,14 @@
 //! Runs of moves, with all their answers.
 use super::*;
-use nw_book::{Answer, Cause, Run, Stop};
+use nw_book::{Answer, Block, Cause, Run, Stop};
 use nw_model::{CertifyReply, CollectReply, Reply, WriteReply};
 
 /// A run that stops at a ticket that it has not.
 struct Case {
     shows: &'static str,
     plan: &'static [Plan],
-    /// What its moves are answered in turn, before the stop, and how many blocks each walk lists.
-    answers: &'static [(&'static str, usize)],
+    /// What its moves are answered in turn, before the stop, and of which rounds the blocks are that each walk lists.
+    answers: &'static [(&'static str, &'static [u64])],
 }
 
 const CASES: [Case; 2] = [
@@ -23,57 +23,72 @@ const CASES: [Case; 2] = [
             Plan::Walk(5),
         ],
         answers: &[
-            ("stored vote", 0),
-            ("certified", 0),
-            ("opened", 0),
-            ("walked", 1),
-            ("stored vote", 0),
-            ("certified", 0),
-            ("opened", 0),
-            ("walked", 1),
-            ("walked", 2),
+            ("stored vote", &[]),
+            ("certified", &[]),
+            ("opened", &[]),
+            ("walked", &[0]),
+            ("stored vote", &[]),
+            ("certified", &[]),
+            ("opened", &[]),
+            ("walked", &[0]),
+            ("walked", &[0, 1]),
         ],
     },
     Case {
         shows: "a ticket gives its list after its block was collected",
         plan: &[Plan::Block, Plan::Collect(1), Plan::Walk(0), Plan::Walk(5)],
         answers: &[
-            ("stored vote", 0),
-            ("certified", 0),
-            ("opened", 0),
-            ("raised 1", 0),
-            ("walked", 1),
+            ("stored vote", &[]),
+            ("certified", &[]),
+            ("opened", &[]),
+            ("raised 1", &[]),
+            ("walked", &[0]),
         ],
     },
 ];
 
-/// An answer in words, where it is one of those that are waited for, and how many blocks are listed.
-fn word(answer: &Answer<DemoScheme>) -> (&'static str, usize) {
+/// An answer in words, where it is one of those that are waited for, and the blocks that are listed.
+fn word(answer: &Answer<DemoScheme>) -> (&'static str, &[Shared<Block>]) {
     match answer {
-        Answer::Opened => ("opened", 0),
-        Answer::Walked(list) => ("walked", list.as_slice().len()),
+        Answer::Opened => ("opened", &[]),
+        Answer::Walked(list) => ("walked", list.as_slice()),
         Answer::Done(done) => match &done.reply {
-            Reply::Write(WriteReply::Stored { vote: true }) => ("stored vote", 0),
-            Reply::Certify(CertifyReply::Certified) => ("certified", 0),
-            Reply::Collect(CollectReply::Raised { dropped: 1 }) => ("raised 1", 0),
-            _ => ("another reply", 0),
+            Reply::Write(WriteReply::Stored { vote: true }) => ("stored vote", &[]),
+            Reply::Certify(CertifyReply::Certified) => ("certified", &[]),
+            Reply::Collect(CollectReply::Raised { dropped: 1 }) => ("raised 1", &[]),
+            _ => ("another reply", &[]),
         },
     }
 }
 
+/// Whether the blocks, which one author made, are of these rounds, in order.
+fn have_rounds(blocks: &[Shared<Block>], rounds: &[u64]) -> bool {
+    for (block, round) in blocks.iter().zip(rounds) {
+        if block.get().round.get() != *round {
+            return false;
+        }
+    }
+    blocks.len() == rounds.len()
+}
+
+/// Whether these are the answers, in turn.
+fn are_answers(given: &[Answer<DemoScheme>], told: &[(&'static str, &'static [u64])]) -> bool {
+    for (answer, (told, rounds)) in given.iter().zip(told) {
+        let (word, blocks) = word(answer);
+        if word != *told || !have_rounds(blocks, rounds) {
+            return false;
+        }
+    }
+    given.len() == told.len()
+}
+
 /// Whether the run gave these answers in turn, and stopped behind them.
-fn is_told(run: &Run<DemoScheme>, answers: &[(&'static str, usize)]) -> bool {
+fn is_told(run: &Run<DemoScheme>, answers: &[(&'static str, &'static [u64])]) -> bool {
     let stop = Stop {
         at: answers.len(),
         cause: Cause::NoTicket,
     };
-    run.stop == Some(stop)
-        && run
-            .answers
-            .as_slice()
-            .iter()
-            .map(word)
-            .eq(answers.iter().copied())
+    run.stop == Some(stop) && are_answers(run.answers.as_slice(), answers)
 }
 
 /// Whether a run of the moves does.

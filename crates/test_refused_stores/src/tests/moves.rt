@@ -43,14 +43,20 @@ const TOLD: [&str; 5] = [
     "Certify(Certified)",
     "Opened",
     "Collect(Raised { dropped: 1 })",
-    "Walked 1",
+    "Walked 0.0",
 ];
 
 /// The text of the answer.
 fn text_of(alloc: Global, answer: &Answer<DemoScheme>) -> Result<String, AllocError> {
     match answer {
         Answer::Opened => format!(in alloc; "Opened"),
-        Answer::Walked(blocks) => format!(in alloc; "Walked {}", blocks.as_slice().len()),
+        Answer::Walked(blocks) => match blocks.as_slice() {
+            [only] => {
+                let only = only.get();
+                format!(in alloc; "Walked {}.{}", only.round.get(), only.author)
+            }
+            more => format!(in alloc; "Walked {} blocks", more.len()),
+        },
         Answer::Done(done) => format!(in alloc; "{:?}", done.reply),
     }
 }

@@ -118,4 +118,7 @@ fn a_plain_store_answers_and_one_over_its_base_goes_on(rt: HostRuntime) {
     refuse_none(rt.alloc());
     assert!(rt; is_made);
     assert_eq!(rt; count_over(rt.alloc(), &base), Ok(4));
+    let mut less = Plain::new(rt.alloc(), 64, 64);
+    assert_eq!(rt; count_answers(&mut less, rt.alloc(), &EXAMPLE[..7]), Ok(7));
+    assert!(rt; !base.is_same(&Base::of(less)));
 }

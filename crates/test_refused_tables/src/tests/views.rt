@@ -2,7 +2,7 @@
 use super::*;
 use nw_causal::{Agreement, agree, walk};
 use nw_generation::{Generation, View, freeze};
-use sample_blocks::{Blocks, empty_view, older, view_of_both, view_of_older};
+use sample_blocks::{Blocks, older, view_of_both};
 
 /// The generation of the blocks, which come back where memory is refused, and one more owner of it.
 fn frozen(alloc: Global, trie: Blocks) -> Result<Generation<Global>, NoMemory> {
@@ -26,16 +26,6 @@ fn a_refused_freeze_hands_its_blocks_back(rt: HostRuntime) {
         .is_some());
     refuse_none(rt.alloc());
     assert_eq!(rt; found, [true, false]);
-}
-
-#[test]
-fn lower_rounds_are_dropped_without_memory(rt: HostRuntime) {
-    let mut trie = again!(NoMemory, older(rt.alloc(), b"x")).expect(&rt, "there is memory");
-    refuse_all(rt.alloc());
-    let kept = trie.retain_rounds(Round::ZERO);
-    let dropped = trie.retain_rounds(round(1));
-    refuse_none(rt.alloc());
-    assert_eq!(rt; (kept, dropped, trie.len()), (0, 3, 0));
 }
 
 /// Whether the walk of the digest, which the view has not below its floor, lists these.
@@ -116,22 +106,4 @@ fn walks_agree_or_two_blocks_collide(rt: HostRuntime) {
     ] {
         assert_eq!(rt; is_same(rt.alloc(), floor, digest, text), Ok(same));
     }
-}
-
-/// Whether the view has one part, the floor 0 and three blocks, and a view of no generation has none.
-fn is_seen(alloc: Global, view: &View<Global>) -> bool {
-    view.parts() == 1
-        && view.floor() == Round::ZERO
-        && view.get(&name(0, 2)).is_some()
-        && view.get(&name(1, 0)).is_none()
-        && empty_view(alloc, round(7)).get(&name(0, 2)).is_none()
-}
-
-#[test]
-fn views_are_seen_without_memory(rt: HostRuntime) {
-    let view = again!(NoMemory, view_of_older(rt.alloc(), b"x")).expect(&rt, "there is memory");
-    refuse_all(rt.alloc());
-    let is_seen = is_seen(rt.alloc(), &view);
-    refuse_none(rt.alloc());
-    assert!(rt; is_seen);
 }

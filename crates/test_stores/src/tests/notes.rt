@@ -7,7 +7,7 @@ use super::tasks::Task;
 use super::*;
 use crossbeam_channel::{Receiver, Sender, unbounded};
 use nw_model::CertifyReply;
-use nw_store::Note;
+use nw_store::{Block, Note};
 use std::thread;
 use std::thread::Threads;
 
@@ -65,8 +65,18 @@ fn is_walked<L: Home, R: Wait>(
     let listed = reply_to(rt, alloc, store, session, link, &mut ticket, &Ask::Walk);
     drop(ticket);
     drop(opened?);
-    let blocks = link.block.block().get().round.get() as usize + 1;
-    Ok(matches!(&listed?, Reply::List(list) if list.as_slice().len() == blocks))
+    let last = link.block.block().get().round.get();
+    Ok(matches!(&listed?, Reply::List(list) if is_chain(list.as_slice(), last)))
+}
+
+/// Whether the blocks, which one author made, are of the rounds from 0 to the last one, in order.
+fn is_chain(blocks: &[Shared<Block>], last: u64) -> bool {
+    for (block, round) in blocks.iter().zip(0u64..) {
+        if block.get().round.get() != round {
+            return false;
+        }
+    }
+    (blocks.len() as u64).checked_sub(1) == Some(last)
 }
 
 /// Hears a note of each block, and then reads it with all that came before.

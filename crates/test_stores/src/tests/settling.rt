@@ -2,7 +2,7 @@
 use super::records::{are_fronts, grows, recorded};
 use super::scenes::Scene;
 use super::*;
-use nw_store::{Settled, settle};
+use nw_store::{SettleFault, Settled, Unsettled, settle, settle_locked};
 
 /// How many calls the first two sessions made, each of whose fronts ends with its call and begins the session's next one.
 fn in_order<L: Home>(settled: &Settled<DemoScheme, L>) -> usize {
@@ -31,22 +31,60 @@ fn seen<L: Home>(
     }
 }
 
-/// The same, once the sessions settle, which are all.
+/// The same, once the sessions settle, which are all. Without the last one they do not, be it silent or not.
 pub(super) fn seen_settled<L: Home>(
     alloc: Global,
     store: Store<DemoScheme, L>,
-    sessions: Vec<Session<DemoScheme, L>>,
+    mut sessions: Vec<Session<DemoScheme, L>>,
     scene: &Scene<'_>,
 ) -> Result<(usize, usize), Fail> {
-    match settle(store, sessions) {
+    let last = sessions.pop();
+    match (settle(store, sessions), last) {
+        (Err(refused), Some(last)) => seen_of_all(alloc, refused, last, scene),
+        (settled, last) => {
+            drop(settled);
+            drop(last);
+            Err(Fail::from("a session is withheld"))
+        }
+    }
+}
+
+/// The same, once the last session is given too, where it alone was missing.
+fn seen_of_all<L: Home>(
+    alloc: Global,
+    refused: Unsettled<DemoScheme, L>,
+    last: Session<DemoScheme, L>,
+    scene: &Scene<'_>,
+) -> Result<(usize, usize), Fail> {
+    let Unsettled {
+        fault,
+        locked,
+        mut sessions,
+    } = refused;
+    let lacks_one = lacks_one(fault, sessions.len());
+    let pushed = sessions.push(last);
+    match settle_locked(locked, sessions) {
         Ok(settled) => {
             let seen = seen(alloc, &settled, scene);
             drop(settled);
-            seen
+            let seen = seen?;
+            pushed?;
+            Ok(lacks_one.then_some(seen).ok_or("one session is missing")?)
         }
-        Err(refused) => {
-            drop(refused);
+        Err((_, locked, sessions)) => {
+            drop(locked);
+            drop(sessions);
             Err(Fail::from("all sessions are given"))
         }
+    }
+}
+
+/// Whether one session more was made than these, and this is why they do not settle.
+fn lacks_one(fault: SettleFault, sessions: usize) -> bool {
+    match fault {
+        SettleFault::Unfinished { made, given } => {
+            given == sessions && usize::from(made).checked_sub(1) == Some(given)
+        }
+        SettleFault::Differs { .. } => false,
     }
 }

@@ -3,6 +3,7 @@ use super::asking::{Ask, reply_to};
 use super::chains::Link;
 use super::followers::Follower;
 use super::*;
+use nw_intake::{Gate, Point, pass_start};
 use nw_model::{CausalReply, CertifyReply, CollectReply, WriteReply};
 use std::sync::atomic::AtomicU64;
 use std::sync::atomic::Ordering::SeqCst;
@@ -11,8 +12,8 @@ use std::thread::yield_now;
 /// How many rounds are collected.
 const COLLECTED: u16 = 32;
 
-/// How often a session looks at each turn for the steps of others, before it gives up.
-const TURNS: u32 = 20_000_000;
+/// How often a session tries at each turn to pass the gate, before it gives up.
+const TRIES: u32 = 20;
 
 /// What a session does.
 #[derive(Clone, Copy, Drop)]
@@ -148,8 +149,8 @@ impl Plan {
     }
 
     /// How many links the turn waits for.
-    fn waits(&self, turn: u16) -> u64 {
-        u64::from(turn.saturating_mul(self.pace).saturating_add(self.lag))
+    fn waits(&self, turn: u16) -> u32 {
+        u32::from(turn.saturating_mul(self.pace).saturating_add(self.lag))
     }
 
     /// Whether the reply to what is asked of a block of this round is as it is to be.
@@ -201,19 +202,44 @@ impl Crew {
             _ => false,
         };
         if counts {
-            self.steps.fetch_add(1, SeqCst);
+            self.reach(Point::WriteDone { node: 0, number: 0 });
         }
     }
 
     /// Whether so many links were counted, after a while.
-    fn waits_for(&self, steps: u64) -> bool {
-        for _ in 0..TURNS {
-            if self.steps.load(SeqCst) >= steps {
+    fn waits_for(&self, steps: u32) -> bool {
+        let start = Point::WriteStart {
+            node: 0,
+            number: steps,
+        };
+        for _ in 0..TRIES {
+            if pass_start(self, start).is_ok() {
                 return true;
             }
-            yield_now();
         }
         false
+    }
+}
+
+/// The crew is the gate of its sessions: one may start once as many links were counted as its number says. It yields before it says no.
+impl Gate for Crew {
+    ghost says = { λ _ _ _. Unit {0} };
+
+    fn reach(&self, point: Point) {
+        if let Point::WriteDone { .. } = point {
+            self.steps.fetch_add(1, SeqCst);
+        }
+    }
+
+    fn may_pass(&self, point: Point) -> bool {
+        let Point::WriteStart { number, .. } = point else {
+            return true;
+        };
+        let passed = self.steps.load(SeqCst) >= u64::from(number);
+        if !passed {
+            yield_now();
+        }
+        passed
     }
 }
 

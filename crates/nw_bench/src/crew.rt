@@ -1,0 +1,168 @@
+//! What each thread of a node does.
+
+use crate::dag::Pair;
+use anyhow::Error;
+use nw_check::{Checked, CheckedBlock, CheckedCert, check_message};
+use nw_committee::Committee;
+use nw_digest::{Digest, Shared};
+use nw_sig::DemoScheme;
+use nw_store::{Home, NoStep, Session, Store};
+use std::alloc::Global;
+use std::sync::Wait;
+use std::sync::atomic::AtomicU64;
+use std::sync::atomic::Ordering::SeqCst;
+use std::time::{Clock, Instant};
+
+/// The messages that threads share out, and what they count.
+#[derive(Drop)]
+pub struct Crew {
+    pub committee: Shared<Committee>,
+    pub pairs: Vec<Pair>,
+    pub threads: u16,
+    /// How many blocks were written and certified.
+    taken: AtomicU64,
+    /// How many blocks walks listed.
+    listed: AtomicU64,
+    /// How many nanoseconds calls took that write and certify.
+    called: AtomicU64,
+}
+
+impl Crew {
+    /// Nothing is taken yet.
+    pub fn new(committee: Shared<Committee>, pairs: Vec<Pair>, threads: u16) -> Crew {
+        Crew {
+            committee,
+            pairs,
+            threads,
+            taken: AtomicU64::new(0),
+            listed: AtomicU64::new(0),
+            called: AtomicU64::new(0),
+        }
+    }
+
+    /// How many blocks were written and certified, how many walks listed, and how many nanoseconds those calls took.
+    pub fn counted(&self) -> (u64, u64, u64) {
+        (
+            self.taken.load(SeqCst),
+            self.listed.load(SeqCst),
+            self.called.load(SeqCst),
+        )
+    }
+}
+
+/// Takes each message of the thread at this place. One that cannot be taken is not counted.
+pub fn work<L: Home, R: Wait + Clock>(
+    rt: &R,
+    alloc: Global,
+    store: &Store<DemoScheme, L>,
+    session: &mut Session<DemoScheme, L>,
+    crew: &Crew,
+    place: usize,
+) {
+    for (number, pair) in crew.pairs.iter().enumerate() {
+        if number.checked_rem(usize::from(crew.threads)) == Some(place) {
+            if let Ok(()) = take(rt, alloc, store, session, crew, pair) {
+                crew.taken.fetch_add(1, SeqCst);
+            }
+        }
+    }
+}
+
+/// Checks both messages, hands in what they are, and reads the block of member 0 causally.
+fn take<L: Home, R: Wait + Clock>(
+    rt: &R,
+    alloc: Global,
+    store: &Store<DemoScheme, L>,
+    session: &mut Session<DemoScheme, L>,
+    crew: &Crew,
+    pair: &Pair,
+) -> Result<(), Error> {
+    let block = checked_block(alloc, crew, &pair.block)?;
+    let author = block.block().get().author;
+    let certificate = checked_certificate(alloc, crew, &pair.certificate);
+    let kept = match &certificate {
+        Ok(certificate) => keep(rt, alloc, store, session, crew, &block, certificate),
+        Err(_) => Err(Error::msg("a certificate was refused")),
+    };
+    drop(block);
+    drop(certificate);
+    kept?;
+    if author == 0 {
+        let listed = read(rt, alloc, store, session, pair.digest)?;
+        crew.listed.fetch_add(listed as u64, SeqCst);
+    }
+    Ok(())
+}
+
+/// The block of the message.
+fn checked_block(
+    alloc: Global,
+    crew: &Crew,
+    text: &[u8],
+) -> Result<CheckedBlock<DemoScheme>, Error> {
+    match check_message(alloc, &crew.committee, text)? {
+        Checked::Block(block) => Ok(block),
+        other => {
+            drop(other);
+            Err(Error::msg("a block was refused"))
+        }
+    }
+}
+
+/// The certificate of the message.
+fn checked_certificate(
+    alloc: Global,
+    crew: &Crew,
+    text: &[u8],
+) -> Result<CheckedCert<DemoScheme>, Error> {
+    match check_message(alloc, &crew.committee, text)? {
+        Checked::Cert(certificate) => Ok(certificate),
+        other => {
+            drop(other);
+            Err(Error::msg("a certificate was refused"))
+        }
+    }
+}
+
+/// Writes and certifies the block, and counts the time that this takes.
+fn keep<L: Home, R: Wait + Clock>(
+    rt: &R,
+    alloc: Global,
+    store: &Store<DemoScheme, L>,
+    session: &mut Session<DemoScheme, L>,
+    crew: &Crew,
+    block: &CheckedBlock<DemoScheme>,
+    certificate: &CheckedCert<DemoScheme>,
+) -> Result<(), Error> {
+    let started = Instant::now(rt)?;
+    drop(store.write(rt, alloc, session, block)?);
+    drop(store.certify(rt, alloc, session, certificate)?);
+    let took = started.elapsed(rt)?;
+    crew.called
+        .fetch_add(u64::try_from(took.as_nanos())?, SeqCst);
+    Ok(())
+}
+
+/// How many blocks a causal read of the digest lists: none where an ancestor has not come yet.
+fn read<L: Home, R: Wait>(
+    rt: &R,
+    alloc: Global,
+    store: &Store<DemoScheme, L>,
+    session: &mut Session<DemoScheme, L>,
+    digest: Digest,
+) -> Result<usize, NoStep> {
+    match store.open_causal(rt, alloc, session, digest)? {
+        Err(done) => {
+            drop(done);
+            Ok(0)
+        }
+        Ok(ticket) => {
+            let listed = ticket.walk(alloc);
+            drop(ticket);
+            let listed = listed?;
+            let count = listed.len();
+            drop(listed);
+            Ok(count)
+        }
+    }
+}

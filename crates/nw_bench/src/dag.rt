@@ -1,0 +1,144 @@
+//! The messages of a full DAG, whose blocks are as large as transactions of 512 bytes make them.
+
+use anyhow::Error;
+use nw_codec::{
+    Block, Certificate, Message, Ref, Seal, Signature, block_digest, encode_block, encode_message,
+};
+use nw_committee::{Committee, Key};
+use nw_digest::{Digest, NoMemory, Round, Sequence, Shared};
+use nw_sig::{DemoSigner, Signer, block_text, vote_text};
+use std::alloc::Global;
+
+/// How many transactions a block has: as many as it may.
+const TRANSACTIONS: usize = 1_024;
+
+/// How many bytes a transaction has.
+const BYTES: usize = 512;
+
+/// The texts of a block's message and of its certificate's.
+#[derive(Drop)]
+pub struct Pair {
+    pub digest: Digest,
+    pub block: Vec<u8>,
+    pub certificate: Vec<u8>,
+}
+
+/// A committee of so many equal members.
+pub fn committee(alloc: Global, members: u16) -> Result<Shared<Committee>, Error> {
+    let mut keys = Vec::new(alloc);
+    for member in 0..members {
+        keys.push(key(member))?;
+    }
+    Ok(Shared::new(alloc, Committee::new(alloc, keys)?)?)
+}
+
+fn key(member: u16) -> Key {
+    let mut bytes = [0; 32];
+    bytes[30..].copy_from_slice(&member.to_be_bytes());
+    Key(bytes)
+}
+
+fn sign(member: u16, text: &[u8]) -> Signature {
+    DemoSigner::new(key(member)).sign(text)
+}
+
+/// The messages of so many rounds of the members, each block over all of the round before.
+pub fn full_dag(
+    alloc: Global,
+    committee: &Committee,
+    members: u16,
+    rounds: u64,
+) -> Result<Vec<Pair>, Error> {
+    let mut pairs = Vec::new(alloc);
+    let mut parents = Vec::new(alloc);
+    for number in 0..rounds {
+        let Some(round) = Round::new(number) else {
+            return Err(Error::msg("a round has 48 bits"));
+        };
+        parents = add_round(alloc, committee, members, round, &parents, &mut pairs)?;
+    }
+    Ok(pairs)
+}
+
+/// Adds the messages of the round over these, and gives the references to its blocks.
+fn add_round(
+    alloc: Global,
+    committee: &Committee,
+    members: u16,
+    round: Round,
+    parents: &[Ref],
+    pairs: &mut Vec<Pair>,
+) -> Result<Vec<Ref>, Error> {
+    let mut references = Vec::new(alloc);
+    for author in 0..members {
+        let pair = messages_of(alloc, committee, author, round, parents)?;
+        references.push(Ref {
+            author,
+            digest: pair.digest,
+        })?;
+        pairs.push(pair)?;
+    }
+    Ok(references)
+}
+
+/// The messages of the author's block of the round over these.
+fn messages_of(
+    alloc: Global,
+    committee: &Committee,
+    author: u16,
+    round: Round,
+    parents: &[Ref],
+) -> Result<Pair, Error> {
+    let block = Block {
+        author,
+        round,
+        parents: Sequence::new(parents.to_vec(alloc)?),
+        transactions: Sequence::new(transactions(alloc, author)?),
+    };
+    if !block.fits() {
+        return Err(Error::msg("the block breaks a limit"));
+    }
+    let digest = block_digest(&block);
+    let text = encode_block(alloc, &block, &sign(author, &block_text(&digest)))?;
+    Ok(Pair {
+        digest,
+        block: text,
+        certificate: certified(alloc, committee, digest, round, author)?,
+    })
+}
+
+/// As many transactions as a block has at most, each of the author's number and zeros.
+fn transactions(alloc: Global, author: u16) -> Result<Vec<Sequence<u8>>, NoMemory> {
+    let mut transactions = Vec::with_capacity(alloc, TRANSACTIONS)?;
+    for _ in 0..TRANSACTIONS {
+        let mut transaction = vec![in alloc; 0; BYTES]?;
+        transaction[..2].copy_from_slice(&author.to_be_bytes());
+        transactions.push(Sequence::new(transaction))?;
+    }
+    Ok(transactions)
+}
+
+/// The message of a certificate with as many votes as reach the quorum.
+fn certified(
+    alloc: Global,
+    committee: &Committee,
+    digest: Digest,
+    round: Round,
+    author: u16,
+) -> Result<Vec<u8>, Error> {
+    let text = vote_text(&digest, round, author);
+    let mut votes = Vec::new(alloc);
+    for signer in 0..u16::try_from(committee.quorum())? {
+        votes.push(Seal {
+            signer,
+            signature: sign(signer, &text),
+        })?;
+    }
+    let certificate = Certificate {
+        digest,
+        round,
+        author,
+        votes: Sequence::new(votes),
+    };
+    Ok(encode_message(alloc, &Message::Certificate(certificate))?)
+}

@@ -1,0 +1,188 @@
+//! A node: a store, and threads that take the messages of a full DAG.
+ghost use Rattle.std.specs.Prelude.{◌≡◌};
+ghost use Rattle.nw_store.specs.Journal.{origin_of};
+ghost use Rattle.nw_store.specs.Kept.{parts_of_a_ledger};
+
+use crate::crew::{Crew, work};
+use crate::dag::{Pair, committee, full_dag};
+use crate::plan::NodePlan;
+use anyhow::Error;
+use nw_digest::digest_of;
+use nw_sig::DemoScheme;
+use nw_store::{Book, Home, Limits, Opening, Session, Store};
+use std::alloc::Global;
+use std::marker::Brand;
+use std::sync::Wait;
+use std::thread::{Threads, for_each_mut};
+use std::time::{Clock, Duration, Instant};
+
+/// The limits of the store: the largest of blocks, events and rounds, and a session for each of 256 threads.
+const LIMITS: Limits = Limits {
+    blocks: 65_536,
+    events: 65_536,
+    window: 4_096,
+    sessions: 256,
+};
+
+/// What a node did, and how long it took.
+#[derive(Clone, Copy, Debug)]
+pub struct Report {
+    /// How many blocks were written and certified.
+    pub taken: u64,
+    /// How many blocks the walks listed.
+    pub listed: u64,
+    /// How long all of it took.
+    pub whole: Duration,
+    /// How long the threads together were in calls that write and certify.
+    pub called: Duration,
+    /// How long one thread needs for the digests of the bodies alone.
+    pub digested: Duration,
+}
+
+/// What the node of the plan reports. An error where a message was not taken.
+pub fn timed_node<R: Threads + Wait + Sync + Clock>(
+    rt: &R,
+    alloc: Global,
+    plan: &NodePlan,
+) -> Result<Report, Error> {
+    let committee = committee(alloc, plan.members)?;
+    let pairs = full_dag(alloc, committee.get(), plan.members, plan.rounds)?;
+    let digested = digest_all(rt, &pairs)?;
+    let crew = Crew::new(committee, pairs, plan.threads);
+    let whole = take_all(rt, alloc, &crew);
+    let (taken, listed, called) = crew.counted();
+    let count = crew.pairs.len();
+    drop(crew);
+    let report = Report {
+        taken,
+        listed,
+        whole: whole?,
+        called: Duration::from_nanos(called),
+        digested,
+    };
+    if taken == count as u64 {
+        Ok(report)
+    } else {
+        Err(Error::msg("a message was not taken"))
+    }
+}
+
+/// How long the digests of all bodies take, one after the other.
+fn digest_all<R: Clock>(rt: &R, pairs: &[Pair]) -> Result<Duration, Error> {
+    let started = Instant::now(rt)?;
+    for pair in pairs {
+        // (the tag stands before the body, and the signature behind it)
+        let body = pair.block.get(1..pair.block.len().saturating_sub(64));
+        if digest_of(body.unwrap_or(&[])) != pair.digest {
+            return Err(Error::msg("a digest is another one"));
+        }
+    }
+    Ok(started.elapsed(rt)?)
+}
+
+/// Lets the crew take all messages in a new store, and gives the time.
+fn take_all<R: Threads + Wait + Sync + Clock>(
+    rt: &R,
+    alloc: Global,
+    crew: &Crew,
+) -> Result<Duration, Error> {
+    let book = Book::new(alloc, crew.committee.try_clone()?, LIMITS)?;
+    take_from(rt, alloc, book, crew)
+}
+
+/// The same in a store of its own name, which goes on with the book.
+fn take_from<R: Threads + Wait + Sync + Clock>(
+    rt: &R,
+    alloc: Global,
+    book: Book<DemoScheme>,
+    crew: &Crew,
+) -> Result<Duration, Error> {
+    let opening = Opening::new(alloc)?;
+    take_in::<Brand, R>(rt, alloc, opening, book, crew)
+}
+
+/// The same in the store that `L` names.
+fn take_in<L: Home, R: Threads + Wait + Sync + Clock>(
+    rt: &R,
+    alloc: Global,
+    opening: Opening<DemoScheme>,
+    book: Book<DemoScheme>,
+    crew: &Crew,
+) -> Result<Duration, Error>
+    requires log { opening.log ≡ L.log }
+    requires ledger { (opening.ledger ≡ L.name) × (L.parts ≡ parts_of_a_ledger) }
+    requires origin { origin_of book ≡ L.origin }
+{
+    match Store::<DemoScheme, L>::over(opening, book) {
+        Ok(store) => {
+            let took = take_by_sessions(rt, alloc, &store, crew);
+            drop(store);
+            took
+        }
+        Err(book) => {
+            drop(book);
+            Err(Error::msg("the book has events"))
+        }
+    }
+}
+
+/// The same by a session for each thread.
+fn take_by_sessions<L: Home, R: Threads + Wait + Sync + Clock>(
+    rt: &R,
+    alloc: Global,
+    store: &Store<DemoScheme, L>,
+    crew: &Crew,
+) -> Result<Duration, Error> {
+    let mut sessions = Vec::new(alloc);
+    let took = match make_sessions(rt, alloc, store, &mut sessions, crew.threads) {
+        Ok(()) => in_threads(rt, alloc, store, sessions.as_mut_slice(), crew),
+        Err(error) => Err(error),
+    };
+    drop(sessions);
+    took
+}
+
+/// Makes so many sessions.
+fn make_sessions<L: Home, R: Wait>(
+    rt: &R,
+    alloc: Global,
+    store: &Store<DemoScheme, L>,
+    sessions: &mut Vec<Session<DemoScheme, L>>,
+    count: u16,
+) -> Result<(), Error> {
+    for _ in 0..count {
+        sessions.push(store.session(rt, alloc)?)?;
+    }
+    Ok(())
+}
+
+/// Lets each session take its share in a thread of its own, and gives the time.
+fn in_threads<L: Home, R: Threads + Wait + Sync + Clock>(
+    rt: &R,
+    alloc: Global,
+    store: &Store<DemoScheme, L>,
+    sessions: &mut [Session<DemoScheme, L>],
+    crew: &Crew,
+) -> Result<Duration, Error> {
+    let started = Instant::now(rt)?;
+    share(rt, alloc, store, sessions, crew);
+    Ok(started.elapsed(rt)?)
+}
+
+/// Lets each session take its share in a thread of its own.
+fn share<L: Home, R: Threads + Wait + Sync + Clock>(
+    rt: &R,
+    alloc: Global,
+    store: &Store<DemoScheme, L>,
+    sessions: &mut [Session<DemoScheme, L>],
+    crew: &Crew,
+) {
+    for_each_mut(
+        rt,
+        sessions,
+        256,
+        &|place, session: &mut Session<DemoScheme, L>| {
+            work(rt, alloc, store, session, crew, place);
+        },
+    );
+}
