@@ -77,51 +77,22 @@ fn take<L: Home, R: Wait + Clock>(
     crew: &Crew,
     pair: &Pair,
 ) -> Result<(), Error> {
-    let block = checked_block(alloc, crew, &pair.block)?;
-    let author = block.block().get().author;
-    let certificate = checked_certificate(alloc, crew, &pair.certificate);
-    let kept = match &certificate {
-        Ok(certificate) => keep(rt, alloc, store, session, crew, &block, certificate),
-        Err(_) => Err(Error::msg("a certificate was refused")),
+    let block = check_message(alloc, &crew.committee, &pair.block)?;
+    let certificate = check_message(alloc, &crew.committee, &pair.certificate);
+    let kept = match (&block, &certificate) {
+        (Checked::Block(block), Ok(Checked::Cert(certificate))) => {
+            keep(rt, alloc, store, session, crew, block, certificate)
+        }
+        _ => Err(Error::msg("a message was refused")),
     };
     drop(block);
     drop(certificate);
     kept?;
-    if author == 0 {
+    if pair.author == 0 {
         let listed = read(rt, alloc, store, session, pair.digest)?;
         crew.listed.fetch_add(listed as u64, SeqCst);
     }
     Ok(())
-}
-
-/// The block of the message.
-fn checked_block(
-    alloc: Global,
-    crew: &Crew,
-    text: &[u8],
-) -> Result<CheckedBlock<DemoScheme>, Error> {
-    match check_message(alloc, &crew.committee, text)? {
-        Checked::Block(block) => Ok(block),
-        other => {
-            drop(other);
-            Err(Error::msg("a block was refused"))
-        }
-    }
-}
-
-/// The certificate of the message.
-fn checked_certificate(
-    alloc: Global,
-    crew: &Crew,
-    text: &[u8],
-) -> Result<CheckedCert<DemoScheme>, Error> {
-    match check_message(alloc, &crew.committee, text)? {
-        Checked::Cert(certificate) => Ok(certificate),
-        other => {
-            drop(other);
-            Err(Error::msg("a certificate was refused"))
-        }
-    }
 }
 
 /// Writes and certifies the block, and counts the time that this takes.

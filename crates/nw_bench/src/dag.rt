@@ -18,6 +18,7 @@ const BYTES: usize = 512;
 /// The texts of a block's message and of its certificate's.
 #[derive(Drop)]
 pub struct Pair {
+    pub author: u16,
     pub digest: Digest,
     pub block: Vec<u8>,
     pub certificate: Vec<u8>,
@@ -101,6 +102,7 @@ fn messages_of(
     let digest = block_digest(&block);
     let text = encode_block(alloc, &block, &sign(author, &block_text(&digest)))?;
     Ok(Pair {
+        author,
         digest,
         block: text,
         certificate: certified(alloc, committee, digest, round, author)?,

@@ -9,19 +9,22 @@ use crate::plan::NodePlan;
 use anyhow::Error;
 use nw_digest::digest_of;
 use nw_sig::DemoScheme;
-use nw_store::{Book, Home, Limits, Opening, Session, Store};
+use nw_store::{
+    Book, Home, Limits, MOST_BLOCKS, MOST_EVENTS, MOST_ROUNDS, MOST_SESSIONS, Opening, Session,
+    Store,
+};
 use std::alloc::Global;
 use std::marker::Brand;
 use std::sync::Wait;
 use std::thread::{Threads, for_each_mut};
 use std::time::{Clock, Duration, Instant};
 
-/// The limits of the store: the largest of blocks, events and rounds, and a session for each of 256 threads.
+/// The limits of the store: the largest.
 const LIMITS: Limits = Limits {
-    blocks: 65_536,
-    events: 65_536,
-    window: 4_096,
-    sessions: 256,
+    blocks: MOST_BLOCKS,
+    events: MOST_EVENTS,
+    window: MOST_ROUNDS,
+    sessions: MOST_SESSIONS,
 };
 
 /// What a node did, and how long it took.
@@ -180,7 +183,7 @@ fn share<L: Home, R: Threads + Wait + Sync + Clock>(
     for_each_mut(
         rt,
         sessions,
-        256,
+        MOST_SESSIONS as usize,
         &|place, session: &mut Session<DemoScheme, L>| {
             work(rt, alloc, store, session, crew, place);
         },

@@ -1,6 +1,9 @@
 //! What the arguments ask for.
 ghost use Rattle.std.specs.Prelude.{◌≤◌, IfSome};
 ghost use Rattle.nw_bench.specs.declared.plan.TheConstants.{MOST_BYTES, MOST_WORKERS};
+ghost use Rattle.nw_history.specs.declared.limits.TheConstants.{MOST_SESSIONS};
+
+use nw_store::MOST_SESSIONS;
 
 // The most workers that a check takes.
 const MOST_WORKERS: usize = 16;
@@ -44,18 +47,23 @@ pub struct NodePlan {
 }
 
 impl NodePlan {
-    /// The plan of the program's name, the word `node` and three numbers.
-    pub fn read(words: &[String]) -> Option<NodePlan> {
+    /// The plan of the program's name, the word `node` and three numbers: 1 to `MOST_SESSIONS` threads, each of which is a session.
+    pub fn read(words: &[String]) -> Option<NodePlan>
+        ensures { IfSome result
+            (λ plan. (1 ≤ plan.threads) × (plan.threads ≤ MOST_SESSIONS)) }
+    {
         let [_, word, members, rounds, threads] = words else {
             return None;
         };
         if word.as_str() != "node" {
             return None;
         }
-        Some(NodePlan {
+        let plan = NodePlan {
             members: members.parse().ok()?,
             rounds: rounds.parse().ok()?,
             threads: threads.parse().ok()?,
-        })
+        };
+        let is_good = plan.threads >= 1 && u32::from(plan.threads) <= MOST_SESSIONS;
+        is_good.then_some(plan)
     }
 }

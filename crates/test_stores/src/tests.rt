@@ -15,6 +15,7 @@ mod crowds;
 mod examples;
 mod followers;
 mod notes;
+mod plans;
 mod records;
 mod scenes;
 mod scripts;

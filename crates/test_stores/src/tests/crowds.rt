@@ -1,7 +1,8 @@
 //! Sessions of one store, each in a thread of its own, until all settle.
 use super::chains::chain;
+use super::plans::Task;
 use super::scenes::{Scene, played};
-use super::tasks::{Crew, Task, work};
+use super::tasks::{Crew, work};
 use super::*;
 use std::thread::{Threads, for_each_mut};
 

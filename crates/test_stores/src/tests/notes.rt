@@ -2,8 +2,8 @@
 use super::asking::{Ask, reply_to};
 use super::chains::{Link, chain};
 use super::crowds::worked;
+use super::plans::Task;
 use super::scenes::{Scene, played};
-use super::tasks::Task;
 use super::*;
 use crossbeam_channel::{Receiver, Sender, unbounded};
 use nw_model::CertifyReply;
