@@ -20,6 +20,27 @@ pub struct Limbs {
     pub fifth: u64,
 }
 
+impl Limbs {
+    /// These digits, lowest first.
+    pub fn new(first: u64, second: u64, third: u64, fourth: u64, fifth: u64) -> Limbs
+        ensures { result ≡ record {
+          first = first;
+          second = second;
+          third = third;
+          fourth = fourth;
+          fifth = fifth;
+        } }
+    {
+        Limbs {
+            first,
+            second,
+            third,
+            fourth,
+            fifth,
+        }
+    }
+}
+
 /// The sum of five products, digit by digit.
 pub fn paired(a: &Limbs, b: &Limbs) -> u128
     requires first { (a.now.first < 2 ^ 52) × (b.now.first < 2 ^ 57) }

@@ -131,60 +131,19 @@ impl Number {
     pub fn times(&self, other: &Number) -> Number
         ensures { result ≡ times self.now other.now }
     {
-        let a = &self.limbs;
-        let b = &other.limbs;
+        let (a, b) = (&self.limbs, &other.limbs);
         let back = wrapped(b);
+        let first = Limbs::new(b.first, back.fifth, back.fourth, back.third, back.second);
+        let second = Limbs::new(b.second, b.first, back.fifth, back.fourth, back.third);
+        let third = Limbs::new(b.third, b.second, b.first, back.fifth, back.fourth);
+        let fourth = Limbs::new(b.fourth, b.third, b.second, b.first, back.fifth);
+        let fifth = Limbs::new(b.fifth, b.fourth, b.third, b.second, b.first);
         carried(
-            paired(
-                a,
-                &Limbs {
-                    first: b.first,
-                    second: back.fifth,
-                    third: back.fourth,
-                    fourth: back.third,
-                    fifth: back.second,
-                },
-            ),
-            paired(
-                a,
-                &Limbs {
-                    first: b.second,
-                    second: b.first,
-                    third: back.fifth,
-                    fourth: back.fourth,
-                    fifth: back.third,
-                },
-            ),
-            paired(
-                a,
-                &Limbs {
-                    first: b.third,
-                    second: b.second,
-                    third: b.first,
-                    fourth: back.fifth,
-                    fifth: back.fourth,
-                },
-            ),
-            paired(
-                a,
-                &Limbs {
-                    first: b.fourth,
-                    second: b.third,
-                    third: b.second,
-                    fourth: b.first,
-                    fifth: back.fifth,
-                },
-            ),
-            paired(
-                a,
-                &Limbs {
-                    first: b.fifth,
-                    second: b.fourth,
-                    third: b.third,
-                    fourth: b.second,
-                    fifth: b.first,
-                },
-            ),
+            paired(a, &first),
+            paired(a, &second),
+            paired(a, &third),
+            paired(a, &fourth),
+            paired(a, &fifth),
         )
     }
 }
