@@ -17,7 +17,7 @@ use Rattle.nw_trie.proofs.Sides.{AtFork, not_left}
 use Rattle.nw_trie.proofs.Inserts.{below_all, digest_equal, digests_total}
 use Rattle.nw_trie.proofs.Grafts.{key_left}
 
-here : (k x : Digest) → x ≡ k → is_at (digest_cmp k) x ≡ true
+pub here : (k x : Digest) → x ≡ k → is_at (digest_cmp k) x ≡ true
 here k x e = ap is_eq (ap (digest_cmp k) e ∙ digest_equal k)
 
 module _ {V : Type 0} (k : Digest) where

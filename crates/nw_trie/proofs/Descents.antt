@@ -6,7 +6,6 @@ use Rattle.std.specs.Option.{option_copied}
 use Rattle.std.specs.Ordering.{is_eq, ordering_reverse}
 use Rattle.std.specs.declared.cmp.Ordering.TheVariants.{Less, Equal, Greater}
 use Rattle.std.specs.BTreeMap.{insert_entry, is_at}
-use Rattle.std.specs.FinMap.{slice_cmp-IsAntisymmetric, nat_cmp-IsAntisymmetric}
 use Rattle.std.specs.List.Sorted.{IsStrictlySortedBy}
 use Rattle.std.proofs.lemmas.Bool.{cases_lt}
 use Rattle.nw_digest.specs.declared.digest.Digest.{Digest}
@@ -17,6 +16,7 @@ use Rattle.nw_digest.specs.Order.{digest_cmp}
 use Rattle.nw_trie.specs.Bits.{AgreeBelow, AgreeButLast, bit_of}
 use Rattle.nw_trie.specs.Entries.{EachKey, HasKey, IsFork}
 use Rattle.nw_trie.specs.Tree.{side_of}
+use Rattle.nw_trie.proofs.DigestBits.{one_digest}
 use Rattle.nw_trie.proofs.Keys.{each_left, each_right, each_more, each_pair, some_of_each}
 use Rattle.nw_trie.proofs.Inserts.{below_all, digest_equal, digests_total}
 use Rattle.nw_trie.proofs.Sides.{AtFork, lookup_left, lookup_right}
@@ -73,10 +73,6 @@ module _ {V A : Type 0} {d : List (Digest × V)} {bit : ℕ} (s : Sides V A) (at
 pub copied_some : {V : Type 0} (o : Option (Bor V)) → is_some (option_copied o) ≡ is_some o
 copied_some None = refl
 copied_some (Some v) = refl
-
--- equal digests are one
-one_digest : (a b : Digest) → digest_cmp a b ≡ Equal → a ≡ b
-one_digest a b e = ap (λ (xs : List ℕ). let d : Digest = record { 0 = xs } in d) (slice_cmp-IsAntisymmetric nat_cmp-IsAntisymmetric a.0 b.0 e)
 
 module _ {V : Type 0} (k : Digest) where
   -- what is found is there

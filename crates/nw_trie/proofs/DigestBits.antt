@@ -66,9 +66,12 @@ pub digest_greater : (a b : Digest) (i : ℕ) → AreBytes a.0 → AreBytes b.0 
 digest_greater a b i ha hb same set unset =
     nat_list_cmp_total.antisymm a.0 b.0 ∙ ap ordering_reverse (bits_order b.0 a.0 i hb ha (λ j h. sym (same j h)) unset set)
 
--- digests that are equal have the same bits
+-- equal digests are one, and have the same bits
+pub one_digest : (a b : Digest) → digest_cmp a b ≡ Equal → a ≡ b
+one_digest a b e = ap (λ (xs : List ℕ). let d : Digest = record { 0 = xs } in d) (slice_cmp-IsAntisymmetric nat_cmp-IsAntisymmetric a.0 b.0 e)
+
 pub same_bits : (a b : Digest) → digest_cmp a b ≡ Equal → (j : ℕ) → bit_of a j ≡ bit_of b j
-same_bits a b e j = ap (λ (xs : List ℕ). list_bit xs j) (slice_cmp-IsAntisymmetric nat_cmp-IsAntisymmetric a.0 b.0 e)
+same_bits a b e j = ap (λ d. bit_of d j) (one_digest a b e)
 
 -- bytes that agree up to an index, and differ there, have their first different bit there
 pub differ_first : (a b : Digest) (index bit n : ℕ) → n ≡ 8 * index + bit → bit < 8 → ((k : ℕ) → k < index → get_or a.0 k 0 ≡ get_or b.0 k 0)

@@ -1,5 +1,6 @@
 //! The bits of a digest, the highest bit of the first byte first.
 ghost use Rattle.std.specs.Prelude.{◌≡◌, ◌<◌, ℕ, length};
+ghost use Rattle.std.specs.Bool.{MatchBool};
 ghost use Rattle.std.specs.Option.{MatchOption};
 ghost use Rattle.nw_trie.specs.Bits.{AreBytes, DifferFirst, bit_of, byte_bit, list_bit};
 
@@ -56,6 +57,17 @@ fn first_in_byte(a: u8, b: u8) -> u8
         }
     }
     7
+}
+
+/// Whether the digests are equal. It compares all bytes, and so many at once.
+pub(crate) fn is_same(a: &Digest, b: &Digest) -> bool
+    ensures { MatchBool result (a.now ≡ b.now) (a.now ≡ b.now → ⊥) }
+{
+    let mut same = true;
+    for index in 0..32 {
+        same &= a.0[index] == b.0[index];
+    }
+    same
 }
 
 /// The first bit at which the digests differ, or `None` where they are equal.

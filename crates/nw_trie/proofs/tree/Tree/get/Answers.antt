@@ -1,22 +1,23 @@
-use Rattle.std.proofs.Common.{◌∙◌, sym, ap, Some, None, cond}
+use Rattle.std.proofs.Common.{Bor, ◌≡◌, ◌∙◌, Bool, true, false, sym, ap, Some, None, cond}
+use Rattle.std.specs.Bool.{MatchBool, then_some}
+use Rattle.std.specs.Option.{option_copied}
 use Rattle.std.specs.Map.{lookup}
 use Rattle.std.specs.BTreeMap.{is_at}
-use Rattle.std.proofs.lemmas.Map.Text.{is_eq-slice_cmp}
+use Rattle.nw_digest.specs.declared.digest.Digest.{Digest}
 use Rattle.nw_digest.specs.Order.{digest_cmp}
-use Rattle.nw_trie.proofs.Sides.{at_Fork, at_Leaf, lookup_left, lookup_right}
+use Rattle.nw_trie.proofs.DigestBits.{one_digest}
+use Rattle.nw_trie.proofs.Sides.{at_Fork, at_Leaf, lookup_left, lookup_right, unlike}
+use Rattle.nw_trie.proofs.After.{here}
 use Rattle.nw_trie.proofs.tree.Tree.get.Goals as goal
 
-pub returns-then-eq : goal.returns-then-eq
-returns-then-eq g c =
-    let leaf = at_Leaf c.tree.view_is c.in-Leaf.is c.deref-2.ensures in
-    let same = is_eq-slice_cmp c.args.digest.now.0 c.deref-2.result.now.digest.0 ∙ sym c.eq.ensures ∙ c.if-eq.true in
-    sym (sym c.loop-tree.invariant ∙ ap (lookup (is_at (digest_cmp c.args.digest.now))) leaf ∙ ap (λ b. cond b (Some c.deref-2.result.now.value) None) same)
+found : {V : Type 0} (k x : Digest) (v : Bor V) (same : Bool) → MatchBool same (k ≡ x) (k ≡ x → ⊥) → option_copied (then_some same v) ≡ cond (is_at (digest_cmp k) x) (Some v.now) None
+found k x v true is = sym (ap (λ b. cond b (Some v.now) None) (here k x (sym is)))
+found k x v false apart = sym (ap (λ b. cond b (Some v.now) None) (unlike (digest_cmp k x) (λ e. apart (one_digest k x e))))
 
-pub returns-else-eq : goal.returns-else-eq
-returns-else-eq g c =
+pub returns : goal.returns
+returns g c =
     let leaf = at_Leaf c.tree.view_is c.in-Leaf.is c.deref-2.ensures in
-    let same = is_eq-slice_cmp c.args.digest.now.0 c.deref-2.result.now.digest.0 ∙ sym c.eq.ensures ∙ c.if-eq.false in
-    sym (sym c.loop-tree.invariant ∙ ap (lookup (is_at (digest_cmp c.args.digest.now))) leaf ∙ ap (λ b. cond b (Some c.deref-2.result.now.value) None) same)
+    ap option_copied c.then_some.ensures ∙ found c.args.digest.now c.deref-2.result.now.digest _ c.is_same.result c.is_same.ensures ∙ ap (lookup (is_at (digest_cmp c.args.digest.now))) (sym leaf) ∙ c.loop-tree.invariant
 
 pub loop-tree-preserved-then-is_set : goal.loop-tree-preserved-then-is_set
 loop-tree-preserved-then-is_set g c =
