@@ -2,6 +2,7 @@
 use Rattle.std.proofs.Common.{◌≡◌, ◌⊎◌, ℕ, ◌+◌, ◌<◌, ◌≤◌, List, [], ◌∷◌, ◌++◌, Some, All, refl, ap, sym, ◌∙◌, subst, arith, inl, inr}
 use Rattle.std.specs.Prelude.{Contains}
 use Rattle.std.specs.FinMap.{get}
+use Rattle.std.specs.List.Sorted.{IsStrictlySortedBy}
 use Rattle.std.proofs.lemmas.List.{map-append}
 use Rattle.std.proofs.lemmas.List.Elements.{All-nil, All-append, All-contains, Contains-append_left, Contains-append_right, Contains-append_cases}
 use Rattle.nw_digest.specs.declared.digest.Digest.{Digest}
@@ -12,9 +13,9 @@ use Rattle.nw_model.proofs.Complete.{one_block}
 use Rattle.nw_model.proofs.Finding.{there_is}
 use Rattle.nw_model.proofs.Listed.{contains_first, contains_cases, contains_none}
 use Rattle.nw_causal.specs.declared.ancestor.Ancestor.{Ancestor}
-use Rattle.nw_causal.specs.Looked.{AreAt, AreFound, Descend, Gains, IsLevel, digests}
+use Rattle.nw_causal.specs.Looked.{AreAt, AreFound, Gains, IsLevel, descending, digests}
 use Rattle.nw_causal.proofs.Agreeing.{named_by}
-use Rattle.nw_causal.proofs.Levels.{ancestor_of, level_one, descend_none, descend_both}
+use Rattle.nw_causal.proofs.Levels.{ancestor_of, level_none, level_one, order_both}
 
 -- the digest is in one list or the other
 abbrev pub IsIn : List Ancestor → List Ancestor → Digest → Type 0
@@ -26,7 +27,7 @@ pub record Explores (v : Frozen) (d : Digest) (found level : List Ancestor) (rou
   pub last : IsLevel v round level
   pub at : AreAt v found
   pub later : All (λ (a : Ancestor). round < a.block.now.round) found
-  pub descend : Descend found
+  pub order : IsStrictlySortedBy descending found
   pub first : IsIn found level d
   pub only : (e : Digest) → IsIn found level e → IsAncestorIn v d e
   pub whole : (e f : Digest) → Contains (digests found) e → IsParentIn v e f → IsIn found level f
@@ -58,7 +59,7 @@ explores_first v d a there named at =
       last = level_one v a (ap (get v.blocks) named ∙ at);
       at = All-nil _;
       later = All-nil _;
-      descend = descend_none;
+      order = (level_none v 0).order;
       first = inr (subst (λ q. Contains (a.digest ∷ []) q) named (contains_first a.digest []));
       only = λ e among. elim among [
         | inl none ↦ absurd (contains_none e none)
@@ -79,7 +80,7 @@ explores_on v d found level parents round next closed now before floor is gains 
   at = All-append (λ (a : Ancestor). get v.blocks a.digest ≡ Some a.block.now) found level now.at now.last.at;
   later = All-append (λ (a : Ancestor). next < a.block.now.round) found level
       (λ k a lt. let later = now.later k a lt in omega (arith, later, before)) (λ k a lt. let here = now.last.rounds k a lt in omega (arith, here, before));
-  descend = descend_both v round found level now.later now.last now.descend;
+  order = order_both v round found level now.later now.last now.order;
   first = inl (in_both found level d now.first);
   only = λ e among. elim among [
     | inl old ↦ now.only e (in_either found level e old)
@@ -99,7 +100,7 @@ pub explores_all : (v : Frozen) (d : Digest) (found level : List Ancestor) (roun
 explores_all v d found level round now last = record {
   at = All-append (λ (a : Ancestor). get v.blocks a.digest ≡ Some a.block.now) found level now.at now.last.at;
   exactly = λ e. (λ among. now.only e (in_either found level e among), λ (path, on). in_both found level e (along d path e now.first on));
-  descend = descend_both v round found level now.later now.last now.descend;
+  order = order_both v round found level now.later now.last now.order;
 }
   where
     none_above : (e f : Digest) → Contains (digests level) e → IsParentIn v e f → ⊥

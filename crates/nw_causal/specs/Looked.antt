@@ -2,6 +2,7 @@
 use Rattle.std.specs.Prelude.{◌≡◌, ◌↔◌, ◌⊎◌, ℕ, List, Some, All, Contains, map}
 use Rattle.std.specs.List.Sorted.{IsStrictlySortedBy}
 use Rattle.std.specs.FinMap.{get}
+use Rattle.std.specs.declared.cmp.Ordering.{Ordering}
 use Rattle.nw_digest.specs.declared.digest.Digest.{Digest}
 use Rattle.nw_codec.specs.declared.block.Block.{Block}
 use Rattle.nw_model.specs.Paths.{block_cmp}
@@ -20,21 +21,21 @@ blocks = map (λ (a : Ancestor). a.block.now)
 abbrev pub AreAt : Frozen → List Ancestor → Type 0
 AreAt v = All (λ (a : Ancestor). get v.blocks a.digest ≡ Some a.block.now)
 
--- their blocks strictly descend by round and author
-abbrev pub Descend : List Ancestor → Type 0
-Descend ancestors = IsStrictlySortedBy (λ b c. block_cmp c b) (blocks ancestors)
+-- from the last to the first by round, and then by author
+abbrev pub descending : Ancestor → Ancestor → Ordering
+descending a b = block_cmp b.block.now a.block.now
 
 -- ancestors of one round, in order
 pub record IsLevel (v : Frozen) (round : ℕ) (level : List Ancestor) : Type 0 where
   pub at : AreAt v level
   pub rounds : All (λ (a : Ancestor). a.block.now.round ≡ round) level
-  pub descend : Descend level
+  pub order : IsStrictlySortedBy descending level
 
 -- exactly the ancestors of d, in order
 pub record AreFound (v : Frozen) (d : Digest) (found : List Ancestor) : Type 0 where
   pub at : AreAt v found
   pub exactly : (e : Digest) → Contains (digests found) e ↔ IsAncestorIn v d e
-  pub descend : Descend found
+  pub order : IsStrictlySortedBy descending found
 
 -- the new digests are the old ones and those with P
 abbrev pub Gains : (Digest → Type 0) → List Ancestor → List Ancestor → Type 0

@@ -41,11 +41,12 @@ pub(crate) fn ancestors<'a, A: Allocator>(
     ensures found { IfOk result (λ found. AreFound view.now.frozen digest found.items) }
     ensures closed { OnOk result (IsClosed view.now.frozen) }
 {
-    let (floor, first) = (view.floor(), Ancestor::look_up(view, None, digest));
+    let floor = view.floor().get();
+    let first = Ancestor::look_up(view, None, digest);
     let mut round = first.block.get().round;
     let (mut found, mut level, mut parents) = (Vec::new(alloc), Vec::new(alloc), Vec::new(alloc));
     level.push(first)?;
-    while floor < round && !level.is_empty() {
+    while floor < round.get() && !level.is_empty() {
         round = round.before().unwrap();
         find_parents_of_all(view, round, &level, &mut parents)?;
         found.append(&mut level)?;

@@ -1,5 +1,4 @@
-use Rattle.std.proofs.Common.{◌≡◌, ℕ, ◌+◌, ◌<◌, ◌≤◌, true, false, is_lt, nat_cmp, ◌++◌, ◌∷◌, List, [], ap, ◌∙◌, arith}
-use Rattle.std.proofs.lemmas.Bool.Decides.{nat_tests}
+use Rattle.std.proofs.Common.{◌≡◌, ◌+◌, ◌++◌, ◌∷◌, List, [], ap, ◌∙◌, arith}
 use Rattle.std.proofs.lemmas.List.{nil_from_length}
 use Rattle.nw_model.specs.View.{Frozen}
 use Rattle.nw_model.proofs.Ancestors.{none_left}
@@ -8,19 +7,13 @@ use Rattle.nw_causal.proofs.Exploring.{explores_first, explores_on, explores_all
 use Rattle.nw_causal.proofs.walks.ancestors.Goals as goal
 use Rattle.nw_causal.proofs.walks.ancestors.Goals.{then-loop-level-test+else-not-is_empty, else-loop-level-test}
 
-below : (a b : ℕ) → true ≡ is_lt (nat_cmp a b) → a < b
-below a b e = grind (arith, nat_tests)
-
-not_below : (a b : ℕ) → false ≡ is_lt (nat_cmp a b) → b ≤ a
-not_below a b e = grind (arith, nat_tests)
-
 pub loop-level-init : goal.loop-level-init
 loop-level-init g c =
     let first : Ancestor = c.look_up-first.result in
     let level : c.push.new.self.items ≡ first ∷ [] = c.in_ok-push.ensures.items ∙ ap (λ (xs : List Ancestor). xs ++ first ∷ []) c.new-level.ensures.items in
     record {
       explores = rw (c.new-found.ensures.items, level, c.get.ensures) (explores_first c.args.view.now.frozen c.args.digest first c.requires c.look_up-first.ensures.digest c.look_up-first.ensures.block);
-      floor = c.floor-floor.ensures.floor;
+      floor = c.get-floor.ensures.number ∙ c.floor.ensures.floor;
       empty = c.new-parents.ensures.items;
     }
 
@@ -28,12 +21,11 @@ pub loop-level-preserved : goal.loop-level-preserved
 loop-level-preserved g c =
     let v : Frozen = c.args.view.now.frozen in
     let before : c.unwrap-round.result + 1 ≡ c.loop-level.round = rw c.unwrap-round.ensures at c.before-in-loop-level.ensures in
-    let above : c.floor-floor.result < c.loop-level.round = below c.floor-floor.result c.loop-level.round c.loop-level-test.ensures in
     record {
       explores = rw (c.in_ok-append.ensures.items, c.swap.ensures.x_after) (explores_on v c.args.digest c.loop-level.found.items c.loop-level.level.items c.find_parents_of_all.new.parents.items c.loop-level.round c.unwrap-round.result
-          c.floor-floor.ensures.closed c.loop-level.invariant.explores before (omega (arith, before, above, c.floor-floor.ensures.floor)) c.in_ok-find_parents_of_all.ensures.level
+          c.floor.ensures.closed c.loop-level.invariant.explores before (omega (arith, before, c.loop-level-test.true, c.loop-level.invariant.floor, c.get-in-loop-level.ensures.number)) c.in_ok-find_parents_of_all.ensures.level
           (rw (c.deref.ensures.value, c.loop-level.invariant.empty) at c.in_ok-find_parents_of_all.ensures.gains));
-      floor = c.floor-floor.ensures.floor;
+      floor = c.get-floor.ensures.number ∙ c.floor.ensures.floor;
       empty = rw (c.swap.ensures.y_after) c.in_ok-append.ensures.other_items;
     }
 
@@ -44,6 +36,5 @@ returns-clause-found g c =
           let none = none_left c.loop-level.level.len w.if-not-is_empty.ensures in
           nil_from_length c.loop-level.level.items (omega (arith, none, c.loop-level.level.ok.0))
       | else-loop-level-test w ↦
-          let past = not_below c.floor-floor.result c.loop-level.round w.loop-level-test.ensures in
-          absurd (omega (arith, past, above, c.floor-floor.ensures.floor))
+          absurd (omega (arith, above, w.loop-level-test.false, c.loop-level.invariant.floor, c.get-in-loop-level.ensures.number))
     ]))

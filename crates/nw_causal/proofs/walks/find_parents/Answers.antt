@@ -16,16 +16,11 @@ use Rattle.nw_causal.proofs.Levels.{gains_more, gains_none, gains_on, level_more
 use Rattle.nw_causal.proofs.walks.find_parents.Goals as goal
 use Rattle.nw_causal.proofs.walks.find_parents.Goals.{in-Err+in_ok-insert, in_default}
 
-pub look_up-parent-requires-clause-there : goal.look_up-parent-requires-clause-there
-look_up-parent-requires-clause-there g c =
-    let there = c.requires.there c.loop-reference.reference-index (record { author = 0; digest = record { 0 = [] } }) c.loop-reference-test.true in
-    (there.0, there.1)
-
-pub look_up-parent-requires-clause-round : goal.look_up-parent-requires-clause-round
-look_up-parent-requires-clause-round g c =
+pub look_up-parent-requires : goal.look_up-parent-requires
+look_up-parent-requires g c =
     let there = c.requires.there c.loop-reference.reference-index (record { author = 0; digest = record { 0 = [] } }) c.loop-reference-test.true in
     let before : there.0.round + 1 ≡ c.args.round + 1 = there.3 in
-    subst (λ found. IfSome found (λ (b : Block). b.round ≡ c.args.round)) (sym there.1) (omega (arith, before))
+    record { there = (there.0, there.1); round = subst (λ found. IfSome found (λ (b : Block). b.round ≡ c.args.round)) (sym there.1) (omega (arith, before)) }
 
 pub loop-reference-preserved : goal.loop-reference-preserved
 loop-reference-preserved g c =
