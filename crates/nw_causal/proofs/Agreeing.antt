@@ -1,25 +1,16 @@
 -- Two views have one walk of a digest exactly where no two blocks collide at its ancestors.
-use Rattle.std.proofs.Common.{◌≡◌, ◌⊎◌, ◌+◌, ◌<◌, ◌≤◌, List, [], ◌∷◌, Option, Some, None, IfSome, All, map, refl, ap, sym, ◌∙◌, subst, arith, inl, inr}
+use Rattle.std.proofs.Common.{◌≡◌, ◌⊎◌, ◌+◌, ◌<◌, ◌≤◌, List, [], ◌∷◌, Some, map, refl, ap, sym, ◌∙◌, subst, arith, inl, inr}
 use Rattle.std.specs.Prelude.{Contains}
-use Rattle.std.specs.FinMap.{FinMap, get, from_entries}
-use Rattle.std.specs.List.Sorted.{IsStrictlySortedBy}
-use Rattle.std.specs.Map.{keys_of, values_of, lookup}
-use Rattle.std.specs.BTreeMap.{is_at}
-use Rattle.std.specs.Cmp.{eq_by_cmp_equiv}
+use Rattle.std.specs.FinMap.{FinMap, get}
 use Rattle.std.proofs.lemmas.List.Elements.{All-contains}
-use Rattle.std.proofs.lemmas.Map.Keys.{IsDistinct-from_sorted}
-use Rattle.std.proofs.lemmas.Map.Views.{IfSome-lookup_from_All, All-values_from_lookup}
 use Rattle.nw_digest.specs.declared.digest.Digest.{Digest}
 use Rattle.nw_codec.specs.declared.block.Ref.{Ref}
 use Rattle.nw_codec.specs.declared.block.Block.{Block}
-use Rattle.nw_digest.specs.Order.{digest_cmp, Slot, slot_cmp}
+use Rattle.nw_digest.specs.Order.{digest_cmp}
 use Rattle.nw_model.specs.State.{block_slot}
 use Rattle.nw_model.specs.View.{Frozen, HasParent, IsClosed, IsThere, IsParentIn, IsPathIn, IsAncestorIn, IsWalk}
-use Rattle.nw_model.specs.Search.{Reaches}
-use Rattle.nw_model.proofs.Maps.{get_lookup, slots_total}
 use Rattle.nw_model.proofs.Complete.{one_block}
 use Rattle.nw_model.proofs.Listed.{contains_first, contains_later, block_of, digest_of}
-use Rattle.nw_model.proofs.Walked.{values_there, walked}
 use Rattle.nw_causal.specs.Agreement.{HaveOneWalk, CollideAt, IsMatched, IsRival, MatchAt}
 
 -- ---- the other block under a digest
@@ -44,7 +35,7 @@ parent_of v d e b at (c, r, at_c, above, among, same) =
     (r, subst (λ (x : Block). Contains x.parents r) one among, same, subst (λ (x : Block). v.floor < x.round) one above)
 
 -- what a reference of a block above the floor names
-named_by : (v : Frozen) (d e : Digest) (b : Block) (r : Ref) → IsClosed v → get v.blocks d ≡ Some b → v.floor < b.round → Contains b.parents r → r.digest ≡ e
+pub named_by : (v : Frozen) (d e : Digest) (b : Block) (r : Ref) → IsClosed v → get v.blocks d ≡ Some b → v.floor < b.round → Contains b.parents r → r.digest ≡ e
     → (p : Block) × IsThere v e p × (p.author ≡ r.author) × (p.round + 1 ≡ b.round)
 named_by v d e b r closed at above among same =
     let has : HasParent v.blocks b.round r = All-contains (HasParent v.blocks b.round) b.parents r (closed.parents d b at above) among in
@@ -128,16 +119,6 @@ have_same v w d closed_v closed_w floor shared one = record {
 
 -- ---- where nothing collides, one list is the walk in both
 
--- digests that have blocks have a list of them
-blocks_under : (held : FinMap digest_cmp Block) (digests : List Digest) → ((a : Digest) → Contains digests a → (b : Block) × (get held a ≡ Some b)) → (blocks : List Block) × (map (get held) digests ≡ map Some blocks)
-blocks_under held [] each = ([], refl)
-blocks_under held (a ∷ digests) each =
-    let here = each a (contains_first a digests) in
-    let first : get held a ≡ Some here.0 = here.1 in
-    let rest = blocks_under held digests (λ e among. each e (contains_later a digests e among)) in
-    let later : map (get held) digests ≡ map Some rest.0 = rest.1 in
-    (here.0 ∷ rest.0, cc)
-
 -- maps that agree at some digests have the same there
 same_under : (m n : FinMap digest_cmp Block) (digests : List Digest) → ((a : Digest) → Contains digests a → get m a ≡ get n a) → map (get m) digests ≡ map (get n) digests
 same_under m n [] agree = refl
@@ -146,27 +127,11 @@ same_under m n (a ∷ digests) agree =
     let rest : map (get m) digests ≡ map (get n) digests = same_under m n digests (λ e among. agree e (contains_later a digests e among)) in
     cc
 
--- what holds of each value holds of each ancestor
-each_ancestor : (P : Digest → Type 0) (v : Frozen) (d : Digest) (es : List (Slot × Digest)) → Reaches v d (from_entries es) → All P (values_of es) → (a : Digest) → IsAncestorIn v d a → P a
-each_ancestor P v d es reaches all a ancestor =
-    let found = reaches.each a ancestor in
-    let slot : Slot = block_slot found.0 in
-    subst (λ o. IfSome o P) (sym (get_lookup slots_total es slot) ∙ found.2) (IfSome-lookup_from_All P (is_at (slot_cmp slot)) es all)
-
--- each value is an ancestor
-pub each_value : (v : Frozen) (d : Digest) (es : List (Slot × Digest)) → IsStrictlySortedBy slot_cmp (keys_of es) → Reaches v d (from_entries es) → All (IsAncestorIn v d) (values_of es)
-each_value v d es sorted reaches =
-    All-values_from_lookup (eq_by_cmp_equiv slots_total) (IsAncestorIn v d) es (IsDistinct-from_sorted slot_cmp (keys_of es) sorted) (λ q. by q (lookup (is_at (slot_cmp q)) es) (get_lookup slots_total es q))
-  where
-    by : (q : Slot) (found : Option Digest) → get (from_entries {R = slot_cmp} es) q ≡ found → IfSome found (IsAncestorIn v d)
-    by q None at = tt
-    by q (Some a) at = reaches.only q a at
-
--- where the blocks match at each ancestor that was found
-pub one_walk : (v w : Frozen) (d : Digest) (es : List (Slot × Digest)) → IsClosed v → IsClosed w → v.floor ≡ w.floor → (b : Block) × IsThere v d b → (b : Block) × IsThere w d b
-    → IsStrictlySortedBy slot_cmp (keys_of es) → Reaches v d (from_entries es) → All (MatchAt v w) (values_of es) → HaveOneWalk v w d
-one_walk v w d es closed_v closed_w floor (b, in_v) (c, in_w) sorted reaches match = (
-  listed.0,
+-- where the blocks match at each ancestor
+pub one_walk : (v w : Frozen) (d : Digest) (blocks : List Block) → IsClosed v → IsClosed w → v.floor ≡ w.floor → (b : Block) × IsThere v d b → (b : Block) × IsThere w d b
+    → IsWalk v d blocks → ((a : Digest) → IsAncestorIn v d a → MatchAt v w a) → HaveOneWalk v w d
+one_walk v w d blocks closed_v closed_w floor (b, in_v) (c, in_w) walk at = (
+  blocks,
   walk,
   record {
     digests = walk.digests;
@@ -176,20 +141,11 @@ one_walk v w d es closed_v closed_w floor (b, in_v) (c, in_w) sorted reaches mat
   },
 )
   where
-    at : (a : Digest) → IsAncestorIn v d a → MatchAt v w a
-    at = each_ancestor (MatchAt v w) v d es reaches match
-
     shared : IsShared v w d
     shared = let one : b ≡ c = at d ([], ((b, in_v), refl)) b c in_v in_w in (b, in_v, subst (λ x. IsThere w d x) (sym one) in_w)
 
     same : HaveSame v w d
     same = have_same v w d closed_v closed_w floor shared (λ e ancestor other p q p_there q_there slots. at e ancestor p q p_there q_there)
-
-    listed : (blocks : List Block) × (map (get v.blocks) (values_of es) ≡ map Some blocks)
-    listed = blocks_under v.blocks (values_of es) (values_there v d es sorted reaches)
-
-    walk : IsWalk v d listed.0
-    walk = walked v d es listed.0 sorted reaches listed.1
 
 -- ---- where one list is the walk in both, nothing collides
 

@@ -1,4 +1,3 @@
-pub mod Looked
-pub mod Looking
 pub mod Agreeing
-pub mod Claiming
+pub mod Exploring
+pub mod Levels

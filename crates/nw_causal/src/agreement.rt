@@ -42,7 +42,7 @@ pub fn agree<A: Allocator>(
 {
     let found = ancestors(alloc, one, digest)?;
     let floor = other.floor();
-    for ancestor in found.values() {
+    for ancestor in &found {
         if let Some(rival) = rival(other, floor, ancestor)? {
             return Ok(Agreement::Collision {
                 one: ancestor.block.try_clone()?,
@@ -57,12 +57,12 @@ pub fn agree<A: Allocator>(
 fn rival<A: Allocator>(
     other: &View<A>,
     floor: Round,
-    ancestor: &Ancestor,
+    ancestor: &Ancestor<'_>,
 ) -> Result<Option<Shared<Block>>, NoMemory>
     requires { floor ≡ other.now.frozen.floor }
     ensures { IfOk result (λ found. MatchOption found
-        (IsMatched other.now.frozen ancestor.now.digest ancestor.now.block)
-        (λ rival. IsRival other.now.frozen ancestor.now.digest ancestor.now.block rival)) }
+        (IsMatched other.now.frozen ancestor.now.digest ancestor.now.block.now)
+        (λ rival. IsRival other.now.frozen ancestor.now.digest ancestor.now.block.now rival)) }
 {
     if let Some(rival) = other.get(&ancestor.digest) {
         let (one, other) = (ancestor.block.get(), rival.get());

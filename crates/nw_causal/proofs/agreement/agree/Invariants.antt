@@ -1,6 +1,7 @@
-use Rattle.std.proofs.Common.{All}
+use Rattle.std.proofs.Common.{All, take}
 use Rattle.nw_causal.specs.Agreement.{MatchAt}
+use Rattle.nw_causal.specs.declared.ancestor.Ancestor.{Ancestor}
 use Rattle.nw_causal.proofs.agreement.agree.Given as goal
 
 abbrev pub invariant-loop-ancestor : goal.invariant-loop-ancestor
-invariant-loop-ancestor g l = All (λ x. MatchAt l.one.frozen l.other.frozen x.now.digest) l.yielded
+invariant-loop-ancestor g l = All (λ (a : Ancestor). MatchAt l.one.frozen l.other.frozen a.digest) (take l.ancestor-index l.ancestor-items)

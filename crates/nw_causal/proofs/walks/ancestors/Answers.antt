@@ -1,31 +1,40 @@
-use Rattle.std.proofs.Common.{◌∙◌, arith}
-use Rattle.nw_model.proofs.Ancestors.{explores_above, explores_on, reaches_floor, reaches_early, none_left}
-use Rattle.nw_causal.specs.Looked.{digests}
-use Rattle.nw_causal.proofs.Looking.{first_found, digests_length}
+use Rattle.std.proofs.Common.{◌≡◌, ◌+◌, ◌++◌, ◌∷◌, List, [], ap, ◌∙◌, arith}
+use Rattle.std.proofs.lemmas.List.{nil_from_length}
+use Rattle.nw_model.specs.View.{Frozen}
+use Rattle.nw_model.proofs.Ancestors.{none_left}
+use Rattle.nw_causal.specs.declared.ancestor.Ancestor.{Ancestor}
+use Rattle.nw_causal.proofs.Exploring.{explores_first, explores_on, explores_all}
 use Rattle.nw_causal.proofs.walks.ancestors.Goals as goal
-use Rattle.nw_causal.proofs.walks.ancestors.Goals.{else-loop-test, then-loop-test+then-is_empty}
+use Rattle.nw_causal.proofs.walks.ancestors.Goals.{then-loop-level-test+else-not-is_empty, else-loop-level-test}
 
-pub loop-init : goal.loop-init
-loop-init g c =
-    let on = first_found c.args.view.now.frozen c.args.digest c.in_ok-first.first c.in_ok-try_clone.field-0 c.get.result.now c.get-2.result.now c.new-found.result.entries c.insert.new.self.entries c.new-frontier.result.items c.push.new.self.items
-    c.get-counter.result c.get-end.result c.requires c.in_ok-first.ensures.digest c.in_ok-first.ensures.block c.get.ensures c.get-2.ensures c.in_ok-try_clone.ensures c.new-found.ensures.empty c.new-frontier.ensures.items
-    c.in_ok-insert.ensures.entries c.in_ok-push.ensures.items (c.get-counter.ensures.number ∙ c.floor.ensures.floor) c.get-end.ensures.number in
-    record { explores = on.0; looked_up = on.1 }
+pub loop-level-init : goal.loop-level-init
+loop-level-init g c =
+    let first : Ancestor = c.look_up-first.result in
+    let level : c.push.new.self.items ≡ first ∷ [] = c.in_ok-push.ensures.items ∙ ap (λ (xs : List Ancestor). xs ++ first ∷ []) c.new-level.ensures.items in
+    record {
+      explores = rw (c.new-found.ensures.items, level, c.get.ensures) (explores_first c.args.view.now.frozen c.args.digest first c.requires c.look_up-first.ensures.digest c.look_up-first.ensures.block);
+      floor = c.get-floor.ensures.number ∙ c.floor.ensures.floor;
+      empty = c.new-parents.ensures.items;
+    }
 
-pub parents_of_all-requires-clause-above : goal.parents_of_all-requires-clause-above
-parents_of_all-requires-clause-above g c = rw (c.deref.ensures.value) (explores_above _ _ _ _ _ _ c.loop.invariant.explores c.loop-test.true)
-
-pub loop-preserved : goal.loop-preserved
-loop-preserved g c = record {
-  explores = explores_on _ _ _ _ (digests c.loop.frontier.items) _ _ _ c.floor.ensures.closed c.loop.invariant.explores (rw c.deref.ensures.value at c.in_ok-frontier.ensures.parents);
-  looked_up = c.in_ok-frontier.ensures.looked_up;
-}
+pub loop-level-preserved : goal.loop-level-preserved
+loop-level-preserved g c =
+    let v : Frozen = c.args.view.now.frozen in
+    let before : c.unwrap-round.result + 1 ≡ c.loop-level.round = rw c.unwrap-round.ensures at c.before-in-loop-level.ensures in
+    record {
+      explores = rw (c.in_ok-append.ensures.items, c.swap.ensures.x_after) (explores_on v c.args.digest c.loop-level.found.items c.loop-level.level.items c.find_parents_of_all.new.parents.items c.loop-level.round c.unwrap-round.result
+          c.floor.ensures.closed c.loop-level.invariant.explores before (omega (arith, before, c.loop-level-test.true, c.loop-level.invariant.floor, c.get-in-loop-level.ensures.number)) c.in_ok-find_parents_of_all.ensures.level
+          (rw (c.deref.ensures.value, c.loop-level.invariant.empty) at c.in_ok-find_parents_of_all.ensures.gains));
+      floor = c.get-floor.ensures.number ∙ c.floor.ensures.floor;
+      empty = rw (c.swap.ensures.y_after) c.in_ok-append.ensures.other_items;
+    }
 
 pub returns-clause-found : goal.returns-clause-found
-returns-clause-found g c = elim c.loop-test.branch [
-  | else-loop-test w ↦ reaches_floor _ _ _ _ _ _ c.loop.invariant.explores w.loop-test.false
-  | then-loop-test+then-is_empty w ↦ reaches_early _ _ _ _ _ _ c.loop.invariant.explores
-      (let none = none_left c.loop.frontier.len w.if-is_empty.ensures in
-      let same = digests_length c.loop.frontier.items in
-      omega (arith, none, same, c.loop.frontier.ok.0))
-]
+returns-clause-found g c =
+    rw (c.in_ok-append-2.ensures.items) (explores_all c.args.view.now.frozen c.args.digest c.loop-level.found.items c.loop-level.level.items c.loop-level.round c.loop-level.invariant.explores (λ above. elim c.loop-level-test.branch [
+      | then-loop-level-test+else-not-is_empty w ↦
+          let none = none_left c.loop-level.level.len w.if-not-is_empty.ensures in
+          nil_from_length c.loop-level.level.items (omega (arith, none, c.loop-level.level.ok.0))
+      | else-loop-level-test w ↦
+          absurd (omega (arith, above, w.loop-level-test.false, c.loop-level.invariant.floor, c.get-in-loop-level.ensures.number))
+    ]))

@@ -1,9 +1,13 @@
-use Rattle.nw_model.proofs.Ancestors.{Explores}
-use Rattle.nw_causal.specs.Looked.{HaveBlocks, digests, found_in}
+use Rattle.std.proofs.Common.{◌≡◌, []}
+use Rattle.nw_causal.proofs.Exploring.{Explores}
 use Rattle.nw_causal.proofs.walks.ancestors.Given as goal
 
-abbrev pub invariant-loop : goal.invariant-loop
-invariant-loop g l = record {
-  explores : Explores l.view.frozen l.fn.digest (found_in l.found.entries) (digests l.frontier.items) l.counter l.end;
-  looked_up : HaveBlocks l.view.frozen l.found.entries l.frontier.items;
+abbrev pub invariant-loop-level : goal.invariant-loop-level
+invariant-loop-level g l = record {
+  explores : Explores l.view.frozen l.fn.digest l.found.items l.level.items l.round;
+  floor : l.floor ≡ l.view.frozen.floor;
+  empty : l.parents.items ≡ [];
 }
+
+abbrev pub decreases-loop-level : goal.decreases-loop-level
+decreases-loop-level g l = l.round

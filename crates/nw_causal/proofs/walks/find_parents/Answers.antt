@@ -1,26 +1,26 @@
-use Rattle.std.proofs.Common.{◌≡◌, ◌+◌, true, false, List, [], IfSome, get_or, sym, ◌∙◌, subst, arith}
-use Rattle.std.specs.Option.{is_some}
+use Rattle.std.proofs.Common.{◌≡◌, ◌+◌, Some, List, [], IfSome, get_or, take, rules, ap, sym, ◌∙◌, subst, arith}
 use Rattle.std.specs.FinMap.{get}
+use Rattle.std.specs.List.{insert}
+use Rattle.std.specs.Ordering.{nat_cmp}
+use Rattle.std.proofs.lemmas.List.{take_all}
+use Rattle.std.proofs.lemmas.Fn.{always_returns_same}
 use Rattle.nw_codec.specs.declared.block.Ref.{Ref}
 use Rattle.nw_codec.specs.declared.block.Block.{Block}
-use Rattle.nw_digest.specs.Order.{Slot}
-use Rattle.nw_model.specs.View.{Frozen}
-use Rattle.nw_causal.specs.Looked.{found_in}
-use Rattle.nw_causal.proofs.Claiming.{again_on}
-use Rattle.nw_causal.proofs.Looking.{found_taken, looked_on}
+use Rattle.nw_model.specs.Search.{IsNamed}
+use Rattle.nw_model.specs.View.{Frozen, HasParent}
+use Rattle.nw_model.proofs.Complete.{one_block}
+use Rattle.nw_model.proofs.Finding.{names_more}
+use Rattle.nw_causal.specs.declared.ancestor.Ancestor.{Ancestor}
+use Rattle.nw_causal.specs.Looked.{Gains}
+use Rattle.nw_causal.proofs.Levels.{gains_more, gains_none, gains_on, level_more}
 use Rattle.nw_causal.proofs.walks.find_parents.Goals as goal
-use Rattle.nw_causal.proofs.walks.find_parents.Goals.{then-not-contains_key+in_ok-parent+in_ok-try_clone+in_ok-push+in_ok-insert+in-Some-1, then-not-contains_key+in_ok-parent+in_ok-try_clone+in_ok-push+in_ok-insert+in-None-1, else-not-contains_key}
+use Rattle.nw_causal.proofs.walks.find_parents.Goals.{in-Err+in_ok-insert, in_default}
 
-pub look_up-requires-clause-there : goal.look_up-requires-clause-there
-look_up-requires-clause-there g c =
-    let there = c.requires.there c.loop-reference.reference-index (record { author = 0; digest = record { 0 = [] } }) c.loop-reference-test.true in
-    (there.0, there.1)
-
-pub look_up-requires-clause-round : goal.look_up-requires-clause-round
-look_up-requires-clause-round g c =
+pub look_up-parent-requires : goal.look_up-parent-requires
+look_up-parent-requires g c =
     let there = c.requires.there c.loop-reference.reference-index (record { author = 0; digest = record { 0 = [] } }) c.loop-reference-test.true in
     let before : there.0.round + 1 ≡ c.args.round + 1 = there.3 in
-    subst (λ found. IfSome found (λ (b : Block). b.round ≡ c.args.round)) (sym there.1) (omega (arith, before))
+    record { there = (there.0, there.1); round = subst (λ found. IfSome found (λ (b : Block). b.round ≡ c.args.round)) (sym there.1) (omega (arith, before)) }
 
 pub loop-reference-preserved : goal.loop-reference-preserved
 loop-reference-preserved g c =
@@ -28,24 +28,32 @@ loop-reference-preserved g c =
     let refs : List Ref = c.args.references.now in
     let none : Ref = record { author = 0; digest = record { 0 = [] } } in
     let r : Ref = get_or refs c.loop-reference.reference-index none in
-    let slot : Slot = (c.args.round, r.author) in
-    elim c.if-not-contains_key.branch [
-      | then-not-contains_key+in_ok-parent+in_ok-try_clone+in_ok-push+in_ok-insert+in-Some-1 w ↦
-          let free : is_some (get (found_in c.loop-reference.found.entries) slot) ≡ false = found_taken c.loop-reference.found.entries slot ∙ sym c.contains_key.ensures ∙ w.if-not-contains_key.true in
-          let on = looked_on v c.args.round refs c.loop-reference.reference-index none c.args.found.now.entries c.loop-reference.found.entries w.insert.new.self.entries c.args.parents.now.items c.loop-reference.parents.items w.push.new.self.items
-          w.in_ok-parent.parent w.in_ok-try_clone.field-0 c.loop-reference-test.true c.loop-reference.invariant.claims c.loop-reference.invariant.looked_up free
-          w.in_ok-parent.ensures.digest w.in_ok-parent.ensures.block w.in_ok-try_clone.ensures w.in_ok-insert.ensures.entries w.in_ok-push.ensures.items in
-          rw (w.found-is, w.parents-is) (record { claims = on.0; looked_up = on.1 })
-      | then-not-contains_key+in_ok-parent+in_ok-try_clone+in_ok-push+in_ok-insert+in-None-1 w ↦
-          let free : is_some (get (found_in c.loop-reference.found.entries) slot) ≡ false = found_taken c.loop-reference.found.entries slot ∙ sym c.contains_key.ensures ∙ w.if-not-contains_key.true in
-          let on = looked_on v c.args.round refs c.loop-reference.reference-index none c.args.found.now.entries c.loop-reference.found.entries w.insert.new.self.entries c.args.parents.now.items c.loop-reference.parents.items w.push.new.self.items
-          w.in_ok-parent.parent w.in_ok-try_clone.field-0 c.loop-reference-test.true c.loop-reference.invariant.claims c.loop-reference.invariant.looked_up free
-          w.in_ok-parent.ensures.digest w.in_ok-parent.ensures.block w.in_ok-try_clone.ensures w.in_ok-insert.ensures.entries w.in_ok-push.ensures.items in
-          rw (w.found-is, w.parents-is) (record { claims = on.0; looked_up = on.1 })
-      | else-not-contains_key w ↦
-          let taken : is_some (get (found_in c.loop-reference.found.entries) slot) ≡ true = found_taken c.loop-reference.found.entries slot ∙ sym c.contains_key.ensures ∙ w.if-not-contains_key.false in
-          rw (w.found-is, w.parents-is) (record {
-            claims = again_on _ refs c.loop-reference.reference-index none _ _ _ _ c.loop-reference-test.true c.loop-reference.invariant.claims taken;
-            looked_up = c.loop-reference.invariant.looked_up;
+    let there : HasParent v.blocks (c.args.round + 1) r = c.requires.there c.loop-reference.reference-index none c.loop-reference-test.true in
+    let ord = λ (x : Ancestor). nat_cmp r.author x.block.now.author in
+    let on = λ (after : List Ancestor) (step : Gains (λ e. r.digest ≡ e) c.loop-reference.parents.items after).
+    gains_on (IsNamed (take c.loop-reference.reference-index refs)) (λ e. r.digest ≡ e) (IsNamed (take (c.loop-reference.reference-index + 1) refs)) c.args.parents.now.items c.loop-reference.parents.items after
+    c.loop-reference.invariant.gains step (names_more refs c.loop-reference.reference-index none c.loop-reference-test.true) in
+    elim c.match-binary_search_by.branch [
+      | in-Err+in_ok-insert w ↦
+          let a : Ancestor = w.look_up-parent.result in
+          let p = w.in-Err.place in
+          let block : Block = a.block.now in
+          let at : get v.blocks a.digest ≡ Some block = ap (get v.blocks) w.look_up-parent.ensures.digest ∙ w.look_up-parent.ensures.block in
+          let one : there.0 ≡ block = one_block there.0 block there.1 w.look_up-parent.ensures.block in
+          let before : block.round + 1 ≡ c.args.round + 1 = subst (λ (x : Block). x.round + 1 ≡ c.args.round + 1) one there.3 in
+          let by : r.author ≡ block.author = sym there.2 ∙ ap (λ (x : Block). x.author) one in
+          rw (w.parents-is, w.in_ok-insert.ensures.items) (record {
+            level = level_more v c.args.round p c.loop-reference.parents.items a c.loop-reference.invariant.level at (omega (arith, before)) (rw (← c.deref.ensures.value) w.in-Err.ensures.bound)
+                (rw (← by, ← c.deref.ensures.value) (w.in-Err.ensures.position ord (always_returns_same _ _ _ (λ a r f called. search rules))));
+            gains = on (insert c.loop-reference.parents.items p a) (gains_more c.loop-reference.parents.items p a r.digest w.look_up-parent.ensures.digest);
           })
+      | in_default w ↦ rw (w.parents-is) (record {
+        level = c.loop-reference.invariant.level;
+        gains = on c.loop-reference.parents.items (gains_none v c.args.round w.in_default.field-0 c.loop-reference.parents.items r c.requires.closed c.requires.floor c.loop-reference.invariant.level there
+            (rw (← c.deref.ensures.value) w.in_default.ensures.bound)
+            (rw (← c.deref.ensures.value) (w.in_default.ensures.position ord (always_returns_same _ _ _ (λ a r f called. search rules)))));
+      })
     ]
+
+pub returns-clause-gains : goal.returns-clause-gains
+returns-clause-gains g c = rw (← take_all c.loop-reference.reference-index c.args.references.now c.loop-reference-test.false) c.loop-reference.invariant.gains
