@@ -9,14 +9,14 @@ use nw_digest::{Digest, Shared, digest_of};
 use nw_script::Name;
 use nw_sig::DemoScheme;
 use std::alloc::Global;
-use std::collections::BTreeMap;
+use std::collections::HashMap;
 
 /// The committee of a script, and the blocks and tickets that are bound to names, whatever store is asked.
 #[derive(Drop)]
 pub struct Desk<'a> {
     pub(crate) committee: Shared<Committee>,
     pub(crate) names: Names<'a>,
-    tickets: BTreeMap<Name<'a>, Ticket<DemoScheme>>,
+    tickets: HashMap<&'a str, Ticket<DemoScheme>>,
 }
 
 impl<'a> Desk<'a> {
@@ -25,7 +25,7 @@ impl<'a> Desk<'a> {
         Desk {
             committee,
             names: Names::new(alloc),
-            tickets: BTreeMap::new(alloc),
+            tickets: HashMap::new(alloc),
         }
     }
 
@@ -39,13 +39,13 @@ impl<'a> Desk<'a> {
         Ok(self.bound(name)?.digest)
     }
 
-    pub(crate) fn bound(&self, name: Name<'a>) -> Result<&Bound<'a>, LineFault> {
+    pub(crate) fn bound(&self, name: Name<'a>) -> Result<&Bound, LineFault> {
         self.names.bound(name)
     }
 
     /// Whether the name stands for a ticket.
     pub(crate) fn has_ticket(&self, name: Name<'a>) -> bool {
-        self.tickets.contains_key(&name)
+        self.tickets.contains_key(name.as_str())
     }
 
     /// The answer to a causal read that has a list: binds the name to the ticket, or else tells the list.
@@ -61,7 +61,7 @@ impl<'a> Desk<'a> {
             drop(ticket);
             return listed;
         }
-        drop(self.tickets.insert(name, ticket)?);
+        drop(self.tickets.insert(name.as_str(), ticket)?);
         Ok(Answer::Told {
             name,
             words: "ready",
@@ -70,7 +70,7 @@ impl<'a> Desk<'a> {
 
     /// Walks the ticket of the name.
     pub(crate) fn walk(&self, alloc: Global, name: Name<'a>) -> Result<Answer<'a>, LineFault> {
-        let ticket = self.tickets.get(&name).ok_or(LineFault::Bad)?;
+        let ticket = self.tickets.get(name.as_str()).ok_or(LineFault::Bad)?;
         self.listed(alloc, name, ticket)
     }
 

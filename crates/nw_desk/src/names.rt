@@ -6,46 +6,50 @@ use nw_digest::{Digest, Round, Sequence};
 use nw_model::Wanted;
 use nw_script::Name;
 use std::alloc::Global;
-use std::collections::BTreeMap;
+use std::collections::HashMap;
 
-/// What a name stands for: a block that fits, its digest, and the first name that was bound to a block of that digest.
+/// What a name stands for: a block that fits, and its digest.
 #[derive(Drop)]
-pub struct Bound<'a> {
+pub struct Bound {
     pub block: Block,
     pub digest: Digest,
-    first_name: Name<'a>,
+}
+
+// What was bound first of a round and author.
+#[derive(Drop)]
+struct Slot<'a> {
+    name: Name<'a>,
+    digest: Digest,
+    // Whether nothing of another digest was bound since.
+    is_alone: bool,
 }
 
 /// The names of a script's blocks, and the first name of each digest.
 #[derive(Drop)]
 pub struct Names<'a> {
-    /// In the order in which they were bound. The maps say places in this list.
-    bound: Vec<Bound<'a>>,
-    places: BTreeMap<Name<'a>, usize>,
-    first_names: BTreeMap<Digest, Name<'a>>,
-    /// Of each round and author what was bound first, so that a block of a long list is not hashed to find its name.
-    slots: BTreeMap<(Round, u16), usize>,
+    bound: HashMap<&'a str, Bound>,
+    first_names: HashMap<[u8; 32], Name<'a>>,
+    /// By round and author, so that a block of a long list is not hashed to find its name.
+    slots: HashMap<(u64, u16), Slot<'a>>,
 }
 
 impl<'a> Names<'a> {
     pub fn new(alloc: Global) -> Names<'a> {
         Names {
-            bound: Vec::new(alloc),
-            places: BTreeMap::new(alloc),
-            first_names: BTreeMap::new(alloc),
-            slots: BTreeMap::new(alloc),
+            bound: HashMap::new(alloc),
+            first_names: HashMap::new(alloc),
+            slots: HashMap::new(alloc),
         }
     }
 
     /// Whether the name is bound.
     pub fn has(&self, name: Name<'a>) -> bool {
-        self.places.contains_key(&name)
+        self.bound.contains_key(name.as_str())
     }
 
     /// What the name stands for. The line is bad where it is not bound.
-    pub fn bound(&self, name: Name<'a>) -> Result<&Bound<'a>, LineFault> {
-        let place = self.places.get(&name).ok_or(LineFault::Bad)?;
-        self.bound.get(*place).ok_or(LineFault::Bad)
+    pub fn bound(&self, name: Name<'a>) -> Result<&Bound, LineFault> {
+        self.bound.get(name.as_str()).ok_or(LineFault::Bad)
     }
 
     /// References to the blocks of the names.
@@ -68,52 +72,52 @@ impl<'a> Names<'a> {
     /// Binds the name, which is free, to the block. The line is bad where the block does not fit.
     pub fn bind(&mut self, name: Name<'a>, block: Block) -> Result<(), LineFault> {
         let digest = digest_of(&block)?;
-        let first_name = self.keep(name, digest, block.round, block.author)?;
-        self.bound.push(Bound {
-            block,
-            digest,
-            first_name,
-        })?;
+        self.keep(name, digest, block.round, block.author)?;
+        drop(self.bound.insert(name.as_str(), Bound { block, digest })?);
         Ok(())
     }
 
-    // Keeps the place behind the others for the name, and for the digest and the round and author, if it is their first. Gives the
-    // first name of the digest.
+    // Keeps the name for the digest and for the round and author, if it is their first.
     fn keep(
         &mut self,
         name: Name<'a>,
         digest: Digest,
         round: Round,
         author: u16,
-    ) -> Result<Name<'a>, LineFault> {
-        let place = self.bound.len();
-        self.places.insert(name, place)?;
-        self.slots.entry((round, author))?.or_insert(place);
-        Ok(*self.first_names.entry(digest)?.or_insert(name))
+    ) -> Result<(), LineFault> {
+        self.first_names.entry(digest.0)?.or_insert(name);
+        let slot = self.slots.entry((round.get(), author))?.or_insert(Slot {
+            name,
+            digest,
+            is_alone: true,
+        });
+        if slot.digest != digest {
+            slot.is_alone = false;
+        }
+        Ok(())
     }
 
     /// The first name that was bound to a block of the digest. Each digest that a book answers has one.
     pub fn first_name(&self, digest: &Digest) -> Result<Name<'a>, LineFault> {
-        self.first_names.get(digest).copied().ok_or(LineFault::Bad)
-    }
-
-    // What was bound first of the round and author.
-    fn first_of(&self, round: Round, author: u16) -> Option<&Bound<'a>> {
-        self.bound.get(*self.slots.get(&(round, author))?)
+        self.first_names
+            .get(&digest.0)
+            .copied()
+            .ok_or(LineFault::Bad)
     }
 
     /// The first name that was bound to a block of the wanted one's digest.
     pub fn name_of_wanted(&self, wanted: &Wanted) -> Result<Name<'a>, LineFault> {
-        match self.first_of(wanted.round, wanted.author) {
-            Some(bound) if bound.digest == wanted.digest => Ok(bound.first_name),
+        match self.slots.get(&(wanted.round.get(), wanted.author)) {
+            Some(slot) if slot.digest == wanted.digest => Ok(slot.name),
             _ => self.first_name(&wanted.digest),
         }
     }
 
-    /// The first name that was bound to a block of this block's digest.
+    /// The first name that was bound to a block of this block's digest. A name was bound to it: each block that a book lists was
+    /// handed in by its name.
     pub fn name_of(&self, block: &Block) -> Result<Name<'a>, LineFault> {
-        match self.first_of(block.round, block.author) {
-            Some(bound) if bound.block == *block => Ok(bound.first_name),
+        match self.slots.get(&(block.round.get(), block.author)) {
+            Some(slot) if slot.is_alone || self.bound(slot.name)?.block == *block => Ok(slot.name),
             _ => self.first_name(&digest_of(block)?),
         }
     }

@@ -3,7 +3,10 @@
 use nw_check::{BlockFault, CertFault};
 use nw_model::{Counts, Wanted};
 use nw_script::Name;
-use std::fmt;
+use std::io::{self, Write};
+
+// How many digits a number below 2^64 has at most.
+const MOST_DIGITS: usize = 20;
 
 /// The answer to a request, which is printed on a line of its own.
 #[derive(Drop)]
@@ -62,12 +65,12 @@ pub enum Answer<'a> {
     /// The signers of the certificate that is kept.
     Signers {
         name: Name<'a>,
-        signers: Vec<u16>,
+        signers: Vec<u64>,
     },
     /// The names of the blocks of a causal list, of a block or a ticket.
     Listed {
         name: Name<'a>,
-        blocks: Vec<Name<'a>>,
+        blocks: Vec<&'a str>,
     },
     /// The parents that are wanted, and the first name of the digest of each.
     Missing {
@@ -77,7 +80,7 @@ pub enum Answer<'a> {
     /// How much is kept and how much is wanted.
     Status(Counts),
     /// A store was settled: the events of its history, and the calls of each session.
-    Settled(Vec<usize>),
+    Settled(Vec<u64>),
 }
 
 impl<'a> Answer<'a> {
@@ -90,94 +93,113 @@ impl<'a> Answer<'a> {
     }
 }
 
-impl fmt::Display for Answer<'_> {
-    fn fmt<W: fmt::Write>(&self, f: &mut fmt::Formatter<W>) -> fmt::Result {
+impl Answer<'_> {
+    /// Writes the line of the answer.
+    pub fn write<W: Write>(&self, out: &mut W) -> io::Result<()> {
         match self {
-            Answer::Words(words) => f.write_str(words),
-            Answer::Counted { words, number } => write_two(f, words, number),
-            Answer::Told { name, words } => write_two(f, name, words),
-            Answer::ToldOf { name, words, other } => write_three(f, name, words, other),
+            Answer::Words(words) => out.write_all(words.as_bytes()),
+            Answer::Counted { words, number } => {
+                out.write_all(words.as_bytes())?;
+                write_number(out, b' ', *number)
+            }
+            Answer::Told { name, words } => write_two(out, name.as_str(), words),
+            Answer::ToldOf { name, words, other } => {
+                write_two(out, name.as_str(), words)?;
+                write_behind(out, other.as_str())
+            }
             Answer::ToldCount {
                 name,
                 words,
                 number,
-            } => write_three(f, name, words, number),
-            Answer::Bound { name, body } => write_three(f, &"block", name, body),
-            Answer::BadBlock { name, fault } => write_three(f, name, &"refused", fault),
-            Answer::BadCert { name, fault } => write_three(f, name, &"refused", fault),
-            Answer::Bytes { name, hex } => write_two(f, name, hex),
-            Answer::Hash(hex) => f.write_str(hex.as_str()),
-            Answer::Gathered { name, votes } => write_list(f, name, "", votes.as_slice()),
-            Answer::Signers { name, signers } => write_signers(f, *name, signers.as_slice()),
-            Answer::Listed { name, blocks } => write_list(f, name, " causal", blocks.as_slice()),
-            Answer::Missing { wanted, names } => {
-                write_missing(f, wanted.as_slice(), names.as_slice())
+            } => {
+                write_two(out, name.as_str(), words)?;
+                write_number(out, b' ', *number)
             }
-            Answer::Status(counts) => write_status(f, counts),
-            Answer::Settled(counts) => write_list(f, &"settled", "", counts.as_slice()),
+            Answer::Bound { name, body } => {
+                write_two(out, "block", name.as_str())?;
+                write_number(out, b' ', *body as u64)
+            }
+            Answer::BadBlock { name, fault } => write!(out, "{name} refused {fault}"),
+            Answer::BadCert { name, fault } => write!(out, "{name} refused {fault}"),
+            Answer::Bytes { name, hex } => write_two(out, name.as_str(), hex.as_str()),
+            Answer::Hash(hex) => out.write_all(hex.as_bytes()),
+            Answer::Gathered { name, votes } => {
+                out.write_all(name.as_str().as_bytes())?;
+                write_list(out, votes)
+            }
+            Answer::Signers { name, signers } => {
+                write_two(out, name.as_str(), "certified by")?;
+                write_numbers(out, b',', signers)
+            }
+            Answer::Listed { name, blocks } => {
+                write_two(out, name.as_str(), "causal")?;
+                write_list(out, blocks)
+            }
+            Answer::Missing { wanted, names } => write_missing(out, wanted, names),
+            Answer::Status(counts) => write_status(out, counts),
+            Answer::Settled(counts) => {
+                out.write_all(b"settled")?;
+                write_numbers(out, b' ', counts)
+            }
+        }?;
+        out.write_all(b"\n")
+    }
+}
+
+fn write_two<W: Write>(out: &mut W, one: &str, two: &str) -> io::Result<()> {
+    out.write_all(one.as_bytes())?;
+    write_behind(out, two)
+}
+
+// The word behind a space.
+fn write_behind<W: Write>(out: &mut W, word: &str) -> io::Result<()> {
+    out.write_all(b" ")?;
+    out.write_all(word.as_bytes())
+}
+
+fn write_list<W: Write>(out: &mut W, words: &[&str]) -> io::Result<()> {
+    for word in words {
+        write_behind(out, word)?;
+    }
+    Ok(())
+}
+
+// The numbers behind a space, with this byte between two of them.
+fn write_numbers<W: Write>(out: &mut W, parting: u8, numbers: &[u64]) -> io::Result<()> {
+    let mut before = b' ';
+    for number in numbers {
+        write_number(out, before, *number)?;
+        before = parting;
+    }
+    Ok(())
+}
+
+// The number behind the byte.
+fn write_number<W: Write>(out: &mut W, before: u8, number: u64) -> io::Result<()> {
+    let mut text = [before; MOST_DIGITS + 1];
+    let mut rest = number;
+    for place in (0..MOST_DIGITS).rev() {
+        text[place + 1] = b'0' + (rest % 10) as u8;
+        rest /= 10;
+        if rest == 0 {
+            return out.write_all(&text[place..]);
         }
     }
+    out.write_all(&text)
 }
 
-fn write_two<W: fmt::Write, A: fmt::Display, B: fmt::Display>(
-    f: &mut fmt::Formatter<W>,
-    one: &A,
-    two: &B,
-) -> fmt::Result {
-    write!(f, "{one} {two}")
-}
-
-fn write_three<W: fmt::Write, A: fmt::Display, B: fmt::Display, C: fmt::Display>(
-    f: &mut fmt::Formatter<W>,
-    one: &A,
-    two: &B,
-    three: &C,
-) -> fmt::Result {
-    write!(f, "{one} {two} {three}")
-}
-
-// The subject, the words behind it, and each item behind a space.
-fn write_list<W: fmt::Write, A: fmt::Display, T: fmt::Display>(
-    f: &mut fmt::Formatter<W>,
-    subject: &A,
-    words: &str,
-    items: &[T],
-) -> fmt::Result {
-    write!(f, "{subject}{words}")?;
-    for item in items {
-        write!(f, " {item}")?;
-    }
-    Ok(())
-}
-
-// Numbers parted by commas.
-fn write_signers<W: fmt::Write>(
-    f: &mut fmt::Formatter<W>,
-    name: Name<'_>,
-    signers: &[u16],
-) -> fmt::Result {
-    write!(f, "{name} certified by")?;
-    let mut parting = " ";
-    for signer in signers {
-        write!(f, "{parting}{signer}")?;
-        parting = ",";
-    }
-    Ok(())
-}
-
-fn write_missing<W: fmt::Write>(
-    f: &mut fmt::Formatter<W>,
-    wanted: &[Wanted],
-    names: &[Name<'_>],
-) -> fmt::Result {
-    f.write_str("missing")?;
+fn write_missing<W: Write>(out: &mut W, wanted: &[Wanted], names: &[Name<'_>]) -> io::Result<()> {
+    out.write_all(b"missing")?;
     for (parent, name) in wanted.iter().zip(names) {
-        write!(f, " {}.{}.{name}", parent.round.get(), parent.author)?;
+        write_number(out, b' ', parent.round.get())?;
+        write_number(out, b'.', u64::from(parent.author))?;
+        out.write_all(b".")?;
+        out.write_all(name.as_str().as_bytes())?;
     }
     Ok(())
 }
 
-fn write_status<W: fmt::Write>(f: &mut fmt::Formatter<W>, counts: &Counts) -> fmt::Result {
+fn write_status<W: Write>(out: &mut W, counts: &Counts) -> io::Result<()> {
     let Counts {
         floor,
         blocks,
@@ -186,9 +208,9 @@ fn write_status<W: fmt::Write>(f: &mut fmt::Formatter<W>, counts: &Counts) -> fm
         wanted,
     } = counts;
     write!(
-        f,
+        out,
         "status g={} blocks={blocks} certificates={certificates}",
         floor.get()
     )?;
-    write!(f, " complete={complete} wanted={wanted}")
+    write!(out, " complete={complete} wanted={wanted}")
 }

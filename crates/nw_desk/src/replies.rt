@@ -142,14 +142,10 @@ impl<'a> Desk<'a> {
         })
     }
 
-    fn names_of(
-        &self,
-        alloc: Global,
-        blocks: &[Shared<Block>],
-    ) -> Result<Vec<Name<'a>>, LineFault> {
+    fn names_of(&self, alloc: Global, blocks: &[Shared<Block>]) -> Result<Vec<&'a str>, LineFault> {
         let mut names = Vec::with_capacity(alloc, blocks.len())?;
         for block in blocks {
-            names.push(self.names.name_of(block.get())?)?;
+            names.push(self.names.name_of(block.get())?.as_str())?;
         }
         Ok(names)
     }
@@ -184,7 +180,7 @@ fn signed<'a>(alloc: Global, name: Name<'a>, votes: &[Seal]) -> Result<Answer<'a
     }
     let mut signers = Vec::with_capacity(alloc, votes.len())?;
     for seal in votes {
-        signers.push(seal.signer)?;
+        signers.push(u64::from(seal.signer))?;
     }
     Ok(Answer::Signers { name, signers })
 }

@@ -84,7 +84,7 @@ fn gather_all(
     alloc: Global,
     gather: &mut Gather<DemoScheme>,
     signers: &[u16],
-    bound: &Bound<'_>,
+    bound: &Bound,
 ) -> Result<Vec<&'static str>, LineFault> {
     let mut votes = Vec::with_capacity(alloc, signers.len())?;
     for signer in signers {
@@ -97,7 +97,7 @@ fn gather_all(
 fn gathered(
     gather: &mut Gather<DemoScheme>,
     signer: u16,
-    bound: &Bound<'_>,
+    bound: &Bound,
 ) -> Result<&'static str, LineFault> {
     match gather.add(&vote(signer, bound.digest, &bound.block)) {
         Ok(Counted::Counted) => Ok("counted"),

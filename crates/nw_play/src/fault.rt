@@ -1,11 +1,10 @@
 //! Why a script ends before its end.
 ghost use Rattle.std.specs.Prelude.{◌≡◌};
 
-use nw_desk::LineFault;
+use nw_desk::{Answer, LineFault};
 use nw_digest::NoMemory;
 use nw_store::SettleFault;
 use std::alloc::{AllocError, AllocFailed};
-use std::fmt::Display;
 use std::io::{self, Write};
 use thiserror::Error;
 
@@ -73,9 +72,9 @@ impl PlayFault {
     }
 }
 
-/// Prints a line.
-pub(crate) fn print<W: Write, T: Display>(out: &mut W, line: &T) -> Result<(), PlayFault> {
-    written(writeln!(out, "{line}"))
+/// Prints the line of the answer.
+pub(crate) fn print<W: Write>(out: &mut W, answer: &Answer<'_>) -> Result<(), PlayFault> {
+    written(answer.write(out))
 }
 
 /// The fault of the script, where this is that of its writer.

@@ -3,7 +3,7 @@ ghost use Rattle.std.specs.Prelude.{◌<◌, length, IfSome, IsErr};
 ghost use Rattle.nw_play.specs.declared.input.TheConstants.{MAX_SCRIPT};
 
 use crate::books::{Start, first, first_committee};
-use crate::fault::{PlayFault, print, written};
+use crate::fault::{PlayFault, written};
 use crate::input::read_script;
 use crate::lines::Lines;
 use crate::stores::play_store;
@@ -49,7 +49,7 @@ fn play_script<Rt: Wait, W: Write>(
 ) -> Result<(), PlayFault> {
     let played = play_stores(rt, alloc, script, out);
     if let Err(fault @ (PlayFault::BadLine { .. } | PlayFault::Differs { .. })) = played {
-        print(out, &fault)?;
+        written(writeln!(out, "{fault}"))?;
     }
     played
 }

@@ -94,10 +94,10 @@ fn tally<'a, L: Home>(
     settled: &Settled<DemoScheme, L>,
 ) -> Result<Answer<'a>, PlayFault> {
     let mut counts = Vec::new(alloc);
-    counts.push(settled.history().len())?;
+    counts.push(settled.history().len() as u64)?;
     for session in 0..=u16::MAX {
         match calls_of(settled, session) {
-            Some(calls) => counts.push(calls)?,
+            Some(calls) => counts.push(calls as u64)?,
             None => break,
         }
     }

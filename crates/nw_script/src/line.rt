@@ -98,19 +98,19 @@ pub enum Request<'a> {
 
 /// The line that the bytes spell, without their line end. It is bad where they are not ASCII, or no line of the grammar.
 pub fn parse_line(alloc: Global, bytes: &[u8]) -> Result<Line<'_>, LineFault> {
-    if !bytes.is_ascii() {
+    let Ok(text) = str::from_utf8(bytes) else {
         return Err(LineFault::Bad);
-    }
-    let text = str::from_utf8(bytes).map_err(|_| LineFault::Bad)?;
-    if text.is_empty() || text.starts_with('#') {
+    };
+    // What is not ASCII is no comment, nor a word that a line may have.
+    if (text.is_empty() || text.starts_with('#')) && bytes.is_ascii() {
         return Ok(Line::Skipped);
     }
     let mut words = Words::new(text);
-    let line = match words.next()? {
-        "committee" => Line::Committee(committee(alloc, &mut words)?),
-        "limits" => Line::Limits(limits(&mut words)?),
-        "settle" => Line::Settle,
-        "reopen" => Line::Reopen,
+    let line = match words.next()?.as_bytes() {
+        b"committee" => Line::Committee(committee(alloc, &mut words)?),
+        b"limits" => Line::Limits(limits(&mut words)?),
+        b"settle" => Line::Settle,
+        b"reopen" => Line::Reopen,
         keyword => Line::Request(read_request(alloc, keyword, &mut words)?),
     };
     if words.is_empty() {
@@ -123,23 +123,23 @@ pub fn parse_line(alloc: Global, bytes: &[u8]) -> Result<Line<'_>, LineFault> {
 // The request that begins with this word and goes on with these. Words that ask the same are told apart by `named` and `signed`.
 fn read_request<'a>(
     alloc: Global,
-    keyword: &str,
+    keyword: &[u8],
     words: &mut Words<'a>,
 ) -> Result<Request<'a>, LineFault> {
     Ok(match keyword {
-        "block" => Request::Block(block(alloc, words)?),
-        "body" | "digest" | "read" | "certificate" | "causal" | "walk" => {
+        b"block" => Request::Block(block(alloc, words)?),
+        b"body" | b"digest" | b"read" | b"certificate" | b"causal" | b"walk" => {
             named(keyword, words.name()?)
         }
-        "hash" => Request::Hash(hashed(words)?),
-        "write" => write(words)?,
-        "certify" | "valid" | "gather" => signed(alloc, keyword, words)?,
-        "open" => open(words)?,
-        "collect" => Request::Collect(words.round()?),
-        "missing" => Request::Missing(words.member()?),
-        "status" => Request::Status,
-        "compact" => Request::Compact,
-        "session" => Request::Session(words.member()?),
+        b"hash" => Request::Hash(hashed(words)?),
+        b"write" => write(words)?,
+        b"certify" | b"valid" | b"gather" => signed(alloc, keyword, words)?,
+        b"open" => open(words)?,
+        b"collect" => Request::Collect(words.round()?),
+        b"missing" => Request::Missing(words.member()?),
+        b"status" => Request::Status,
+        b"compact" => Request::Compact,
+        b"session" => Request::Session(words.member()?),
         _ => return Err(LineFault::Bad),
     })
 }
@@ -169,13 +169,13 @@ fn open<'a>(words: &mut Words<'a>) -> Result<Request<'a>, LineFault> {
 }
 
 // What is asked of one name alone.
-fn named<'a>(keyword: &str, name: Name<'a>) -> Request<'a> {
+fn named<'a>(keyword: &[u8], name: Name<'a>) -> Request<'a> {
     match keyword {
-        "body" => Request::Body(name),
-        "digest" => Request::Digest(name),
-        "read" => Request::Read(name),
-        "certificate" => Request::Certificate(name),
-        "causal" => Request::Causal(name),
+        b"body" => Request::Body(name),
+        b"digest" => Request::Digest(name),
+        b"read" => Request::Read(name),
+        b"certificate" => Request::Certificate(name),
+        b"causal" => Request::Causal(name),
         _ => Request::Walk(name),
     }
 }
@@ -183,24 +183,24 @@ fn named<'a>(keyword: &str, name: Name<'a>) -> Request<'a> {
 // What is asked with the signatures of these members.
 fn signed<'a>(
     alloc: Global,
-    keyword: &str,
+    keyword: &[u8],
     words: &mut Words<'a>,
 ) -> Result<Request<'a>, LineFault> {
     let name = words.name()?;
     let signers = words.members(alloc)?;
     Ok(match keyword {
-        "certify" => Request::Certify { name, signers },
-        "valid" => Request::Valid { name, signers },
+        b"certify" => Request::Certify { name, signers },
+        b"valid" => Request::Valid { name, signers },
         _ => Request::Gather { name, signers },
     })
 }
 
 fn committee(alloc: Global, words: &mut Words<'_>) -> Result<CommitteeLine, LineFault> {
-    match words.next()? {
-        "v1" => Ok(CommitteeLine::Equal {
+    match words.next()?.as_bytes() {
+        b"v1" => Ok(CommitteeLine::Equal {
             members: words.limit()?,
         }),
-        "v2" => Ok(CommitteeLine::Weighted {
+        b"v2" => Ok(CommitteeLine::Weighted {
             weights: words.weights(alloc)?,
         }),
         _ => Err(LineFault::Bad),

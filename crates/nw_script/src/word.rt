@@ -25,6 +25,13 @@ impl<'a> Name<'a> {
     {
         is_name(word.as_bytes()).then_some(Name { text: word })
     }
+
+    /// The word that the name is.
+    pub fn as_str(&self) -> &'a str
+        ensures { result.now ≡ self.now.text.now }
+    {
+        self.text
+    }
 }
 
 impl fmt::Display for Name<'_> {
