@@ -1,8 +1,8 @@
 //! Walks: the blocks that happened before a block, in a view.
-ghost use Rattle.std.specs.Prelude.{◌≡◌, ◌+◌, ◌<◌, ◌≤◌, IfOk, OnOk, MatchOption, [], All, length, take, drop};
+ghost use Rattle.std.specs.Prelude.{◌≡◌, ◌+◌, ◌≤◌, IfOk, OnOk, [], All};
 ghost use Rattle.nw_model.specs.View.{HasParent, IsClosed, IsThere, IsWalk};
 ghost use Rattle.nw_model.specs.Search.{IsNamed, IsParentOfAny};
-ghost use Rattle.nw_causal.specs.Looked.{AreAt, AreFound, Gains, IsLevel, digests};
+ghost use Rattle.nw_causal.specs.Looked.{AreFound, Gains, IsLevel, digests};
 
 use crate::ancestor::Ancestor;
 use nw_codec::{Block, Ref};
@@ -68,7 +68,8 @@ fn find_parents_of_all<'a, A: Allocator>(
     requires level { IsLevel view.now.frozen (round + 1) level.now }
     requires empty { parents.old.items ≡ [] }
     ensures level { OnOk result (IsLevel view.now.frozen round parents.new.items) }
-    ensures gains { OnOk result (Gains (IsParentOfAny view.now.frozen (digests level.now)) parents.old.items parents.new.items) }
+    ensures gains { OnOk result (Gains (IsParentOfAny view.now.frozen (digests level.now))
+        parents.old.items parents.new.items) }
 {
     for child in level {
         let references = child.block.get().parents.as_slice();
@@ -89,7 +90,8 @@ fn find_parents<'a, A: Allocator>(
     requires there { All (HasParent view.now.frozen.blocks (round + 1)) references.now }
     requires level { IsLevel view.now.frozen round parents.old.items }
     ensures level { OnOk result (IsLevel view.now.frozen round parents.new.items) }
-    ensures gains { OnOk result (Gains (IsNamed references.now) parents.old.items parents.new.items) }
+    ensures gains { OnOk result
+        (Gains (IsNamed references.now) parents.old.items parents.new.items) }
 {
     for reference in references {
         let author = reference.author;

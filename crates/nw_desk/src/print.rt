@@ -1,12 +1,10 @@
 //! What is printed.
 
+use itoa::Buffer;
 use nw_check::{BlockFault, CertFault};
 use nw_model::{Counts, Wanted};
 use nw_script::Name;
 use std::io::{self, Write};
-
-// How many digits a number below 2^64 has at most.
-const MOST_DIGITS: usize = 20;
 
 /// The answer to a request, which is printed on a line of its own.
 #[derive(Drop)]
@@ -176,16 +174,8 @@ fn write_numbers<W: Write>(out: &mut W, parting: u8, numbers: &[u64]) -> io::Res
 
 // The number behind the byte.
 fn write_number<W: Write>(out: &mut W, before: u8, number: u64) -> io::Result<()> {
-    let mut text = [before; MOST_DIGITS + 1];
-    let mut rest = number;
-    for place in (0..MOST_DIGITS).rev() {
-        text[place + 1] = b'0' + (rest % 10) as u8;
-        rest /= 10;
-        if rest == 0 {
-            return out.write_all(&text[place..]);
-        }
-    }
-    out.write_all(&text)
+    out.write_all(&[before])?;
+    out.write_all(Buffer::new().format(number).as_bytes())
 }
 
 fn write_missing<W: Write>(out: &mut W, wanted: &[Wanted], names: &[Name<'_>]) -> io::Result<()> {
