@@ -15,7 +15,7 @@ const TRANSACTIONS: usize = 1_024;
 /// How many bytes a transaction has.
 const BYTES: usize = 512;
 
-/// The texts of a block's message and of its certificate's.
+/// A block's author and digest, and the texts of its message and of its certificate's.
 #[derive(Drop)]
 pub struct Pair {
     pub author: u16,

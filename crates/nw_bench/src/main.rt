@@ -4,8 +4,8 @@
 //! one member of a committee, checks them all with so many workers, and prints the milliseconds that the check took.
 //!
 //! `nw_bench node MEMBERS ROUNDS THREADS` makes the messages of a full DAG of so many members and rounds: of each block, which has
-//! as many transactions of 512 bytes as it may, and of its certificate. So many threads decode and check them, write and certify
-//! them in one store, and read a block of each round causally. It prints how many blocks were written and certified, how many
+//! as many transactions of 512 bytes as it may, and of its certificate. So many threads, 1 to 256, decode and check them, write and
+//! certify them in one store, and read a block of each round causally. It prints how many blocks were written and certified, how many
 //! the walks listed, and in milliseconds how long it all took, how long the threads together were in calls that write and certify,
 //! and how long one thread needs for the digests of the bodies alone.
 //!

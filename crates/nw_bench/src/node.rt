@@ -19,7 +19,7 @@ use std::sync::Wait;
 use std::thread::{Threads, for_each_mut};
 use std::time::{Clock, Duration, Instant};
 
-/// The limits of the store: the largest.
+/// The largest limits that a store may have.
 const LIMITS: Limits = Limits {
     blocks: MOST_BLOCKS,
     events: MOST_EVENTS,

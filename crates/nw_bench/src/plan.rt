@@ -23,7 +23,8 @@ impl Plan {
     /// The plan of the program's name and three numbers: at most `MOST_BYTES` bytes and 1 to `MOST_WORKERS` workers.
     pub fn read(words: &[String]) -> Option<Plan>
         ensures bytes { IfSome result (λ plan. plan.bytes ≤ MOST_BYTES) }
-        ensures workers { IfSome result (λ plan. (1 ≤ plan.workers) × (plan.workers ≤ MOST_WORKERS)) }
+        ensures workers { IfSome result
+            (λ plan. (1 ≤ plan.workers) × (plan.workers ≤ MOST_WORKERS)) }
     {
         let [_, messages, bytes, workers] = words else {
             return None;
@@ -47,7 +48,7 @@ pub struct NodePlan {
 }
 
 impl NodePlan {
-    /// The plan of the program's name, the word `node` and three numbers: 1 to `MOST_SESSIONS` threads, each of which is a session.
+    /// The plan of the program's name, the word `node` and three numbers: 1 to `MOST_SESSIONS` threads, each with a session of its own.
     pub fn read(words: &[String]) -> Option<NodePlan>
         ensures { IfSome result
             (λ plan. (1 ≤ plan.threads) × (plan.threads ≤ MOST_SESSIONS)) }

@@ -63,7 +63,7 @@ pub enum Answer<'a> {
     /// The signers of the certificate that is kept.
     Signers {
         name: Name<'a>,
-        signers: Vec<u64>,
+        signers: Vec<u16>,
     },
     /// The names of the blocks of a causal list, of a block or a ticket.
     Listed {
@@ -78,7 +78,7 @@ pub enum Answer<'a> {
     /// How much is kept and how much is wanted.
     Status(Counts),
     /// A store was settled: the events of its history, and the calls of each session.
-    Settled(Vec<u64>),
+    Settled(Vec<usize>),
 }
 
 impl<'a> Answer<'a> {
@@ -94,12 +94,14 @@ impl<'a> Answer<'a> {
 impl Answer<'_> {
     /// Writes the line of the answer.
     pub fn write<W: Write>(&self, out: &mut W) -> io::Result<()> {
+        self.write_words(out)?;
+        out.write_all(b"\n")
+    }
+
+    fn write_words<W: Write>(&self, out: &mut W) -> io::Result<()> {
         match self {
             Answer::Words(words) => out.write_all(words.as_bytes()),
-            Answer::Counted { words, number } => {
-                out.write_all(words.as_bytes())?;
-                write_number(out, b' ', *number)
-            }
+            Answer::Counted { words, number } => write_count(out, words, *number),
             Answer::Told { name, words } => write_two(out, name.as_str(), words),
             Answer::ToldOf { name, words, other } => {
                 write_two(out, name.as_str(), words)?;
@@ -121,27 +123,19 @@ impl Answer<'_> {
             Answer::BadCert { name, fault } => write!(out, "{name} refused {fault}"),
             Answer::Bytes { name, hex } => write_two(out, name.as_str(), hex.as_str()),
             Answer::Hash(hex) => out.write_all(hex.as_bytes()),
-            Answer::Gathered { name, votes } => {
-                out.write_all(name.as_str().as_bytes())?;
-                write_list(out, votes)
-            }
-            Answer::Signers { name, signers } => {
-                write_two(out, name.as_str(), "certified by")?;
-                write_numbers(out, b',', signers)
-            }
-            Answer::Listed { name, blocks } => {
-                write_two(out, name.as_str(), "causal")?;
-                write_list(out, blocks)
-            }
+            Answer::Gathered { name, votes } => write_list(out, name.as_str(), "", votes),
+            Answer::Signers { name, signers } => write_signers(out, name.as_str(), signers),
+            Answer::Listed { name, blocks } => write_list(out, name.as_str(), " causal", blocks),
             Answer::Missing { wanted, names } => write_missing(out, wanted, names),
             Answer::Status(counts) => write_status(out, counts),
-            Answer::Settled(counts) => {
-                out.write_all(b"settled")?;
-                write_numbers(out, b' ', counts)
-            }
-        }?;
-        out.write_all(b"\n")
+            Answer::Settled(counts) => write_settled(out, counts),
+        }
     }
+}
+
+fn write_count<W: Write>(out: &mut W, words: &str, number: u64) -> io::Result<()> {
+    out.write_all(words.as_bytes())?;
+    write_number(out, b' ', number)
 }
 
 fn write_two<W: Write>(out: &mut W, one: &str, two: &str) -> io::Result<()> {
@@ -155,27 +149,39 @@ fn write_behind<W: Write>(out: &mut W, word: &str) -> io::Result<()> {
     out.write_all(word.as_bytes())
 }
 
-fn write_list<W: Write>(out: &mut W, words: &[&str]) -> io::Result<()> {
-    for word in words {
-        write_behind(out, word)?;
-    }
-    Ok(())
-}
-
-// The numbers behind a space, with this byte between two of them.
-fn write_numbers<W: Write>(out: &mut W, parting: u8, numbers: &[u64]) -> io::Result<()> {
-    let mut before = b' ';
-    for number in numbers {
-        write_number(out, before, *number)?;
-        before = parting;
-    }
-    Ok(())
-}
-
 // The number behind the byte.
 fn write_number<W: Write>(out: &mut W, before: u8, number: u64) -> io::Result<()> {
     out.write_all(&[before])?;
     out.write_all(Buffer::new().format(number).as_bytes())
+}
+
+// The name, the words behind it, and each item behind a space.
+fn write_list<W: Write>(out: &mut W, name: &str, words: &str, items: &[&str]) -> io::Result<()> {
+    out.write_all(name.as_bytes())?;
+    out.write_all(words.as_bytes())?;
+    for item in items {
+        write_behind(out, item)?;
+    }
+    Ok(())
+}
+
+// Numbers parted by commas.
+fn write_signers<W: Write>(out: &mut W, name: &str, signers: &[u16]) -> io::Result<()> {
+    write_two(out, name, "certified by")?;
+    let mut before = b' ';
+    for signer in signers {
+        write_number(out, before, u64::from(*signer))?;
+        before = b',';
+    }
+    Ok(())
+}
+
+fn write_settled<W: Write>(out: &mut W, counts: &[usize]) -> io::Result<()> {
+    out.write_all(b"settled")?;
+    for count in counts {
+        write_number(out, b' ', *count as u64)?;
+    }
+    Ok(())
 }
 
 fn write_missing<W: Write>(out: &mut W, wanted: &[Wanted], names: &[Name<'_>]) -> io::Result<()> {

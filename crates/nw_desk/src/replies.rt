@@ -180,7 +180,7 @@ fn signed<'a>(alloc: Global, name: Name<'a>, votes: &[Seal]) -> Result<Answer<'a
     }
     let mut signers = Vec::with_capacity(alloc, votes.len())?;
     for seal in votes {
-        signers.push(u64::from(seal.signer))?;
+        signers.push(seal.signer)?;
     }
     Ok(Answer::Signers { name, signers })
 }

@@ -94,10 +94,10 @@ fn tally<'a, L: Home>(
     settled: &Settled<DemoScheme, L>,
 ) -> Result<Answer<'a>, PlayFault> {
     let mut counts = Vec::new(alloc);
-    counts.push(settled.history().len() as u64)?;
+    counts.push(settled.history().len())?;
     for session in 0..=u16::MAX {
         match calls_of(settled, session) {
-            Some(calls) => counts.push(calls as u64)?,
+            Some(calls) => counts.push(calls)?,
             None => break,
         }
     }
