@@ -2,14 +2,12 @@
 use denote.RattleType.{RattleType}
 use denote.Param.Send.{IsSend, IsSync, sendable, view_send, view_sync}
 use denote.Param.SendFields.{declared_send, declared_sync}
-use Rattle.std.proofs.Crossing.{crosses, frees, send, sync}
-use Rattle.std.specs.contracts.alloc.Global as global
-use Rattle.std.specs.contracts.impls.GlobalAllocator.TheImpl.{ghosts}
+use Rattle.std.proofs.Crossing.{crosses}
 use Rattle.nw_digest.proofs.digest.Digest.TheSendSync as digest
 use Rattle.nw_model.proofs.reply.Reply.TheSendSync as reply
-use Rattle.nw_generation.proofs.Sent.{seen_send, seen_sync}
+use Rattle.nw_generation.proofs.view.View.TheSendSync as view
 use Rattle.nw_dag.proofs.Sent.{dag_send}
-use Rattle.nw_history.proofs.Sent.{front_send, front_sync, history_send}
+use Rattle.nw_history.proofs.Sent.{front_send, front_sync}
 use Rattle.nw_sig.specs.declared.scheme.Scheme.{Ghosts}
 use Rattle.nw_book.specs.contracts.book.Book as book
 use Rattle.nw_book.specs.contracts.book.Book.TheInside as book_inside
@@ -19,7 +17,7 @@ use Rattle.nw_book.specs.contracts.ticket.Ticket.TheInside as ticket_inside
 
 module _ (S : RattleType) (g : Ghosts S.Denot) where
   pub book_send : IsSend (book.the_row S g)
-  book_send = view_send (book_inside.the_row S g) _ _ _ _ (declared_send (book_inside.the_type S g) (history_send S g, (dag_send, (search (sendable, crosses) depth 30, tt))))
+  book_send = view_send (book_inside.the_row S g) _ _ _ _ (declared_send (book_inside.the_type S g) (front_send S g, (dag_send, (search (sendable, crosses) depth 30, tt))))
 
   pub done_send : IsSend (done.the_row S g)
   done_send = declared_send (done.the_type S g) (reply.the_send, (front_send S g, tt))
@@ -28,7 +26,7 @@ module _ (S : RattleType) (g : Ghosts S.Denot) where
   done_sync = declared_sync (done.the_type S g) (reply.the_sync, (front_sync S g, tt))
 
   pub ticket_send : IsSend (ticket.the_row S g)
-  ticket_send = view_send (ticket_inside.the_row S g) _ _ _ _ (declared_send (ticket_inside.the_type S g) (digest.the_send, (front_send S g, (seen_send global.the_row ghosts send sync frees, tt))))
+  ticket_send = view_send (ticket_inside.the_row S g) _ _ _ _ (declared_send (ticket_inside.the_type S g) (digest.the_send, (front_send S g, (view.the_send, tt))))
 
   pub ticket_sync : IsSync (ticket.the_row S g)
-  ticket_sync = view_sync (ticket_inside.the_row S g) _ _ _ _ (declared_sync (ticket_inside.the_type S g) (digest.the_sync, (front_sync S g, (seen_sync global.the_row ghosts send sync frees, tt))))
+  ticket_sync = view_sync (ticket_inside.the_row S g) _ _ _ _ (declared_sync (ticket_inside.the_type S g) (digest.the_sync, (front_sync S g, (view.the_sync, tt))))

@@ -83,7 +83,7 @@ impl<S: Scheme> Book<S> {
             blocks: limits.blocks,
             window: limits.window,
         };
-        let history = History::new(alloc, committee, limits)?;
+        let history = Front::new(alloc, committee, limits)?;
         match vec![in alloc; 0u32; limits.sessions as usize] {
             Ok(calls) => Ok(Book {
                 history,
@@ -160,7 +160,7 @@ impl<S: Scheme> Book<S> {
     }
 
     /// Lets later tickets share one copy of what is complete, without what was collected. Nothing else changes: not the
-    /// history, no reply, and no ticket of before. It costs what is held; want of memory changes nothing, and may be asked
+    /// history, no reply, and no ticket of before. It costs what is frozen; want of memory changes nothing, and may be asked
     /// again.
     pub fn compact(&mut self, alloc: Global) -> Result<(), NoMemory>
         ensures { self.new ≡ self.old }

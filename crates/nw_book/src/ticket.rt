@@ -22,7 +22,7 @@ use std::marker::Model;
 pub struct Ticket<S: Scheme> {
     digest: Digest,
     front: Front<S>,
-    view: View<Global>,
+    view: View,
 }
 
 impl<S: Scheme> Model for Ticket<S> {
@@ -43,7 +43,7 @@ impl<S: Scheme> Model for Ticket<S> {
 
 impl<S: Scheme> Ticket<S> {
     /// The ticket for the digest at the front, over a view of what is complete there.
-    pub(crate) fn new(digest: Digest, front: Front<S>, view: View<Global>) -> Ticket<S>
+    pub(crate) fn new(digest: Digest, front: Front<S>, view: View) -> Ticket<S>
         requires { IsTicketWith S.accepts (record { digest = digest; front = front }) view.frozen }
         ensures { result ≡ record { digest = digest; front = front } }
     {
@@ -71,7 +71,7 @@ impl<S: Scheme> Ticket<S> {
     }
 
     /// The blocks that are complete after the front, as they were then.
-    pub fn view(&self) -> &View<Global>
+    pub fn view(&self) -> &View
         ensures shows { Shows result.now.frozen (state_of self.now.front) }
         ensures floor { result.now.frozen.floor ≡ (state_of self.now.front).floor }
         ensures ticket { IsTicket S.accepts self.now }

@@ -10,7 +10,7 @@ use Rattle.std.specs.FinMap.{get}
 use Rattle.std.proofs.lemmas.Bool.{cases_lt}
 use Rattle.std.proofs.lemmas.Bool.Decides.{nat_tests}
 use Rattle.std.proofs.lemmas.Cmp.{ranked}
-use Rattle.std.proofs.lemmas.List.{take-append-drop, length-map, length-reverse, length-drop, length-take-le, get_or-map, get_or-take, get_or-drop, get_or-reverse}
+use Rattle.std.proofs.lemmas.List.{take-append-drop, length-map, length-reverse, length-drop, length-take-le, reverse-append, get_or-map, get_or-take, get_or-drop, get_or-reverse}
 use Rattle.std.proofs.lemmas.List.Elements.{All-nil, All-cons, All-head, All-tail, All-append, All-from_recursion, Contains-get_or, recursion_from_All}
 use Rattle.std.proofs.lemmas.List.Sorted.{All-permutation, Contains-permutation, IsPermutation-insert, IsPermutation-map, IsPermutation-reverse, IsPermutation-sym}
 use Rattle.std.proofs.lemmas.Map.Keys.{Less-from_sorted, sorted_from_all_adjacent}
@@ -104,6 +104,14 @@ blocks_at v (x ∷ xs) at =
     let first : get v.blocks x.digest ≡ Some x.block.now = at.0 in
     let rest : map (get v.blocks) (digests xs) ≡ map Some (blocks xs) = blocks_at v xs at.1 in
     cc
+
+-- the last of some ancestors is the first from the end
+pub back_first : (rest : List Ancestor) (a : Ancestor) → blocks (reverse (rest ++ a ∷ [])) ≡ a.block.now ∷ blocks (reverse rest)
+back_first rest a = ap blocks (reverse-append rest (a ∷ []))
+
+pub none_back : (rest : List Ancestor) → length rest ≡ 0 → blocks (reverse rest) ≡ []
+none_back [] none = refl
+none_back (a ∷ rest) none = absurd (omega (arith, none))
 
 -- the blocks of what was found are the walk, from the last to the first
 pub walk_of : (v : Frozen) (d : Digest) (found : List Ancestor) → AreFound v d found → IsWalk v d (blocks (reverse found))

@@ -25,13 +25,13 @@ AreAt v = All (λ (a : Ancestor). get v.blocks a.digest ≡ Some a.block.now)
 abbrev pub descending : Ancestor → Ancestor → Ordering
 descending a b = block_cmp b.block.now a.block.now
 
--- ancestors of one round, in order
+-- ancestors of one round, from the last author to the first
 pub record IsLevel (v : Frozen) (round : ℕ) (level : List Ancestor) : Type 0 where
   pub at : AreAt v level
   pub rounds : All (λ (a : Ancestor). a.block.now.round ≡ round) level
   pub order : IsStrictlySortedBy descending level
 
--- exactly the ancestors of d, in order
+-- exactly the ancestors of d, from the last to the first
 pub record AreFound (v : Frozen) (d : Digest) (found : List Ancestor) : Type 0 where
   pub at : AreAt v found
   pub exactly : (e : Digest) → Contains (digests found) e ↔ IsAncestorIn v d e

@@ -8,7 +8,7 @@ use crate::walks::ancestors;
 use nw_codec::Block;
 use nw_digest::{Digest, NoMemory, Round, Shared};
 use nw_generation::View;
-use std::alloc::{Allocator, Global};
+use std::alloc::Global;
 
 /// What two walks of one digest show.
 #[derive(Debug, Drop)]
@@ -28,12 +28,7 @@ pub enum Agreement {
 /// that stand under one digest, neither below the floor.
 ///
 /// It finds the ancestors in the first view, and looks each up in the other.
-pub fn agree<A: Allocator>(
-    alloc: Global,
-    one: &View<A>,
-    other: &View<A>,
-    digest: Digest,
-) -> Result<Agreement, NoMemory>
+pub fn agree(alloc: Global, one: &View, other: &View, digest: Digest) -> Result<Agreement, NoMemory>
     requires floor { one.now.frozen.floor ≡ other.now.frozen.floor }
     requires in_one { (b : Block) × IsThere one.now.frozen digest b }
     requires in_other { (b : Block) × IsThere other.now.frozen digest b }
@@ -54,8 +49,8 @@ pub fn agree<A: Allocator>(
 }
 
 /// The block under the digest in the other view, where it differs from the ancestor's and neither is below the floor.
-fn rival<A: Allocator>(
-    other: &View<A>,
+fn rival(
+    other: &View,
     floor: Round,
     ancestor: &Ancestor<'_>,
 ) -> Result<Option<Shared<Block>>, NoMemory>

@@ -7,7 +7,6 @@ ghost use Rattle.nw_generation.specs.Seen.{IsOf};
 use nw_codec::Block;
 use nw_digest::{Digest, Round, Shared};
 use nw_generation::View;
-use std::alloc::Allocator;
 
 /// A digest, and the block that stands under it in the view.
 #[derive(Drop)]
@@ -18,11 +17,7 @@ pub(crate) struct Ancestor<'a> {
 
 impl<'a> Ancestor<'a> {
     /// The digest with its block, which the view has, of this round where one is named: one look-up.
-    pub(crate) fn look_up<A: Allocator>(
-        view: &'a View<A>,
-        round: Option<Round>,
-        digest: Digest,
-    ) -> Ancestor<'a>
+    pub(crate) fn look_up(view: &'a View, round: Option<Round>, digest: Digest) -> Ancestor<'a>
         requires there { (b : Block) × (map.get view.now.frozen.blocks digest ≡ Some b) }
         requires round { IsOf round (map.get view.now.frozen.blocks digest) }
         ensures digest { result.digest ≡ digest }

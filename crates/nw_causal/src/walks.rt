@@ -8,33 +8,28 @@ use crate::ancestor::Ancestor;
 use nw_codec::{Block, Ref};
 use nw_digest::{Digest, NoMemory, Round, Shared};
 use nw_generation::View;
-use std::alloc::{Allocator, Global};
+use std::alloc::Global;
 use std::mem::swap;
 
 /// The block under the digest and all its ancestors in the view, strictly ascending by round and author.
 ///
 /// It goes round by round, from the block's own down to the floor; each block is looked up once, however many refer to it.
-pub fn walk<A: Allocator>(
-    alloc: Global,
-    view: &View<A>,
-    digest: Digest,
-) -> Result<Vec<Shared<Block>>, NoMemory>
+pub fn walk(alloc: Global, view: &View, digest: Digest) -> Result<Vec<Shared<Block>>, NoMemory>
     requires { (b : Block) × IsThere view.now.frozen digest b }
     ensures { IfOk result (λ blocks. IsWalk view.now.frozen digest blocks.items) }
 {
-    let mut found = ancestors(alloc, view, digest)?;
-    found.reverse();
+    let found = ancestors(alloc, view, digest)?;
     let mut blocks = Vec::with_capacity(alloc, found.len())?;
-    for ancestor in &found {
+    for ancestor in found.iter().rev() {
         blocks.push(ancestor.block.try_clone()?)?;
     }
     Ok(blocks)
 }
 
 /// The ancestors, strictly descending by round and author.
-pub(crate) fn ancestors<'a, A: Allocator>(
+pub(crate) fn ancestors<'a>(
     alloc: Global,
-    view: &'a View<A>,
+    view: &'a View,
     digest: Digest,
 ) -> Result<Vec<Ancestor<'a>>, NoMemory>
     requires { (b : Block) × IsThere view.now.frozen digest b }
@@ -57,8 +52,8 @@ pub(crate) fn ancestors<'a, A: Allocator>(
 }
 
 /// Finds the parents, of this round, of all blocks of the round after it.
-fn find_parents_of_all<'a, A: Allocator>(
-    view: &'a View<A>,
+fn find_parents_of_all<'a>(
+    view: &'a View,
     round: Round,
     level: &[Ancestor<'a>],
     parents: &mut Vec<Ancestor<'a>>,
@@ -78,9 +73,10 @@ fn find_parents_of_all<'a, A: Allocator>(
     Ok(())
 }
 
-/// Finds the blocks of the round that are referred to. A reference tells the author, so that each block is looked up once.
-fn find_parents<'a, A: Allocator>(
-    view: &'a View<A>,
+/// Adds the blocks of the round that are referred to, descending by author. A reference tells the author, so that each block is
+/// looked up once.
+fn find_parents<'a>(
+    view: &'a View,
     round: Round,
     references: &[Ref],
     parents: &mut Vec<Ancestor<'a>>,

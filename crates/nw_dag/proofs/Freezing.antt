@@ -3,7 +3,7 @@ use Rattle.std.proofs.Common.{◌≡◌, ◌⊎◌, ℕ, Bool, true, false, cond
 use Rattle.std.specs.Prelude.{Contains}
 use Rattle.std.specs.Option.{option_or}
 use Rattle.std.specs.Ordering.{eq_by_cmp}
-use Rattle.std.specs.FinMap.{FinMap, get, empty, insert, get-empty, get-insert}
+use Rattle.std.specs.FinMap.{FinMap, get, empty, insert, get-empty, get-insert, same_map}
 use Rattle.std.proofs.lemmas.List.Elements.{Contains-append_cases, Contains-append_left, Contains-append_right}
 use Rattle.nw_digest.specs.declared.digest.Digest.{Digest}
 use Rattle.nw_codec.specs.declared.block.Block.{Block}
@@ -16,7 +16,7 @@ use Rattle.nw_model.specs.Sound.{IsSound}
 use Rattle.nw_model.specs.View.{Frozen, IsClosed, Shows}
 use Rattle.nw_model.proofs.Complete.{one_block, parents_complete}
 use Rattle.nw_model.proofs.Kept.{after_insert, at_insert, same_digest}
-use Rattle.nw_model.proofs.Maps.{digests_total}
+use Rattle.nw_model.proofs.Maps.{digests_apart, digests_total}
 use Rattle.nw_model.proofs.Raised.{is_kept, was_there}
 use Rattle.nw_model.proofs.Listed.{contains_cases, contains_first, contains_none}
 use Rattle.nw_generation.specs.Seen.{IsOver}
@@ -108,6 +108,15 @@ frozen_over s lacking fresh older newer blocks was ready are over d b kept = (λ
       | inl there ↦ later (get newer d) refl held.1 there
       | inr among ↦ ap (λ f. option_or f (get older d)) ((are d b).1 (among, held.1))
     ]
+
+-- one generation over none
+pub over_nothing : (newer older both : FinMap digest_cmp Block) → older ≡ empty → IsOver newer older both → both ≡ newer
+over_nothing newer older both none over = same_map digests_total digests_apart both newer (λ d.
+    over d ∙ ap (option_or (get newer d)) (ap (λ (m : FinMap digest_cmp Block). get m d) none ∙ get-empty digest_cmp d) ∙ alone (get newer d))
+  where
+    alone : (found : Option Block) → option_or found None ≡ found
+    alone None = refl
+    alone (Some b) = refl
 
 -- ---- the blocks that are held under digests
 

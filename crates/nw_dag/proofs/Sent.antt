@@ -1,11 +1,9 @@
 -- The tables of a store may cross to another thread.
 use denote.Param.Send.{IsSend, sendable, view_send}
 use denote.Param.SendFields.{declared_send}
-use Rattle.std.proofs.Crossing.{crosses, frees, send, sync}
-use Rattle.std.specs.contracts.alloc.Global as global
-use Rattle.std.specs.contracts.impls.GlobalAllocator.TheImpl.{ghosts}
+use Rattle.std.proofs.Crossing.{crosses}
 use Rattle.nw_waiting.proofs.waiting.Waiting.TheSendSync as waiting
-use Rattle.nw_generation.proofs.Sent.{generations_send}
+use Rattle.nw_generation.proofs.generations.Generations.TheSendSync as generations
 use Rattle.nw_held.proofs.Sent.{held_send}
 use Rattle.nw_dag.specs.contracts.dag.Dag as dag
 use Rattle.nw_dag.specs.contracts.dag.Dag.TheInside as dag_inside
@@ -20,7 +18,7 @@ waits_send : IsSend waits.the_row
 waits_send = declared_send waits.the_type (search (sendable, crosses, waiting.the_send) depth 30, (search (sendable, crosses, waiting.the_send) depth 30, (roll_send, tt)))
 
 frozen_send : IsSend frozen.the_row
-frozen_send = declared_send frozen.the_type (generations_send global.the_row ghosts send sync frees, tt)
+frozen_send = declared_send frozen.the_type (generations.the_send, tt)
 
 pub dag_send : IsSend dag.the_row
 dag_send = view_send dag_inside.the_row _ _ _ _ (declared_send dag_inside.the_type (held_send, (waits_send, (frozen_send, tt))))

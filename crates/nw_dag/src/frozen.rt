@@ -17,7 +17,7 @@ use std::alloc::Global;
 /// The generations of the blocks that were complete at the last view.
 #[derive(Drop)]
 pub(crate) struct Frozen {
-    generations: Generations<Global>,
+    generations: Generations,
 }
 
 impl Frozen {
@@ -30,9 +30,33 @@ impl Frozen {
         }
     }
 
-    /// Freezes the blocks that became complete since the last view, as one more generation, or none where none did. Where
-    /// there are as many as there may be, all that is frozen becomes one generation first. Want of memory changes nothing.
-    pub(crate) fn add(&mut self, alloc: Global, held: &Held, waits: &Waits) -> Result<(), NoMemory>
+    /// Freezes the blocks that became complete since the last view, as one more generation, or none where none did, and lists
+    /// them no more. Where there are as many generations as there may be, they become one first. Want of memory changes nothing
+    /// but that what was collected is listed no more.
+    pub(crate) fn freeze(
+        &mut self,
+        alloc: Global,
+        held: &Held,
+        waits: &mut Waits,
+    ) -> Result<(), NoMemory>
+        requires frozen { AreFrozenBut held.now.state waits.old.lacking waits.old.roll.fresh.items
+            self.old.generations.blocks }
+        ensures all { OnOk result
+            (AreFrozen held.now.state waits.old.lacking self.new.generations.blocks) }
+        ensures frozen { AreFrozenBut held.now.state waits.old.lacking waits.new.roll.fresh.items
+            self.new.generations.blocks }
+        ensures unmet { waits.new.unmet ≡ waits.old.unmet }
+        ensures lacking { waits.new.lacking ≡ waits.old.lacking }
+        ensures pending { waits.new.roll.pending ≡ waits.old.roll.pending }
+    {
+        waits.drop_stale(held);
+        self.add(alloc, held, waits)?;
+        waits.clear_fresh();
+        Ok(())
+    }
+
+    /// Freezes the blocks that are listed, all of them complete.
+    fn add(&mut self, alloc: Global, held: &Held, waits: &Waits) -> Result<(), NoMemory>
         requires frozen { AreFrozenBut held.now.state waits.now.lacking waits.now.roll.fresh.items
             self.old.generations.blocks }
         requires fresh { (d : Digest) → Contains waits.now.roll.fresh.items d
@@ -46,7 +70,7 @@ impl Frozen {
         }
         let fresh = freeze_held(alloc, held, waits.fresh())?;
         if self.generations.parts() == MOST_PARTS {
-            let mut generations = alone(alloc, self.not_below(alloc, held.floor())?)?;
+            let mut generations = self.joined(alloc, held)?;
             generations.push(fresh)?;
             self.generations = generations;
         } else {
@@ -55,39 +79,30 @@ impl Frozen {
         Ok(())
     }
 
-    /// Freezes the complete blocks anew, as one generation in the place of all. Want of memory changes nothing.
-    pub(crate) fn join(&mut self, alloc: Global, held: &Held, waits: &Waits) -> Result<(), NoMemory>
-        requires frozen { AreFrozenBut held.now.state waits.now.lacking waits.now.roll.fresh.items
-            self.old.generations.blocks }
-        requires fresh { (d : Digest) → Contains waits.now.roll.fresh.items d
-            → IsReady held.now.state waits.now.lacking d }
-        ensures all { OnOk result
-            (AreFrozen held.now.state waits.now.lacking self.new.generations.blocks) }
+    /// Puts one generation in the place of all, without what is below the garbage round. Want of memory changes nothing.
+    pub(crate) fn join(&mut self, alloc: Global, held: &Held) -> Result<(), NoMemory>
+        ensures blocks { OnOk result (self.new.generations.blocks
+            ≡ from_round (λ (b : Block). b.round) held.now.state.floor self.old.generations.blocks) }
         ensures unchanged { OnErr result (self.new ≡ self.old) }
     {
-        let newest = freeze_held(alloc, held, waits.fresh())?;
-        let mut trie = self.not_below(alloc, held.floor())?;
-        newest.lay_over(&mut trie)?;
-        self.generations = alone(alloc, trie)?;
+        self.generations = self.joined(alloc, held)?;
         Ok(())
     }
 
-    /// What is frozen and not below the round. It costs what is frozen, and looks at nothing that is held.
-    fn not_below(
-        &self,
-        alloc: Global,
-        round: Round,
-    ) -> Result<Trie<Shared<Block>, Global>, NoMemory>
-        ensures { IfOk result (λ trie. map.from_entries trie
-            ≡ from_round (λ (b : Block). b.round) round self.now.generations.blocks) }
+    /// What is frozen and not below the garbage round, as one generation. It costs what is frozen, and looks at nothing that is
+    /// held.
+    fn joined(&self, alloc: Global, held: &Held) -> Result<Generations, NoMemory>
+        ensures blocks { IfOk result (λ generations. generations.blocks
+            ≡ from_round (λ (b : Block). b.round) held.now.state.floor self.now.generations.blocks) }
+        ensures parts { IfOk result (λ generations. generations.parts ≡ 1) }
     {
-        let mut trie = self.generations.joined(alloc)?;
-        trie.retain_rounds(round);
-        Ok(trie)
+        let mut generations = Generations::new(alloc);
+        generations.push(self.generations.joined(alloc, held.floor())?)?;
+        Ok(generations)
     }
 
     /// A view of what is frozen.
-    pub(crate) fn view(&self, alloc: Global, floor: Round) -> Result<View<Global>, NoMemory>
+    pub(crate) fn view(&self, alloc: Global, floor: Round) -> Result<View, NoMemory>
         requires { IsClosed (record { blocks = self.now.generations.blocks; floor = floor }) }
         ensures { IfOk result
             (λ view. view.frozen ≡ record { blocks = self.now.generations.blocks; floor = floor }) }
@@ -96,22 +111,8 @@ impl Frozen {
     }
 }
 
-/// One generation alone, of these blocks.
-fn alone(alloc: Global, trie: Trie<Shared<Block>, Global>) -> Result<Generations<Global>, NoMemory>
-    ensures blocks { IfOk result (λ generations. generations.blocks ≡ map.from_entries trie) }
-    ensures parts { IfOk result (λ generations. generations.parts ≡ 1) }
-{
-    let mut generations = Generations::new(alloc);
-    generations.replace(alloc, generation_of(alloc, trie)?)?;
-    Ok(generations)
-}
-
 /// The generation of the blocks that are held under these digests.
-fn freeze_held(
-    alloc: Global,
-    held: &Held,
-    digests: &[Digest],
-) -> Result<Generation<Global>, NoMemory>
+fn freeze_held(alloc: Global, held: &Held, digests: &[Digest]) -> Result<Generation, NoMemory>
     ensures { IfOk result (AreOf held.now.state digests.now) }
 {
     let trie = held_blocks(alloc, held, digests)?;
@@ -119,10 +120,7 @@ fn freeze_held(
 }
 
 /// The generation of these blocks.
-fn generation_of(
-    alloc: Global,
-    trie: Trie<Shared<Block>, Global>,
-) -> Result<Generation<Global>, NoMemory>
+fn generation_of(alloc: Global, trie: Trie<Shared<Block>, Global>) -> Result<Generation, NoMemory>
     ensures { IfOk result (λ generation. generation ≡ map.from_entries trie) }
 {
     match freeze(alloc, trie) {

@@ -3,10 +3,78 @@ ghost use Rattle.std.specs.Prelude.{◌≡◌};
 ghost use Rattle.sha2.specs.Sha256.{sha256};
 
 use sha2::Sha256;
+use std::cmp::Ordering;
 
 /// A SHA-256 digest, ordered by its bytes.
-#[derive(Clone, Copy, Debug, PartialEq, Eq, PartialOrd, Ord)]
+#[derive(Clone, Copy, Debug)]
 pub struct Digest(pub [u8; 32]);
+
+impl PartialEq for Digest {
+    ghost use Rattle.std.specs.Cmp.{on_per, partial_equiv_from_equiv};
+    ghost use Rattle.std.specs.Cmp.Lexicographic.{nat_list_eq_equiv};
+    ghost use Rattle.std.specs.Str.{bytes_eq};
+
+    ghost eq = { λ a b. bytes_eq a.0 b.0 };
+
+    ghost laws = { on_per (λ d. d.0) (partial_equiv_from_equiv nat_list_eq_equiv) };
+
+    /// It looks at every byte, also behind the first that differs, so that a compiler can compare many at once.
+    fn eq(&self, other: &Digest) -> bool {
+        let mut same = true;
+        for index in 0..32 {
+            same &= self.0[index] == other.0[index];
+        }
+        same
+    }
+}
+
+impl Eq for Digest {
+    ghost use Rattle.std.specs.Cmp.{on_equiv};
+    ghost use Rattle.std.specs.Cmp.Lexicographic.{nat_list_eq_equiv};
+
+    ghost laws = { on_equiv (λ d. d.0) nat_list_eq_equiv };
+}
+
+impl PartialOrd for Digest {
+    ghost use Rattle.std.specs.Prelude.{Some};
+    ghost use Rattle.std.specs.Cmp.{on_po};
+    ghost use Rattle.std.specs.Cmp.Lexicographic.{slice_cmp, texts_po};
+    ghost use Rattle.std.specs.Ordering.{nat_cmp};
+
+    ghost partial_cmp = { λ a b. Some (slice_cmp nat_cmp a.0 b.0) };
+
+    ghost laws = { on_po (λ d. d.0) texts_po };
+
+    fn partial_cmp(&self, other: &Digest) -> Option<Ordering> {
+        Some(self.cmp(other))
+    }
+}
+
+impl Ord for Digest {
+    ghost use Rattle.std.specs.Prelude.{refl};
+    ghost use Rattle.std.specs.Cmp.{on_total};
+    ghost use Rattle.std.specs.Cmp.Lexicographic.{nat_list_cmp_total, slice_cmp, texts_ties};
+    ghost use Rattle.std.specs.Ordering.{nat_cmp};
+
+    ghost cmp = { λ a b. slice_cmp nat_cmp a.0 b.0 };
+
+    ghost total = { on_total (λ d. d.0) nat_list_cmp_total };
+
+    ghost matches_partial_cmp = { λ a b. refl };
+
+    ghost matches_eq = { λ a b. texts_ties a.0 b.0 };
+
+    /// The first bytes that differ decide.
+    fn cmp(&self, other: &Digest) -> Ordering {
+        for index in 0..32 {
+            let (one, two) = (self.0[index], other.0[index]);
+            if one != two {
+                return one.cmp(&two);
+            }
+        }
+        Ordering::Equal
+    }
+}
 
 /// The SHA-256 digest (FIPS 180-4) of the bytes. It takes no memory.
 pub fn digest_of(bytes: &[u8]) -> Digest

@@ -1,3 +1,3 @@
+pub mod Searches
 pub mod Unions
-pub mod Laying
-pub mod Sent
+pub mod Merging

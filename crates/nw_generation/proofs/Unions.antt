@@ -6,14 +6,13 @@ use Rattle.std.specs.BTreeMap.{is_at}
 use Rattle.std.specs.List.{AllByRecursion}
 use Rattle.std.specs.Map.{lookup}
 use Rattle.std.proofs.lemmas.List.Elements.{recursion_from_All}
-use Rattle.std.specs.FinMap.{FinMap, entries, from_entries, get, get-empty, get-entries, get-from_entries, same_map}
+use Rattle.std.specs.FinMap.{FinMap, entries, from_entries, get, get-empty, get-entries, get-from_entries}
 use Rattle.std.specs.FinMap.Entries.{find}
 use Rattle.nw_digest.specs.declared.digest.Digest.{Digest}
 use Rattle.nw_codec.specs.declared.block.Block.{Block}
 use Rattle.nw_digest.specs.Order.{digest_cmp}
-use Rattle.nw_trie.specs.Span.{IsWithin}
-use Rattle.nw_model.proofs.Maps.{digests_total, digests_apart, get_lookup}
-use Rattle.nw_generation.specs.Seen.{IsOf, latest_first, union}
+use Rattle.nw_model.proofs.Maps.{digests_total, get_lookup}
+use Rattle.nw_generation.specs.Seen.{IsOf, IsWithin, latest_first, union}
 
 or_later : {X : Type 0} (b : Bool) (v : X) (first later : Option X) → cond b (Some v) (option_or first later) ≡ option_or (cond b (Some v) first) later
 or_later true v first later = refl
@@ -81,15 +80,3 @@ none_of es rounds round d within out of = by (get (from_entries es) d) found of
 pub get_nowhere : (left : List (FinMap digest_cmp Block)) (d : Digest) → length left ≡ 0 → get (union left) d ≡ None
 get_nowhere [] d none = get-empty digest_cmp d
 get_nowhere (g ∷ left) d none = absurd (omega arith)
-
--- what one generation answers
-pub alone : (blocks : FinMap digest_cmp Block) (d : Digest) → get (union (blocks ∷ [])) d ≡ get blocks d
-alone blocks d = get_latest [] blocks d ∙ whole (get blocks d)
-  where
-    whole : (found : Option Block) → option_or found (get (union []) d) ≡ found
-    whole None = get_nowhere [] d refl
-    whole (Some b) = refl
-
--- one generation is what it holds
-pub union_one : (blocks : FinMap digest_cmp Block) → union (blocks ∷ []) ≡ blocks
-union_one blocks = same_map digests_total digests_apart (union (blocks ∷ [])) blocks (alone blocks)

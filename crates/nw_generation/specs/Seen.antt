@@ -1,5 +1,5 @@
 -- What is seen of a view.
-use Rattle.std.specs.Prelude.{◌≡◌, ℕ, ◌≤◌, List, [], ◌∷◌, ◌++◌, Option, IfSome, length, refl}
+use Rattle.std.specs.Prelude.{◌≡◌, ℕ, ◌≤◌, List, [], ◌∷◌, ◌++◌, Option, Some, None, IfSome, length, refl}
 use Rattle.std.specs.Coded.{Coded, code_by, coded×, coded_ℕ}
 use Rattle.std.specs.Option.{option_or}
 use Rattle.std.specs.FinMap as map
@@ -58,3 +58,8 @@ seen_of generations floor = record { frozen = record { blocks = union generation
 pub record IsView (s : Seen) : Type 0 where
   pub closed : IsClosed s.frozen
   pub few : s.parts ≤ MOST_PARTS
+
+-- the round is one of those from the first of these to the second; where there are none, no round is
+abbrev pub IsWithin : Option (ℕ × ℕ) → ℕ → Type 0
+IsWithin None round = ⊥
+IsWithin (Some span) round = (span.0 ≤ round) × (round ≤ span.1)

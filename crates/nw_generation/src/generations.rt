@@ -1,16 +1,15 @@
 //! The generations of a store, of which its views are made.
-ghost use Rattle.std.specs.Prelude.{◌≡◌, ◌+◌, ◌<◌, ◌≤◌, ◌++◌, List, IfOk, OnOk, OnErr};
+ghost use Rattle.std.specs.Prelude.{◌≡◌, ◌+◌, ◌<◌, ◌≤◌, IfOk, OnOk, OnErr, filter, nat_le};
 ghost use Rattle.std.specs.FinMap as map;
-ghost use Rattle.nw_codec.specs.declared.block.Block.{Block as BlockValue};
-ghost use Rattle.nw_digest.specs.Order.{digest_cmp};
+ghost use Rattle.nw_model.specs.Step.{from_round};
 ghost use Rattle.nw_model.specs.View.{IsClosed};
+ghost use Rattle.nw_generation.specs.Entries.{Ascend};
 ghost use Rattle.nw_generation.specs.Seen.{IsOver, union};
 
+use crate::entries::{Entry, merged};
 use crate::{Generation, View};
-use nw_codec::Block;
-use nw_digest::{NoMemory, Round, Shared};
-use nw_trie::Trie;
-use std::alloc::{Allocator, Global};
+use nw_digest::{InRound, NoMemory, Round};
+use std::alloc::Global;
 use std::marker::Model;
 
 /// How many generations there are at most.
@@ -19,12 +18,12 @@ pub const MOST_PARTS: usize = 16;
 /// At most `MOST_PARTS` generations, which grow in number as blocks are frozen. Contracts see what they hold together, where the later
 /// one counts, and how many they are.
 #[derive(Drop)]
-pub struct Generations<A: Allocator> {
+pub struct Generations {
     /// The oldest first.
-    list: Vec<Generation<A>>,
+    list: Vec<Generation>,
 }
 
-impl<A: Allocator> Model for Generations<A> {
+impl Model for Generations {
     ghost use Rattle.std.specs.Prelude.{◌≤◌, length};
     ghost use Rattle.nw_generation.specs.Seen.{Joined, coded_joined, joined};
     ghost use Rattle.nw_generation.specs.declared.generations.TheConstants.{MOST_PARTS};
@@ -38,9 +37,9 @@ impl<A: Allocator> Model for Generations<A> {
     ghost invariant = { λ g. length g.list.items ≤ MOST_PARTS };
 }
 
-impl<A: Allocator> Generations<A> {
+impl Generations {
     /// No generations. It takes no memory.
-    pub fn new(alloc: Global) -> Generations<A>
+    pub fn new(alloc: Global) -> Generations
         ensures { result ≡ record { blocks = map.empty; parts = 0 } }
     {
         Generations {
@@ -57,7 +56,7 @@ impl<A: Allocator> Generations<A> {
     }
 
     /// Puts one more behind the others. Want of memory changes nothing.
-    pub fn push(&mut self, generation: Generation<A>) -> Result<(), NoMemory>
+    pub fn push(&mut self, generation: Generation) -> Result<(), NoMemory>
         requires room { self.old.parts < MOST_PARTS }
         ensures blocks { OnOk result (IsOver generation self.old.blocks self.new.blocks) }
         ensures parts { OnOk result (self.new.parts ≡ self.old.parts + 1) }
@@ -67,33 +66,18 @@ impl<A: Allocator> Generations<A> {
         Ok(())
     }
 
-    /// Puts this one in the place of all others. Want of memory changes nothing.
-    pub fn replace(&mut self, alloc: Global, generation: Generation<A>) -> Result<(), NoMemory>
-        ensures blocks { OnOk result (self.new.blocks ≡ generation) }
-        ensures parts { OnOk result (self.new.parts ≡ 1) }
-        ensures unchanged { OnErr result (self.new ≡ self.old) }
+    /// What they hold together and is not below the round, as one generation, which shares the blocks.
+    pub fn joined(&self, alloc: Global, round: Round) -> Result<Generation, NoMemory>
+        ensures { IfOk result
+            (λ generation. generation ≡ from_round (λ b. b.round) round self.now.blocks) }
     {
-        let mut list = Vec::with_capacity(alloc, 1)?;
-        list.push(generation)?;
-        self.list = list;
-        Ok(())
-    }
-
-    /// What they hold together, as a trie of its own, which shares the blocks. It copies the oldest and puts the blocks of the
-    /// later ones one by one.
-    pub fn joined(&self, alloc: Global) -> Result<Trie<Shared<Block>, Global>, NoMemory>
-        ensures { IfOk result (λ trie. map.from_entries trie ≡ self.now.blocks) }
-    {
-        let Some((oldest, later)) = self.list.as_slice().split_first() else {
-            return Ok(Trie::new_in(alloc));
-        };
-        let mut trie = oldest.copied(alloc)?;
-        lay_each(later, &mut trie)?;
-        Ok(trie)
+        let mut entries = joined_entries(alloc, self.list.as_slice())?;
+        drop_below(&mut entries, round);
+        Generation::of(alloc, entries)
     }
 
     /// A view of what they hold together. It shares them.
-    pub fn view(&self, alloc: Global, floor: Round) -> Result<View<A>, NoMemory>
+    pub fn view(&self, alloc: Global, floor: Round) -> Result<View, NoMemory>
         requires closed { IsClosed (record { blocks = self.now.blocks; floor = floor }) }
         ensures { IfOk result (λ view. view ≡ record {
           frozen = record { blocks = self.now.blocks; floor = floor };
@@ -104,26 +88,30 @@ impl<A: Allocator> Generations<A> {
     }
 }
 
-/// Puts the blocks of these generations into the trie, one generation over the other.
-fn lay_each<A: Allocator>(
-    generations: &[Generation<A>],
-    trie: &mut Trie<Shared<Block>, Global>,
-) -> Result<(), NoMemory>
-    ensures { OnOk result ((older : List (map.FinMap digest_cmp BlockValue))
-        → map.from_entries trie.old ≡ union older
-        → map.from_entries trie.new ≡ union (older ++ generations.now)) }
+/// The entries of these generations together.
+fn joined_entries(alloc: Global, generations: &[Generation]) -> Result<Vec<Entry>, NoMemory>
+    ensures ascend { IfOk result (λ entries. Ascend entries.items) }
+    ensures union { IfOk result
+        (λ entries. map.from_entries entries.items ≡ union generations.now) }
 {
-    for generation in generations {
-        generation.lay_over(trie)?;
+    let mut entries = Vec::new(alloc);
+    let mut left = generations;
+    while let Some((generation, older)) = left.split_last() {
+        entries = merged(alloc, &entries, generation.entries())?;
+        left = older;
     }
-    Ok(())
+    Ok(entries)
+}
+
+/// Drops the blocks of rounds below this one.
+fn drop_below(entries: &mut Vec<Entry>, round: Round)
+    ensures { entries.new.items ≡ filter (λ e. nat_le round e.1.round) entries.old.items }
+{
+    entries.retain(|entry| round <= entry.1.round());
 }
 
 /// One more owner of each of these.
-fn shared<A: Allocator>(
-    alloc: Global,
-    generations: &[Generation<A>],
-) -> Result<Vec<Generation<A>>, NoMemory>
+fn shared(alloc: Global, generations: &[Generation]) -> Result<Vec<Generation>, NoMemory>
     ensures { IfOk result (λ list. list.items ≡ generations.now) }
 {
     let mut list = Vec::with_capacity(alloc, generations.len())?;

@@ -6,6 +6,7 @@
 //! It stands on `nw_trie` for the tries, and on `nw_model` for what a closed view is.
 #![tactic(auto)]
 
+mod entries;
 mod generation;
 mod generations;
 mod view;

@@ -9,20 +9,19 @@ ghost use Rattle.nw_generation.specs.declared.generations.TheConstants.{MOST_PAR
 use crate::Generation;
 use nw_codec::Block;
 use nw_digest::{Digest, Round, Shared};
-use std::alloc::Allocator;
 use std::marker::Model;
 
 /// The blocks of at most `MOST_PARTS` generations, and a floor. Where two generations hold a digest, the later one's block counts.
 /// Each parent of a block above the floor is there too, with the named author and in the round before, and no two blocks
 /// that are not below the floor share round and author.
 #[derive(Drop)]
-pub struct View<A: Allocator> {
+pub struct View {
     /// The oldest first.
-    generations: Vec<Generation<A>>,
+    generations: Vec<Generation>,
     floor: Round,
 }
 
-impl<A: Allocator> Model for View<A> {
+impl Model for View {
     ghost use Rattle.nw_generation.specs.Seen.{Seen, IsView, coded_seen, seen_of};
 
     ghost Value = { Seen };
@@ -34,9 +33,9 @@ impl<A: Allocator> Model for View<A> {
     ghost invariant = { λ v. IsView (seen_of v.generations.items v.floor) };
 }
 
-impl<A: Allocator> View<A> {
+impl View {
     /// The view of these generations, the oldest first. It takes no memory.
-    pub fn new(generations: Vec<Generation<A>>, floor: Round) -> View<A>
+    pub fn new(generations: Vec<Generation>, floor: Round) -> View
         requires closed { IsClosed (seen_of generations.items floor).frozen }
         requires few { length generations.items ≤ MOST_PARTS }
         ensures { result ≡ seen_of generations.items floor }

@@ -98,7 +98,8 @@ impl Held {
 
     /// The certificate that is kept for the digest, or `None` where none is.
     pub fn certificate(&self, digest: &Digest) -> Option<&Shared<Certificate>>
-        ensures { option_copied result ≡ map.get self.now.state.certificates digest.now }
+        ensures value { option_copied result ≡ map.get self.now.state.certificates digest.now }
+        ensures sound { IsSound self.now.state }
     {
         self.certificates.get(digest)
     }
@@ -132,12 +133,12 @@ impl Held {
         self.certificates.len()
     }
 
-    /// Whether the block under the digest stands: it is held and certified.
+    /// Whether the block under the digest stands: it is held and certified. What is not certified takes one look-up.
     pub fn stands(&self, digest: &Digest) -> bool
         ensures stands { IsTrue result ↔ Stands self.now.state digest.now }
         ensures sound { IsSound self.now.state }
     {
-        self.block(digest).is_some() && self.certificate(digest).is_some()
+        self.certificate(digest).is_some() && self.block(digest).is_some()
     }
 
     /// Whether what is wanted stands, of that round and author. A block of another round or author does not count.

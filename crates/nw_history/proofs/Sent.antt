@@ -1,4 +1,4 @@
--- Fronts and histories may cross to another thread, and be shared by threads.
+-- Fronts may cross to another thread, and be shared by threads.
 use denote.RattleType.{RattleType}
 use denote.Param.Send.{IsSend, IsSync, sendable, view_send, view_sync}
 use denote.Param.SendFields.{declared_send, declared_sync}
@@ -10,8 +10,6 @@ use Rattle.nw_model.proofs.event.Event.TheSendSync as event_crosses
 use Rattle.nw_sig.specs.declared.scheme.Scheme.{Ghosts}
 use Rattle.nw_history.specs.contracts.front.Front as front
 use Rattle.nw_history.specs.contracts.front.Front.TheInside as front_inside
-use Rattle.nw_history.specs.contracts.history.History as history
-use Rattle.nw_history.specs.contracts.history.History.TheInside as history_inside
 use Rattle.nw_history.specs.contracts.start.Start as start
 use Rattle.nw_history.proofs.start.Start.TheSendSync as start_crosses
 
@@ -27,9 +25,3 @@ module _ (S : RattleType) (g : Ghosts S.Denot) where
     shared.the_sync start.the_row start_crosses.the_send start_crosses.the_sync,
     (chunks_sync event.the_row event_crosses.the_send event_crosses.the_sync, (search (sendable, crosses) depth 30, tt)),
   ))
-
-  pub history_send : IsSend (history.the_row S g)
-  history_send = view_send (history_inside.the_row S g) _ _ _ _ (declared_send (history_inside.the_type S g) (front_send, tt))
-
-  pub history_sync : IsSync (history.the_row S g)
-  history_sync = view_sync (history_inside.the_row S g) _ _ _ _ (declared_sync (history_inside.the_type S g) (front_sync, tt))

@@ -25,14 +25,17 @@ use std::marker::{Model, PhantomData};
 /// A stored legal history that never changes, with the committee and the limits under which it is legal and the base that
 /// it starts from, where `S` says which signatures are accepted.
 ///
-/// Each answer carries one: its last event is the call that was answered. It shares its events with the history and with
-/// every other front of it, in chunks of 256.
+/// Each answer carries one: its last event is the call that was answered. It shares its events with every other front of the
+/// same history, in chunks of 256.
 #[derive(Drop)]
 pub struct Front<S: Scheme> {
     start: Shared<Start>,
     events: Chunks<Event>,
     scheme: PhantomData<S>,
 }
+
+/// The history of a book: the front that it has come to, which goes on as another one with each event.
+pub type History<S> = Front<S>;
 
 impl<S: Scheme> Model for Front<S> {
     ghost use Rattle.std.specs.Coded.{codes};
@@ -50,8 +53,46 @@ impl<S: Scheme> Model for Front<S> {
 }
 
 impl<S: Scheme> Front<S> {
-    /// The front of these events.
-    pub(crate) fn new(start: Shared<Start>, events: Chunks<Event>) -> Front<S>
+    /// The history without events, from the opening state on. `NoMemory` where memory is refused.
+    pub fn new(
+        alloc: Global,
+        committee: Shared<Committee>,
+        limits: Limits,
+    ) -> Result<Front<S>, NoMemory>
+        ensures empty { IfOk result (λ front. front ≡ record {
+          committee = committee;
+          limits = limits;
+          base = opening;
+          events = [];
+        }) }
+    {
+        let base = Base::of(Plain::new(alloc, limits.blocks, limits.window));
+        Front::without_events(alloc, Start::new(committee, limits, base))
+    }
+
+    /// The history without events that starts where this one ends: its base is what the calls of this one leave.
+    ///
+    /// The calls are taken again by a store over the base of this one, at the cost of its writes and certificates. `NoMemory`
+    /// where memory is refused.
+    pub fn restarted(&self, alloc: Global) -> Result<Front<S>, NoMemory>
+        ensures restarted { IfOk result (λ front. front ≡ reopened self.now) }
+    {
+        let base = Base::of(self.replayed(alloc)?);
+        let start = Start::new(self.committee().try_clone()?, self.limits(), base);
+        Front::without_events(alloc, start)
+    }
+
+    /// The history without events that starts with this.
+    fn without_events(alloc: Global, start: Start) -> Result<Front<S>, NoMemory>
+        requires { IsLegalStory S.accepts (story_of start []) }
+        ensures { IfOk result (λ front. front ≡ story_of start []) }
+    {
+        let start = Shared::new(alloc, start)?;
+        Ok(Front::of(start, Chunks::new(alloc)?))
+    }
+
+    /// The history of these events.
+    fn of(start: Shared<Start>, events: Chunks<Event>) -> Front<S>
         requires { IsLegalStory S.accepts (story_of start (items_of events)) }
         ensures { result ≡ story_of start (items_of events) }
     {
@@ -67,17 +108,18 @@ impl<S: Scheme> Front<S> {
         ensures same { IfOk result (λ front. front ≡ self.now) }
         ensures legal { IsLegalStory S.accepts self.now }
     {
-        Ok(Front::new(self.start.try_clone()?, self.events.try_clone()?))
+        Ok(Front::of(self.start.try_clone()?, self.events.try_clone()?))
     }
 
-    /// The history with one more event. It shares all that came before.
-    pub(crate) fn with(&self, alloc: Global, event: &Shared<Event>) -> Result<Front<S>, NoMemory>
+    /// The history with one more event. It shares all that came before, so its cost is the same for every history. `NoMemory`
+    /// where memory is refused.
+    pub fn with(&self, alloc: Global, event: &Shared<Event>) -> Result<Front<S>, NoMemory>
         requires legal { IsLegalStory S.accepts (with_event self.now event.now) }
         requires room { length self.now.events < 2 ^ 32 }
         ensures { IfOk result (λ front. front ≡ with_event self.now event.now) }
     {
         let events = self.events.with(alloc, event.try_clone()?)?;
-        Ok(Front::new(self.start.try_clone()?, events))
+        Ok(Front::of(self.start.try_clone()?, events))
     }
 
     /// How many events it has.
@@ -195,15 +237,6 @@ impl<S: Scheme> Front<S> {
             }
         }
         Ok(tables)
-    }
-
-    /// What a history starts with that goes on where this one ends, under the same committee and limits.
-    pub(crate) fn restart(&self, alloc: Global) -> Result<Start, NoMemory>
-        ensures start { IfOk result (λ start. story_of start [] ≡ reopened self.now) }
-        ensures legal { OnOk result (IsLegalStory S.accepts self.now) }
-    {
-        let base = Base::of(self.replayed(alloc)?);
-        Ok(Start::new(self.committee().try_clone()?, self.limits(), base))
     }
 }
 

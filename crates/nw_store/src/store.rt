@@ -241,7 +241,7 @@ impl<S: Scheme, L: Home> Store<S, L> {
     }
 
     /// Lets later tickets share one copy of what is complete, without what was collected. It is no call of a session: no history,
-    /// no reply and no ticket of before changes. It costs what is held; want of memory changes nothing.
+    /// no reply and no ticket of before changes. It costs what is frozen; want of memory changes nothing.
     pub fn compact<R: Wait>(&self, rt: &R, alloc: Global) -> Result<(), NoMemory> {
         compact_locked(&mut *self.locked.lock(rt), alloc)
     }

@@ -45,9 +45,6 @@ first_then [] r h = refl
 first_then (x ∷ l) r h = cc
 
 module _ {V : Type 0} {d : List (Digest × V)} {bit : ℕ} {l r : List (Digest × V)} (at : AtFork d bit l r) where
-  pub first_left : first_entry l ≡ first_entry d
-  first_left = sym (ap first_entry at.is ∙ first_both l r at.fork.left_full)
-
   module _ (k : Digest) (has : HasKey k d) where
     pub after_right : bit_of k bit ≡ true → first_entry (after k r) ≡ first_entry (after k d)
     after_right set = sym (ap (λ es. first_entry (after k es)) at.is ∙ ap first_entry (after_past k l r (not_left at k set)))

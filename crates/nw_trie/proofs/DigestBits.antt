@@ -9,7 +9,7 @@ use Rattle.std.proofs.lemmas.Bool.{cases_lt}
 use Rattle.std.proofs.lemmas.List.{ext_get_or}
 use Rattle.nw_digest.specs.declared.digest.Digest.{Digest}
 use Rattle.nw_digest.specs.Order.{digest_cmp}
-use Rattle.nw_trie.specs.Bits.{AgreeBelow, AreBytes, DifferFirst, bit_of, byte_bit, list_bit}
+use Rattle.nw_trie.specs.Bits.{AgreeBelow, AreBytes, bit_of, byte_bit, list_bit}
 use Rattle.nw_trie.proofs.ByteBits.{same_byte, smaller_byte}
 
 byte_behind : (x : ℕ) (xs : List ℕ) (n : ℕ) → get_or (x ∷ xs) (n + 1) 0 ≡ get_or xs n 0
@@ -66,36 +66,21 @@ pub digest_greater : (a b : Digest) (i : ℕ) → AreBytes a.0 → AreBytes b.0 
 digest_greater a b i ha hb same set unset =
     nat_list_cmp_total.antisymm a.0 b.0 ∙ ap ordering_reverse (bits_order b.0 a.0 i hb ha (λ j h. sym (same j h)) unset set)
 
+-- digests of the same bytes are one
+pub digest_of_bytes : (a b : Digest) → a.0 ≡ b.0 → a ≡ b
+digest_of_bytes a b e = ap (λ (xs : List ℕ). let d : Digest = record { 0 = xs } in d) e
+
 -- equal digests are one, and have the same bits
 pub one_digest : (a b : Digest) → digest_cmp a b ≡ Equal → a ≡ b
-one_digest a b e = ap (λ (xs : List ℕ). let d : Digest = record { 0 = xs } in d) (slice_cmp-IsAntisymmetric nat_cmp-IsAntisymmetric a.0 b.0 e)
+one_digest a b e = digest_of_bytes a b (slice_cmp-IsAntisymmetric nat_cmp-IsAntisymmetric a.0 b.0 e)
 
 pub same_bits : (a b : Digest) → digest_cmp a b ≡ Equal → (j : ℕ) → bit_of a j ≡ bit_of b j
 same_bits a b e j = ap (λ d. bit_of d j) (one_digest a b e)
 
--- bytes that agree up to an index, and differ there, have their first different bit there
-pub differ_first : (a b : Digest) (index bit n : ℕ) → n ≡ 8 * index + bit → bit < 8 → ((k : ℕ) → k < index → get_or a.0 k 0 ≡ get_or b.0 k 0)
-    → ((j : ℕ) → j < bit → byte_bit (get_or a.0 index 0) j ≡ byte_bit (get_or b.0 index 0) j) → (byte_bit (get_or a.0 index 0) bit ≡ byte_bit (get_or b.0 index 0) bit → ⊥)
-    → DifferFirst n a b
-differ_first a b index bit n is small before same differ =
-    let place : n / 8 ≡ index = omega arith in
-    let at : n % 8 ≡ bit = omega arith in
-    record {
-      same = λ j h. elim (cases_lt (j / 8) index) [
-        | inl earlier ↦ ap (λ byte. byte_bit byte (j % 8)) (before (j / 8) earlier)
-        | inr here ↦
-            let there : j / 8 ≡ index = omega arith in
-            let lower : j % 8 < bit = omega arith in
-            rw there (same (j % 8) lower)
-      ];
-      differ = rw (place, at) differ;
-    }
-
 -- 32 bytes that agree at each index are the same
 pub same_digest : (a b : Digest) → length a.0 ≡ 32 → length b.0 ≡ 32 → ((k : ℕ) → k < 32 → get_or a.0 k 0 ≡ get_or b.0 k 0) → a ≡ b
 same_digest a b la lb same =
-    let bytes : a.0 ≡ b.0 = ext_get_or 0 a.0 b.0 (la ∙ sym lb) (λ k h. same k (omega (arith, la))) in
-    ap (λ (xs : List ℕ). let d : Digest = record { 0 = xs } in d) bytes
+    digest_of_bytes a b (ext_get_or 0 a.0 b.0 (la ∙ sym lb) (λ k h. same k (omega (arith, la))))
 
 -- bytes by their indices
 pub bytes_from : (xs : List ℕ) → ((k : ℕ) → Fits w8 (get_or xs k 0)) → AreBytes xs

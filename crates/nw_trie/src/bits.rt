@@ -59,17 +59,6 @@ fn first_in_byte(a: u8, b: u8) -> u8
     7
 }
 
-/// Whether the digests are equal. It compares all bytes, and so many at once.
-pub(crate) fn is_same(a: &Digest, b: &Digest) -> bool
-    ensures { MatchBool result (a.now ≡ b.now) (a.now ≡ b.now → ⊥) }
-{
-    let mut same = true;
-    for index in 0..32 {
-        same &= a.0[index] == b.0[index];
-    }
-    same
-}
-
 /// The first bit at which the digests differ, or `None` where they are equal.
 pub(crate) fn first_difference(a: &Digest, b: &Digest) -> Option<u8>
     ensures { MatchOption result (a.now ≡ b.now) (λ bit. DifferFirst bit a.now b.now) }

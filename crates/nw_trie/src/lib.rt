@@ -5,10 +5,8 @@
 
 mod bits;
 mod iter;
-mod share;
 mod tree;
 mod trie;
 
 pub use iter::Iter;
-pub use share::Share;
 pub use trie::Trie;

@@ -16,9 +16,8 @@ ghost use Rattle.nw_trie.specs.Tree.{side_of, with_side};
 
 mod descent;
 mod removal;
-mod whole;
 
-use crate::bits::{first_difference, is_same, is_set, note_bytes};
+use crate::bits::{first_difference, is_set, note_bytes};
 use nw_digest::Digest;
 use std::alloc::Allocator;
 use std::marker::Model;
@@ -132,7 +131,7 @@ impl<V: Drop, A: Allocator> Tree<V, A> {
             return None;
         };
         let Entry { digest: key, value } = &**leaf;
-        is_same(digest, key).then_some(value)
+        (digest == key).then_some(value)
     }
 
     /// The first digest, with its value.

@@ -1,21 +1,19 @@
 //! Maps from digests to values.
 ghost use Rattle.std.specs.Prelude.{◌≡◌, ◌+◌, [], ◌↔◌};
 ghost use Rattle.std.specs.Prelude.{length, is_some, IsTrue, IfOk, IfErr, OnOk, OnErr};
-ghost use Rattle.std.specs.Prelude.{if◌then◌else◌, All, filter, nat_le};
+ghost use Rattle.std.specs.Prelude.{if◌then◌else◌, filter, nat_le};
 ghost use Rattle.std.specs.Option.{option_copied, option_copied_mut, ghost_name_of};
 ghost use Rattle.std.specs.Map.{keys_of, lookup, remove_entry};
 ghost use Rattle.std.specs.BTreeMap.{insert_entry, is_at};
 ghost use Rattle.std.specs.List.Sorted.{IsStrictlySortedBy};
 ghost use Rattle.std.specs.Borrow.{sem, follows_if};
 ghost use Rattle.nw_digest.specs.Order.{digest_cmp};
-ghost use Rattle.nw_trie.specs.Span.{IsWithin};
 ghost use Rattle.nw_trie.specs.contracts.trie.Trie.{the_row};
 
 use crate::iter::Iter;
-use crate::share::Share;
 use crate::tree::Tree;
 use nw_digest::{Digest, InRound, NoMemory, Round};
-use std::alloc::{Allocator, Global};
+use std::alloc::Allocator;
 use std::marker::Model;
 
 /// A map from digests to values, in the memory of one allocator. Contracts see the entries, ascending by digest.
@@ -186,29 +184,5 @@ impl<V: Drop, A: Allocator> Trie<V, A> {
         let dropped = self.tree.retain_rounds(floor);
         self.len -= dropped;
         dropped
-    }
-
-    /// Two rounds between which those of all its values lie, or `None` where it has none. They are the least and the greatest,
-    /// but no clause says that none are closer.
-    pub fn rounds(&self) -> Option<(Round, Round)>
-    where
-        V: InRound,
-        ensures { All (λ entry. IsWithin result (V.round_of entry.1)) self.now }
-    {
-        self.tree.rounds()
-    }
-
-    /// A trie of its own of the same digests and values, which both share. It costs less than putting them one by one, since no
-    /// digests are compared.
-    pub fn copied(&self, alloc: Global) -> Result<Trie<V, Global>, NoMemory>
-    where
-        V: Share,
-        ensures { IfOk result (λ copy. copy ≡ self.now) }
-    {
-        Ok(Trie {
-            tree: self.tree.copied(alloc)?,
-            len: self.len,
-            alloc,
-        })
     }
 }

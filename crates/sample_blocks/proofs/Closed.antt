@@ -11,7 +11,7 @@ use Rattle.nw_model.specs.View.{HasParent, IsClosed}
 use Rattle.nw_generation.specs.Seen.{union, seen_of}
 use Rattle.sample_blocks.specs.Sample.{name_of, AreNamed, AreBases, AreNext}
 use Rattle.sample_blocks.proofs.Bases.{names_apart}
-use Rattle.nw_generation.proofs.Unions.{alone, get_latest}
+use Rattle.nw_generation.proofs.Unions.{get_latest, get_nowhere}
 
 -- a block is of the later generation, or of the older one
 of_either : {X : Type 0} (first later : Option X) (x : X) → option_or first later ≡ Some x → (first ≡ Some x) ⊎ (later ≡ Some x)
@@ -21,6 +21,14 @@ of_either (Some y) later x is = inl is
 of_later : {X : Type 0} (first later : Option X) (x : X) → ((y : X) → first ≡ Some y → ⊥) → later ≡ Some x → option_or first later ≡ Some x
 of_later None later x lacks is = is
 of_later (Some y) later x lacks is = absurd (lacks y refl)
+
+-- what one generation answers
+alone : (blocks : FinMap digest_cmp Block) (d : Digest) → get (union (blocks ∷ [])) d ≡ get blocks d
+alone blocks d = get_latest [] blocks d ∙ whole (get blocks d)
+  where
+    whole : (found : Option Block) → option_or found (get (union []) d) ≡ found
+    whole None = get_nowhere [] d refl
+    whole (Some b) = refl
 
 -- what the view of two generations answers
 both : (older newer : FinMap digest_cmp Block) (d : Digest) → get (union (older ∷ newer ∷ [])) d ≡ option_or (get newer d) (get older d)

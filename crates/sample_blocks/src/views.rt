@@ -8,7 +8,7 @@ use nw_generation::{Generation, View, freeze};
 use std::alloc::Global;
 
 /// The view of the blocks of round 0, each with this transaction, and of the one of round 1 over them as a later generation.
-pub fn view_of_both(alloc: Global, text: &[u8], floor: Round) -> Result<View<Global>, NoMemory>
+pub fn view_of_both(alloc: Global, text: &[u8], floor: Round) -> Result<View, NoMemory>
     ensures { IfOk result (λ view. view.frozen.floor ≡ floor) }
 {
     let mut generations = Vec::new(alloc);
@@ -18,7 +18,7 @@ pub fn view_of_both(alloc: Global, text: &[u8], floor: Round) -> Result<View<Glo
 }
 
 /// The generation of the blocks.
-fn frozen(alloc: Global, trie: Blocks) -> Result<Generation<Global>, NoMemory>
+fn frozen(alloc: Global, trie: Blocks) -> Result<Generation, NoMemory>
     ensures { IfOk result (λ generation. generation ≡ map.from_entries trie) }
 {
     match freeze(alloc, trie) {

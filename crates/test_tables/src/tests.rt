@@ -88,11 +88,7 @@ fn certify(dag: &mut Dag, alloc: Global, name: Name) -> Result<(), NoMemory> {
 }
 
 /// The walk of a view from a block, which it has not below its floor.
-fn walked(
-    alloc: Global,
-    view: &View<Global>,
-    digest: Digest,
-) -> Result<Vec<Shared<Block>>, NoMemory> {
+fn walked(alloc: Global, view: &View, digest: Digest) -> Result<Vec<Shared<Block>>, NoMemory> {
     let start = view.get(&digest).ok_or(NoMemory)?.get();
     if start.round.get() < view.floor().get() {
         return Err(NoMemory);

@@ -1,11 +1,9 @@
 //! Steps of a book, each decided once and then taken.
-ghost use Rattle.std.specs.Prelude.{◌≡◌, ◌↔◌, IsTrue, IfOk, OnOk, OnErr};
+ghost use Rattle.std.specs.Prelude.{◌≡◌, IfOk, OnOk, OnErr};
 ghost use Rattle.std.specs.Result.{MatchResult};
 ghost use Rattle.nw_model.specs.History.{IsAdmitted};
 ghost use Rattle.nw_model.specs.Step.{IsReply, IsShort};
 ghost use Rattle.nw_model.specs.View.{Shows};
-ghost use Rattle.nw_model.specs.declared.reply.Reply.TheVariants as replies;
-ghost use Rattle.nw_model.specs.declared.reply.WriteReply.TheVariants as writes;
 ghost use Rattle.nw_history.specs.Story.{IsLegalStory, bounds_of, state_of, with_event};
 ghost use Rattle.nw_book.specs.Answer.{IsFor, Takes, front_of, reply_of};
 ghost use Rattle.nw_book.specs.Turn.{HasRoom, IsInTurn, event};
@@ -39,7 +37,6 @@ impl<S: Scheme> Book<S> {
         ensures unchanged { OnErr result (self.new ≡ self.old) }
     {
         let answer = self.reply(alloc, &call)?;
-        let call = with_held(&self.tables, call, &answer)?;
         let call = with_kept(&self.tables, call, &answer)?;
         let reply = answer.try_clone(alloc)?;
         let event = Event {
@@ -102,7 +99,7 @@ impl<S: Scheme> Book<S> {
         &mut self,
         alloc: Global,
         digest: Digest,
-    ) -> Result<Result<View<Global>, CausalReply>, NoMemory>
+    ) -> Result<Result<View, CausalReply>, NoMemory>
         ensures answer { IfOk result (λ frozen. MatchResult frozen
             (λ view. IsReply (bounds_of self.old.limits) (state_of self.old)
             (Call.Causal digest) Reply.Ready × Shows view.frozen (state_of self.old))
@@ -129,7 +126,7 @@ impl<S: Scheme> Book<S> {
         ensures unchanged { OnErr result (self.new ≡ self.old) }
     {
         let event = Shared::new(alloc, event)?;
-        let front = self.history.front_with(alloc, &event)?;
+        let front = self.history.with(alloc, &event)?;
         let kept = front.try_clone()?;
         self.enter(event.get(), &front)?;
         Ok((front, kept))
@@ -148,7 +145,7 @@ impl<S: Scheme> Book<S> {
     {
         let own = front.try_clone()?;
         self.tables.take(&event.call, &event.reply)?;
-        self.history.go_on(own);
+        self.history = own;
         self.calls[usize::from(event.session)] += 1;
         Ok(())
     }
@@ -166,44 +163,24 @@ fn read_event(session: u16, number: u32, digest: Digest, reply: Reply) -> Event
     }
 }
 
-/// The call; where its block is held already, with the one that is held, so that a history keeps no second copy of it.
-fn with_held(tables: &Dag, call: Call, reply: &Reply) -> Result<Call, NoMemory>
+/// The call; where its block is held already, or an equal certificate is kept, with the one that is there, so that a history
+/// keeps no second copy of it.
+fn with_kept(tables: &Dag, call: Call, reply: &Reply) -> Result<Call, NoMemory>
     requires reply { IsReply tables.now.bounds tables.now.state call reply.now }
     ensures { IfOk result (λ shared. shared ≡ call) }
 {
-    let Call::Write(digest, _) = &call else {
-        return Ok(call);
-    };
-    if !is_held(reply) {
-        return Ok(call);
-    }
-    match tables.read(digest)? {
-        None => Ok(call),
-        Some(held) => Ok(Call::Write(*digest, held)),
-    }
-}
-
-/// Whether a write is answered that its block is held.
-fn is_held(reply: &Reply) -> bool
-    ensures { IsTrue result ↔ reply.now ≡ replies.Write writes.Held }
-{
-    matches!(reply, Reply::Write(WriteReply::Held))
-}
-
-/// The call; where an equal certificate is kept already, with the one that is kept, so that a history keeps no second copy of
-/// it.
-fn with_kept(tables: &Dag, call: Call, reply: &Reply) -> Result<Call, NoMemory>
-    ensures { IfOk result (λ shared. shared ≡ call) }
-{
-    let Call::Certify(certificate) = &call else {
-        return Ok(call);
-    };
-    if !matches!(reply, Reply::Certify(CertifyReply::Already)) {
-        return Ok(call);
-    }
-    match tables.certificate(&certificate.get().digest)? {
-        None => Ok(call),
-        Some(kept) => Ok(same_or(Call::Certify(kept), call)),
+    match (&call, reply) {
+        (Call::Write(digest, _), Reply::Write(WriteReply::Held)) => match tables.read(digest)? {
+            Some(held) => Ok(Call::Write(*digest, held)),
+            None => Ok(call),
+        },
+        (Call::Certify(certificate), Reply::Certify(CertifyReply::Already)) => {
+            match tables.certificate(&certificate.get().digest)? {
+                Some(kept) => Ok(same_or(Call::Certify(kept), call)),
+                None => Ok(call),
+            }
+        }
+        _ => Ok(call),
     }
 }
 

@@ -10,23 +10,6 @@ use nw_model::{Call, CertifyReply, CollectReply, Reply, WriteReply};
 use std::alloc::Global;
 
 impl Dag {
-    /// Takes the step of the call and answers its reply: of a causal read of a complete digest `Ready`, and no list.
-    ///
-    /// Want of memory leaves the store as it was.
-    pub fn call(&mut self, alloc: Global, call: &Call) -> Result<Reply, NoMemory>
-        ensures reply { IfOk result
-            (λ reply. IsReply self.old.bounds self.old.state call.now reply) }
-        ensures short { IfOk result IsShort }
-        ensures state { OnOk result
-            (self.new.state ≡ after self.old.bounds self.old.state call.now) }
-        ensures bounds { self.new.bounds ≡ self.old.bounds }
-        ensures unchanged { OnErr result (self.new ≡ self.old) }
-    {
-        let reply = self.reply(alloc, call)?;
-        self.take(call, &reply)?;
-        Ok(reply)
-    }
-
     /// Takes the step of the call that gets this reply, which [`Dag::reply`] gives. It looks up nothing that the reply
     /// tells.
     ///
@@ -57,15 +40,15 @@ impl Dag {
     {
         match call {
             Call::Write(digest, block) => {
-                Ok(Reply::Write(self.write_reply(digest, block.get())))
+                Ok(Reply::Write(self.held.write_reply(digest, block.get())))
             }
             Call::Certify(certificate) => {
-                Ok(Reply::Certify(self.certify_reply(certificate.get())))
+                Ok(Reply::Certify(self.held.certify_reply(certificate.get())))
             }
             Call::Certificate(digest) => Ok(Reply::Certificate(self.certificate(digest)?)),
             Call::Read(digest) => Ok(Reply::Read(self.read(digest)?)),
             Call::Causal(digest) => Ok(self.causal_reply(digest)),
-            Call::Collect(round) => Ok(Reply::Collect(self.collect_reply(*round))),
+            Call::Collect(round) => Ok(Reply::Collect(self.held.collect_reply(*round))),
             Call::Missing(most) => Ok(Reply::Missing(self.missing(alloc, *most)?)),
             Call::Status => Ok(Reply::Status(self.status())),
         }
@@ -81,7 +64,7 @@ impl Dag {
         ensures bounds { self.new.bounds ≡ self.old.bounds }
         ensures unchanged { OnErr result (self.new ≡ self.old) }
     {
-        let reply = self.write_reply(&digest, block.get());
+        let reply = self.held.write_reply(&digest, block.get());
         self.take_write(digest, block, &reply)?;
         Ok(reply)
     }
@@ -95,7 +78,7 @@ impl Dag {
         ensures bounds { self.new.bounds ≡ self.old.bounds }
         ensures unchanged { OnErr result (self.new ≡ self.old) }
     {
-        let reply = self.certify_reply(certificate.get());
+        let reply = self.held.certify_reply(certificate.get());
         self.take_certify(certificate, &reply)?;
         Ok(reply)
     }
@@ -109,29 +92,8 @@ impl Dag {
         ensures bounds { self.new.bounds ≡ self.old.bounds }
         ensures unchanged { OnErr result (self.new ≡ self.old) }
     {
-        let reply = self.collect_reply(round);
+        let reply = self.held.collect_reply(round);
         self.take_collect(round, &reply)?;
         Ok(reply)
-    }
-
-    /// The reply that a write would get now.
-    pub fn write_reply(&self, digest: &Digest, block: &Block) -> WriteReply
-        ensures { result ≡ write_reply self.now.bounds self.now.state digest.now block.now }
-    {
-        self.held.write_reply(digest, block)
-    }
-
-    /// The reply that a certificate would get now.
-    pub fn certify_reply(&self, certificate: &Certificate) -> CertifyReply
-        ensures { result ≡ certify_reply self.now.bounds self.now.state certificate.now }
-    {
-        self.held.certify_reply(certificate)
-    }
-
-    /// The reply that a collection would get now. It takes no memory.
-    pub fn collect_reply(&self, round: Round) -> CollectReply
-        ensures { result ≡ collect_reply self.now.state round }
-    {
-        self.held.collect_reply(round)
     }
 }

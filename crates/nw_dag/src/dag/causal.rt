@@ -20,7 +20,7 @@ impl Dag {
         &mut self,
         alloc: Global,
         digest: Digest,
-    ) -> Result<Result<View<Global>, CausalReply>, NoMemory>
+    ) -> Result<Result<View, CausalReply>, NoMemory>
         ensures answer { IfOk result (λ answer. MatchResult answer
             (λ view. IsComplete self.old.state digest × Shows view.frozen self.old.state)
             (λ refusal. IsCausalReply self.old.state digest (Reply.Causal refusal))) }
@@ -30,9 +30,7 @@ impl Dag {
         if let Some(refusal) = self.refusal(&digest) {
             return Ok(Err(refusal));
         }
-        self.waits.drop_stale(&self.held);
-        self.frozen.add(alloc, &self.held, &self.waits)?;
-        self.waits.clear_fresh();
+        self.frozen.freeze(alloc, &self.held, &mut self.waits)?;
         Ok(Ok(self.frozen.view(alloc, self.held.floor())?))
     }
 
@@ -41,9 +39,8 @@ impl Dag {
     pub fn compact(&mut self, alloc: Global) -> Result<(), NoMemory>
         ensures { self.new ≡ self.old }
     {
-        self.waits.drop_stale(&self.held);
-        self.frozen.join(alloc, &self.held, &self.waits)?;
-        self.waits.clear_fresh();
+        self.frozen.freeze(alloc, &self.held, &mut self.waits)?;
+        self.frozen.join(alloc, &self.held)?;
         Ok(())
     }
 

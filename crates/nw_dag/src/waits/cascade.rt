@@ -107,7 +107,7 @@ impl Waits {
             return;
         }
         self.meet(held, digest);
-        if self.is_ready(held, digest) {
+        if self.lacks_nothing(digest) {
             let first = self.roll.listed();
             self.roll.add(digest);
             self.cascade(held, first);

@@ -1,6 +1,7 @@
 //! Tries.
 use super::*;
 use linked_list_allocator::LocalHeap;
+use nw_digest::InRound;
 use nw_trie::Trie;
 use std::collections::BTreeMap;
 
@@ -104,4 +105,29 @@ fn a_value_behind_256_forks_is_changed(rt: HostRuntime) {
     }
     assert_eq!(rt; trie.get(&one_bit(254)).copied(), Some(2));
     assert!(rt; trie.get_mut(&digest(0, 3)).is_none());
+}
+
+/// A value of a round.
+#[derive(Clone, Copy, Debug, PartialEq, Eq)]
+struct OfRound(Round);
+
+impl InRound for OfRound {
+    ghost round_of = { λ value. value.0 };
+
+    fn round(&self) -> Round {
+        self.0
+    }
+}
+
+#[test]
+fn what_is_below_a_round_is_dropped_and_counted(rt: HostRuntime) {
+    let rounds = [0, 3, 1, 2].map(|number| OfRound(Round::new(number).unwrap_or(Round::ZERO)));
+    let mut trie = Trie::new_in(rt.alloc());
+    for (first, value) in rounds.iter().enumerate() {
+        assert!(rt; trie.insert(digest(first as u8, 0), *value) == Ok(None));
+    }
+    assert_eq!(rt; trie.retain_rounds(rounds[3].0), 2);
+    assert_eq!(rt; trie.len(), 2);
+    assert_eq!(rt; trie.get(&digest(1, 0)), Some(&rounds[1]));
+    assert_eq!(rt; trie.get(&digest(3, 0)), Some(&rounds[3]));
 }

@@ -5,7 +5,7 @@ use nw_generation::{Generation, View, freeze};
 use sample_blocks::{Blocks, older, view_of_both};
 
 /// The generation of the blocks, which come back where memory is refused, and one more owner of it.
-fn frozen(alloc: Global, trie: Blocks) -> Result<Generation<Global>, NoMemory> {
+fn frozen(alloc: Global, trie: Blocks) -> Result<Generation, NoMemory> {
     let generation = match freeze(alloc, trie) {
         Ok(generation) => generation,
         Err((NoMemory, trie)) => match freeze(alloc, trie) {
@@ -31,7 +31,7 @@ fn a_refused_freeze_hands_its_blocks_back(rt: HostRuntime) {
 /// Whether the walk of the digest, which the view has not below its floor, lists these.
 fn walks(
     alloc: Global,
-    view: &View<Global>,
+    view: &View,
     digest: Digest,
     slots: &[(u64, u16)],
 ) -> Result<bool, NoMemory> {
@@ -60,8 +60,8 @@ fn two_generations_are_walked(rt: HostRuntime) {
 /// Compares the walks of the digest, which both views have not below their one floor.
 fn compared(
     alloc: Global,
-    one: &View<Global>,
-    other: &View<Global>,
+    one: &View,
+    other: &View,
     digest: Digest,
 ) -> Result<Agreement, NoMemory> {
     let first = one.get(&digest).ok_or(NoMemory)?.get();

@@ -31,7 +31,8 @@ impl Both {
 
     /// Gives the call to the first, and whether it answers so.
     fn answers(&mut self, alloc: Global, call: &Call, expected: &Reply) -> Result<bool, NoMemory> {
-        let answered = self.dag.call(alloc, call)?;
+        let answered = self.dag.reply(alloc, call)?;
+        self.dag.take(call, &answered)?;
         self.agrees(alloc, call, &answered, expected)
     }
 

@@ -13,7 +13,7 @@ use Rattle.nw_causal.proofs.Levels.{among_digests, walk_of}
 use Rattle.nw_causal.proofs.agreement.agree.Goals as goal
 
 pub returns-in-Some : goal.returns-in-Some
-returns-in-Some g c =
+returns-in-Some c =
     let v : Frozen = c.args.one.now.frozen in
     let w : Frozen = c.args.other.now.frozen in
     let d : Digest = c.args.digest in
@@ -27,7 +27,7 @@ returns-in-Some g c =
     (no_walk v w d a.digest b c.in-Some.rival c.in_ok-found.ensures.closed c.floor-floor.ensures.closed c.requires.floor c.requires.in_one c.requires.in_other ancestor collide, (a.digest, collide))
 
 pub loop-ancestor-preserved : goal.loop-ancestor-preserved
-loop-ancestor-preserved g c =
+loop-ancestor-preserved c =
     let v : Frozen = c.args.one.now.frozen in
     let w : Frozen = c.args.other.now.frozen in
     let a : Ancestor = c.ancestor-item.result in
@@ -38,7 +38,7 @@ loop-ancestor-preserved g c =
     (subst (λ (x : Ancestor). MatchAt v w x.digest) c.ancestor-item.is (match_at v w a.digest a.block.now c.requires.floor at (rw c.in_default.is at c.in_ok-rival.ensures)))
 
 pub returns : goal.returns
-returns g c =
+returns c =
     let v : Frozen = c.args.one.now.frozen in
     let w : Frozen = c.args.other.now.frozen in
     let d : Digest = c.args.digest in

@@ -8,7 +8,7 @@ use Rattle.nw_causal.proofs.walks.ancestors.Goals as goal
 use Rattle.nw_causal.proofs.walks.ancestors.Goals.{then-loop-level-test+else-not-is_empty, else-loop-level-test}
 
 pub loop-level-init : goal.loop-level-init
-loop-level-init g c =
+loop-level-init c =
     let first : Ancestor = c.look_up-first.result in
     let level : c.push.new.self.items ≡ first ∷ [] = c.in_ok-push.ensures.items ∙ ap (λ (xs : List Ancestor). xs ++ first ∷ []) c.new-level.ensures.items in
     record {
@@ -18,7 +18,7 @@ loop-level-init g c =
     }
 
 pub loop-level-preserved : goal.loop-level-preserved
-loop-level-preserved g c =
+loop-level-preserved c =
     let v : Frozen = c.args.view.now.frozen in
     let before : c.unwrap-round.result + 1 ≡ c.loop-level.round = rw c.unwrap-round.ensures at c.before-in-loop-level.ensures in
     record {
@@ -30,7 +30,7 @@ loop-level-preserved g c =
     }
 
 pub returns-clause-found : goal.returns-clause-found
-returns-clause-found g c =
+returns-clause-found c =
     rw (c.in_ok-append-2.ensures.items) (explores_all c.args.view.now.frozen c.args.digest c.loop-level.found.items c.loop-level.level.items c.loop-level.round c.loop-level.invariant.explores (λ above. elim c.loop-level-test.branch [
       | then-loop-level-test+else-not-is_empty w ↦
           let none = none_left c.loop-level.level.len w.if-not-is_empty.ensures in

@@ -3,11 +3,11 @@ use Rattle.nw_causal.proofs.Exploring.{Explores}
 use Rattle.nw_causal.proofs.walks.ancestors.Given as goal
 
 abbrev pub invariant-loop-level : goal.invariant-loop-level
-invariant-loop-level g l = record {
+invariant-loop-level l = record {
   explores : Explores l.view.frozen l.fn.digest l.found.items l.level.items l.round;
   floor : l.floor ≡ l.view.frozen.floor;
   empty : l.parents.items ≡ [];
 }
 
 abbrev pub decreases-loop-level : goal.decreases-loop-level
-decreases-loop-level g l = l.round
+decreases-loop-level l = l.round

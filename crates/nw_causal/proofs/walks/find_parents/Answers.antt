@@ -17,13 +17,13 @@ use Rattle.nw_causal.proofs.walks.find_parents.Goals as goal
 use Rattle.nw_causal.proofs.walks.find_parents.Goals.{in-Err+in_ok-insert, in_default}
 
 pub look_up-parent-requires : goal.look_up-parent-requires
-look_up-parent-requires g c =
+look_up-parent-requires c =
     let there = c.requires.there c.loop-reference.reference-index (record { author = 0; digest = record { 0 = [] } }) c.loop-reference-test.true in
     let before : there.0.round + 1 ≡ c.args.round + 1 = there.3 in
     record { there = (there.0, there.1); round = subst (λ found. IfSome found (λ (b : Block). b.round ≡ c.args.round)) (sym there.1) (omega (arith, before)) }
 
 pub loop-reference-preserved : goal.loop-reference-preserved
-loop-reference-preserved g c =
+loop-reference-preserved c =
     let v : Frozen = c.args.view.now.frozen in
     let refs : List Ref = c.args.references.now in
     let none : Ref = record { author = 0; digest = record { 0 = [] } } in
@@ -56,4 +56,4 @@ loop-reference-preserved g c =
     ]
 
 pub returns-clause-gains : goal.returns-clause-gains
-returns-clause-gains g c = rw (← take_all c.loop-reference.reference-index c.args.references.now c.loop-reference-test.false) c.loop-reference.invariant.gains
+returns-clause-gains c = rw (← take_all c.loop-reference.reference-index c.args.references.now c.loop-reference-test.false) c.loop-reference.invariant.gains

@@ -11,7 +11,7 @@ use Rattle.nw_causal.proofs.Levels.{child_is, gains_on, level_none}
 use Rattle.nw_causal.proofs.walks.find_parents_of_all.Goals as goal
 
 pub loop-child-init : goal.loop-child-init
-loop-child-init g c = record {
+loop-child-init c = record {
   level = rw (c.requires.empty) (level_none c.args.view.now.frozen c.args.round);
   gains = λ e. (
     λ among. inl among,
@@ -23,7 +23,7 @@ loop-child-init g c = record {
 }
 
 pub find_parents-requires-clause-there : goal.find_parents-requires-clause-there
-find_parents-requires-clause-there g c =
+find_parents-requires-clause-there c =
     let v : Frozen = c.args.view.now.frozen in
     let b : Block = c.get.result.now in
     let child = child_is v (c.args.round + 1) c.loop-child.child-index c.args.level.now c.child-item.result b c.requires.level c.loop-child-test.true c.child-item.is c.get.ensures in
@@ -31,7 +31,7 @@ find_parents-requires-clause-there g c =
     rw (c.as_slice-references.ensures, ← child.of) held
 
 pub loop-child-preserved : goal.loop-child-preserved
-loop-child-preserved g c =
+loop-child-preserved c =
     let v : Frozen = c.args.view.now.frozen in
     let a : Ancestor = c.child-item.result in
     let b : Block = c.get.result.now in
@@ -44,7 +44,7 @@ loop-child-preserved g c =
     }
 
 pub returns-clause-gains : goal.returns-clause-gains
-returns-clause-gains g c =
+returns-clause-gains c =
     let names : List Digest = digests c.args.level.now in
     let past : length names ≤ c.loop-child.child-index = omega (arith, c.loop-child-test.false, length-map c.args.level.now (λ (x : Ancestor). x.digest)) in
     rw (← take_all c.loop-child.child-index names past) c.loop-child.invariant.gains

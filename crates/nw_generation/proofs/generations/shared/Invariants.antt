@@ -2,4 +2,4 @@ use Rattle.std.proofs.Common.{◌≡◌, take}
 use Rattle.nw_generation.proofs.generations.shared.Given as goal
 
 abbrev pub invariant-loop-generation : goal.invariant-loop-generation
-invariant-loop-generation g l = l.list.items ≡ take l.generation-index l.generations
+invariant-loop-generation l = l.list.items ≡ take l.generation-index l.generations

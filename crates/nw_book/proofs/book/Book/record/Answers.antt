@@ -6,8 +6,8 @@ use Rattle.nw_book.specs.Turn.{IsInTurn, HasRoom}
 use Rattle.nw_book.proofs.Stands.{legal_next}
 use Rattle.nw_book.proofs.book.Book.record.Goals as goal
 
-pub front_with-requires-clause-legal : goal.front_with-requires-clause-legal
-front_with-requires-clause-legal g c =
+pub with-requires-clause-legal : goal.with-requires-clause-legal
+with-requires-clause-legal g c =
     let s = c.self.inside.history in
     let turn : IsInTurn s c.args.event.session c.args.event.number = rw c.self.view_is c.requires.turn in
     let room : HasRoom s = rw c.self.view_is c.requires.room in
@@ -15,8 +15,8 @@ front_with-requires-clause-legal g c =
     let is : IsReply (bounds_of s.limits) (state_of s) c.args.event.call c.args.event.reply = rw c.self.view_is c.requires.reply in
     rw c.in_ok-event.ensures (legal_next g.S.Scheme.accepts _ _ _ c.args.event c.self.invariant turn room admitted is c.requires.short)
 
-pub front_with-requires-clause-room : goal.front_with-requires-clause-room
-front_with-requires-clause-room g c =
+pub with-requires-clause-room : goal.with-requires-clause-room
+with-requires-clause-room g c =
     let room : HasRoom c.self.inside.history = rw c.self.view_is c.requires.room in
     let most : c.self.inside.history.limits.events ≤ 65536 = c.self.invariant.in_range.events.bounded in
     omega (arith, room, most)

@@ -1,6 +1,3 @@
-use Rattle.std.proofs.Common.{ℕ, ap, ◌∙◌}
-use Rattle.nw_codec.specs.declared.block.Block.{Block}
-use Rattle.nw_model.specs.Step.{from_round}
 use Rattle.nw_dag.proofs.Freezing.{frozen_above, frozen_over}
 use Rattle.nw_dag.proofs.frozen.Frozen.add.Goals as goal
 
@@ -10,7 +7,7 @@ returns-in_ok-push-clause-all c =
     let lacking = c.args.waits.now.lacking in
     let fresh = c.args.waits.now.roll.fresh.items in
     frozen_over s lacking fresh c.in_ok-generations.generations.blocks c.in_ok-fresh.fresh c.push.new.self.blocks
-    (frozen_above s lacking fresh c.args.self.now.generations.blocks c.in_ok-generations.generations.blocks c.requires.frozen (c.in_ok-generations.ensures.blocks ∙ c.in_ok-not_below.ensures ∙ ap (λ (r : ℕ). from_round (λ (b : Block). b.round) r c.args.self.now.generations.blocks) c.floor.ensures))
+    (frozen_above s lacking fresh c.args.self.now.generations.blocks c.in_ok-generations.generations.blocks c.requires.frozen c.in_ok-generations.ensures.blocks)
     c.requires.fresh (rw c.fresh-2.ensures at c.in_ok-fresh.ensures) c.in_ok-push.ensures.blocks
 
 pub returns-in_ok-push-2-clause-all : goal.returns-in_ok-push-2-clause-all

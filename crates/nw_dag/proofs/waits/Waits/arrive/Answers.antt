@@ -1,5 +1,7 @@
 use Rattle.std.proofs.Common.{◌<◌, sym, subst}
 use Rattle.nw_model.specs.State.{State}
+use Rattle.nw_waiting.specs.Pairs.{Lacks}
+use Rattle.nw_waiting.specs.declared.wanted.Wanted.{Wanted}
 use Rattle.nw_held.specs.Standing.{Stands}
 use Rattle.nw_dag.specs.Lacking.{IsReady}
 use Rattle.nw_dag.specs.declared.roll.Roll.{Roll}
@@ -21,7 +23,7 @@ pub add-requires : goal.add-requires
 add-requires c =
     let s : State = c.args.held.now.state in
     let self = c.args.self.now in
-    subst (λ (r : Roll). 0 < r.pending) (sym c.meet.ensures.roll) (pending_but s c.args.digest self.unmet self.lacking self.roll.pending c.requires (rw c.meet.ensures.lacking at (c.is_ready.ensures.0 c.if-is_ready.true)))
+    subst (λ (r : Roll). 0 < r.pending) (sym c.meet.ensures.roll) (pending_but s c.args.digest self.unmet self.lacking self.roll.pending c.requires (c.stands.ensures.stands.0 c.if-not-stands.false, rw c.meet.ensures.lacking at (c.lacks_nothing.ensures.0 c.if-lacks_nothing.true)))
 
 pub cascade-requires : goal.cascade-requires
 cascade-requires c =
@@ -30,15 +32,15 @@ cascade-requires c =
     record {
       due = rw c.meet.ensures.lacking
           (now_ready s c.args.digest self.unmet c.meet.new.self.unmet self.lacking self.roll.fresh.items c.add.new.self.fresh.items self.roll.pending c.add.new.self.pending c.listed-first.result c.meet.ensures.unmet
-          (rw c.meet.ensures.lacking at (c.is_ready.ensures.0 c.if-is_ready.true))
+          (c.stands.ensures.stands.0 c.if-not-stands.false, rw c.meet.ensures.lacking at (c.lacks_nothing.ensures.0 c.if-lacks_nothing.true))
           (rw c.meet.ensures.roll at c.add.ensures.fresh)
           (rw c.meet.ensures.roll at c.add.ensures.pending)
           (rw c.meet.ensures.roll at c.listed-first.ensures)
           c.requires);
     }
 
-pub returns-then-is_ready : goal.returns-then-is_ready
-returns-then-is_ready c =
+pub returns-then-lacks_nothing : goal.returns-then-lacks_nothing
+returns-then-lacks_nothing c =
     let s : State = c.args.held.now.state in
     let self = c.args.self.now in
     record {
@@ -47,11 +49,12 @@ returns-then-is_ready c =
           (rw c.meet.ensures.roll at c.add.ensures.fresh) (rw c.meet.ensures.lacking at c.cascade.ensures.grown);
     }
 
-pub returns-else-is_ready : goal.returns-else-is_ready
-returns-else-is_ready c =
+pub returns-else-lacks_nothing : goal.returns-else-lacks_nothing
+returns-else-lacks_nothing c =
     let s : State = c.args.held.now.state in
     let self = c.args.self.now in
-    let never = refuted c.is_ready.result (IsReady s self.lacking c.args.digest) (rw c.meet.ensures.lacking at c.is_ready.ensures) c.if-is_ready.false in
+    let lacks = refuted c.lacks_nothing.result ((w : Wanted) → Lacks self.lacking c.args.digest w → ⊥) (rw c.meet.ensures.lacking at c.lacks_nothing.ensures) c.if-lacks_nothing.false in
+    let never : IsReady s self.lacking c.args.digest → ⊥ = λ ready. lacks ready.1 in
     rw (c.meet.ensures.lacking, c.meet.ensures.roll)
     (record {
       settled = not_ready s c.args.digest self.unmet c.meet.new.self.unmet self.lacking self.roll.pending never c.meet.ensures.unmet c.requires;

@@ -4,7 +4,7 @@ use Rattle.nw_generation.specs.Seen.{union}
 use Rattle.nw_generation.proofs.view.View.get_of.Given as goal
 
 abbrev pub invariant-loop-generation : goal.invariant-loop-generation
-invariant-loop-generation g l = get (union l.left) l.digest ≡ get (union l.initial.left) l.digest
+invariant-loop-generation l = get (union l.left) l.digest ≡ get (union l.initial.left) l.digest
 
 abbrev pub decreases-loop-generation : goal.decreases-loop-generation
-decreases-loop-generation g l = length l.left
+decreases-loop-generation l = length l.left

@@ -1,0 +1,133 @@
+-- Searches among ascending entries.
+use Rattle.std.proofs.Common.{◌≡◌, ℕ, Bool, true, false, List, [], ◌∷◌, ◌++◌, Some, None, cond, length, take, drop, refl, ap, sym, ◌∙◌, arith}
+use Rattle.std.specs.declared.cmp.Ordering.{Ordering}
+use Rattle.std.specs.declared.cmp.Ordering.TheVariants.{Less, Equal, Greater}
+use Rattle.std.specs.Ordering.{is_eq, is_lt, ordering_reverse}
+use Rattle.std.specs.Str.{bytes_eq}
+use Rattle.std.proofs.lemmas.List.{take-append-drop}
+use Rattle.std.proofs.lemmas.Map.Text.{is_eq-slice_cmp}
+use Rattle.std.specs.Map.{keys_of}
+use Rattle.std.specs.Prelude.{filter}
+use Rattle.std.proofs.lemmas.Map.Keys.{sorted_head, sorted_tail}
+use Rattle.nw_digest.specs.declared.digest.Digest.{Digest}
+use Rattle.nw_codec.specs.declared.block.Block.{Block}
+use Rattle.nw_digest.specs.Order.{digest_cmp}
+use Rattle.nw_model.proofs.Maps.{digests_total, find_below, find_lookup}
+use Rattle.nw_generation.specs.Entries.{Ascend, IsBelow, under}
+
+abbrev Entries : Type 0
+Entries = List (Digest × Block)
+
+pub none_ascend : Ascend []
+unfolding Rattle.std.specs.List.Sorted.IsStrictlySortedBy
+none_ascend = tt
+
+pub empty_below : (d : Digest) (es : Entries) → length es ≡ 0 → IsBelow d es
+empty_below d [] none = tt
+empty_below d (e ∷ es) none = absurd (omega (arith, none))
+
+pub head_below : (e : Digest × Block) (es : Entries) → Ascend (e ∷ es) → IsBelow e.0 es
+head_below e es s = sorted_head digest_cmp e.0 (keys_of es) s
+
+pub tail_ascends : (e : Digest × Block) (es : Entries) → Ascend (e ∷ es) → Ascend es
+tail_ascends e es s = sorted_tail digest_cmp e.0 (keys_of es) s
+
+-- what comes before a digest comes before what comes after it
+pub below_all : (d k : Digest) (es : Entries) → digest_cmp d k ≡ Less → IsBelow k es → IsBelow d es
+below_all d k [] less below = tt
+below_all d k (e ∷ es) less below = (digests_total.trans d k e.0 less below.0, below_all d k es less below.1)
+
+pub below_each : (d k : Digest) (b : Block) (es : Entries) → digest_cmp d k ≡ Less → Ascend ((k, b) ∷ es) → IsBelow d ((k, b) ∷ es)
+below_each d k b es less s = (less, below_all d k es less (head_below (k, b) es s))
+
+-- nothing is under a digest that comes before all
+pub none_below : (d : Digest) (es : Entries) → IsBelow d es → under es d ≡ None
+none_below d es below = sym (find_lookup digest_cmp es d) ∙ find_below digest_cmp d es below
+
+turned : (o r : Ordering) → o ≡ ordering_reverse r → r ≡ Less → is_eq o ≡ false
+turned o r is less = ap is_eq (is ∙ ap ordering_reverse less)
+
+-- a digest behind another one is not under it
+past : (d k : Digest) → digest_cmp k d ≡ Less → is_eq (digest_cmp d k) ≡ false
+past d k less = turned (digest_cmp d k) (digest_cmp k d) (digests_total.antisymm d k) less
+
+module _ (d k : Digest) (b : Block) (after : Entries) where
+  -- the entry of the digest
+  pub found_at : (before : Entries) → Ascend (before ++ (k, b) ∷ after) → digest_cmp d k ≡ Equal → under (before ++ (k, b) ∷ after) d ≡ Some b
+  found_at [] s same = ap (λ o. cond (is_eq o) (Some b) (under after d)) same
+  found_at (e ∷ before) s same =
+      ap (λ t. cond t (Some e.1) (under (before ++ (k, b) ∷ after) d)) (past d e.0 (ends before (head_below e (before ++ (k, b) ∷ after) s))) ∙ found_at before (tail_ascends e (before ++ (k, b) ∷ after) s) same
+    where
+      ends : (es : Entries) → IsBelow e.0 (es ++ (k, b) ∷ after) → digest_cmp e.0 d ≡ Less
+      ends [] below = before_same below.0
+        where
+          before_same : digest_cmp e.0 k ≡ Less → digest_cmp e.0 d ≡ Less
+          before_same less = digests_total.antisymm e.0 d ∙ ap ordering_reverse (digests_total.congr d k e.0 same ∙ digests_total.antisymm k e.0 ∙ ap ordering_reverse less)
+      ends (x ∷ es) below = ends es below.1
+
+  -- the digest is behind the entry
+  pub found_after : (before : Entries) → Ascend (before ++ (k, b) ∷ after) → digest_cmp k d ≡ Less → (under (before ++ (k, b) ∷ after) d ≡ under after d) × Ascend after
+  found_after [] s less = (ap (λ t. cond t (Some b) (under after d)) (past d k less), tail_ascends (k, b) after s)
+  found_after (e ∷ before) s less =
+      let rest = found_after before (tail_ascends e (before ++ (k, b) ∷ after) s) less in
+      (ap (λ t. cond t (Some e.1) (under (before ++ (k, b) ∷ after) d)) (past d e.0 (ends before (head_below e (before ++ (k, b) ∷ after) s))) ∙ rest.0, rest.1)
+    where
+      ends : (es : Entries) → IsBelow e.0 (es ++ (k, b) ∷ after) → digest_cmp e.0 d ≡ Less
+      ends [] below = digests_total.trans e.0 k d below.0 less
+      ends (x ∷ es) below = ends es below.1
+
+  -- the digest is before the entry
+  pub found_before : (before : Entries) → Ascend (before ++ (k, b) ∷ after) → digest_cmp d k ≡ Less → (under (before ++ (k, b) ∷ after) d ≡ under before d) × Ascend before
+  unfolding Rattle.std.specs.List.Sorted.IsStrictlySortedBy
+  found_before [] s less = (none_below d ((k, b) ∷ after) (below_each d k b after less s), tt)
+  found_before (e ∷ before) s less =
+      let rest = found_before before (tail_ascends e (before ++ (k, b) ∷ after) s) less in
+      (ap (cond (is_eq (digest_cmp d e.0)) (Some e.1)) rest.0, (front before (head_below e (before ++ (k, b) ∷ after) s), rest.1))
+    where
+      front : (es : Entries) → IsBelow e.0 (es ++ (k, b) ∷ after) → IsBelow e.0 es
+      front [] below = tt
+      front (x ∷ es) below = (below.0, front es below.1)
+
+-- ---- what comparisons tell
+
+ordered : (o r : Ordering) → o ≡ ordering_reverse r → is_eq r ≡ false → is_lt r ≡ false → o ≡ Less
+ordered o Less turn apart lt = cc
+ordered o Equal turn apart lt = cc
+ordered o Greater turn apart lt = turn
+
+less : (r : Ordering) → is_lt r ≡ true → r ≡ Less
+less Less lt = refl
+less Equal lt = cc
+less Greater lt = cc
+
+tie : (o r : Ordering) → o ≡ ordering_reverse r → is_eq r ≡ true → o ≡ Equal
+tie o Less turn same = cc
+tie o Equal turn same = turn
+tie o Greater turn same = cc
+
+pub is_tie : (k d : Digest) → true ≡ bytes_eq k.0 d.0 → digest_cmp d k ≡ Equal
+is_tie k d same = tie (digest_cmp d k) (digest_cmp k d) (digests_total.antisymm d k) (is_eq-slice_cmp k.0 d.0 ∙ sym same)
+
+pub is_behind : (k d : Digest) → true ≡ is_lt (digest_cmp k d) → digest_cmp k d ≡ Less
+is_behind k d lt = less (digest_cmp k d) (sym lt)
+
+pub is_before : (k d : Digest) → false ≡ bytes_eq k.0 d.0 → false ≡ is_lt (digest_cmp k d) → digest_cmp d k ≡ Less
+is_before k d apart lt = ordered (digest_cmp d k) (digest_cmp k d) (digests_total.antisymm d k) (is_eq-slice_cmp k.0 d.0 ∙ sym apart) (sym lt)
+
+-- a list that is split at a place, and an entry there
+pub split : (left front rest after : Entries) (e : Digest × Block) (place : ℕ) → front ≡ take place left → rest ≡ drop place left → rest ≡ e ∷ after → front ++ e ∷ after ≡ left
+split left front rest after e place is are first = ap (λ es. es ++ e ∷ after) is ∙ ap (λ es. take place left ++ es) (sym first ∙ are) ∙ take-append-drop place left
+
+-- some of the entries ascend too
+filtered_below : (d : Digest) (keep : Digest × Block → Bool) (es : Entries) → IsBelow d es → IsBelow d (filter keep es)
+filtered_below d keep [] below = tt
+filtered_below d keep (e ∷ es) below =
+    let rest = filtered_below d keep es below.1 in
+    elim (keep e) as (λ t. IsBelow d (cond t (e ∷ filter keep es) (filter keep es))) [ true ↦ (below.0, rest) | false ↦ rest ]
+
+pub filtered_ascend : (keep : Digest × Block → Bool) (es : Entries) → Ascend es → Ascend (filter keep es)
+unfolding Rattle.std.specs.List.Sorted.IsStrictlySortedBy
+filtered_ascend keep [] ascend = tt
+filtered_ascend keep (e ∷ es) ascend =
+    let rest = filtered_ascend keep es ascend.1 in
+    elim (keep e) as (λ t. Ascend (cond t (e ∷ filter keep es) (filter keep es))) [ true ↦ (filtered_below e.0 keep es ascend.0, rest) | false ↦ rest ]

@@ -1,0 +1,33 @@
+-- Blocks under their digests, ascending.
+use Rattle.std.specs.Prelude.{◌≡◌, ◌+◌, ◌<◌, List, [], ◌∷◌, Option, length}
+use Rattle.std.specs.declared.cmp.Ordering.TheVariants.{Less}
+use Rattle.std.specs.BTreeMap.{is_at}
+use Rattle.std.specs.List.{AllByRecursion}
+use Rattle.std.specs.List.Sorted.{IsStrictlySortedBy}
+use Rattle.std.specs.Map.{keys_of, lookup}
+use Rattle.std.specs.Option.{option_or}
+use Rattle.nw_digest.specs.declared.digest.Digest.{Digest}
+use Rattle.nw_codec.specs.declared.block.Block.{Block}
+use Rattle.nw_digest.specs.Order.{digest_cmp}
+
+-- each digest comes after the one before it
+abbrev pub Ascend : List (Digest × Block) → Type 0
+Ascend entries = IsStrictlySortedBy digest_cmp (keys_of entries)
+
+-- the digest comes before those of all entries
+abbrev pub IsBelow : Digest → List (Digest × Block) → Type 0
+IsBelow d entries = AllByRecursion (λ k. digest_cmp d k ≡ Less) (keys_of entries)
+
+-- the block that the entries have under the digest
+abbrev pub under : List (Digest × Block) → Digest → Option Block
+under entries d = lookup (is_at (digest_cmp d)) entries
+
+-- the first entry of both, and what is left of them: what is under a digest, in the newer ones or else in the older ones, is in that entry or in what is left
+pub record IsNext (newer older : List (Digest × Block)) (first : Digest × Block) (newer_left older_left : List (Digest × Block)) : Type 0 where
+  pub same : (d : Digest) → option_or (under newer d) (under older d) ≡ option_or (under (first ∷ []) d) (option_or (under newer_left d) (under older_left d))
+  pub before_newer : IsBelow first.0 newer_left
+  pub before_older : IsBelow first.0 older_left
+  pub newer_ascend : Ascend newer_left
+  pub older_ascend : Ascend older_left
+  pub above : (d : Digest) → IsBelow d newer → IsBelow d older → IsBelow d (first ∷ []) × IsBelow d newer_left × IsBelow d older_left
+  pub fewer : length newer_left + length older_left < length newer + length older
