@@ -1,7 +1,9 @@
 -- A history with one more event.
-use Rattle.std.proofs.Common.{◌≡◌, ℕ, ◌+◌, ◌<◌, Bool, true, false, cond, List, [], ◌∷◌, ◌++◌, length, refl, arith, append-nil, length-append}
+use denote.Bor.{Bor}
+use Rattle.std.proofs.Common.{◌≡◌, ℕ, suc, ◌+◌, ◌-◌, ◌<◌, Bool, true, false, cond, List, [], ◌∷◌, ◌++◌, Option, Some, None, IsSome, length, refl, ap, ◌∙◌, arith, append-nil, length-append}
 use Rattle.std.proofs.lemmas.Bool.{eqb-true}
-use Rattle.std.specs.Prelude.{◌==◌}
+use Rattle.std.specs.Prelude.{◌==◌, slice_get}
+use Rattle.std.specs.Option.{option_copied, unwrap_or}
 use Rattle.std.proofs.lemmas.List.Elements.{All-push, filter-append}
 use Rattle.nw_sig.specs.Signed.{Meaning}
 use Rattle.nw_model.specs.State.{State}
@@ -44,3 +46,20 @@ legal_last accepts t base es e h reply short below number room admitted = record
   short = omega (arith, length-append es (e ∷ []));
   admitted = All-push (λ (x : Event). IsAdmitted accepts t.committee x.call) es e h.admitted admitted;
 }
+
+-- the last of some events and one more
+last_of : (es : List Event) (e : Event) → slice_get (es ++ e ∷ []) (length (es ++ e ∷ []) - 1) ≡ Some e
+last_of [] e = refl
+last_of (x ∷ es) e =
+    let at : length (x ∷ es ++ e ∷ []) - 1 ≡ suc (length (es ++ e ∷ []) - 1) = omega (arith, length-append es (e ∷ [])) in
+    ap (slice_get (x ∷ es ++ e ∷ [])) at ∙ last_of es e
+
+pub is_last : (es all : List Event) (e f : Event) → Some f ≡ slice_get all (length all - 1) → all ≡ es ++ e ∷ [] → f ≡ e
+is_last es all e f at is = ap (λ (o : Option Event). unwrap_or o e) (at ∙ ap (λ (xs : List Event). slice_get xs (length xs - 1)) is ∙ last_of es e)
+
+pub some_last : (es all : List Event) (e : Event) (found : Option (Bor Event)) → option_copied found ≡ slice_get all (length all - 1) → all ≡ es ++ e ∷ [] → IsSome found
+some_last es all e found at is = by found (at ∙ ap (λ (xs : List Event). slice_get xs (length xs - 1)) is ∙ last_of es e)
+  where
+    by : (o : Option (Bor Event)) → option_copied o ≡ Some e → IsSome o
+    by None h = cc
+    by (Some x) h = cc

@@ -73,11 +73,6 @@ count_fits accepts t counts s session place count h below here value =
     let bound : s.limits.events ≤ 65536 = h.in_range.events.bounded in
     omega (arith, number, many, few, fewer, short, bound)
 
--- a reply to a call after the history is one at tables that stand for it
-pub reply_at : (accepts : Meaning) (t : Tables) (counts : List ℕ) (s : Story) (asked : Call) (given : Reply) → StandFor accepts t counts s → IsReply (bounds_of s.limits) (state_of s) asked given
-    → IsReply t.bounds t.state asked given
-reply_at accepts t counts s asked given h is = rw h.state is
-
 -- the step that was taken, with the event that was recorded
 pub takes_next : (accepts : Meaning) (old new : Story) (session number : ℕ) (asked : Call) (given : Reply) (e : Event) (front : Story) → e ≡ event session number asked given
     → IsReply (bounds_of old.limits) (state_of old) asked given → new ≡ with_event old e → front ≡ new → IsLegalStory accepts new

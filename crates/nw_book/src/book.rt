@@ -83,18 +83,12 @@ impl<S: Scheme> Book<S> {
             blocks: limits.blocks,
             window: limits.window,
         };
-        let history = Front::new(alloc, committee, limits)?;
-        match vec![in alloc; 0u32; limits.sessions as usize] {
-            Ok(calls) => Ok(Book {
-                history,
-                tables: Dag::new(alloc, tables),
-                calls,
-            }),
-            Err(_) => {
-                drop(history);
-                Err(BookError::NoMemory)
-            }
-        }
+        let calls = vec![in alloc; 0u32; limits.sessions as usize]?;
+        Ok(Book {
+            history: Front::new(alloc, committee, limits)?,
+            tables: Dag::new(alloc, tables),
+            calls,
+        })
     }
 
     /// The history so far.

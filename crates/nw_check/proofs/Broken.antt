@@ -1,5 +1,5 @@
 -- Rules that are broken.
-use Rattle.std.proofs.Common.{◌≡◌, ℕ, nat_eq, Bool, true, false, ◌+◌, ◌<◌, Option, Some, None, ap, List, [], ◌∷◌, ◌++◌, length, take, drop, get_or, refl, subst, arith}
+use Rattle.std.proofs.Common.{◌≡◌, ℕ, nat_eq, Bool, true, false, ◌+◌, ◌<◌, Option, Some, None, ap, List, ◌∷◌, ◌++◌, length, take, drop, get_or, refl, subst, arith}
 use Rattle.std.specs.Prelude.{Contains, MatchOption, is_some, not}
 use Rattle.std.specs.Cmp.Lexicographic.{pointwise, bytes_decides}
 use Rattle.std.specs.List.{All}
@@ -11,7 +11,7 @@ use Rattle.nw_codec.specs.declared.certificate.Seal.{Seal}
 use Rattle.nw_codec.specs.declared.certificate.Certificate.{Certificate}
 use Rattle.nw_committee.specs.declared.member.Member.{Member}
 use Rattle.nw_sig.specs.Signed.{Meaning}
-use Rattle.nw_model.specs.Checks.{IsSealOf, IsValid, IsWellFormedWith}
+use Rattle.nw_model.specs.Checks.{IsSealOf, IsValid}
 use Rattle.nw_check.specs.declared.fault.BlockFault.{BlockFault}
 use Rattle.nw_check.specs.declared.fault.BlockFault.TheVariants as block_fault
 use Rattle.nw_check.specs.declared.fault.CertFault.{CertFault}

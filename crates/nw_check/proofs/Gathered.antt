@@ -1,18 +1,15 @@
 -- What is gathered makes a valid certificate.
-use Rattle.std.proofs.Common.{◌≡◌, ◌∙◌, ℕ, zero, suc, ◌<◌, ◌≤◌, List, [], ◌∷◌, ◌++◌, Option, Some, None, length, map, take, drop, get_or, refl, sym, ap, subst, arith}
-use Rattle.std.specs.Prelude.{Contains, insert, slice_get}
+use Rattle.std.proofs.Common.{◌≡◌, ◌∙◌, ℕ, ◌<◌, ◌≤◌, List, ◌∷◌, ◌++◌, length, map, take, drop, get_or, refl, sym, ap, subst, arith}
+use Rattle.std.specs.Prelude.{insert}
 use Rattle.std.specs.List.{All}
-use Rattle.std.specs.List.Sorted.{IsStrictlyIncreasing}
 use Rattle.std.proofs.lemmas.List.{length-map, get_or-map, map-append, take-map, drop-map, take-append-drop}
 use Rattle.std.proofs.lemmas.List.Elements.{All-map, All-append, All-cons, All-take, All-drop, All-weaker}
 use Rattle.std.proofs.lemmas.Option.{slice_get_within}
 use Rattle.nw_codec.specs.Fits.{signers}
 use Rattle.nw_codec.specs.Grammar.{seal}
 use Rattle.nw_codec.specs.declared.certificate.Seal.{Seal}
-use Rattle.nw_codec.specs.declared.certificate.Certificate.{Certificate}
 use Rattle.nw_codec.specs.declared.vote.Vote.{Vote}
 use Rattle.nw_committee.specs.Committee.{ReachesQuorum}
-use Rattle.nw_committee.specs.declared.member.Member.{Member}
 use Rattle.nw_sig.specs.Signed.{Meaning, vote_text}
 use Rattle.nw_model.specs.Checks.{IsMember, IsSignedBy, IsSealOf, IsValid}
 use Rattle.nw_check.specs.Gathering.{Gathering, IsGathering, IsPlace, MayCount, Counts, certificate_of}

@@ -1,5 +1,5 @@
 -- The numbers that are listed, one after another.
-use Rattle.std.proofs.Common.{◌≡◌, ◌∙◌, ℕ, ◌+◌, ◌<◌, ◌≤◌, List, [], ◌∷◌, ◌++◌, length, map, take, drop, get_or, set, refl, sym, ap, subst, arith, add-one, drop-cons}
+use Rattle.std.proofs.Common.{◌≡◌, ◌∙◌, ℕ, ◌+◌, ◌<◌, ◌≤◌, List, [], ◌∷◌, ◌++◌, length, map, take, drop, get_or, set, sym, ap, subst, arith, add-one, drop-cons}
 use Rattle.std.specs.List.{All}
 use Rattle.std.proofs.lemmas.List.{take_more, take_all, take_more_set, take-append-drop, get_or-map, length-map}
 use Rattle.std.proofs.lemmas.List.Elements.{All-more}
@@ -22,13 +22,6 @@ module _ {X : Type 0} (f : X → ℕ) (xs : List X) (i : ℕ) (x : X) (h : i < l
   copied-more numbers room before =
       take_more_set numbers i (f x) room ∙ ap (λ (front : List ℕ). front ++ f x ∷ []) before
       ∙ ap (λ (n : ℕ). take i (map f xs) ++ n ∷ []) (sym at_number) ∙ sym (take_more (map f xs) i 0 within)
-
--- all are copied
-pub copied-all : {X : Type 0} (f : X → ℕ) (xs : List X) (i : ℕ) (numbers : List ℕ) → length xs ≤ i → i ≤ length xs → take i numbers ≡ take i (map f xs) → take (length xs) numbers ≡ map f xs
-copied-all f xs i numbers high low before =
-    let whole : take i (map f xs) ≡ map f xs = take_all i (map f xs) (omega (arith, length-map xs f)) in
-    let end : length xs ≡ i = omega arith in
-    rw end (before ∙ whole)
 
 -- a front that is the whole list
 pub all_front : (P : ℕ → Type 0) {X : Type 0} (f : X → ℕ) (xs : List X) (i : ℕ) → length xs ≤ i → All P (take i (map f xs)) → All P (map f xs)

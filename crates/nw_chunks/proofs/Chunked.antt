@@ -1,9 +1,9 @@
 -- Lists in chunks.
-use Rattle.std.proofs.Common.{◌≡◌, ℕ, ◌+◌, ◌-◌, ◌*◌, ◌/◌, ◌%◌, ◌<◌, List, [], ◌∷◌, Some, length, take, get_or, refl, ap, sym, ◌∙◌, arith, length-append, length-take}
+use Rattle.std.proofs.Common.{◌≡◌, ℕ, ◌+◌, ◌-◌, ◌*◌, ◌/◌, ◌%◌, ◌^◌, ◌<◌, ◌≤◌, List, [], ◌∷◌, ◌++◌, Some, length, take, get_or, refl, ap, sym, ◌∙◌, arith, length-append, length-take}
 use Rattle.std.specs.Prelude.{slice_get, reverse, All}
 use Rattle.std.specs.List.{flat_map}
 use Rattle.std.proofs.lemmas.List.{length-reverse, get_or-reverse, get_or-append-add, get_or_append_left}
-use Rattle.std.proofs.lemmas.List.Elements.{All-head, All-tail, All-take, All-get_or}
+use Rattle.std.proofs.lemmas.List.Elements.{All-head, All-tail, All-nil, All-cons, All-append, All-take, All-get_or}
 use Rattle.std.proofs.lemmas.List.Concat.{get_or-flat_map}
 use Rattle.std.proofs.lemmas.Option.{slice_get_within, slice_get_read, slice_get-get_or, get_or_from_slice_get}
 use Rattle.nw_chunks.specs.Chunks.{AreChunked, Chunked, chunked, items_of}
@@ -20,13 +20,13 @@ chunks_length (c ∷ cs) h =
     omega (arith, length-append c (flat_map (λ x. x) cs))
 
 -- all items together
-items_length : {T : Type 0} (c : Chunked T) → All IsWhole c.chunks → length (items_of c) ≡ 256 * length c.chunks + length c.behind
+items_length : {H T : Type 0} (c : Chunked H T) → All IsWhole c.chunks → length (items_of c) ≡ 256 * length c.chunks + length c.behind
 items_length c h = omega (arith, length-append (flat_map (λ x. x) c.chunks) c.behind, chunks_length c.chunks h)
 
 -- an item of a chunk
-get_chunk : {T : Type 0} (chunks : List (List T)) (behind : List T) (k j : ℕ) (c : List T) (x : T) → All IsWhole chunks
-    → slice_get chunks k ≡ Some c → slice_get c j ≡ Some x → slice_get (items_of (chunked chunks behind)) (256 * k + j) ≡ Some x
-get_chunk chunks behind k j c x h there item =
+get_chunk : {H T : Type 0} (head : H) (chunks : List (List T)) (behind : List T) (k j : ℕ) (c : List T) (x : T) → All IsWhole chunks
+    → slice_get chunks k ≡ Some c → slice_get c j ≡ Some x → slice_get (items_of (chunked head chunks behind)) (256 * k + j) ≡ Some x
+get_chunk head chunks behind k j c x h there item =
     let k_in : k < length chunks = slice_get_within chunks k c there in
     let j_in : j < length c = slice_get_within c j x item in
     let chunk_is : get_or chunks k c ≡ c = get_or_from_slice_get chunks k c c there in
@@ -39,38 +39,46 @@ get_chunk chunks behind k j c x h there item =
     let inside : 256 * k + j < length (flat_map (λ y. y) chunks) = omega (arith, all, k_in, j_in, c_whole) in
     let found : get_or (flat_map (λ y. y) chunks) (length (flat_map (λ y. y) (take k chunks)) + j) x ≡ get_or (get_or chunks k c) j x =
     get_or-flat_map (λ y. y) chunks k j c x k_in j_at in
-    let value : x ≡ get_or (items_of (chunked chunks behind)) (256 * k + j) x =
+    let value : x ≡ get_or (items_of (chunked head chunks behind)) (256 * k + j) x =
     sym (get_or_append_left (flat_map (λ y. y) chunks) (reverse behind) x (256 * k + j) inside
     ∙ ap (λ n. get_or (flat_map (λ y. y) chunks) (n + j) x) (sym before) ∙ found ∙ ap (λ l. get_or l j x) chunk_is ∙ item_is) in
-    slice_get_read (items_of (chunked chunks behind)) (length (items_of (chunked chunks behind))) (256 * k + j) x refl (omega (arith, inside, length-append (flat_map (λ y. y) chunks) (reverse behind))) value
+    slice_get_read (items_of (chunked head chunks behind)) (length (items_of (chunked head chunks behind))) (256 * k + j) x refl (omega (arith, inside, length-append (flat_map (λ y. y) chunks) (reverse behind))) value
 
-pub get_full : {T : Type 0} (chunks : List (List T)) (behind : List T) (i : ℕ) (c : List T) (x : T) → All IsWhole chunks
-    → slice_get chunks (i / 256) ≡ Some c → slice_get c (i % 256) ≡ Some x → slice_get (items_of (chunked chunks behind)) i ≡ Some x
-get_full chunks behind i c x h there item =
+pub get_full : {H T : Type 0} (head : H) (chunks : List (List T)) (behind : List T) (i : ℕ) (c : List T) (x : T) → All IsWhole chunks
+    → slice_get chunks (i / 256) ≡ Some c → slice_get c (i % 256) ≡ Some x → slice_get (items_of (chunked head chunks behind)) i ≡ Some x
+get_full head chunks behind i c x h there item =
     let parts : 256 * (i / 256) + i % 256 ≡ i = omega arith in
-    rw parts at (get_chunk chunks behind (i / 256) (i % 256) c x h there item)
+    rw parts at (get_chunk head chunks behind (i / 256) (i % 256) c x h there item)
 
 -- an item behind the chunks
-pub get_behind : {T : Type 0} (chunks : List (List T)) (behind : List T) (i place : ℕ) → All IsWhole chunks → i ≡ 256 * length chunks + place → place < length behind
-    → slice_get behind (length behind - 1 - place) ≡ slice_get (items_of (chunked chunks behind)) i
-get_behind chunks [] i place h is below = absurd (omega (arith, below))
-get_behind chunks (b ∷ bs) i place h is below =
+pub get_behind : {H T : Type 0} (head : H) (chunks : List (List T)) (behind : List T) (i place : ℕ) → All IsWhole chunks → i ≡ 256 * length chunks + place → place < length behind
+    → slice_get behind (length behind - 1 - place) ≡ slice_get (items_of (chunked head chunks behind)) i
+get_behind head chunks [] i place h is below = absurd (omega (arith, below))
+get_behind head chunks (b ∷ bs) i place h is below =
     let behind = b ∷ bs in
     let back : length behind - 1 - place < length behind = omega (arith, below) in
     let all : length (flat_map (λ y. y) chunks) ≡ 256 * length chunks = chunks_length chunks h in
     let here : get_or (reverse behind) place b ≡ get_or behind (length behind - 1 - place) b = get_or-reverse behind place b below in
-    let there : get_or (items_of (chunked chunks behind)) i b ≡ get_or (reverse behind) place b =
-    ap (λ n. get_or (items_of (chunked chunks behind)) n b) (is ∙ ap (λ n. n + place) (sym all)) ∙ get_or-append-add (flat_map (λ y. y) chunks) (reverse behind) place b in
-    let inside : i < length (items_of (chunked chunks behind)) = omega (arith, items_length (chunked chunks behind) h, length-reverse behind, is, below) in
+    let there : get_or (items_of (chunked head chunks behind)) i b ≡ get_or (reverse behind) place b =
+    ap (λ n. get_or (items_of (chunked head chunks behind)) n b) (is ∙ ap (λ n. n + place) (sym all)) ∙ get_or-append-add (flat_map (λ y. y) chunks) (reverse behind) place b in
+    let inside : i < length (items_of (chunked head chunks behind)) = omega (arith, items_length (chunked head chunks behind) h, length-reverse behind, is, below) in
     slice_get-get_or behind (length behind - 1 - place) b back
     ∙ ap (λ n. Some (get_or behind n b)) (omega arith)
     ∙ ap Some (sym (there ∙ here))
-    ∙ sym (slice_get-get_or (items_of (chunked chunks behind)) i b inside)
+    ∙ sym (slice_get-get_or (items_of (chunked head chunks behind)) i b inside)
 
 -- how many items there are
-pub items_count : {T : Type 0} (chunks : List (List T)) (behind : List T) → AreChunked (chunked chunks behind) → 256 * length chunks + length behind ≡ length (items_of (chunked chunks behind))
-items_count chunks behind h = omega (arith, items_length (chunked chunks behind) h.whole, length-reverse behind)
+pub items_count : {H T : Type 0} (head : H) (chunks : List (List T)) (behind : List T) → AreChunked (chunked head chunks behind) → 256 * length chunks + length behind ≡ length (items_of (chunked head chunks behind))
+items_count head chunks behind h = omega (arith, items_length (chunked head chunks behind) h.whole, length-reverse behind)
 
 -- how many chunks there are, and items behind them
-pub items_parts : {T : Type 0} (c : Chunked T) → AreChunked c → length c.chunks + length c.behind ≡ length (items_of c) / 256 + length (items_of c) % 256
+pub items_parts : {H T : Type 0} (c : Chunked H T) → AreChunked c → length c.chunks + length c.behind ≡ length (items_of c) / 256 + length (items_of c) % 256
 items_parts c h = omega (arith, items_length c h.whole, h.few)
+
+-- one more chunk, and no items behind it
+pub closed : {H T : Type 0} (head : H) (chunks : List (List T)) (chunk : List T) → All IsWhole chunks → length chunk ≡ 256 → 256 * length chunks + 256 ≤ 2 ^ 32
+    → AreChunked (chunked head (chunks ++ chunk ∷ []) [])
+closed head chunks chunk h here small =
+    let all : All IsWhole (chunks ++ chunk ∷ []) = All-append IsWhole chunks (chunk ∷ []) h (All-cons IsWhole chunk [] here (All-nil IsWhole)) in
+    let c = chunked head (chunks ++ chunk ∷ []) [] in
+    record { whole = all; few = omega arith; small = omega (arith, items_length c all, length-append chunks (chunk ∷ []), small) }

@@ -5,6 +5,10 @@ use Rattle.std.specs.declared.alloc.Global.{Global}
 use Rattle.std.specs.Option.{option_map_or}
 use Rattle.nw_chunks.specs.declared.trail.Node.{Node, Node', Held-Node-before, None', Some'}
 
+-- the item of a node
+abbrev pub item_of : {T : Type 0} → Node T → T
+item_of (Node' item before) = item
+
 -- the item of a node, and those before it
 abbrev mutual
   pub items_of : {T : Type 0} → Node T → List T

@@ -1,7 +1,7 @@
 //! Chunks of a list.
 ghost use Rattle.std.specs.Prelude.{◌≡◌, ◌<◌, length, slice_get, Some};
 
-use nw_digest::Shared;
+use crate::trail::Link;
 use std::marker::Model;
 
 /// How many items a chunk has.
@@ -10,7 +10,7 @@ pub const CHUNK: usize = 256;
 /// Items of a list that never change, as many as a chunk has. Contracts see the items.
 #[derive(Drop)]
 pub(crate) struct Chunk<T: Drop> {
-    items: Vec<Shared<T>>,
+    items: Vec<Link<T>>,
 }
 
 impl<T: Drop> Model for Chunk<T> {
@@ -26,7 +26,7 @@ impl<T: Drop> Model for Chunk<T> {
 
 impl<T: Drop> Chunk<T> {
     /// The chunk of these items. It takes no memory.
-    pub(crate) fn new(items: Vec<Shared<T>>) -> Chunk<T>
+    pub(crate) fn new(items: Vec<Link<T>>) -> Chunk<T>
         requires { length items.items ≡ CHUNK }
         ensures { result ≡ items.items }
     {
@@ -39,6 +39,6 @@ impl<T: Drop> Chunk<T> {
         ensures item { slice_get self.now index ≡ Some result.now }
         ensures whole { length self.now ≡ CHUNK }
     {
-        self.items[index].get()
+        self.items[index].item()
     }
 }

@@ -2,7 +2,7 @@
 ghost use Rattle.std.specs.Prelude.{◌≡◌, ◌∷◌, [], IfOk, slice_get, reverse};
 ghost use Rattle.std.specs.Option.{option_copied};
 
-use nw_digest::{NoMemory, Shared};
+use nw_digest::NoMemory;
 use std::alloc::Global;
 use std::marker::Model;
 use std::sync::Arc;
@@ -10,11 +10,34 @@ use std::sync::Arc;
 /// An item, and the items before it.
 #[derive(Drop)]
 struct Node<T: Drop> {
-    item: Shared<T>,
+    item: T,
     before: Option<Arc<Node<T>>>,
 }
 
-/// A list of shared items that never changes, and shares all but its last item with the list that it was made from. Contracts
+/// One owner of a node, and so of its item. Contracts see the item.
+#[derive(Drop)]
+pub(crate) struct Link<T: Drop> {
+    node: Arc<Node<T>>,
+}
+
+impl<T: Drop> Model for Link<T> {
+    ghost use Rattle.nw_chunks.specs.Trail.{item_of};
+
+    ghost Value = { T };
+
+    ghost view = { λ l. item_of l.node.value };
+}
+
+impl<T: Drop> Link<T> {
+    /// The item.
+    pub(crate) fn item(&self) -> &T
+        ensures { result.now ≡ self.now }
+    {
+        &self.node.item
+    }
+}
+
+/// A list of items that never changes, and shares all but its last item with the list that it was made from. Contracts
 /// see the items, the last first.
 #[derive(Drop)]
 pub(crate) struct Trail<T: Drop> {
@@ -51,7 +74,7 @@ impl<T: Drop> Trail<T> {
     }
 
     /// The list with one more item, which comes last.
-    pub(crate) fn with(&self, alloc: Global, item: Shared<T>) -> Result<Trail<T>, NoMemory>
+    pub(crate) fn with(&self, alloc: Global, item: T) -> Result<Trail<T>, NoMemory>
         ensures { IfOk result (λ t. t ≡ item ∷ self.now) }
     {
         let before = self.try_clone()?.last;
@@ -70,18 +93,20 @@ impl<T: Drop> Trail<T> {
         }
         match node {
             None => None,
-            Some(node) => Some(node.item.get()),
+            Some(node) => Some(&node.item),
         }
     }
 
-    /// The items in order, each with one more owner, with room for one more.
-    pub(crate) fn items(&self, alloc: Global, room: usize) -> Result<Vec<Shared<T>>, NoMemory>
+    /// A link to each item, in order. Room for so many is taken at once.
+    pub(crate) fn items(&self, alloc: Global, room: usize) -> Result<Vec<Link<T>>, NoMemory>
         ensures { IfOk result (λ items. items.items ≡ reverse self.now) }
     {
         let mut items = Vec::with_capacity(alloc, room)?;
         let mut next = self.last.as_ref();
         while let Some(node) = next {
-            items.push(node.item.try_clone()?)?;
+            items.push(Link {
+                node: Arc::try_clone(node)?,
+            })?;
             next = node.before.as_ref();
         }
         items.reverse();

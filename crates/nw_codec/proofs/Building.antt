@@ -3,7 +3,7 @@ use Rattle.std.proofs.Common.{◌≡◌, ℕ, ◌+◌, ◌<◌, ◌≤◌, List,
 use Rattle.std.specs.List.{flat_map, AllByRecursion}
 use Rattle.std.specs.Int.{w16, to_be_bytes}
 use Rattle.std.proofs.lemmas.List.{append-nil, length-append}
-use Rattle.std.proofs.lemmas.List.Elements.{All-push, All-nil, recursion_from_All}
+use Rattle.std.proofs.lemmas.List.Elements.{All-push}
 use Rattle.nw_codec.specs.declared.block.Ref.{Ref}
 use Rattle.nw_codec.specs.Grammar.{parent_bytes}
 use Rattle.nw_codec.specs.Typed.{IsRef}
@@ -18,18 +18,6 @@ pub record IsBuilt {X : Type 0} (piece : X → List ℕ) (P : X → Type 0) (cou
   pub holds_left : AllByRecursion P left
   pub before : text ≡ flat_map piece made ++ here
   pub behind : here ≡ flat_map piece left ++ rest
-
-pub built_none : {X : Type 0} (piece : X → List ℕ) (P : X → Type 0) (count : ℕ) (text : List ℕ) (xs : List X) (rest : List ℕ) → length xs ≡ count → All P xs → text ≡ flat_map piece xs ++ rest → IsBuilt piece P count 0 text [] text
-built_none piece P count text xs rest len holds cut = record {
-  left = xs;
-  rest = rest;
-  so_far = refl;
-  whole = omega (arith, len);
-  holds_made = All-nil P;
-  holds_left = recursion_from_All P xs holds;
-  before = refl;
-  behind = cut;
-}
 
 -- the next item stands here
 pub record IsNext {X : Type 0} (piece : X → List ℕ) (P : X → Type 0) (count counter : ℕ) (text : List ℕ) (made : List X) (here : List ℕ) : Type 0 where
@@ -68,9 +56,6 @@ next_from piece P count counter text made here (x ∷ xs) rest so_far whole hold
 
 pub built_more : {X : Type 0} (piece : X → List ℕ) (P : X → Type 0) (count counter : ℕ) (text : List ℕ) (made : List X) (here : List ℕ) → IsBuilt piece P count counter text made here → counter < count → IsNext piece P count counter text made here
 built_more piece P count counter text made here b lt = next_from piece P count counter text made here b.left b.rest b.so_far b.whole b.holds_made b.holds_left b.before b.behind lt
-
-pub built_all : {X : Type 0} (piece : X → List ℕ) (P : X → Type 0) (count counter : ℕ) (text : List ℕ) (made : List X) (here : List ℕ) → IsBuilt piece P count counter text made here → count ≤ counter → length made ≡ count
-built_all piece P count counter text made here b le = omega (arith, b.so_far, b.whole)
 
 -- what was read is the next item
 pub built_with : {X : Type 0} (piece : X → List ℕ) (P : X → Type 0) (count counter : ℕ) (text : List ℕ) (made made' : List X) (here after : List ℕ) (item : X) → (n : IsNext piece P count counter text made here) → made' ≡ made ++ item ∷ [] → item ≡ n.item → after ≡ n.after → IsBuilt piece P count (counter + 1) text made' after

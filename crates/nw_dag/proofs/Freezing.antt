@@ -1,5 +1,5 @@
 -- What is frozen, and what views of it show.
-use Rattle.std.proofs.Common.{◌≡◌, ◌⊎◌, ℕ, Bool, true, false, cond, List, [], ◌∷◌, ◌++◌, Option, Some, None, IsSome, get_or, refl, ap, sym, ◌∙◌, subst, arith, inl, inr}
+use Rattle.std.proofs.Common.{◌≡◌, ◌⊎◌, ℕ, Bool, true, false, cond, List, [], ◌∷◌, ◌++◌, Option, Some, None, IsSome, get_or, length, refl, ap, sym, ◌∙◌, subst, arith, inl, inr}
 use Rattle.std.specs.Prelude.{Contains}
 use Rattle.std.specs.Option.{option_or}
 use Rattle.std.specs.Ordering.{eq_by_cmp}
@@ -77,6 +77,11 @@ frozen_all s lacking fresh blocks are = record {
   only = λ d b kept at. (are d b kept).0 at;
   each = λ d b kept held. inl ((are d b kept).1 held);
 }
+
+-- no block is listed
+pub frozen_none : (s : State) (lacking : Pairs) (fresh : List Digest) (blocks : FinMap digest_cmp Block) → AreFrozenBut s lacking fresh blocks → length fresh ≡ 0 → AreFrozen s lacking blocks
+frozen_none s lacking [] blocks was none = λ d b kept. (was.only d b kept, λ held. elim (was.each d b kept held) [ inl there ↦ there | inr among ↦ absurd (contains_none d among) ])
+frozen_none s lacking (x ∷ xs) blocks was none = absurd (omega (arith, none))
 
 -- what is below the garbage round goes
 pub frozen_above : (s : State) (lacking : Pairs) (fresh : List Digest) (all kept : FinMap digest_cmp Block) → AreFrozenBut s lacking fresh all → kept ≡ from_round (λ (b : Block). b.round) s.floor all → AreFrozenBut s lacking fresh kept

@@ -7,7 +7,6 @@ use Rattle.nw_generation.proofs.generations.Generations.TheSendSync as generatio
 use Rattle.nw_held.proofs.Sent.{held_send}
 use Rattle.nw_dag.specs.contracts.dag.Dag as dag
 use Rattle.nw_dag.specs.contracts.dag.Dag.TheInside as dag_inside
-use Rattle.nw_dag.specs.contracts.frozen.Frozen as frozen
 use Rattle.nw_dag.specs.contracts.roll.Roll as roll
 use Rattle.nw_dag.specs.contracts.waits.Waits as waits
 
@@ -17,8 +16,5 @@ roll_send = declared_send roll.the_type (search (sendable, crosses) depth 30, (s
 waits_send : IsSend waits.the_row
 waits_send = declared_send waits.the_type (search (sendable, crosses, waiting.the_send) depth 30, (search (sendable, crosses, waiting.the_send) depth 30, (roll_send, tt)))
 
-frozen_send : IsSend frozen.the_row
-frozen_send = declared_send frozen.the_type (generations.the_send, tt)
-
 pub dag_send : IsSend dag.the_row
-dag_send = view_send dag_inside.the_row _ _ _ _ (declared_send dag_inside.the_type (held_send, (waits_send, (frozen_send, tt))))
+dag_send = view_send dag_inside.the_row _ _ _ _ (declared_send dag_inside.the_type (held_send, (waits_send, (generations.the_send, tt))))

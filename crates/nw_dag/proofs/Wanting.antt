@@ -78,14 +78,6 @@ pub wants_on_ok : {E : Type 0} (r : Result (Unit {0}) E) (Q : Wanted → Type 0)
 wants_on_ok (Ok x) Q v holder old new lacks_it is = wants_inserted Q v holder old new lacks_it is
 wants_on_ok (Err e) Q v holder old new lacks_it is = tt
 
--- what has Q is not
-pub wants_nothing : (Q : Wanted → Type 0) (v : Wanted) (holder : Digest) (old : Pairs) → Q v → Wants Q (λ w. w ≡ v) holder old old
-wants_nothing Q v holder old has = record {
-  each = λ w named. inr (subst Q (sym named) has);
-  only = λ h w lacks. inl lacks;
-  still = λ h w lacks. lacks;
-}
-
 -- ---- one reference more
 
 named_once : (round : ℕ) (r : Ref) (v w : Wanted) → IsNamedBy round r v → IsNamedBy round r w → w ≡ v
@@ -112,14 +104,6 @@ wants_more Q R round xs r v holder a b c by_r down up one two = record {
     | inr (here, same, fails) ↦ inr (here, (r, Contains-push xs r, subst (λ (y : Wanted). IsNamedBy round r y) (sym same) by_r), λ q. fails (subst R (sym same) (up (subst Q same q))))
   ];
   still = λ h w lacks. two.still h w (one.still h w lacks);
-}
-
--- no reference was looked at
-pub wants_none : (Q : Wanted → Type 0) (round : ℕ) (holder : Digest) (a : Pairs) → Wants Q (IsNamedAmong round []) holder a a
-wants_none Q round holder a = record {
-  each = λ w (x, among, named). absurd (contains_none x among);
-  only = λ h w lacks. inl lacks;
-  still = λ h w lacks. lacks;
 }
 
 -- what is ready stays so, where only one that does not stand lacks more

@@ -9,10 +9,11 @@ mod calls;
 mod causal;
 mod taking;
 
-use crate::frozen::Frozen;
+use crate::roll::is_ready;
 use crate::waits::Waits;
 use nw_codec::{Block, Certificate};
 use nw_digest::{Digest, NoMemory, Sequence, Shared};
+use nw_generation::Generations;
 use nw_held::Held;
 use nw_model::Counts;
 use nw_waiting::Wanted;
@@ -33,7 +34,8 @@ pub struct DagLimits {
 pub struct Dag {
     held: Held,
     waits: Waits,
-    frozen: Frozen,
+    /// The blocks that were complete at the last view.
+    generations: Generations,
 }
 
 impl Model for Dag {
@@ -47,7 +49,7 @@ impl Model for Dag {
     ghost view = { λ d. d.held };
 
     ghost invariant = { λ d. AreTables d.held.state d.waits.unmet d.waits.lacking
-        d.waits.roll.fresh.items d.waits.roll.pending d.frozen.generations.blocks };
+        d.waits.roll.fresh.items d.waits.roll.pending d.generations.blocks };
 }
 
 impl Dag {
@@ -61,7 +63,7 @@ impl Dag {
         Dag {
             held: Held::new(alloc, limits.blocks, limits.window),
             waits: Waits::new(alloc),
-            frozen: Frozen::new(alloc),
+            generations: Generations::new(alloc),
         }
     }
 
@@ -70,27 +72,24 @@ impl Dag {
     pub fn is_complete(&self, digest: &Digest) -> bool
         ensures { IsTrue result ↔ IsComplete self.now.state digest.now }
     {
-        self.held.stands(digest) && self.waits.lacks_nothing(*digest)
+        is_ready(&self.held, &self.waits.lacking, *digest)
     }
 
     /// The block that is held under the digest.
     pub fn read(&self, digest: &Digest) -> Result<Option<Shared<Block>>, NoMemory>
         ensures { IfOk result (λ found. found ≡ map.get self.now.state.blocks digest.now) }
     {
-        match self.held.block(digest) {
-            None => Ok(None),
-            Some(block) => Ok(Some(block.try_clone()?)),
-        }
+        self.held.block(digest).map(Shared::try_clone).transpose()
     }
 
     /// The certificate that is kept for the digest.
     pub fn certificate(&self, digest: &Digest) -> Result<Option<Shared<Certificate>>, NoMemory>
         ensures { IfOk result (λ found. found ≡ map.get self.now.state.certificates digest.now) }
     {
-        match self.held.certificate(digest) {
-            None => Ok(None),
-            Some(certificate) => Ok(Some(certificate.try_clone()?)),
-        }
+        self.held
+            .certificate(digest)
+            .map(Shared::try_clone)
+            .transpose()
     }
 
     /// The first `most` of the parents that are wanted, strictly ascending by round, author and digest. Want of memory
@@ -98,7 +97,7 @@ impl Dag {
     pub fn missing(&self, alloc: Global, most: u16) -> Result<Sequence<Wanted>, NoMemory>
         ensures { IfOk result (AreFirstWanted self.now.state most) }
     {
-        Ok(Sequence::new(self.waits.first_unmet(alloc, most)?))
+        Ok(Sequence::new(self.waits.unmet.first_wanted(alloc, most)?))
     }
 
     /// How much is kept, how many blocks are complete and how many parents are wanted. It takes no memory, and looks at no
@@ -110,8 +109,8 @@ impl Dag {
             floor: self.held.floor(),
             blocks: self.held.blocks() as u64,
             certificates: self.held.certificates() as u64,
-            complete: (self.held.blocks() - self.waits.pending()) as u64,
-            wanted: self.waits.unmet() as u64,
+            complete: (self.held.blocks() - self.waits.roll.pending) as u64,
+            wanted: self.waits.unmet.count() as u64,
         }
     }
 }

@@ -2,6 +2,7 @@
 ghost use Rattle.std.specs.Prelude.{◌≡◌, ◌↔◌, ◌+◌, ◌-◌, ◌<◌, ◌≤◌, [], ◌∷◌, ◌++◌};
 ghost use Rattle.std.specs.Prelude.{OnOk, MatchOption, IsTrue, length, get_or, Contains};
 ghost use Rattle.std.specs.Vec.{vec_capacity};
+ghost use Rattle.nw_model.specs.Sound.{IsSound};
 ghost use Rattle.nw_waiting.specs.Pairs.{Lacks};
 ghost use Rattle.nw_dag.specs.Lacking.{IsReady};
 
@@ -14,8 +15,8 @@ use std::alloc::Global;
 #[derive(Drop)]
 pub(crate) struct Roll {
     /// In the order in which they became complete. What was collected since may stand here still.
-    fresh: Vec<Digest>,
-    pending: usize,
+    pub(crate) fresh: Vec<Digest>,
+    pub(crate) pending: usize,
     // Each pending block has a place behind the list.
     ghost room: { length fresh.items + pending ≤ vec_capacity fresh },
 }
@@ -30,20 +31,6 @@ impl Roll {
             fresh: Vec::new(alloc),
             pending: 0,
         }
-    }
-
-    /// How many held blocks are pending.
-    pub(crate) fn pending(&self) -> usize
-        ensures { result ≡ self.now.pending }
-    {
-        self.pending
-    }
-
-    /// The blocks that became complete since the last view, in that order.
-    pub(crate) fn fresh(&self) -> &[Digest]
-        ensures { result.now ≡ self.now.fresh.items }
-    {
-        self.fresh.as_slice()
     }
 
     /// How many blocks are listed.
@@ -68,21 +55,19 @@ impl Roll {
         self.fresh.len() + self.pending
     }
 
-    /// Whether there is room for one pending block more.
-    pub(crate) fn has_room(&self) -> bool
-        ensures { IsTrue result
-            ↔ length self.now.fresh.items + self.now.pending < vec_capacity self.now.fresh }
-    {
-        self.most() < self.fresh.capacity()
-    }
-
-    /// Makes room for as many blocks again as are listed or pending, and one more.
-    pub(crate) fn grow(&mut self) -> Result<(), NoMemory>
-        ensures fresh { self.new.fresh.items ≡ self.old.fresh.items }
+    /// Makes room for one pending block more. Where there is none, what was collected is listed no more, and room is made for as
+    /// many blocks again as are listed or pending. Want of memory changes no more than that.
+    pub(crate) fn reserve(&mut self, held: &Held, lacking: &Waiting<Global>) -> Result<(), NoMemory>
+        ensures kept { (d : Digest) → Contains self.old.fresh.items d
+            → IsReady held.now.state lacking.now d → Contains self.new.fresh.items d }
         ensures pending { self.new.pending ≡ self.old.pending }
         ensures room { OnOk result
             (length self.new.fresh.items + self.new.pending < vec_capacity self.new.fresh) }
     {
+        if self.most() < self.fresh.capacity() {
+            return Ok(());
+        }
+        self.drop_stale(held, lacking);
         let Some(more) = self.most().checked_add(1) else {
             return Err(NoMemory);
         };
@@ -138,7 +123,8 @@ impl Roll {
 
 /// Whether the block stands and lacks nothing.
 pub(crate) fn is_ready(held: &Held, lacking: &Waiting<Global>, digest: Digest) -> bool
-    ensures { IsTrue result ↔ IsReady held.now.state lacking.now digest }
+    ensures ready { IsTrue result ↔ IsReady held.now.state lacking.now digest }
+    ensures sound { IsSound held.now.state }
 {
     held.stands(&digest) && lacks_nothing(lacking, digest)
 }

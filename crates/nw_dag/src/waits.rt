@@ -13,9 +13,8 @@ ghost use Rattle.nw_dag.specs.Settled.{AreListed};
 
 mod cascade;
 mod collection;
-mod complete;
 
-use crate::roll::{Roll, is_ready, lacks_nothing};
+use crate::roll::{Roll, lacks_nothing};
 use nw_codec::{Block, Ref};
 use nw_digest::{Digest, NoMemory, Round};
 use nw_held::Held;
@@ -26,11 +25,11 @@ use std::alloc::Global;
 #[derive(Drop)]
 pub(crate) struct Waits {
     /// The parents that do not stand, and the blocks that name them.
-    unmet: Waiting<Global>,
+    pub(crate) unmet: Waiting<Global>,
     /// The parents that are not complete, and the blocks that name them.
-    lacking: Waiting<Global>,
+    pub(crate) lacking: Waiting<Global>,
     /// The blocks that lack nothing, and stand.
-    roll: Roll,
+    pub(crate) roll: Roll,
 }
 
 impl Waits {
@@ -48,20 +47,6 @@ impl Waits {
         }
     }
 
-    /// Whether the block stands and lacks nothing.
-    fn is_ready(&self, held: &Held, digest: Digest) -> bool
-        ensures { IsTrue result ↔ IsReady held.now.state self.now.lacking digest }
-    {
-        is_ready(held, &self.lacking, digest)
-    }
-
-    /// Whether the digest lacks no parent: each that it names is complete.
-    pub(crate) fn lacks_nothing(&self, digest: Digest) -> bool
-        ensures { IsTrue result ↔ ((w : Wanted) → Lacks self.now.lacking digest w → ⊥) }
-    {
-        lacks_nothing(&self.lacking, digest)
-    }
-
     /// Lets the holder lack it, where it does not stand or is not complete. Want of memory may leave that half done.
     fn want(&mut self, held: &Held, wanted: Wanted, holder: Digest) -> Result<(), NoMemory>
         ensures unmet { OnOk result
@@ -76,7 +61,7 @@ impl Waits {
         if !held.is_met(&wanted) {
             self.unmet.want(wanted, holder)?;
             self.lacking.want(wanted, holder)
-        } else if !self.lacks_nothing(wanted.digest) {
+        } else if !lacks_nothing(&self.lacking, wanted.digest) {
             self.lacking.want(wanted, holder)
         } else {
             Ok(())
@@ -151,56 +136,6 @@ impl Waits {
     {
         self.unmet.unwant(holder);
         self.lacking.unwant(holder);
-    }
-
-    /// How many held blocks are not complete. It takes no memory.
-    pub(crate) fn pending(&self) -> usize
-        ensures { result ≡ self.now.roll.pending }
-    {
-        self.roll.pending()
-    }
-
-    /// How many different parents do not stand. It takes no memory.
-    pub(crate) fn unmet(&self) -> usize
-        ensures { WantedCount self.now.unmet result }
-    {
-        self.unmet.count()
-    }
-
-    /// The first `most` of the parents that do not stand.
-    pub(crate) fn first_unmet(&self, alloc: Global, most: u16) -> Result<Vec<Wanted>, NoMemory>
-        ensures { IfOk result (λ list. AreFirst self.now.unmet most list.items) }
-    {
-        self.unmet.first_wanted(alloc, most)
-    }
-
-    /// Makes room for one block more. Want of memory changes nothing but that what was collected is listed no more.
-    pub(crate) fn reserve(&mut self, held: &Held) -> Result<(), NoMemory>
-        ensures unmet { self.new.unmet ≡ self.old.unmet }
-        ensures lacking { self.new.lacking ≡ self.old.lacking }
-        ensures kept { (d : Digest) → Contains self.old.roll.fresh.items d
-            → IsReady held.now.state self.old.lacking d → Contains self.new.roll.fresh.items d }
-        ensures pending { self.new.roll.pending ≡ self.old.roll.pending }
-        ensures room { OnOk result (length self.new.roll.fresh.items + self.new.roll.pending
-            < vec_capacity self.new.roll.fresh) }
-    {
-        if self.roll.has_room() {
-            return Ok(());
-        }
-        self.drop_stale(held);
-        self.roll.grow()
-    }
-
-    /// Takes in that one block more is held.
-    pub(crate) fn admit(&mut self)
-        requires { length self.old.roll.fresh.items + self.old.roll.pending
-            < vec_capacity self.old.roll.fresh }
-        ensures unmet { self.new.unmet ≡ self.old.unmet }
-        ensures lacking { self.new.lacking ≡ self.old.lacking }
-        ensures fresh { self.new.roll.fresh ≡ self.old.roll.fresh }
-        ensures pending { self.new.roll.pending ≡ self.old.roll.pending + 1 }
-    {
-        self.roll.admit();
     }
 }
 

@@ -99,11 +99,6 @@ over_is a (suc zero) r p ha e hr =
     omega arith
 over_is a (suc (suc o)) r p ha e hr = absurd (omega arith)
 
-over_below : (a o r p : ℕ) → a < p + p → a + 19 ≡ o * (p + 19) + r → o < 2
-over_below a zero r p ha e = omega arith
-over_below a (suc zero) r p ha e = omega arith
-over_below a (suc (suc o)) r p ha e = absurd (omega arith)
-
 one_more : (a0 a1 a2 a3 a4 q r p : ℕ) → a0 + 19 + 2 ^ 51 * a1 + 2 ^ 102 * a2 + 2 ^ 153 * a3 + 2 ^ 204 * a4 ≡ q * (p + 19) + r
     → a0 + 2 ^ 51 * a1 + 2 ^ 102 * a2 + 2 ^ 153 * a3 + 2 ^ 204 * a4 + 19 ≡ q * (p + 19) + r
 one_more a0 a1 a2 a3 a4 q r p e = omega arith

@@ -1,5 +1,6 @@
 -- Ascending entries that are merged with others.
-use Rattle.std.proofs.Common.{◌≡◌, Bool, true, false, List, [], ◌∷◌, ◌++◌, Option, Some, None, cond, length, refl, ap, sym, ◌∙◌, subst, arith}
+use Rattle.std.proofs.Common.{◌≡◌, ℕ, ◌-◌, Bool, true, false, List, [], ◌∷◌, ◌++◌, Option, Some, None, cond, length, take, drop, refl, ap, sym, ◌∙◌, subst, arith}
+use Rattle.std.proofs.lemmas.List.{take_rest}
 use Rattle.std.specs.declared.cmp.Ordering.TheVariants.{Less, Equal}
 use Rattle.std.specs.Ordering.{is_eq, ordering_reverse}
 use Rattle.std.specs.BTreeMap.{is_at}
@@ -14,11 +15,8 @@ use Rattle.nw_model.proofs.Kept.{same_digest}
 use Rattle.nw_model.proofs.Maps.{digests_apart, digests_total, get_lookup}
 use Rattle.nw_generation.specs.Entries.{Ascend, IsBelow, IsNext, under}
 use Rattle.nw_generation.specs.Seen.{IsOver, union}
-use Rattle.nw_generation.proofs.Searches.{below_each, head_below, none_below, tail_ascends}
+use Rattle.nw_generation.proofs.Searches.{Entries, below_each, head_below, none_below, tail_ascends}
 use Rattle.nw_generation.proofs.Unions.{get_latest, get_nowhere}
-
-abbrev Entries : Type 0
-Entries = List (Digest × Block)
 
 or_either : {X : Type 0} (a b c : Option X) → option_or (option_or a b) c ≡ option_or a (option_or b c)
 or_either None b c = refl
@@ -86,15 +84,20 @@ both_first e f newer older one other tie = record {
     by d true is = refl
     by d false is = ap (λ b. option_or (under newer d) (cond b (Some f.1) (under older d))) is
 
-pub newer_next : (all : Entries) (e : Digest × Block) (newer older : Entries) → all ≡ e ∷ newer → Ascend all → Ascend older → IsBelow e.0 older → IsNext all older e newer older
-newer_next all e newer older is one other below = subst (λ es. IsNext es older e newer older) (sym is) (newer_first e newer older (subst Ascend is one) other below)
+pub newer_next : (all : Entries) (e : Digest × Block) (newer older : Entries) → all ≡ e ∷ newer → Ascend all → Ascend older → IsBelow e.0 older → IsNext all older e (drop 1 all) older
+newer_next all e newer older is one other below = subst (λ es. IsNext es older e (drop 1 es) older) (sym is) (newer_first e newer older (subst Ascend is one) other below)
 
-pub older_next : (all : Entries) (e : Digest × Block) (newer older : Entries) → all ≡ e ∷ older → Ascend newer → Ascend all → IsBelow e.0 newer → IsNext newer all e newer older
-older_next all e newer older is one other below = subst (λ es. IsNext newer es e newer older) (sym is) (older_first e newer older one (subst Ascend is other) below)
+pub older_next : (all : Entries) (e : Digest × Block) (newer older : Entries) → all ≡ e ∷ older → Ascend newer → Ascend all → IsBelow e.0 newer → IsNext newer all e newer (drop 1 all)
+older_next all e newer older is one other below = subst (λ es. IsNext newer es e newer (drop 1 es)) (sym is) (older_first e newer older one (subst Ascend is other) below)
 
-pub both_next : (one other : Entries) (e f : Digest × Block) (newer older : Entries) → one ≡ e ∷ newer → other ≡ f ∷ older → Ascend one → Ascend other → digest_cmp e.0 f.0 ≡ Equal → IsNext one other e newer older
+pub both_next : (one other : Entries) (e f : Digest × Block) (newer older : Entries) → one ≡ e ∷ newer → other ≡ f ∷ older → Ascend one → Ascend other → digest_cmp e.0 f.0 ≡ Equal → IsNext one other e (drop 1 one) (drop 1 other)
 both_next one other e f newer older is are ascend_one ascend_other tie =
-    subst (λ es. IsNext one es e newer older) (sym are) (subst (λ es. IsNext es (f ∷ older) e newer older) (sym is) (both_first e f newer older (subst Ascend is ascend_one) (subst Ascend are ascend_other) tie))
+    subst (λ es. IsNext one es e (drop 1 one) (drop 1 es)) (sym are) (subst (λ es. IsNext es (f ∷ older) e (drop 1 es) older) (sym is) (both_first e f newer older (subst Ascend is ascend_one) (subst Ascend are ascend_other) tie))
+
+-- what is left of both, as ranges of them
+pub rest_next : (newer older : Entries) (e : Digest × Block) (m n : ℕ) → IsNext newer older e (drop m newer) (drop n older) → IsNext newer older e (take (length newer - m) (drop m newer)) (take (length older - n) (drop n older))
+rest_next newer older e m n next =
+    subst (λ es. IsNext newer older e es (take (length older - n) (drop n older))) (sym (take_rest newer m)) (subst (IsNext newer older e (drop m newer)) (sym (take_rest older n)) next)
 
 -- an entry comes before others where it comes before their first
 pub first_below : (d : Digest) (all : Entries) (f : Digest × Block) (older : Entries) → all ≡ f ∷ older → Ascend all → digest_cmp d f.0 ≡ Less → IsBelow d all

@@ -12,10 +12,12 @@ use Rattle.std.proofs.lemmas.Map.Keys.{sorted_head, sorted_tail}
 use Rattle.nw_digest.specs.declared.digest.Digest.{Digest}
 use Rattle.nw_codec.specs.declared.block.Block.{Block}
 use Rattle.nw_digest.specs.Order.{digest_cmp}
+use Rattle.nw_trie.proofs.Inserts.{above_all, below_all as each_above}
+use Rattle.nw_trie.proofs.Keys.{each_filter}
 use Rattle.nw_model.proofs.Maps.{digests_total, find_below, find_lookup}
 use Rattle.nw_generation.specs.Entries.{Ascend, IsBelow, under}
 
-abbrev Entries : Type 0
+abbrev pub Entries : Type 0
 Entries = List (Digest × Block)
 
 pub none_ascend : Ascend []
@@ -119,15 +121,12 @@ pub split : (left front rest after : Entries) (e : Digest × Block) (place : ℕ
 split left front rest after e place is are first = ap (λ es. es ++ e ∷ after) is ∙ ap (λ es. take place left ++ es) (sym first ∙ are) ∙ take-append-drop place left
 
 -- some of the entries ascend too
-filtered_below : (d : Digest) (keep : Digest × Block → Bool) (es : Entries) → IsBelow d es → IsBelow d (filter keep es)
-filtered_below d keep [] below = tt
-filtered_below d keep (e ∷ es) below =
-    let rest = filtered_below d keep es below.1 in
-    elim (keep e) as (λ t. IsBelow d (cond t (e ∷ filter keep es) (filter keep es))) [ true ↦ (below.0, rest) | false ↦ rest ]
-
 pub filtered_ascend : (keep : Digest × Block → Bool) (es : Entries) → Ascend es → Ascend (filter keep es)
 unfolding Rattle.std.specs.List.Sorted.IsStrictlySortedBy
 filtered_ascend keep [] ascend = tt
 filtered_ascend keep (e ∷ es) ascend =
     let rest = filtered_ascend keep es ascend.1 in
-    elim (keep e) as (λ t. Ascend (cond t (e ∷ filter keep es) (filter keep es))) [ true ↦ (filtered_below e.0 keep es ascend.0, rest) | false ↦ rest ]
+    elim (keep e) as (λ t. Ascend (cond t (e ∷ filter keep es) (filter keep es))) [
+      | true ↦ (above_all e.0 (filter keep es) (each_filter _ keep es (each_above e.0 es ascend.0)), rest)
+      | false ↦ rest
+    ]

@@ -1,18 +1,34 @@
-//! Blocks under their digests, ascending, in one piece of memory.
-ghost use Rattle.std.specs.Prelude.{◌≡◌, ◌<◌, IfOk, []};
+//! Blocks under their digests, ascending. Each entry is one piece of memory, which the lists that have it share.
+ghost use Rattle.std.specs.Prelude.{◌≡◌, ◌<◌, ◌≤◌, IfOk, IfSome, [], drop, filter, length, nat_le};
 ghost use Rattle.std.specs.Option.{MatchOption, option_copied};
 ghost use Rattle.std.specs.FinMap as map;
 ghost use Rattle.nw_generation.specs.Entries.{Ascend, IsNext, under};
 ghost use Rattle.nw_generation.specs.Seen.{IsOver};
 
 use nw_codec::Block;
-use nw_digest::{Digest, NoMemory, Shared};
+use nw_digest::{Digest, InRound, NoMemory, Round, Shared};
 use nw_trie::Trie;
 use std::alloc::{Allocator, Global};
 use std::cmp::Ordering;
+use std::marker::Model;
 
-/// A block under its digest.
-pub(crate) type Entry = (Digest, Shared<Block>);
+/// One owner of a block under its digest.
+pub(crate) type Entry = Shared<(Digest, Shared<Block>)>;
+
+/// An entry that a generation lends. Contracts see the entry.
+#[derive(Drop)]
+pub(crate) struct Lent<'a> {
+    entry: &'a Entry,
+}
+
+impl<'a> Model for Lent<'a> {
+    ghost use Rattle.nw_codec.specs.declared.block.Block.{Block};
+    ghost use Rattle.nw_digest.specs.declared.digest.Digest.{Digest};
+
+    ghost Value = { Digest × Block };
+
+    ghost view = { λ l. l.entry.now };
+}
 
 /// The entries of the trie, which both share.
 pub(crate) fn of_trie<A: Allocator>(
@@ -23,17 +39,17 @@ pub(crate) fn of_trie<A: Allocator>(
 {
     let mut entries = Vec::with_capacity(alloc, trie.len())?;
     for (digest, block) in trie.iter() {
-        entries.push((*digest, block.try_clone()?))?;
+        entries.push(Shared::new(alloc, (*digest, block.try_clone()?))?)?;
     }
     Ok(entries)
 }
 
-/// The entries of both, which share the blocks; where both have a digest, the newer one's.
-pub(crate) fn merged(
+/// The entries of both; where both have a digest, the newer one's.
+pub(crate) fn merged<'a>(
     alloc: Global,
-    newer: &[Entry],
-    older: &[Entry],
-) -> Result<Vec<Entry>, NoMemory>
+    newer: &[Lent<'a>],
+    older: &'a [Entry],
+) -> Result<Vec<Lent<'a>>, NoMemory>
     requires newer { Ascend newer.now }
     requires older { Ascend older.now }
     ensures { IfOk result (λ both. Ascend both.items × IsOver (map.from_entries newer.now)
@@ -42,42 +58,60 @@ pub(crate) fn merged(
     let most = newer.len().saturating_add(older.len());
     let mut both = Vec::with_capacity(alloc, most)?;
     let (mut newer, mut older) = (newer, older);
-    while let Some((entry, newer_left, older_left)) = first_of(newer, older) {
-        both.push((entry.0, entry.1.try_clone()?))?;
-        (newer, older) = (newer_left, older_left);
+    while let Some((entry, of_newer, of_older)) = first_of(newer, older) {
+        both.push(Lent { entry })?;
+        newer = &newer[of_newer..];
+        older = &older[of_older..];
     }
     Ok(both)
 }
 
-/// The first entry of both, and what is left of them; where both have its digest, it is the newer one's, and neither has it
-/// left.
-fn first_of<'a>(
-    newer: &'a [Entry],
-    older: &'a [Entry],
-) -> Option<(&'a Entry, &'a [Entry], &'a [Entry])>
+/// The first entry of both, and how many of each have its digest: one or none. Where both have it, it is the newer one's.
+fn first_of<'a>(newer: &[Lent<'a>], older: &'a [Entry]) -> Option<(&'a Entry, usize, usize)>
     requires newer { Ascend newer.now }
     requires older { Ascend older.now }
-    ensures { MatchOption result ((newer.now ≡ []) × (older.now ≡ []))
-        (λ next. IsNext newer.now older.now next.0.now next.1.now next.2.now) }
+    ensures next { MatchOption result ((newer.now ≡ []) × (older.now ≡ []))
+        (λ next. IsNext newer.now older.now next.0.now (drop next.1 newer.now)
+        (drop next.2 older.now)) }
+    ensures within { IfSome result
+        (λ next. (next.1 ≤ length newer.now) × (next.2 ≤ length older.now)) }
+    ensures one { IfSome result (λ next. (next.1 ≤ 1) × (next.2 ≤ 1)) }
 {
     match (newer.split_first(), older.split_first()) {
         (None, None) => None,
-        (Some((one, newer_left)), None) => Some((one, newer_left, older)),
-        (None, Some((two, older_left))) => Some((two, newer, older_left)),
-        (Some((one, newer_left)), Some((two, older_left))) => {
-            Some(match one.0.cmp(&two.0) {
-                Ordering::Less => (one, newer_left, older),
-                Ordering::Equal => (one, newer_left, older_left),
-                Ordering::Greater => (two, newer, older_left),
+        (Some((one, _left)), None) => Some((one.entry, 1, 0)),
+        (None, Some((two, _left))) => Some((two, 0, 1)),
+        (Some((one, _newer_left)), Some((two, _older_left))) => {
+            let one = one.entry;
+            Some(match one.get().0.cmp(&two.get().0) {
+                Ordering::Less => (one, 1, 0),
+                Ordering::Equal => (one, 1, 1),
+                Ordering::Greater => (two, 0, 1),
             })
         }
     }
 }
 
+/// One more owner of each of these entries that is not below the round.
+pub(crate) fn owned(alloc: Global, entries: &[Lent], round: Round) -> Result<Vec<Entry>, NoMemory>
+    ensures { IfOk result
+        (λ kept. kept.items ≡ filter (λ e. nat_le round e.1.round) entries.now) }
+{
+    let mut kept = Vec::with_capacity(alloc, entries.len())?;
+    for lent in entries {
+        let entry = lent.entry;
+        if round <= entry.get().1.round() {
+            kept.push(entry.try_clone()?)?;
+        }
+    }
+    kept.shrink_to_fit();
+    Ok(kept)
+}
+
 /// The block under the digest.
 ///
 /// Digests are spread evenly, so that their first bytes tell nearly where one stands: a search among thousands of entries
-/// looks at three or four. Where digests are crowded, every fourth look halves what is left.
+/// looks at three or four. Where digests are crowded, every eighth look halves what is left.
 pub(crate) fn find<'a>(entries: &'a [Entry], digest: &Digest) -> Option<&'a Shared<Block>>
     requires { Ascend entries.now }
     ensures { option_copied result ≡ under entries.now digest.now }
@@ -85,15 +119,16 @@ pub(crate) fn find<'a>(entries: &'a [Entry], digest: &Digest) -> Option<&'a Shar
     let (mut left, mut looks) = (entries, 0u32);
     let (mut low, mut high) = (0, u32::MAX);
     while !left.is_empty() {
-        let place = if looks % 4 == 3 {
+        let place = if looks % 8 == 7 {
             left.len() / 2
         } else {
-            guess(left.len(), entries.len(), [low, head(digest), high])
+            guess(left.len(), entries.len(), low, head(digest), high)
         };
         let (before, rest) = left.split_at(place);
-        let Some(((key, block), after)) = rest.split_first() else {
+        let Some((entry, after)) = rest.split_first() else {
             return None;
         };
+        let (key, block) = entry.get();
         if key == digest {
             return Some(block);
         }
@@ -107,13 +142,12 @@ pub(crate) fn find<'a>(entries: &'a [Entry], digest: &Digest) -> Option<&'a Shar
     None
 }
 
-/// The place of a head among so many entries with heads from the lowest to the highest of these three, of which it is the
-/// middle one, where so many in all are spread evenly. It is counted from the nearer end.
-fn guess(entries: usize, all: usize, heads: [u32; 3]) -> usize
+/// The place of a head among so many entries with heads from the low one to the high one, where so many in all are spread
+/// evenly. It is counted from the nearer end.
+fn guess(entries: usize, all: usize, low: u32, head: u32, high: u32) -> usize
     requires { 0 < entries }
     ensures { result < entries }
 {
-    let [low, head, high] = heads;
     let (above, below) = (head.saturating_sub(low), high.saturating_sub(head));
     let last = entries - 1;
     if above < below {

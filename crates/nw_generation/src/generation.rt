@@ -15,7 +15,7 @@ use std::marker::Model;
 /// One owner of blocks that never change, under their digests. Contracts see the finite map of these.
 #[derive(Drop)]
 pub struct Generation {
-    /// Ascending by digest, in one piece of memory, so that a search looks at few of them.
+    /// Ascending by digest, so that a search looks at few of them.
     entries: Shared<Sequence<Entry>>,
     /// The least and the greatest round of the blocks.
     rounds: Option<(Round, Round)>,
@@ -113,7 +113,7 @@ fn rounds_of(entries: &[Entry]) -> Option<(Round, Round)>
 {
     let mut rounds = None;
     for entry in entries {
-        rounds = Some(widened(rounds, entry.1.round()));
+        rounds = Some(widened(rounds, entry.get().1.round()));
     }
     rounds
 }

@@ -1,22 +1,22 @@
 //! The generations of a store, of which its views are made.
-ghost use Rattle.std.specs.Prelude.{◌≡◌, ◌+◌, ◌<◌, ◌≤◌, IfOk, OnOk, OnErr, filter, nat_le};
+ghost use Rattle.std.specs.Prelude.{◌≡◌, ◌+◌, ◌<◌, ◌≤◌, IfOk, OnOk, OnErr};
 ghost use Rattle.std.specs.FinMap as map;
 ghost use Rattle.nw_model.specs.Step.{from_round};
 ghost use Rattle.nw_model.specs.View.{IsClosed};
 ghost use Rattle.nw_generation.specs.Entries.{Ascend};
 ghost use Rattle.nw_generation.specs.Seen.{IsOver, union};
 
-use crate::entries::{Entry, merged};
+use crate::entries::{Lent, merged, owned};
 use crate::{Generation, View};
-use nw_digest::{InRound, NoMemory, Round};
+use nw_digest::{NoMemory, Round};
 use std::alloc::Global;
 use std::marker::Model;
 
 /// How many generations there are at most.
 pub const MOST_PARTS: usize = 16;
 
-/// At most `MOST_PARTS` generations, which grow in number as blocks are frozen. Contracts see what they hold together, where the later
-/// one counts, and how many they are.
+/// At most `MOST_PARTS` generations, which grow in number as blocks are frozen. Contracts see what they hold together, where
+/// the later one counts, and how many they are.
 #[derive(Drop)]
 pub struct Generations {
     /// The oldest first.
@@ -71,8 +71,8 @@ impl Generations {
         ensures { IfOk result
             (λ generation. generation ≡ from_round (λ b. b.round) round self.now.blocks) }
     {
-        let mut entries = joined_entries(alloc, self.list.as_slice())?;
-        drop_below(&mut entries, round);
+        let lent = joined_entries(alloc, self.list.as_slice())?;
+        let entries = owned(alloc, &lent, round)?;
         Generation::of(alloc, entries)
     }
 
@@ -89,7 +89,10 @@ impl Generations {
 }
 
 /// The entries of these generations together.
-fn joined_entries(alloc: Global, generations: &[Generation]) -> Result<Vec<Entry>, NoMemory>
+fn joined_entries<'a>(
+    alloc: Global,
+    generations: &'a [Generation],
+) -> Result<Vec<Lent<'a>>, NoMemory>
     ensures ascend { IfOk result (λ entries. Ascend entries.items) }
     ensures union { IfOk result
         (λ entries. map.from_entries entries.items ≡ union generations.now) }
@@ -101,13 +104,6 @@ fn joined_entries(alloc: Global, generations: &[Generation]) -> Result<Vec<Entry
         left = older;
     }
     Ok(entries)
-}
-
-/// Drops the blocks of rounds below this one.
-fn drop_below(entries: &mut Vec<Entry>, round: Round)
-    ensures { entries.new.items ≡ filter (λ e. nat_le round e.1.round) entries.old.items }
-{
-    entries.retain(|entry| round <= entry.1.round());
 }
 
 /// One more owner of each of these.

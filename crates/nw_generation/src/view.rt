@@ -11,9 +11,9 @@ use nw_codec::Block;
 use nw_digest::{Digest, Round, Shared};
 use std::marker::Model;
 
-/// The blocks of at most `MOST_PARTS` generations, and a floor. Where two generations hold a digest, the later one's block counts.
-/// Each parent of a block above the floor is there too, with the named author and in the round before, and no two blocks
-/// that are not below the floor share round and author.
+/// The blocks of at most `MOST_PARTS` generations, and a floor. Where two generations hold a digest, the later one's block
+/// counts. Each parent of a block above the floor is there too, with the named author and in the round before, and no two
+/// blocks that are not below the floor share round and author.
 #[derive(Drop)]
 pub struct View {
     /// The oldest first.

@@ -3,7 +3,6 @@ use Rattle.std.proofs.Common.{◌≡◌, ℕ, zero, suc, ◌+◌, ◌<◌, List,
 use Rattle.std.specs.Prelude.{slice_get, take}
 use Rattle.std.specs.Option.{unwrap_or}
 use Rattle.std.proofs.lemmas.List.Elements.{All-nil, All-append}
-use Rattle.std.proofs.Math.Seq.{take-length}
 use Rattle.nw_sig.specs.Signed.{Meaning}
 use Rattle.nw_model.specs.State.{State, opening}
 use Rattle.nw_model.specs.Step.{Bounds, after}
@@ -30,10 +29,6 @@ pub there : (es : List Event) (i : ℕ) → slice_get es i ≡ None → i < leng
 there [] i is below = omega arith
 there (x ∷ es) zero is below = absurd cc
 there (x ∷ es) (suc i) is below = there es i is (omega arith)
-
--- the state after all
-pub replay_all : (b : Bounds) (s : State) (es : List Event) (n : ℕ) → n ≡ length es → replay b s (take n es) ≡ replay b s es
-replay_all b s es n is = ap (λ m. replay b s (take m es)) is ∙ ap (replay b s) (take-length es)
 
 -- ---- one list of events after another
 
@@ -64,10 +59,6 @@ none_legal accepts terms base h = record {
   short = omega arith;
   admitted = All-nil (λ (e : Event). IsAdmitted accepts terms.committee e.call);
 }
-
--- the opening state is a base
-pub opening_based : (accepts : Meaning) (terms : Terms) → IsBase accepts terms opening
-opening_based accepts terms = record { earlier = []; replies = tt; admitted = All-nil (λ (e : Event). IsAdmitted accepts terms.committee e.call); left = refl }
 
 -- a history that starts where a legal one ends is legal
 pub reopened_legal : (accepts : Meaning) (s : Story) → IsLegalStory accepts s → IsLegalStory accepts (reopened s)

@@ -1,5 +1,5 @@
 //! Legal histories that never change.
-ghost use Rattle.std.specs.Prelude.{◌≡◌, ◌↔◌, ◌==◌, ◌+◌, ◌/◌, ◌%◌, ◌++◌, ◌∷◌, ◌^◌, ◌<◌, []};
+ghost use Rattle.std.specs.Prelude.{◌≡◌, ◌↔◌, ◌==◌, ◌+◌, ◌-◌, ◌/◌, ◌%◌, ◌++◌, ◌∷◌, ◌^◌, ◌<◌, []};
 ghost use Rattle.std.specs.Prelude.{IfOk, OnOk, IfSome, IsNone, IsTrue, length, slice_get};
 ghost use Rattle.std.specs.Option.{option_copied};
 ghost use mathlib.Core.List.{IsPrefix};
@@ -29,8 +29,7 @@ use std::marker::{Model, PhantomData};
 /// same history, in chunks of 256.
 #[derive(Drop)]
 pub struct Front<S: Scheme> {
-    start: Shared<Start>,
-    events: Chunks<Event>,
+    events: Chunks<Start, Event>,
     scheme: PhantomData<S>,
 }
 
@@ -47,9 +46,10 @@ impl<S: Scheme> Model for Front<S> {
 
     ghost coded = { Prim.hlevel (codes, coded_state) };
 
-    ghost view = { λ f. story_of f.start (items_of f.events) };
+    ghost view = { λ f. story_of f.events.head (items_of f.events) };
 
-    ghost invariant = { λ f. IsLegalStory S.accepts (story_of f.start (items_of f.events)) };
+    ghost invariant = { λ f. IsLegalStory S.accepts
+        (story_of f.events.head (items_of f.events)) };
 }
 
 impl<S: Scheme> Front<S> {
@@ -87,39 +87,36 @@ impl<S: Scheme> Front<S> {
         requires { IsLegalStory S.accepts (story_of start []) }
         ensures { IfOk result (λ front. front ≡ story_of start []) }
     {
-        let start = Shared::new(alloc, start)?;
-        Ok(Front::of(start, Chunks::new(alloc)?))
+        Ok(Front::of(Chunks::new(alloc, Shared::new(alloc, start)?)?))
     }
 
-    /// The history of these events.
-    fn of(start: Shared<Start>, events: Chunks<Event>) -> Front<S>
-        requires { IsLegalStory S.accepts (story_of start (items_of events)) }
-        ensures { result ≡ story_of start (items_of events) }
+    /// The history of these events, which start with their head.
+    fn of(events: Chunks<Start, Event>) -> Front<S>
+        requires { IsLegalStory S.accepts (story_of events.head (items_of events)) }
+        ensures { result ≡ story_of events.head (items_of events) }
     {
         Front {
-            start,
             events,
             scheme: PhantomData,
         }
     }
 
-    /// The same history, with one more owner of its events. Its cost is the same for every history.
+    /// The same history, with one more owner of its events. At most two counts go up, however long it is.
     pub fn try_clone(&self) -> Result<Front<S>, NoMemory>
         ensures same { IfOk result (λ front. front ≡ self.now) }
         ensures legal { IsLegalStory S.accepts self.now }
     {
-        Ok(Front::of(self.start.try_clone()?, self.events.try_clone()?))
+        Ok(Front::of(self.events.try_clone()?))
     }
 
-    /// The history with one more event. It shares all that came before, so its cost is the same for every history. `NoMemory`
-    /// where memory is refused.
-    pub fn with(&self, alloc: Global, event: &Shared<Event>) -> Result<Front<S>, NoMemory>
-        requires legal { IsLegalStory S.accepts (with_event self.now event.now) }
+    /// The history with one more event. It shares all that came before, so its cost is the same for every history, but for
+    /// every 256th event, which closes a chunk. `NoMemory` where memory is refused.
+    pub fn with_event(&self, alloc: Global, event: Event) -> Result<Front<S>, NoMemory>
+        requires legal { IsLegalStory S.accepts (with_event self.now event) }
         requires room { length self.now.events < 2 ^ 32 }
-        ensures { IfOk result (λ front. front ≡ with_event self.now event.now) }
+        ensures { IfOk result (λ front. front ≡ with_event self.now event) }
     {
-        let events = self.events.with(alloc, event.try_clone()?)?;
-        Ok(Front::of(self.start.try_clone()?, events))
+        Ok(Front::of(self.events.with(alloc, event)?))
     }
 
     /// How many events it has.
@@ -155,12 +152,21 @@ impl<S: Scheme> Front<S> {
         self.events.get(index)
     }
 
+    /// The last event, or `None` where it has no event.
+    pub fn last(&self) -> Option<&Event>
+        ensures last { option_copied result
+            ≡ slice_get self.now.events (length self.now.events - 1) }
+        ensures legal { IsLegalStory S.accepts self.now }
+    {
+        self.events.last()
+    }
+
     /// The committee under which it is legal.
     pub fn committee(&self) -> &Shared<Committee>
         ensures committee { result.now ≡ self.now.committee }
         ensures legal { IsLegalStory S.accepts self.now }
     {
-        self.start.get().committee()
+        self.events.head().committee()
     }
 
     /// The limits under which it is legal.
@@ -168,7 +174,7 @@ impl<S: Scheme> Front<S> {
         ensures limits { result ≡ self.now.limits }
         ensures legal { IsLegalStory S.accepts self.now }
     {
-        self.start.get().limits()
+        self.events.head().limits()
     }
 
     /// The base that its calls are replayed from, or `None` where that is the opening state.
@@ -178,7 +184,7 @@ impl<S: Scheme> Front<S> {
         ensures opening { IsNone result ↔ self.now.base ≡ opening }
         ensures legal { IsLegalStory S.accepts self.now }
     {
-        self.start.get().base()
+        self.events.head().base()
     }
 
     /// Whether the other front goes on where this one ends: it has the same committee, limits and base, and its events begin
@@ -190,7 +196,7 @@ impl<S: Scheme> Front<S> {
         ensures prefix { IsTrue result ↔ IsPrefixOf self.now other.now }
         ensures legal { IsLegalStory S.accepts self.now }
     {
-        self.start.get().is_same(other.start.get()) && self.begins(other)
+        self.events.head().is_same(other.events.head()) && self.begins(other)
     }
 
     /// Whether the other front, which starts where this one does, goes on where this one ends.
@@ -230,7 +236,7 @@ impl<S: Scheme> Front<S> {
     fn replayed(&self, alloc: Global) -> Result<Plain, NoMemory>
         ensures { IfOk result (λ tables. tables ≡ tables_of self.now) }
     {
-        let mut tables = self.start.get().tables(alloc)?;
+        let mut tables = self.events.head().tables(alloc)?;
         for index in 0..self.len() {
             if let Some(event) = self.event(index) {
                 take_again(&mut tables, &event.call)?;

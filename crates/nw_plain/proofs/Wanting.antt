@@ -100,10 +100,6 @@ of_references s b old new above adds w = (
   λ h. (adds w).1 (elim h [ inl here ↦ inl here | inr (high, r, in_parents, lacks, named) ↦ inr (r, in_parents, (lacks, named)) ]),
 )
 
--- a block that is not above it wants nothing
-pub of_low_block : (s : State) (b : Block) (old : List Wanted) → (s.floor < b.round → ⊥) → Adds (Wants s b) old old
-of_low_block s b old low w = (inl, λ h. elim h [ inl here ↦ here | inr there ↦ absurd (low there.0) ])
-
 wanted_apart : IsAntisymmetric wanted_cmp
 wanted_apart v w e = one_wanted v w (ap is_eq e)
 
@@ -135,9 +131,6 @@ pub record SoFar (s : State) (left : List (Digest × Block)) (wanted : List Want
   pub sorted : IsStrictlySortedBy digest_cmp (keys_of (done ++ left))
   pub added : Adds (Of (Wants s) (values_of done)) [] wanted
   pub ordered : IsStrictlySortedBy wanted_cmp wanted
-
-pub none_done : (s : State) (es : List (Digest × Block)) → s.blocks ≡ from_entries es → IsStrictlySortedBy digest_cmp (keys_of es) → IsStrictlySortedBy wanted_cmp [] → SoFar s es []
-none_done s es is sorted nothing = record { done = []; held = is; sorted = sorted; added = adds_nothing (Wants s) []; ordered = nothing }
 
 pub one_done : (s : State) (left : List (Digest × Block)) (d : Digest) (b : Block) (wanted more : List Wanted) → SoFar s ((d, b) ∷ left) wanted
     → Adds (Wants s b) wanted more → (IsStrictlySortedBy wanted_cmp wanted → IsStrictlySortedBy wanted_cmp more) → SoFar s left more

@@ -220,7 +220,3 @@ none_lower round [] all = refl
 none_lower round (e ∷ es) all =
     ap (λ b. cond b (e ∷ filter (λ x. nat_le round x.0.0.0) es) (filter (λ x. nat_le round x.0.0.0) es)) (le-leb round e.0.0.0 (All-head (λ (p : Place). round ≤ p.0.0) e.0 (keys_of es) all))
     ∙ ap (λ rest. e ∷ rest) (none_lower round es (All-tail (λ (p : Place). round ≤ p.0.0) e.0 (keys_of es) all))
-
--- without a first entry of a lower round, the same entries are not of a lower round
-pub one_lower : (round : ℕ) (es rest : List (Place × Digest)) (e : Place × Digest) → es ≡ e ∷ rest → BeginsBelow round es → filter (λ x. nat_le round x.0.0.0) rest ≡ filter (λ x. nat_le round x.0.0.0) es
-one_lower round es rest e is below = sym (ap (filter (λ (x : Place × Digest). nat_le round x.0.0.0)) is ∙ ap (λ b. cond b (e ∷ filter (λ (x : Place × Digest). nat_le round x.0.0.0) rest) (filter (λ (x : Place × Digest). nat_le round x.0.0.0) rest)) (lt-leb round e.0.0.0 (subst (BeginsBelow round) is below)))

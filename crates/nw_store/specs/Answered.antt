@@ -8,16 +8,16 @@ use Rattle.nw_model.specs.declared.reply.Reply.{Reply}
 use Rattle.nw_history.specs.Story.{Story, Origin}
 use Rattle.nw_history.specs.Prefix.{IsPrefixOf}
 use Rattle.nw_book.specs.Answer.{Takes}
-use Rattle.nw_book.specs.Turn.{IsRefusal}
+use Rattle.nw_book.specs.Turn.{IsRefusal, event}
 use Rattle.nw_book.specs.declared.error.NoStep.{NoStep}
-use Rattle.nw_store.specs.Journal.{Journal, AreBegun, KnowsAll, IsHistoryOf, next_number, next_event, with_answer}
+use Rattle.nw_store.specs.Journal.{Journal, AreBegun, KnowsAll, IsHistoryOf, next_number, with_answer}
 
 -- the session's next call is taken after this history, and its front is the history with it; each earlier front of the session begins it, and each history that the session knew of; and the session keeps the answer, and knows of its front too
 pub record IsAnswered (accepts : Meaning) (history : Story) (old new : Journal) (asked : Call) (reply : Reply) (front : Story) : Type 0 where
   pub takes : Takes accepts history front old.id (next_number old) asked reply front
   pub begins : AreBegun front old.answers
   pub heard : (s : Story) → Contains old.known s → IsPrefixOf s front
-  pub keeps : new ≡ with_answer old (next_event old asked reply) front new.known
+  pub keeps : new ≡ with_answer old (event old.id (next_number old) asked reply) front new.known
   pub knows : Contains new.known front
   pub knew : KnowsAll new.known old.known
 

@@ -6,9 +6,7 @@ use Rattle.nw_log.specs.Claims.{Name}
 use Rattle.nw_committee.specs.declared.member.Member.{Member}
 use Rattle.nw_sig.specs.Signed.{Meaning}
 use Rattle.nw_model.specs.State.{opening}
-use Rattle.nw_model.specs.declared.call.Call.{Call}
 use Rattle.nw_model.specs.declared.event.Event.{Event}
-use Rattle.nw_model.specs.declared.reply.Reply.{Reply}
 use Rattle.nw_history.specs.Story.{Story, Origin, IsLegalStory}
 use Rattle.nw_history.specs.declared.limits.Limits.{Limits}
 use Rattle.nw_history.specs.Prefix.{IsPrefixOf}
@@ -81,10 +79,6 @@ AreAnswers id n (a ∷ others) = IsAnswer id n a × AreAnswers id (n + 1) others
 -- the number of the session's next call
 abbrev pub next_number : Journal → ℕ
 next_number j = length j.answers + 1
-
--- the event of the session's next call
-abbrev pub next_event : Journal → Call → Reply → Event
-next_event j asked reply = record { session = j.id; number = next_number j; call = asked; reply = reply }
 
 -- the session with one more answer, which knows of these histories then
 abbrev pub with_answer : Journal → Event → Story → List Story → Journal

@@ -45,8 +45,8 @@ pub fn call_locked<S: Scheme, L: Home>(
     ensures unchanged { OnErr result (locked.new ≡ locked.old) }
     ensures session { OnErr result (session.new ≡ session.old) }
 {
-    may_call(locked, session, command.committee())?;
-    Ok(take_call(locked, alloc, session, command.call()?)?)
+    let number = may_call(locked, session, command.committee())?;
+    Ok(take_call(locked, alloc, session, number, command.call()?)?)
 }
 
 /// Opens a causal read as the session's next call, while the guard is lent: a ticket where there is a list, else an answer that
@@ -75,8 +75,8 @@ pub fn open_locked<S: Scheme, L: Home>(
     ensures unchanged { OnErr result (locked.new ≡ locked.old) }
     ensures session { OnErr result (session.new ≡ session.old) }
 {
-    may_call(locked, session, None)?;
-    Ok(take_open(locked, alloc, session, digest)?)
+    let number = may_call(locked, session, None)?;
+    Ok(take_open(locked, alloc, session, number, digest)?)
 }
 
 /// Writes the block, which is lent, as the session's next call, while the guard is lent.
@@ -97,9 +97,9 @@ pub(crate) fn write_locked<S: Scheme, L: Home>(
         (next_number session.old) (Some block.now.committee)) }
     ensures session { OnErr result (session.new ≡ session.old) }
 {
-    may_call(locked, session, Some(block.committee().get()))?;
+    let number = may_call(locked, session, Some(block.committee().get()))?;
     let call = Call::Write(block.digest(), block.block().try_clone()?);
-    Ok(take_call(locked, alloc, session, call)?)
+    Ok(take_call(locked, alloc, session, number, call)?)
 }
 
 /// Hands in the certificate, which is lent, as the session's next call, while the guard is lent.
@@ -119,18 +119,19 @@ pub(crate) fn certify_locked<S: Scheme, L: Home>(
         (next_number session.old) (Some certificate.now.committee)) }
     ensures session { OnErr result (session.new ≡ session.old) }
 {
-    may_call(locked, session, Some(certificate.committee().get()))?;
+    let number = may_call(locked, session, Some(certificate.committee().get()))?;
     let call = Call::Certify(certificate.certificate().try_clone()?);
-    Ok(take_call(locked, alloc, session, call)?)
+    Ok(take_call(locked, alloc, session, number, call)?)
 }
 
-/// Whether the session may make its next call, where what it hands in was checked under that committee, if it hands in
-/// anything. It takes no memory, and changes nothing.
+/// The number of the session's next call, where it may make it and what it hands in was checked under that committee, if it
+/// hands in anything. It takes no memory, and changes nothing.
 fn may_call<S: Scheme, L: Home>(
     locked: &mut Locked<S, L>,
     session: &mut Session<S, L>,
     under: Option<&Committee>,
-) -> Result<(), NoStep>
+) -> Result<u32, NoStep>
+    ensures number { IfOk result (λ number. number ≡ next_number session.old) }
     ensures starts { origin_of locked.old.history ≡ L.origin }
     ensures legal { IsLegalStory S.accepts locked.old.history }
     ensures may { OnOk result (MayStep locked.old.history session.old.id
@@ -143,17 +144,20 @@ fn may_call<S: Scheme, L: Home>(
     let number = locked
         .tally
         .next_number(&mut session.pass, session.journal.len());
-    locked.book.may_step(session.id, number, under)
+    locked.book.may_step(session.id, number, under)?;
+    Ok(number)
 }
 
-/// Takes the step of a call that the session may make as its next. It is refused for want of memory alone, and then changes
-/// nothing.
+/// Takes the step of a call that the session may make as its next, with that number. It is refused for want of memory alone, and
+/// then changes nothing.
 fn take_call<S: Scheme, L: Home>(
     locked: &mut Locked<S, L>,
     alloc: Global,
     session: &mut Session<S, L>,
+    number: u32,
     call: Call,
 ) -> Result<Done<S>, NoMemory>
+    requires number { number ≡ next_number session.old }
     requires turn { IsInTurn locked.old.history session.old.id (next_number session.old) }
     requires admitted { IsAdmitted S.accepts locked.old.history.committee call }
     requires room { HasRoom locked.old.history }
@@ -164,27 +168,23 @@ fn take_call<S: Scheme, L: Home>(
     ensures unchanged { OnErr result (locked.new ≡ locked.old) }
     ensures session { OnErr result (session.new ≡ session.old) }
 {
-    let number = locked
-        .tally
-        .next_number(&mut session.pass, session.journal.len());
-    if let Err(error) = session.journal.reserve(1) {
-        drop(call);
-        return Err(NoMemory::from(error));
-    }
+    session.journal.reserve(1)?;
     let (done, kept) = locked.book.take_step(alloc, session.id, number, call)?;
     locked.tally.tell(&mut session.pass, &kept);
     session.journal.push_reserved(Entry::of(kept));
     Ok(done)
 }
 
-/// Takes the step of a causal read that the session may make as its next call. It is refused for want of memory alone, and then
-/// changes nothing.
+/// Takes the step of a causal read that the session may make as its next call, with that number. It is refused for want of memory
+/// alone, and then changes nothing.
 fn take_open<S: Scheme, L: Home>(
     locked: &mut Locked<S, L>,
     alloc: Global,
     session: &mut Session<S, L>,
+    number: u32,
     digest: Digest,
 ) -> Result<Result<Ticket<S>, Done<S>>, NoMemory>
+    requires number { number ≡ next_number session.old }
     requires turn { IsInTurn locked.old.history session.old.id (next_number session.old) }
     requires room { HasRoom locked.old.history }
     ensures answered { IfOk result (λ answer. IsAnswered S.accepts locked.old.history session.old
@@ -195,9 +195,6 @@ fn take_open<S: Scheme, L: Home>(
     ensures unchanged { OnErr result (locked.new ≡ locked.old) }
     ensures session { OnErr result (session.new ≡ session.old) }
 {
-    let number = locked
-        .tally
-        .next_number(&mut session.pass, session.journal.len());
     session.journal.reserve(1)?;
     let (answer, kept) = locked.book.take_open(alloc, session.id, number, digest)?;
     locked.tally.tell(&mut session.pass, &kept);

@@ -126,31 +126,13 @@ impl<S: Scheme, L: Home> Locked<S, L> {
     }
 
     /// The book reopened, which ends the store. Where memory is refused, everything comes back as it was.
-    pub(crate) fn reopen(self, alloc: Global) -> Result<Book<S>, (NoMemory, Locked<S, L>)>
+    pub(crate) fn reopen(mut self, alloc: Global) -> Result<Book<S>, (NoMemory, Locked<S, L>)>
         ensures reopened { IfOk result (λ book. book ≡ reopened self.history) }
         ensures back { IfErr result (λ refused. refused.1 ≡ self) }
     {
-        let Locked {
-            book,
-            made,
-            tally,
-            spare,
-        } = self;
-        match book.reopen(alloc) {
-            Ok(book) => {
-                drop(tally);
-                drop(spare);
-                Ok(book)
-            }
-            Err((error, book)) => {
-                let locked = Locked {
-                    book,
-                    made,
-                    tally,
-                    spare,
-                };
-                Err((error, locked))
-            }
+        match self.book.restart(alloc) {
+            Ok(()) => Ok(self.book),
+            Err(refused) => Err((refused, self)),
         }
     }
 }

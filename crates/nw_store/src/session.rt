@@ -43,7 +43,7 @@ impl<S: Scheme> Entry<S> {
         ensures event { (earlier : List Event) (event : Event)
             → front.events ≡ earlier ++ event ∷ [] → result.event ≡ event }
     {
-        let event = Snapshot::of(front.event(front.len() - 1).unwrap());
+        let event = Snapshot::of(front.last().unwrap());
         Entry { front, event }
     }
 
@@ -72,7 +72,7 @@ impl<S: Scheme> Entry<S> {
     fn event(&self) -> &Event
         ensures { result.now ≡ self.now.event }
     {
-        self.front.event(self.front.len() - 1).unwrap()
+        self.front.last().unwrap()
     }
 }
 

@@ -76,18 +76,16 @@ impl<S: Scheme, L: Home> Settled<S, L> {
             × (slice_get self.now.journals session ≡ Some j) × (entries.now ≡ j.answers)) }
         ensures none { IfNone result (length self.now.journals ≤ session) }
     {
-        match self.sessions.get(usize::from(session)) {
-            None => None,
-            Some(session) => Some(session.journal.as_slice()),
-        }
+        let session = self.sessions.get(usize::from(session))?;
+        Some(session.journal.as_slice())
     }
 }
 
 /// Settles the sessions with what the lock held. It is done exactly where they are all sessions that were made, each once, in any
 /// order; a refusal hands everything back as it was. No event is compared, and no memory is taken.
 pub fn settle_locked<S: Scheme, L: Home>(
-    locked: Locked<S, L>,
-    sessions: Vec<Session<S, L>>,
+    mut locked: Locked<S, L>,
+    mut sessions: Vec<Session<S, L>>,
 ) -> Result<Settled<S, L>, (SettleFault, Locked<S, L>, Vec<Session<S, L>>)>
     ensures history { IfOk result (λ s. s.history ≡ locked.history) }
     ensures made { IfOk result (λ s. s.made ≡ locked.made) }
@@ -97,8 +95,6 @@ pub fn settle_locked<S: Scheme, L: Home>(
     ensures refused { IfErr result (λ e. IsFault locked sessions.items e.0) }
     ensures back { IfErr result (λ e. (e.1 ≡ locked) × (e.2.items ≡ sessions.items)) }
 {
-    let mut locked = locked;
-    let mut sessions = sessions;
     match settle_in_place(&mut locked, sessions.as_mut_slice()) {
         Ok(()) => Ok(Settled { locked, sessions }),
         Err(fault) => Err((fault, locked, sessions)),

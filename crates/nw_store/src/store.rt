@@ -61,15 +61,10 @@ impl<S: Scheme, L: Home> Store<S, L> {
         ensures bad_limits { IsErrOf result BookError.BadLimits ↔ (AreInRange limits → ⊥) }
         ensures no_memory { IsErrOf result BookError.NoMemory → AreInRange limits }
     {
-        match Book::new(alloc, committee, limits) {
-            Ok(book) => Ok(Store {
-                locked: Mutex::new(Locked::over(opening, book)),
-            }),
-            Err(error) => {
-                drop(opening);
-                Err(error)
-            }
-        }
+        let book = Book::new(alloc, committee, limits)?;
+        Ok(Store {
+            locked: Mutex::new(Locked::over(opening, book)),
+        })
     }
 
     /// A store that goes on with the book, without sessions. The book is handed back exactly where its history is not empty. It

@@ -1,5 +1,5 @@
 -- The entries after a digest.
-use Rattle.std.proofs.Common.{◌≡◌, ◌∙◌, inl, inr, ℕ, ◌<◌, true, false, cond, List, [], ◌∷◌, ◌++◌, Option, Some, None, length, refl, sym, ap, subst, arith}
+use Rattle.std.proofs.Common.{◌≡◌, ◌∙◌, inl, inr, ℕ, true, false, cond, List, [], ◌∷◌, ◌++◌, Option, Some, None, refl, sym, ap, subst}
 use Rattle.std.specs.BTreeMap.{is_at}
 use Rattle.std.specs.List.Sorted.{IsStrictlySortedBy}
 use Rattle.std.specs.declared.cmp.Ordering.TheVariants.{Less}
@@ -30,11 +30,6 @@ module _ {V : Type 0} (k : Digest) where
   after_within (e ∷ l) r (inl is) = rw (here k e.0 is) refl
   after_within (e ∷ l) r (inr there) =
       elim (is_at (digest_cmp k) e.0) as (λ b. cond b (l ++ r) (after k (l ++ r)) ≡ cond b l (after k l) ++ r) [ true ↦ refl | false ↦ after_within l r there ]
-
--- the first of both
-pub first_both : {V : Type 0} (l r : List (Digest × V)) → 0 < length l → first_entry (l ++ r) ≡ first_entry l
-first_both [] r h = absurd (omega arith)
-first_both (e ∷ l) r h = refl
 
 first_or : {V : Type 0} (l r : List (Digest × V)) (e : Digest × V) → first_entry l ≡ Some e → first_entry (l ++ r) ≡ Some e
 first_or [] r e h = cc

@@ -42,11 +42,6 @@ pub branch_leaf : {V : Type 0} (k x : Digest) (v : V) (o : Option ℕ) → Match
 branch_leaf k x v None h = inl (sym h)
 branch_leaf k x v (Some bit) h = record { near = inl h.same; apart = ((λ agree. h.differ (agree bit (omega arith))), tt) }
 
--- some entry is there
-pub some_full : {V : Type 0} (P : Digest → Type 0) (es : List (Digest × V)) → SomeKey P es → 0 < length es
-some_full P [] h = absurd h
-some_full P (e ∷ es) h = omega arith
-
 -- both sides of a fork, one of them with the entry, where before they were d
 pub record Grown {V : Type 0} (d : List (Digest × V)) (bit : ℕ) (l r : List (Digest × V)) (k : Digest) (v : V) : Type 0 where
   pub is : l ++ r ≡ insert_entry digest_cmp d k v

@@ -15,7 +15,7 @@ use Rattle.nw_digest.specs.Order.{digest_cmp}
 use Rattle.nw_waiting.specs.Pairs.{AreHolders, AreLacked, AreWanted, Pairs, wanted_cmp, without_holder, without_wanted}
 use Rattle.nw_waiting.proofs.Members.{member_added, member_removed, once_added, once_removed}
 use Rattle.nw_waiting.proofs.Orders.{digests_total, wanted_total}
-use Rattle.nw_waiting.proofs.Relation.{are_holders, are_lacked, are_wanted, contains_added, contains_in, contains_without_holder, contains_without_wanted, filled_taken, is_pair, member_taken, nobody, once_taken, one_digest, one_wanted, same_added, same_satisfied, same_unwanted, taken_back, view_is}
+use Rattle.nw_waiting.proofs.Relation.{are_holders, are_lacked, are_wanted, contains_added, contains_in, contains_without_holder, contains_without_wanted, filled_taken, is_pair, member_taken, nobody, once_taken, one_digest, one_wanted, same_added, same_satisfied, same_unwanted, view_is}
 
 module _ {L M : Type 0} (items : L → List Digest) (lacks : M → List Wanted) where
   abbrev H : List (Wanted × L) → Wanted → List Digest
@@ -85,26 +85,6 @@ module _ {L M : Type 0} (items : L → List Digest) (lacks : M → List Wanted) 
           filled = filled;
           ordered = sorted;
         }
-
-        -- and taken out again
-        module _ (back : List (Wanted × L)) (took : (q : Wanted) → H back q ≡ cond (eq_by_cmp wanted_cmp wanted q) (filter (λ x. not (eq_by_cmp digest_cmp x holder)) (H hs' q)) (H hs' q)) where
-          back_member : (w : Wanted) (h : Digest) → list_any (eq_by_cmp digest_cmp h) (H back w) ≡ list_any (eq_by_cmp digest_cmp h) (H hs w)
-          back_member w h =
-              member_removed wanted_cmp digests_total (H hs') (H back) wanted holder took w h
-              ∙ ap (λ b. b && not (is_pair wanted holder w h)) (member_added wanted_cmp digests_total (H hs) (H hs') wanted holder put_h w h)
-              ∙ taken_back wanted w holder h (λ v d. list_any (eq_by_cmp digest_cmp d) (H hs v)) (r.same wanted holder ∙ absent)
-
-          pub back_view : IsStrictlySortedBy wanted_cmp (keys_of back) → from_list (pairs_in items back) ≡ s
-          back_view sorted = view_is items back sorted s (λ w h. back_member w h ∙ member w h)
-
-          pub undone : ((h : Digest) → D ls' h ≡ D ls h) → AreFilled items (λ w. lookup (is_at (wanted_cmp w)) back) → IsStrictlySortedBy wanted_cmp (keys_of back) → AreOneRelation items lacks back ls'
-          undone same_l filled sorted = record {
-            same = λ w h. back_member w h ∙ r.same w h ∙ ap (list_any (eq_by_cmp wanted_cmp w)) (sym (same_l h));
-            holders_once = once_removed wanted_cmp digests_total (H hs') (H back) wanted holder took once_put;
-            lacked_once = λ h. subst (IsDistinct (eq_by_cmp wanted_cmp)) (sym (same_l h)) (r.lacked_once h);
-            filled = filled;
-            ordered = sorted;
-          }
 
       -- the list of what is wanted is taken out
       module _ (wanted : Wanted) (gone : (q : Wanted) → lookup (is_at (wanted_cmp q)) hs' ≡ cond (eq_by_cmp wanted_cmp wanted q) None (lookup (is_at (wanted_cmp q)) hs)) where

@@ -1,14 +1,18 @@
 -- What a change of lists under keys does to their members.
-use Rattle.std.proofs.Common.{◌≡◌, ◌∙◌, ℕ, ◌+◌, ◌<◌, length, take, get_or, Bool, true, false, cond, not, ◌&&◌, ◌||◌, List, [], ◌∷◌, ◌++◌, refl, sym, ap, subst}
+use Rattle.std.proofs.Common.{◌≡◌, ◌∙◌, ℕ, ◌+◌, ◌<◌, length, take, get_or, Bool, true, false, cond, not, ◌&&◌, ◌||◌, List, [], ◌∷◌, ◌++◌, Some, refl, sym, ap, subst}
 use Rattle.std.specs.Prelude.{filter}
 use Rattle.std.specs.declared.cmp.Ordering.{Ordering}
 use Rattle.std.specs.Cmp.{IsTotalOrder, eq_by_cmp_equiv}
 use Rattle.std.specs.List.{AllByRecursion, IsDistinct, list_any}
+use Rattle.std.specs.BTreeMap.{is_at}
+use Rattle.std.specs.HashMap.Eq.{lookup_congr}
+use Rattle.std.specs.Map.{lookup}
 use Rattle.std.specs.Ordering.{eq_by_cmp}
 use Rattle.std.proofs.lemmas.List.{take_more}
 use Rattle.std.proofs.lemmas.List.Folds.{list_any-append}
 use Rattle.std.proofs.lemmas.Map.Keys.{IsDistinct-cons, IsDistinct-head, IsDistinct-push, IsDistinct-tail}
 use Rattle.std.proofs.lemmas.Map.Made.{is_member-filter}
+use Rattle.nw_waiting.specs.Lists.{list_of}
 
 or_false : (b : Bool) → b ≡ (b || false)
 or_false true = refl
@@ -17,6 +21,26 @@ or_false false = refl
 pub and_true : (b : Bool) → b ≡ (b && true)
 and_true true = refl
 and_true false = refl
+
+either : {X : Type 0} (b : Bool) (x : X) → cond b x x ≡ x
+either true x = refl
+either false x = refl
+
+-- w is written at a key
+module _ {K L V : Type 0} {RK : K → K → Ordering} (o : IsTotalOrder RK) (items : L → List V) (es fs : List (K × L)) (k : K) (w : L)
+    (put : (q : K) → lookup (is_at (RK q)) fs ≡ cond (eq_by_cmp RK k q) (Some w) (lookup (is_at (RK q)) es)) where
+  abbrev at : List (K × L) → K → List V
+  at es q = list_of items (lookup (is_at (RK q)) es)
+
+  pub written : (to : List V → List V) → items w ≡ to (at es k) → (q : K) → at fs q ≡ cond (eq_by_cmp RK k q) (to (at es q)) (at es q)
+  written to is q = ap (list_of items) (put q) ∙ by (eq_by_cmp RK k q) refl
+    where
+      by : (b : Bool) → eq_by_cmp RK k q ≡ b → list_of items (cond b (Some w) (lookup (is_at (RK q)) es)) ≡ cond b (to (at es q)) (at es q)
+      by true e = is ∙ ap (λ found. to (list_of items found)) (lookup_congr (eq_by_cmp RK) (eq_by_cmp_equiv o).congr es k q e)
+      by false e = refl
+
+  pub rewritten : items w ≡ at es k → (q : K) → at fs q ≡ at es q
+  rewritten is q = written (λ xs. xs) is q ∙ either (eq_by_cmp RK k q) (at es q)
 
 module _ {X : Type 0} (E : X → X → Bool) (p : X → Bool) where
   kept_all : (y : X) (xs : List X) → AllByRecursion (λ x. E y x ≡ false) xs → AllByRecursion (λ x. E y x ≡ false) (filter p xs)

@@ -129,21 +129,6 @@ insert_same s wanted holder there = same_set pairs_total pairs_apart s _ (λ p. 
     by p true is = ap (contains s) (pairs_apart p (wanted, holder) (tie (pair_cmp p (wanted, holder)) is)) ∙ there
     by p false is = refl
 
--- a pair that was put in and taken out again
-pub taken_back : (wanted w : Wanted) (holder h : Digest) (m : Wanted → Digest → Bool) → m wanted holder ≡ false → ((m w h || is_pair wanted holder w h) && not (is_pair wanted holder w h)) ≡ m w h
-taken_back wanted w holder h m absent = by (is_pair wanted holder w h) refl
-  where
-    by : (b : Bool) → is_pair wanted holder w h ≡ b → ((m w h || b) && not b) ≡ m w h
-    by false is = grind_false (m w h)
-      where
-        grind_false : (a : Bool) → ((a || false) && true) ≡ a
-        grind_false true = refl
-        grind_false false = refl
-    by true is =
-        let gone : m w h ≡ false =
-        ap (λ v. m v h) (sym (one_wanted wanted w (left (eq_by_cmp wanted_cmp wanted w) _ is))) ∙ ap (m wanted) (one_digest h holder (right (eq_by_cmp wanted_cmp wanted w) _ is)) ∙ absent in
-        ap (λ x. (x || true) && false) gone ∙ sym gone
-
 -- ---- what is no longer wanted, and who no longer wants
 pub nobody : {X : Type 0} (E : X → X → Bool) → IsDistinct E []
 unfolding IsDistinct

@@ -1,4 +1,4 @@
-//! Lists under keys, none of them empty.
+//! Lists under keys.
 ghost use Rattle.std.specs.Prelude.{◌≡◌, [], ◌∷◌, ◌++◌, ◌&&◌};
 ghost use Rattle.std.specs.Prelude.{OnOk, OnErr, filter, not, if◌then◌else◌};
 ghost use Rattle.std.specs.BTreeMap.{get, is_at, IsOrdered};
@@ -9,6 +9,9 @@ ghost use Rattle.nw_waiting.specs.Lists.{AreFilled, list_of};
 use nw_digest::NoMemory;
 use std::alloc::Allocator;
 use std::collections::BTreeMap;
+
+/// How many values a new list has room for.
+const ROOM: usize = 4;
 
 /// Puts the value at the end of the list of the key.
 pub fn add<K: Ord + Copy, V: Copy, A: Allocator + Copy>(
@@ -27,18 +30,15 @@ pub fn add<K: Ord + Copy, V: Copy, A: Allocator + Copy>(
         → AreFilled (λ v. v.items) (get K.cmp lists.new) }
     ensures ordered { IsOrdered K.cmp lists.new }
 {
-    if let Some(list) = lists.get_mut(&key) {
-        list.push(value)?;
-        return Ok(());
-    }
-    let mut list = Vec::new(alloc);
+    let list = lists
+        .entry(key)?
+        .or_try_insert_with(|| Vec::with_capacity(alloc, ROOM))?;
     list.push(value)?;
-    lists.insert(key, list)?;
     Ok(())
 }
 
 /// Takes the value out of the list of the key.
-pub fn remove<K: Ord + Drop, V: Ord + Drop, A: Allocator>(
+fn remove<K: Ord + Drop, V: Ord + Drop, A: Allocator>(
     lists: &mut BTreeMap<K, Vec<V, A>, A>,
     key: &K,
     value: &V,
@@ -90,17 +90,9 @@ pub fn remove_from_each<K: Ord + Drop, V: Ord + Drop, A: Allocator>(
     }
 }
 
-/// Whether the list of the key has the value.
-pub fn has<K: Ord, V: Ord, A: Allocator>(
-    lists: &BTreeMap<K, Vec<V, A>, A>,
-    key: &K,
-    value: &V,
-) -> bool
-    ensures { result ≡ list_any (eq_by_cmp V.cmp value.now)
-        (list_of (λ v. v.items) (get K.cmp lists.now key.now)) }
+/// Whether the list has the value.
+pub fn has<V: Ord>(list: &[V], value: &V) -> bool
+    ensures { result ≡ list_any (eq_by_cmp V.cmp value.now) list.now }
 {
-    match lists.get(key) {
-        None => false,
-        Some(list) => list.contains(value),
-    }
+    list.contains(value)
 }

@@ -6,7 +6,7 @@ ghost use Rattle.nw_waiting.specs.Pairs.{AreFirst, AreHolders, LacksCount, Wante
 ghost use Rattle.nw_waiting.specs.Pairs.{without_holder, without_wanted};
 
 use crate::Wanted;
-use crate::lists::{add, has, remove, remove_from_each};
+use crate::lists::{add, has, remove_from_each};
 use nw_digest::{Digest, NoMemory};
 use std::alloc::{AllocError, Allocator, Global};
 use std::collections::BTreeMap;
@@ -18,7 +18,7 @@ pub struct Waiting<A: Allocator> {
     alloc: A,
     /// The holders that lack it, by what is wanted.
     holders: BTreeMap<Wanted, Vec<Digest, A>, A>,
-    /// What it lacks, by holder.
+    /// What it lacks, by holder. Refused memory may leave an empty list.
     lacked: BTreeMap<Digest, Vec<Wanted, A>, A>,
 }
 
@@ -55,14 +55,13 @@ impl<A: Allocator + Copy> Waiting<A> {
         ensures added { OnOk result (self.new ≡ set.insert self.old (wanted, holder)) }
         ensures unchanged { OnErr result (self.new ≡ self.old) }
     {
-        if has(&self.lacked, &holder, &wanted) {
+        let lacked = self.lacked.entry(holder)?.or_insert(Vec::new(self.alloc));
+        if has(lacked, &wanted) {
             return Ok(());
         }
+        lacked.reserve(1)?;
         add(&mut self.holders, self.alloc, wanted, holder)?;
-        if let Err(fault) = add(&mut self.lacked, self.alloc, holder, wanted) {
-            remove(&mut self.holders, &wanted, &holder);
-            return Err(fault);
-        }
+        lacked.push_reserved(wanted);
         Ok(())
     }
 

@@ -6,6 +6,7 @@ use nw_generation::View;
 use std::alloc::Global;
 
 mod both;
+mod crowds;
 mod examples;
 mod floods;
 mod grids;

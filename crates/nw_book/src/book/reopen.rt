@@ -1,11 +1,9 @@
 //! Books that go on without their history.
-ghost use Rattle.std.specs.Prelude.{◌≡◌, [], IfOk, IfErr};
+ghost use Rattle.std.specs.Prelude.{◌≡◌, IfOk, IfErr, OnOk, OnErr};
 ghost use Rattle.nw_history.specs.Story.{reopened};
-ghost use Rattle.nw_book.specs.Turn.{AreCounts, StandFor};
 
 use super::Book;
 use nw_digest::NoMemory;
-use nw_history::History;
 use nw_sig::Scheme;
 use std::alloc::Global;
 
@@ -15,27 +13,23 @@ impl<S: Scheme> Book<S> {
     ///
     /// The old history's calls are taken again by a store over the old base, at the cost of its writes and certificates. Where
     /// memory is refused the book comes back as it was.
-    pub fn reopen(self, alloc: Global) -> Result<Book<S>, (NoMemory, Book<S>)>
+    pub fn reopen(mut self, alloc: Global) -> Result<Book<S>, (NoMemory, Book<S>)>
         ensures reopened { IfOk result (λ book. book ≡ reopened self) }
         ensures back { IfErr result (λ refused. refused.1 ≡ self) }
     {
-        match self.restarted(alloc) {
-            Ok((history, calls)) => Ok(Book {
-                history,
-                tables: self.tables,
-                calls,
-            }),
-            Err(error) => Err((error, self)),
+        match self.restart(alloc) {
+            Ok(()) => Ok(self),
+            Err(refused) => Err((refused, self)),
         }
     }
 
-    /// An empty history that starts where this one ends, and no calls of each session.
-    fn restarted(&self, alloc: Global) -> Result<(History<S>, Vec<u32>), NoMemory>
-        ensures { IfOk result
-            (λ made. (made.0 ≡ reopened self.now) × AreCounts made.1.items (reopened self.now)) }
+    /// Reopens the book where it stands. Want of memory changes nothing.
+    pub fn restart(&mut self, alloc: Global) -> Result<(), NoMemory>
+        ensures restarted { OnOk result (self.new ≡ reopened self.old) }
+        ensures unchanged { OnErr result (self.new ≡ self.old) }
     {
-        let history = self.history.restarted(alloc)?;
-        let calls = vec![in alloc; 0u32; history.limits().sessions as usize]?;
-        Ok((history, calls))
+        self.history = self.history.restarted(alloc)?;
+        self.calls.as_mut_slice().fill(0);
+        Ok(())
     }
 }

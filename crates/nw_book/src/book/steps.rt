@@ -11,7 +11,7 @@ ghost use Rattle.nw_book.specs.Turn.{HasRoom, IsInTurn, event};
 use super::{Book, Done};
 use crate::Ticket;
 use nw_dag::Dag;
-use nw_digest::{Digest, NoMemory, Shared};
+use nw_digest::{Digest, NoMemory};
 use nw_generation::View;
 use nw_history::Front;
 use nw_model::{Call, CausalReply, CertifyReply, Event, Reply, WriteReply};
@@ -125,10 +125,9 @@ impl<S: Scheme> Book<S> {
         ensures kept { IfOk result (λ fronts. fronts.1 ≡ self.new) }
         ensures unchanged { OnErr result (self.new ≡ self.old) }
     {
-        let event = Shared::new(alloc, event)?;
-        let front = self.history.with(alloc, &event)?;
+        let front = self.history.with_event(alloc, event)?;
         let kept = front.try_clone()?;
-        self.enter(event.get(), &front)?;
+        self.enter(front.last().unwrap(), &front)?;
         Ok((front, kept))
     }
 

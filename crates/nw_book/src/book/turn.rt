@@ -1,8 +1,8 @@
 //! Whose turn it is in a book.
-ghost use Rattle.std.specs.Prelude.{◌≡◌, ◌↔◌, IsTrue, IfOk, IfErr, OnOk};
+ghost use Rattle.std.specs.Prelude.{◌≡◌, IfOk, IfErr, OnOk};
 ghost use Rattle.std.specs.Option.{option_copied};
 ghost use Rattle.std.specs.Result.{IsErrOf};
-ghost use Rattle.nw_book.specs.Turn.{HasRoom, IsInTurn, IsRefusal, MayStep, next_number};
+ghost use Rattle.nw_book.specs.Turn.{IsInTurn, IsRefusal, MayStep, next_number};
 
 use super::Book;
 use crate::NoStep;
@@ -39,7 +39,7 @@ impl<S: Scheme> Book<S> {
             (IsRefusal self.now session number (option_copied under.entry)) }
         ensures no_memory { IsErrOf result NoStep.NoMemory → ⊥ }
     {
-        if !self.is_in_turn(session, number) {
+        if self.next_number(session)? != number {
             return Err(NoStep::OutOfTurn);
         }
         if let Some(committee) = under {
@@ -47,26 +47,9 @@ impl<S: Scheme> Book<S> {
                 return Err(NoStep::OtherCommittee);
             }
         }
-        if !self.has_room() {
+        if self.history.len() >= self.history.limits().events as usize {
             return Err(NoStep::HistoryFull);
         }
         Ok(())
-    }
-
-    /// Whether the session is below its limit and the number is one more than its events so far.
-    fn is_in_turn(&self, session: u16, number: u32) -> bool
-        ensures { IsTrue result ↔ IsInTurn self.now session number }
-    {
-        match self.calls.get(usize::from(session)) {
-            None => false,
-            Some(calls) => number.checked_sub(1) == Some(*calls),
-        }
-    }
-
-    /// Whether the history has fewer events than its limit.
-    fn has_room(&self) -> bool
-        ensures { IsTrue result ↔ HasRoom self.now }
-    {
-        self.history.len() < self.history.limits().events as usize
     }
 }

@@ -8,6 +8,7 @@ ghost use Rattle.nw_model.specs.Step.{IsCausalReply, IsShort};
 ghost use Rattle.nw_model.specs.View.{Shows};
 
 use super::Dag;
+use crate::frozen::{freeze, joined};
 use nw_digest::{Digest, NoMemory};
 use nw_generation::View;
 use nw_model::{CausalReply, Reply};
@@ -30,17 +31,17 @@ impl Dag {
         if let Some(refusal) = self.refusal(&digest) {
             return Ok(Err(refusal));
         }
-        self.frozen.freeze(alloc, &self.held, &mut self.waits)?;
-        Ok(Ok(self.frozen.view(alloc, self.held.floor())?))
+        freeze(&mut self.generations, alloc, &self.held, &mut self.waits)?;
+        Ok(Ok(self.generations.view(alloc, self.held.floor())?))
     }
 
     /// Freezes the complete blocks anew, as one generation that has no collected block. Views that were given stay as they
-    /// are. Want of memory changes nothing.
+    /// are. Want of memory changes no answer.
     pub fn compact(&mut self, alloc: Global) -> Result<(), NoMemory>
         ensures { self.new ≡ self.old }
     {
-        self.frozen.freeze(alloc, &self.held, &mut self.waits)?;
-        self.frozen.join(alloc, &self.held)?;
+        freeze(&mut self.generations, alloc, &self.held, &mut self.waits)?;
+        self.generations = joined(&self.generations, alloc, self.held.floor())?;
         Ok(())
     }
 

@@ -26,13 +26,13 @@ impl Dag {
             return Ok(());
         };
         let owner = block.try_clone()?;
-        self.waits.reserve(&self.held)?;
+        self.waits.roll.reserve(&self.held, &self.waits.lacking)?;
         self.waits.want_parents(&self.held, block.get(), digest)?;
         if let Err(refused) = self.held.put_block(digest, owner, *vote) {
             self.waits.forget(digest);
             return Err(refused);
         }
-        self.waits.admit();
+        self.waits.roll.admit();
         self.waits.arrive(&self.held, digest);
         Ok(())
     }

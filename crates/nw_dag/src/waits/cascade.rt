@@ -10,6 +10,7 @@ ghost use Rattle.nw_dag.specs.Frozen.{Grows};
 ghost use Rattle.nw_dag.specs.Settled.{IsTally, IsCascading, IsSettled, IsSettledBut};
 
 use super::Waits;
+use crate::roll::{is_ready, lacks_nothing};
 use nw_digest::Digest;
 use nw_held::Held;
 
@@ -25,7 +26,7 @@ impl Waits {
         ensures most { length self.new.roll.fresh.items + self.new.roll.pending
             ≡ length self.old.roll.fresh.items + self.old.roll.pending }
     {
-        if self.is_ready(held, digest) {
+        if is_ready(held, &self.lacking, digest) {
             self.roll.add(digest);
         }
     }
@@ -107,7 +108,7 @@ impl Waits {
             return;
         }
         self.meet(held, digest);
-        if self.lacks_nothing(digest) {
+        if lacks_nothing(&self.lacking, digest) {
             let first = self.roll.listed();
             self.roll.add(digest);
             self.cascade(held, first);

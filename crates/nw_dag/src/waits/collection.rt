@@ -11,6 +11,7 @@ ghost use Rattle.nw_dag.specs.Settled.{IsTally, IsSettled};
 ghost use Rattle.nw_dag.specs.Collection.{AreWithout, IsStuck, IsLost, LostCount, IsCollecting};
 
 use super::Waits;
+use crate::roll::{is_ready, lacks_nothing};
 use nw_digest::{Digest, Round};
 use nw_held::Held;
 
@@ -21,7 +22,7 @@ impl Waits {
     {
         match held.block(&digest) {
             None => false,
-            Some(block) => block.get().round < round && self.is_ready(held, digest),
+            Some(block) => block.get().round < round && is_ready(held, &self.lacking, digest),
         }
     }
 
@@ -49,7 +50,7 @@ impl Waits {
         ensures most { length self.new.roll.fresh.items + self.new.roll.pending
             ≡ length self.old.roll.fresh.items + self.old.roll.pending }
     {
-        let lacked_nothing = self.lacks_nothing(holder);
+        let lacked_nothing = lacks_nothing(&self.lacking, holder);
         self.forget(holder);
         if !lacked_nothing {
             self.add_if_ready(held, holder);

@@ -3,27 +3,31 @@ use super::*;
 use nw_chunks::Chunks;
 use nw_digest::Shared;
 
-/// The list of the numbers below `count`, made one by one.
-fn numbers(alloc: Global, count: u32) -> Result<Chunks<u32>, NoMemory> {
-    let mut list = Chunks::new(alloc)?;
+/// The list of the numbers below `count`, made one by one, whose head is `count`.
+fn numbers(alloc: Global, count: u32) -> Result<Chunks<u32, u32>, NoMemory> {
+    let mut list = Chunks::new(alloc, Shared::new(alloc, count)?)?;
     for number in 0..count {
         if list.len() >= 1 << 32 {
             return Err(NoMemory);
         }
-        list = list.with(alloc, Shared::new(alloc, number)?)?;
+        list = list.with(alloc, number)?;
     }
     Ok(list)
 }
 
-/// Whether the list has the numbers below `count`, and no others.
-fn has_numbers(list: &Chunks<u32>, count: u32) -> bool {
+/// Whether the list has the numbers below `count`, and no others, and `count` for its head.
+fn has_numbers(list: &Chunks<u32, u32>, count: u32) -> bool {
     for index in [0, 1, 254, 255, 256, 257, 511, 512, 513] {
         let expected = if index < count { Some(index) } else { None };
         if list.get(index as usize).copied() != expected {
             return false;
         }
     }
-    list.len() == count as usize && list.is_empty() == (count == 0)
+    let (length, last) = (list.len(), list.last().copied());
+    *list.head() == count
+        && length == count as usize
+        && list.is_empty() == (count == 0)
+        && last == count.checked_sub(1)
 }
 
 #[test]

@@ -1,4 +1,4 @@
-use Rattle.std.proofs.Common.{◌≡◌, ◌∙◌, sym, refl}
+use Rattle.std.proofs.Common.{◌∙◌, sym}
 use Rattle.nw_check.proofs.Broken.{none-valid, same_digest, other_digest}
 use Rattle.nw_check.proofs.check.valid.Goals as goal
 

@@ -1,4 +1,4 @@
-use Rattle.std.proofs.Common.{◌≡◌, ℕ, [], ◌<◌, ◌≤◌, length, get_or, arith}
+use Rattle.std.proofs.Common.{ℕ, [], ◌<◌, ◌≤◌, length, get_or, arith}
 use Rattle.std.proofs.lemmas.List.Elements.{All-more}
 use Rattle.nw_codec.specs.Fits.{signers}
 use Rattle.nw_check.proofs.Places.{place_here, place_end}

@@ -1,4 +1,4 @@
-use Rattle.std.proofs.Common.{◌≡◌, ◌<◌, ◌≤◌, length, arith, length-set, sym, ◌∙◌}
+use Rattle.std.proofs.Common.{◌≡◌, ◌<◌, ◌≤◌, length, arith, length-set, ◌∙◌}
 use Rattle.nw_check.proofs.Numbers.{copied-more}
 use Rattle.nw_check.proofs.members.reach_quorum.Goals as goal
 

@@ -1,6 +1,6 @@
 use Rattle.nw_digest.specs.declared.digest.Digest.{Digest}
 use Rattle.nw_codec.specs.declared.block.Block.{Block}
-use Rattle.nw_generation.proofs.Merging.{all_merged, none_merged, one_merged}
+use Rattle.nw_generation.proofs.Merging.{all_merged, none_merged, one_merged, rest_next}
 use Rattle.nw_generation.proofs.entries.merged.Goals as goal
 
 pub loop-entry-init : goal.loop-entry-init
@@ -9,11 +9,12 @@ loop-entry-init c = rw c.in_ok-both.ensures.items (none_merged c.args.newer.now 
 pub loop-entry-preserved : goal.loop-entry-preserved
 loop-entry-preserved c =
     let e : Digest × Block = c.in-Some.entry.now in
-    rw (c.in_ok-push.ensures.items, c.in_ok-try_clone.ensures)
-    (one_merged c.args.newer.now c.args.older.now c.loop-entry.both.items c.loop-entry.newer.now c.loop-entry.older.now c.in-Some.newer_left.now c.in-Some.older_left.now e c.loop-entry.invariant c.in-Some.ensures)
+    rw c.in_ok-push.ensures.items
+    (one_merged c.args.newer.now c.args.older.now c.loop-entry.both.items c.loop-entry.newer.now c.loop-entry.older.now _ _ e c.loop-entry.invariant
+    (rest_next c.loop-entry.newer.now c.loop-entry.older.now e c.in-Some.of_newer c.in-Some.of_older c.in-Some.ensures.next))
 
 pub returns : goal.returns
 returns c = (
   c.loop-entry.invariant.ascend,
-  all_merged c.args.newer.now c.args.older.now c.loop-entry.both.items c.loop-entry.newer.now c.loop-entry.older.now c.loop-entry.invariant c.in_default.ensures.0 c.in_default.ensures.1,
+  all_merged c.args.newer.now c.args.older.now c.loop-entry.both.items c.loop-entry.newer.now c.loop-entry.older.now c.loop-entry.invariant c.in_default.ensures.next.0 c.in_default.ensures.next.1,
 )

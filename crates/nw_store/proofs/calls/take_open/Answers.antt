@@ -5,7 +5,7 @@ use Rattle.nw_history.specs.Story.{Story}
 use Rattle.nw_model.specs.declared.call.Call.TheVariants as calls
 use Rattle.nw_book.specs.Answer.{front_of, reply_of}
 use Rattle.nw_book.specs.Turn.{event}
-use Rattle.nw_store.specs.Journal.{Kept, Journal, Answer}
+use Rattle.nw_store.specs.Journal.{Kept, Journal, Answer, next_number}
 use Rattle.nw_store.specs.Answered.{IsAnswered}
 use Rattle.nw_store.proofs.Begun.{begun_claimed, begun_known, claimed_told}
 use Rattle.nw_store.proofs.Kept.{kept_more, starts_so, session_more, answer_is, told_last}
@@ -14,43 +14,41 @@ use Rattle.nw_store.proofs.calls.take_open.Goals as goal
 
 pub invariant_of-locked-2 : goal.invariant_of-locked-2
 invariant_of-locked-2 g c =
-    let t = c.in_ok-answer.ensures.taken in
-    let n = c.next_number-number.ensures in (
+    let t = c.in_ok-answer.ensures.taken in (
       c.locked.invariant.0,
       kept_more g.S.Scheme.accepts _ _ _ _ _ _ _ _ _ _ _ c.locked.invariant.1 t.history t.legal c.in_ok-answer.ensures.kept
-          (c.tell.ensures.counted ∙ ap (λ k. k + 1) n.total) (c.tell.ensures.told ∙ ap (λ (l : List Story). l ++ c.in_ok-answer.kept ∷ []) n.keeper),
+          c.tell.ensures.counted c.tell.ensures.told,
       starts_so _ _ _ _ t.history c.locked.invariant.2,
     )
 
 pub invariant_of-session-2 : goal.invariant_of-session-2
 invariant_of-session-2 g c =
     let t = c.in_ok-answer.ensures.taken in
-    let n = c.next_number-number.ensures in
-    let e : Event = event c.session.inside.id c.next_number-number.result (calls.Causal c.args.digest) (reply_of c.in_ok-answer.answer) in
+    let e : Event = event c.session.inside.id c.args.number (calls.Causal c.args.digest) (reply_of c.in_ok-answer.answer) in
     let begins : IsPrefix c.session.inside.pass.claim c.tell.new.pass.claim =
-    subst (λ l. IsPrefix c.session.inside.pass.claim l) (sym c.tell.ensures.claim) (subst (λ l. IsPrefix l c.tell.new.self.keeper) n.claim c.tell.ensures.begins) in
+    subst (λ l. IsPrefix c.session.inside.pass.claim l) (sym c.tell.ensures.claim) c.tell.ensures.begins in
     let items : c.push_reserved.new.self.items ≡ c.session.inside.journal.items ++ c.of.result ∷ [] = c.push_reserved.ensures.items ∙ ap (λ (l : List Answer). l ++ c.of.result ∷ []) c.reserve.ensures.items in
-    let number : c.next_number-number.result ≡ 1 + length c.session.inside.journal.items = (let m = n.number in let len = c.len.ensures in omega (arith, m, len)) in
+    let is : c.args.number ≡ length c.session.inside.journal.items + 1 = c.requires.number ∙ sym (ap next_number c.session.view_is) in
+    let number : c.args.number ≡ 1 + length c.session.inside.journal.items = omega (arith, is) in
     let front = c.in_ok-answer.ensures.kept ∙ t.history in
     let event_is : c.of.result.event ≡ e = c.of.ensures.event c.locked.inside.book.events e (ap (λ (s : Story). s.events) front) in
-    session_more c.session.inside.id _ _ _ _ _ _ _ _ _ c.session.invariant (c.tell.ensures.parts ∙ n.parts) (c.tell.ensures.amount ∙ ap (λ k. k + 1) n.amount) begins
+    session_more c.session.inside.id _ _ _ _ _ _ _ _ _ c.session.invariant c.tell.ensures.parts c.tell.ensures.amount begins
     (told_last _ _ _ _ _ c.tell.ensures.told c.tell.ensures.claim c.of.ensures.front) items
     (answer_is c.session.inside.id _ c.locked.inside.book c.in_ok-answer.kept e c.of.result front refl number c.of.ensures.front event_is)
 
 pub returns-clause-answered : goal.returns-clause-answered
 returns-clause-answered g c =
     let t = c.in_ok-answer.ensures.taken in
-    let n = c.next_number-number.ensures in
-    let e : Event = event c.session.inside.id c.next_number-number.result (calls.Causal c.args.digest) (reply_of c.in_ok-answer.answer) in
+    let e : Event = event c.session.inside.id c.args.number (calls.Causal c.args.digest) (reply_of c.in_ok-answer.answer) in
     let after : Journal = record { id = c.session.inside.id; answers = c.push_reserved.new.self.items; known = c.tell.new.pass.claim } in
     let items : c.push_reserved.new.self.items ≡ c.session.inside.journal.items ++ c.of.result ∷ [] = c.push_reserved.ensures.items ∙ ap (λ (l : List Answer). l ++ c.of.result ∷ []) c.reserve.ensures.items in
-    let number : c.next_number-number.result ≡ length c.session.inside.journal.items + 1 = (let m = n.number in let len = c.len.ensures in omega (arith, m, len)) in
+    let number : c.args.number ≡ length c.session.inside.journal.items + 1 = c.requires.number ∙ sym (ap next_number c.session.view_is) in
     let event_is : c.of.result.event ≡ e = c.of.ensures.event c.locked.inside.book.events e (ap (λ (s : Story). s.events) (c.in_ok-answer.ensures.kept ∙ t.history)) in
     let kept = kept_more g.S.Scheme.accepts _ _ _ _ _ _ _ _ _ _ _ c.locked.invariant.1 t.history t.legal c.in_ok-answer.ensures.kept
-    (c.tell.ensures.counted ∙ ap (λ k. k + 1) n.total) (c.tell.ensures.told ∙ ap (λ (l : List Story). l ++ c.in_ok-answer.kept ∷ []) n.keeper) in
-    let begins : IsPrefix c.session.inside.pass.claim c.tell.new.self.keeper = subst (λ l. IsPrefix l c.tell.new.self.keeper) n.claim c.tell.ensures.begins in
+    c.tell.ensures.counted c.tell.ensures.told in
+    let begins : IsPrefix c.session.inside.pass.claim c.tell.new.self.keeper = c.tell.ensures.begins in
     let begun = begun_claimed c.take_open.new.self c.tell.new.self.keeper c.session.inside.pass.claim c.session.inside.journal.items kept.begun begins c.session.invariant.claimed in
-    let whole = answered g.S.Scheme.accepts c.locked.inside.book c.take_open.new.self c.session.inside.id c.next_number-number.result (calls.Causal c.args.digest) (reply_of c.in_ok-answer.answer) (front_of c.in_ok-answer.answer) c.session.inside.journal.items
+    let whole = answered g.S.Scheme.accepts c.locked.inside.book c.take_open.new.self c.session.inside.id c.args.number (calls.Causal c.args.digest) (reply_of c.in_ok-answer.answer) (front_of c.in_ok-answer.answer) c.session.inside.journal.items
     c.push_reserved.new.self.items c.session.inside.pass.claim c.tell.new.pass.claim c.of.result t number begun items (c.of.ensures.front ∙ c.in_ok-answer.ensures.kept ∙ sym t.front_is) event_is
     (begun_known c.take_open.new.self c.tell.new.self.keeper c.session.inside.pass.claim kept.begun begins) (told_last _ _ _ _ _ c.tell.ensures.told c.tell.ensures.claim (t.front_is ∙ sym c.in_ok-answer.ensures.kept)) (claimed_told c.session.inside.pass.claim c.tell.new.pass.claim (subst (λ l. IsPrefix c.session.inside.pass.claim l) (sym c.tell.ensures.claim) begins)) in
     subst (λ (h : Kept). IsAnswered g.S.Scheme.accepts h.history c.args.session.now after (calls.Causal c.args.digest) (reply_of c.in_ok-answer.answer) (front_of c.in_ok-answer.answer)) c.locked.view_is

@@ -1,4 +1,4 @@
-use Rattle.std.proofs.Common.{arith, ap, refl, ◌∙◌}
+use Rattle.std.proofs.Common.{arith, refl, ◌∙◌}
 use Rattle.nw_history.specs.Story.{IsLegalStory, with_event}
 use Rattle.nw_book.specs.Turn.{IsInTurn}
 use Rattle.nw_book.proofs.Stands.{count_fits, stand_next}

@@ -1,7 +1,6 @@
-use Rattle.std.proofs.Common.{◌≡◌, List, length, sym, subst}
-use Rattle.std.specs.Prelude.{insert}
+use Rattle.std.proofs.Common.{sym, subst}
 use Rattle.nw_codec.specs.Fits.{signers}
-use Rattle.nw_check.specs.Gathering.{Gathering, IsGathering, IsPlace, MayCount}
+use Rattle.nw_check.specs.Gathering.{Gathering, IsPlace, MayCount}
 use Rattle.nw_check.proofs.Gathered.{gathering-few, counted-gathering, counted-counts}
 use Rattle.nw_check.proofs.gather.Gather.add.Goals as goal
 use Rattle.nw_check.proofs.gather.Gather.add.Goals.{then-reach_quorum, else-reach_quorum}

@@ -1,4 +1,3 @@
-use Rattle.std.proofs.Common.{◌≡◌}
 use Rattle.std.specs.Prelude.{IsTrue}
 use Rattle.nw_check.proofs.Gathered.{gathering-few, gathering-valid}
 use Rattle.nw_check.proofs.gather.Gather.finish.Goals as goal

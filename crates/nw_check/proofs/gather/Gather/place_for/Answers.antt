@@ -1,4 +1,4 @@
-use Rattle.std.proofs.Common.{◌≡◌, ap}
+use Rattle.std.proofs.Common.{ap}
 use Rattle.std.specs.Prelude.{IsTrue}
 use Rattle.nw_check.specs.Gathering.{Gathering}
 use Rattle.nw_check.proofs.Places.{place_fresh}

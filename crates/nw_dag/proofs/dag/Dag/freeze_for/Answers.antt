@@ -1,7 +1,8 @@
-use Rattle.std.proofs.Common.{sym, subst}
+use Rattle.std.proofs.Common.{ap, sym, subst}
 use Rattle.nw_model.specs.State.{State}
 use Rattle.nw_model.specs.Sound.{IsSound}
 use Rattle.nw_model.specs.View.{Frozen, Shows}
+use Rattle.nw_generation.specs.Seen.{Seen}
 use Rattle.nw_dag.proofs.Freezing.{closed, shown}
 use Rattle.nw_dag.proofs.dag.Dag.freeze_for.Goals as goal
 
@@ -9,15 +10,15 @@ pub view-requires : goal.view-requires
 view-requires c =
     let s : State = c.self.inside.held.state in
     let waits = c.self.inside.waits in
-    let v : Frozen = record { blocks = c.freeze.new.self.generations.blocks; floor = c.floor.result } in
+    let v : Frozen = record { blocks = c.freeze.new.generations.blocks; floor = c.floor.result } in
     let sound : IsSound s = rw c.self.view_is c.refusal.ensures.sound in
-    closed s v sound (shown s waits.unmet waits.lacking waits.roll.pending v sound c.self.invariant.settled c.floor.ensures c.in_ok-freeze.ensures.all)
+    record { closed = closed s v sound (shown s waits.unmet waits.lacking waits.roll.pending v sound c.self.invariant.settled c.floor.ensures c.in_ok-freeze.ensures.all) }
 
 pub returns-clause-answer : goal.returns-clause-answer
 returns-clause-answer c =
     let s : State = c.self.inside.held.state in
     let waits = c.self.inside.waits in
-    let v : Frozen = record { blocks = c.freeze.new.self.generations.blocks; floor = c.floor.result } in
+    let v : Frozen = record { blocks = c.freeze.new.generations.blocks; floor = c.floor.result } in
     let sound : IsSound s = rw c.self.view_is c.refusal.ensures.sound in
     let shows : Shows v s = shown s waits.unmet waits.lacking waits.roll.pending v sound c.self.invariant.settled c.floor.ensures c.in_ok-freeze.ensures.all in
-    (c.in_default.ensures.why, rw (← c.self.view_is) (subst (λ (x : Frozen). Shows x s) (sym c.in_ok-view.ensures) shows))
+    (c.in_default.ensures.why, rw (← c.self.view_is) (subst (λ (x : Frozen). Shows x s) (sym (ap (λ (v : Seen). v.frozen) c.in_ok-view.ensures)) shows))

@@ -18,11 +18,11 @@ returns c =
     let inv = c.self.invariant.settled.settling in
     let same = ready_complete s waits.lacking c.certificates.ensures.sound inv.promoted in
     let listed = c.self.invariant.settled.complete in
-    let counts : length listed ≡ c.blocks-3.result - c.pending.result = omega (arith, c.self.invariant.settled.counts, c.blocks-3.ensures, c.pending.ensures) in
-    let complete : HasCount digest_cmp (IsComplete s) (c.blocks-3.result - c.pending.result) =
+    let counts : length listed ≡ c.blocks-3.result - c.self.inside.waits.roll.pending = omega (arith, c.self.invariant.settled.counts, c.blocks-3.ensures) in
+    let complete : HasCount digest_cmp (IsComplete s) (c.blocks-3.result - c.self.inside.waits.roll.pending) =
     subst (HasCount digest_cmp (IsComplete s)) counts (count_of (IsComplete s) listed inv.listed.once (λ x. (
       λ among. (same x).0 (All-contains (IsReady s waits.lacking) listed x inv.listed.ready among),
       λ whole. inv.all x ((same x).1 whole),
     ))) in
-    let wanted : HasCount wanted_cmp (IsWanted s) c.unmet.result = wanted_count s waits.unmet c.unmet.result inv.standing c.unmet.ensures in
+    let wanted : HasCount wanted_cmp (IsWanted s) c.count.result = wanted_count s waits.unmet c.count.result inv.standing c.count.ensures in
     rw (← c.self.view_is) (record { floor = c.floor.ensures; blocks = c.blocks-2.ensures; certificates = c.certificates.ensures.count; complete = complete; wanted = wanted })

@@ -21,8 +21,8 @@ invariant_of-self-2 c =
     let put : c.put_certificate.new.self.state ≡ with_certificate s c.args.certificate.now = c.in_ok-put_certificate.ensures.state ∙ ap (λ (x : Certificate). with_certificate s x) c.in_ok-try_clone.ensures in
     record {
       settled = c.arrive.ensures.settled;
-      frozen = subst (λ (t : State). AreFrozenBut t new.lacking new.roll.fresh.items c.self.inside.frozen.generations.blocks) (sym put)
-          (frozen_arrived s (with_certificate s c.args.certificate.now) c.args.certificate.now.digest waits.lacking waits.lacking new.lacking waits.roll.fresh.items waits.roll.fresh.items new.roll.fresh.items c.self.inside.frozen.generations.blocks
+      frozen = subst (λ (t : State). AreFrozenBut t new.lacking new.roll.fresh.items c.self.inside.generations.blocks) (sym put)
+          (frozen_arrived s (with_certificate s c.args.certificate.now) c.args.certificate.now.digest waits.lacking waits.lacking new.lacking waits.roll.fresh.items waits.roll.fresh.items new.roll.fresh.items c.self.inside.generations.blocks
           (certificate_arrives s c.args.certificate.now none) (since_certified s c.args.certificate.now none waits.lacking c.self.invariant.settled.settling.promoted) (λ x other. refl) refl c.self.invariant.frozen (λ x among ready. among)
           (rw (put, c.get.ensures) at c.arrive.ensures.grown));
     }

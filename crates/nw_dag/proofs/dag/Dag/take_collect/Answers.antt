@@ -32,7 +32,7 @@ invariant_of-self c =
     let new = c.collect.new.self in
     record {
       settled = c.collect.ensures.settled;
-      frozen = subst (λ (t : State). AreFrozenBut t new.lacking new.roll.fresh.items c.self.inside.frozen.generations.blocks) (sym c.raise.ensures.state)
+      frozen = subst (λ (t : State). AreFrozenBut t new.lacking new.roll.fresh.items c.self.inside.generations.blocks) (sym c.raise.ensures.state)
           (frozen_raised s c.args.round c.up_to.ensures.sound (higher c.self.inside.held.state c.args.round _ (rw (← c.self.view_is) at (sym c.requires ∙ c.in-Raised.is))) c.in_ok-holders.holders.items c.in_ok-holders.ensures.digests waits.lacking new.lacking waits.roll.fresh.items new.roll.fresh.items
-          c.self.inside.frozen.generations.blocks c.self.invariant.frozen (rw c.raise.ensures.state at c.collect.ensures.grown));
+          c.self.inside.generations.blocks c.self.invariant.frozen (rw c.raise.ensures.state at c.collect.ensures.grown));
     }

@@ -16,7 +16,7 @@ for_each_mut-requires-send-T g c κs within = search (sendable, crosses, session
 -- what the closure captures by reference: the handle, the allocator, the store and the crew
 pub for_each_mut-requires-sync-F : goal.for_each_mut-requires-sync-F
 for_each_mut-requires-sync-F g c κs within =
-    let names = lts.name-46 g.row.L g.row.R g.L.laws g.R.laws g.L.Home g.L.Home-dict g.L.Place g.L.Place-dict g.L.Ledger g.L.Ledger-dict g.R.Threads g.R.Threads-dict g.R.Wait g.R.Wait-dict in
+    let names = lts.name-45 g.row.L g.row.R g.L.laws g.R.laws g.L.Home g.L.Home-dict g.L.Place g.L.Place-dict g.L.Ledger g.L.Ledger-dict g.R.Threads g.R.Threads-dict g.R.Wait g.R.Wait-dict in
     let captured = lts.of-16 g.row.L g.row.R g.L.laws g.R.laws g.L.Home g.L.Home-dict g.L.Place g.L.Place-dict g.L.Ledger g.L.Ledger-dict g.R.Threads g.R.Threads-dict g.R.Wait g.R.Wait-dict
     (record { mir = named 6; lft = κs.1.1.1.1.1.1.0 }) (record { mir = named 7; lft = κs.1.1.1.1.1.1.1.0 })
     (record { mir = named 8; lft = κs.1.1.1.1.1.1.1.1.0 }) (record { mir = named 9; lft = κs.1.1.1.1.1.1.1.1.1.0 }) in

@@ -1,0 +1,7 @@
+use Rattle.std.proofs.Common.{ap, ◌∙◌}
+use Rattle.nw_dag.proofs.Freezing.{over_nothing}
+use Rattle.nw_dag.proofs.frozen.joined.Goals as goal
+
+pub returns-clause-blocks : goal.returns-clause-blocks
+returns-clause-blocks c =
+    over_nothing c.in_ok-joined.field-0 c.new-one.result.blocks c.push.new.self.blocks (ap (λ j. j.blocks) c.new-one.ensures) c.in_ok-push.ensures.blocks ∙ c.in_ok-joined.ensures

@@ -1,0 +1,63 @@
+//! Searches among digests that are crowded.
+use super::*;
+
+/// How many blocks there are, all of round 0.
+const BLOCKS: u16 = 8_192;
+
+/// How often each is asked for.
+const TIMES: u8 = 8;
+
+/// The digest of the author's block. The first 30 bytes of all are equal.
+fn crowded(author: u16) -> Digest {
+    let mut bytes = [7; 32];
+    bytes[30..].copy_from_slice(&author.to_be_bytes());
+    Digest(bytes)
+}
+
+/// A view of the blocks, one of each author.
+fn view_of_all(alloc: Global) -> Result<View, NoMemory> {
+    let limits = DagLimits {
+        blocks: u32::from(BLOCKS),
+        window: 1,
+    };
+    let mut dag = Dag::new(alloc, limits);
+    for author in 0..BLOCKS {
+        let block = block_of(alloc, (0, author), Vec::new(alloc), b"")?;
+        dag.write(crowded(author), &block)?;
+        let certificate = certificate(alloc, crowded(author), (0, author))?;
+        dag.certify(&certificate)?;
+    }
+    dag.freeze_for(alloc, crowded(0))?
+        .map_err(|_refusal| NoMemory)
+}
+
+/// Whether the view has the author's block under its digest.
+fn has(view: &View, author: u16) -> bool {
+    match view.get(&crowded(author)) {
+        Some(block) => block.get().author == author,
+        None => false,
+    }
+}
+
+/// How often an author's block was found, and how often a digest that none has was not.
+fn count(view: &View) -> (u32, u32) {
+    let (mut found, mut missed) = (0u32, 0u32);
+    for _time in 0..TIMES {
+        for author in 0..=BLOCKS {
+            if has(view, author) {
+                found = found.saturating_add(1);
+            } else {
+                missed = missed.saturating_add(1);
+            }
+        }
+    }
+    (found, missed)
+}
+
+// Each search looks at some hundred entries. If it went over them one by one, all would take some 270,000,000 looks, for which a
+// test that is tried has no time.
+#[test]
+fn searches_among_8192_crowded_digests_end_soon(rt: HostRuntime) {
+    let view = view_of_all(rt.alloc()).expect(&rt, "there is memory");
+    assert_eq!(rt; count(&view), (65_536, 8));
+}
