@@ -26,6 +26,10 @@ use Rattle.nw_dag.proofs.Arrival.{Arrives, AreLackingSince, arrived, listed_arri
 some_none : {X : Type 0} (x : X) → Some x ≡ None → ⊥
 some_none x e = cc
 
+pub none_is : {X : Type 0} (found : Option X) → found ≡ None → IsSome found → ⊥
+none_is (Some x) e some = some_none x e
+none_is None e some = cc
+
 -- another digest has what it had
 pub get_other : {X : Type 0} (m : FinMap digest_cmp X) (k : Digest) (v : X) (q : Digest) → (q ≡ k → ⊥) → get (insert m k v) q ≡ get m q
 get_other m k v q other = get-insert digests_total m k v q ∙ by (eq_by_cmp digest_cmp q k) refl
@@ -116,10 +120,6 @@ module _ (s : State) (d : Digest) (b : Block) (vote : Bool) (absent : get s.bloc
 -- ---- a certificate more
 
 module _ (s : State) (c : Certificate) (absent : get s.certificates c.digest ≡ None) where
-  none_is : (found : Option Certificate) → found ≡ None → IsSome found → ⊥
-  none_is (Some x) e some = some_none x e
-  none_is None e some = cc
-
   pub certificate_arrives : Arrives s (with_certificate s c) c.digest
   certificate_arrives = record {
     absent = λ (x, stands). none_is (get s.certificates c.digest) absent stands.1;

@@ -1,8 +1,7 @@
 //! The complete blocks that are frozen, of which views are made.
-ghost use Rattle.std.specs.Prelude.{◌≡◌, IfOk, OnOk, OnErr, Contains};
+ghost use Rattle.std.specs.Prelude.{◌≡◌, IfOk, OnOk, OnErr};
 ghost use Rattle.std.specs.FinMap as map;
 ghost use Rattle.nw_model.specs.Step.{from_round};
-ghost use Rattle.nw_dag.specs.Lacking.{IsReady};
 ghost use Rattle.nw_dag.specs.Frozen.{AreFrozen, AreFrozenBut, AreOf};
 
 use crate::waits::Waits;
@@ -39,7 +38,7 @@ pub(crate) fn freeze(
     }
     let fresh = freeze_held(alloc, held, waits.roll.fresh.as_slice())?;
     if generations.parts() == MOST_PARTS {
-        let mut all = joined(generations, alloc, held.floor())?;
+        let mut all = as_one(generations, alloc, held.floor())?;
         all.push(fresh)?;
         *generations = all;
     } else {
@@ -51,7 +50,7 @@ pub(crate) fn freeze(
 
 /// What the generations have that is not below the round, as one generation. It costs what they have, and looks at nothing that
 /// is held.
-pub(crate) fn joined(
+pub(crate) fn as_one(
     generations: &Generations,
     alloc: Global,
     round: Round,

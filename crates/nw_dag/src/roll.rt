@@ -55,8 +55,8 @@ impl Roll {
         self.fresh.len() + self.pending
     }
 
-    /// Makes room for one pending block more. Where there is none, what was collected is listed no more, and room is made for as
-    /// many blocks again as are listed or pending. Want of memory changes no more than that.
+    /// Makes room for one pending block more. Where there is none, room is made for as many blocks again as are listed or pending;
+    /// where those are more than are held, what was collected is listed no more first. Want of memory changes no more than that.
     pub(crate) fn reserve(&mut self, held: &Held, lacking: &Waiting<Global>) -> Result<(), NoMemory>
         ensures kept { (d : Digest) → Contains self.old.fresh.items d
             → IsReady held.now.state lacking.now d → Contains self.new.fresh.items d }
@@ -67,7 +67,9 @@ impl Roll {
         if self.most() < self.fresh.capacity() {
             return Ok(());
         }
-        self.drop_stale(held, lacking);
+        if self.most() > held.blocks() {
+            self.drop_stale(held, lacking);
+        }
         let Some(more) = self.most().checked_add(1) else {
             return Err(NoMemory);
         };
@@ -126,7 +128,7 @@ pub(crate) fn is_ready(held: &Held, lacking: &Waiting<Global>, digest: Digest) -
     ensures ready { IsTrue result ↔ IsReady held.now.state lacking.now digest }
     ensures sound { IsSound held.now.state }
 {
-    held.stands(&digest) && lacks_nothing(lacking, digest)
+    held.standing(&digest).is_some() && lacks_nothing(lacking, digest)
 }
 
 /// Whether the holder lacks nothing.

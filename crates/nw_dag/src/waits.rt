@@ -1,15 +1,11 @@
 //! What held blocks lack, and which are complete.
-ghost use Rattle.std.specs.Prelude.{◌≡◌, ◌↔◌, ◌<◌, ◌≤◌, ◌+◌, [], ◌∷◌, ◌++◌};
-ghost use Rattle.std.specs.Prelude.{IfOk, OnOk, OnErr, IsTrue, length, Contains};
+ghost use Rattle.std.specs.Prelude.{◌≡◌, ◌<◌, ◌+◌, [], OnOk, OnErr};
 ghost use Rattle.std.specs.FinSet as set;
-ghost use Rattle.std.specs.FinMap as map;
-ghost use Rattle.std.specs.Vec.{vec_capacity};
-ghost use Rattle.nw_waiting.specs.Pairs.{AreFirst, Lacks, WantedCount, without_holder};
+ghost use Rattle.nw_waiting.specs.Pairs.{Lacks, without_holder};
 ghost use Rattle.nw_held.specs.Standing.{Stands, IsMet};
 ghost use Rattle.nw_dag.specs.Lacking.{IsReady, IsNamedAmong};
 ghost use Rattle.nw_model.specs.Missing.{IsNamedBy};
 ghost use Rattle.nw_dag.specs.Changes.{AreSameBut, Wants};
-ghost use Rattle.nw_dag.specs.Settled.{AreListed};
 
 mod cascade;
 mod collection;

@@ -1,6 +1,6 @@
 //! What a store holds.
 ghost use Rattle.std.specs.Prelude.{◌≡◌, ◌↔◌, ◌≤◌};
-ghost use Rattle.std.specs.Prelude.{OnOk, OnErr, IsNone, None, IsTrue, false, not};
+ghost use Rattle.std.specs.Prelude.{OnOk, OnErr, IfSome, IsSome, IsNone, Some, None, IsTrue, false, not};
 ghost use Rattle.std.specs.Prelude.{is_some};
 ghost use Rattle.std.specs.Option.{option_copied, option_map};
 ghost use Rattle.std.specs.FinMap as map;
@@ -133,12 +133,16 @@ impl Held {
         self.certificates.len()
     }
 
-    /// Whether the block under the digest stands: it is held and certified. What is not certified takes one look-up.
-    pub fn stands(&self, digest: &Digest) -> bool
-        ensures stands { IsTrue result ↔ Stands self.now.state digest.now }
+    /// What names the block under the digest, or `None` where it does not stand: it is held and certified. What is not certified
+    /// takes one look-up.
+    pub fn standing(&self, digest: &Digest) -> Option<Wanted>
+        ensures stands { IsSome result ↔ Stands self.now.state digest.now }
+        ensures name { IfSome result (λ name. Some name
+            ≡ option_map (named_as digest.now) (map.get self.now.state.blocks digest.now)) }
         ensures sound { IsSound self.now.state }
     {
-        self.certificate(digest).is_some() && self.block(digest).is_some()
+        let _certificate = self.certificate(digest)?;
+        self.name(*digest)
     }
 
     /// Whether what is wanted stands, of that round and author. A block of another round or author does not count.

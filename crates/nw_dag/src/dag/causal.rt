@@ -8,7 +8,7 @@ ghost use Rattle.nw_model.specs.Step.{IsCausalReply, IsShort};
 ghost use Rattle.nw_model.specs.View.{Shows};
 
 use super::Dag;
-use crate::frozen::{freeze, joined};
+use crate::frozen::{as_one, freeze};
 use nw_digest::{Digest, NoMemory};
 use nw_generation::View;
 use nw_model::{CausalReply, Reply};
@@ -41,7 +41,7 @@ impl Dag {
         ensures { self.new ≡ self.old }
     {
         freeze(&mut self.generations, alloc, &self.held, &mut self.waits)?;
-        self.generations = joined(&self.generations, alloc, self.held.floor())?;
+        self.generations = as_one(&self.generations, alloc, self.held.floor())?;
         Ok(())
     }
 

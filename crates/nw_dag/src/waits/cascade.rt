@@ -1,10 +1,10 @@
 //! What becomes complete when a block stands.
-ghost use Rattle.std.specs.Prelude.{◌≡◌, ◌+◌, ◌<◌, ◌≤◌, [], ◌∷◌, drop, length};
+ghost use Rattle.std.specs.Prelude.{◌≡◌, ◌+◌, ◌<◌, [], ◌∷◌, drop, length};
 ghost use Rattle.std.specs.List.{IsDistinct};
 ghost use Rattle.std.specs.Ordering.{eq_by_cmp};
 ghost use Rattle.nw_digest.specs.Order.{digest_cmp};
 ghost use Rattle.nw_held.specs.Standing.{Stands};
-ghost use Rattle.nw_dag.specs.Lacking.{IsReady, AreUnmet, AreUnmetBut};
+ghost use Rattle.nw_dag.specs.Lacking.{IsReady};
 ghost use Rattle.nw_dag.specs.Changes.{Adds, Promotes};
 ghost use Rattle.nw_dag.specs.Frozen.{Grows};
 ghost use Rattle.nw_dag.specs.Settled.{IsTally, IsCascading, IsSettled, IsSettledBut};
@@ -80,19 +80,6 @@ impl Waits {
         }
     }
 
-    /// Lets nobody lack the block under the digest any more for that it does not stand.
-    fn meet(&mut self, held: &Held, digest: Digest)
-        requires stands { Stands held.now.state digest }
-        requires but { AreUnmetBut held.now.state digest self.old.unmet }
-        ensures unmet { AreUnmet held.now.state self.new.unmet }
-        ensures lacking { self.new.lacking ≡ self.old.lacking }
-        ensures roll { self.new.roll ≡ self.old.roll }
-    {
-        if let Some(wanted) = held.name(digest) {
-            let _met = self.unmet.satisfy(&wanted);
-        }
-    }
-
     /// Takes in that the digest may stand now: what lacked it does no more, and what is complete by it is promoted. It
     /// takes no memory.
     pub(crate) fn arrive(&mut self, held: &Held, digest: Digest)
@@ -104,10 +91,10 @@ impl Waits {
             (λ d. IsReady held.now.state self.old.lacking d × (d ≡ digest → ⊥)) self.old.lacking
             self.new.lacking self.old.roll.fresh.items self.new.roll.fresh.items }
     {
-        if !held.stands(&digest) {
+        let Some(name) = held.standing(&digest) else {
             return;
-        }
-        self.meet(held, digest);
+        };
+        let _met = self.unmet.satisfy(&name);
         if lacks_nothing(&self.lacking, digest) {
             let first = self.roll.listed();
             self.roll.add(digest);

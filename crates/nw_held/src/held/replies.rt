@@ -1,12 +1,12 @@
 //! Which reply a call will get.
-ghost use Rattle.std.specs.Prelude.{◌≡◌};
-ghost use Rattle.std.specs.FinMap as map;
+ghost use Rattle.std.specs.Prelude.{◌≡◌, None, Some, is_some, if◌then◌else◌};
+ghost use Rattle.std.specs.Option.{option_and_then, option_copied};
 ghost use Rattle.nw_model.specs.State.{block_slot, certificate_slot};
-ghost use Rattle.nw_model.specs.Step.{write_reply, certify_reply, is_elsewhere, rival};
+ghost use Rattle.nw_model.specs.Step.{write_reply, certify_reply, is_digest, is_elsewhere};
 
 use super::Held;
 use nw_codec::{Block, Certificate};
-use nw_digest::Digest;
+use nw_digest::{Digest, Shared};
 use nw_model::{CertifyReply, WriteReply};
 
 impl Held {
@@ -27,44 +27,19 @@ impl Held {
                 WriteReply::Clash
             };
         }
-        if self.is_misfit(digest, block) {
+        let certificate = self.certificate(digest);
+        if is_misfit(certificate, block) {
             return WriteReply::Misfit;
         }
-        if let Some(first) = self.rival(digest, block) {
-            return WriteReply::Equivocates(first);
+        let first = self.first(block.round, block.author);
+        if let Some(rival) = rival(certificate, first, digest) {
+            return WriteReply::Equivocates(rival);
         }
         if self.blocks() >= self.most as usize {
             return WriteReply::Full;
         }
         WriteReply::Stored {
-            vote: self.first(block.round, block.author).is_none(),
-        }
-    }
-
-    /// Whether the digest is certified for another round or author than the block's.
-    fn is_misfit(&self, digest: &Digest, block: &Block) -> bool
-        ensures { result ≡ is_elsewhere certificate_slot
-            (map.get self.now.state.certificates digest.now) (block_slot block.now) }
-    {
-        match self.certificate(digest) {
-            None => false,
-            Some(certificate) => {
-                let certificate = certificate.get();
-                (certificate.round, certificate.author) != (block.round, block.author)
-            }
-        }
-    }
-
-    /// The first digest of the block's slot, where it is another and this one is not certified.
-    fn rival(&self, digest: &Digest, block: &Block) -> Option<Digest>
-        ensures { result ≡ rival self.now.state digest.now (block_slot block.now) }
-    {
-        if self.certificate(digest).is_some() {
-            return None;
-        }
-        match self.first(block.round, block.author) {
-            Some(first) if first != *digest => Some(first),
-            _ => None,
+            vote: first.is_none(),
         }
     }
 
@@ -99,5 +74,36 @@ impl Held {
             return CertifyReply::Full;
         }
         CertifyReply::Certified
+    }
+}
+
+/// Whether the certificate is for another round or author than the block's.
+fn is_misfit(certificate: Option<&Shared<Certificate>>, block: &Block) -> bool
+    ensures { result
+        ≡ is_elsewhere certificate_slot (option_copied certificate.entry) (block_slot block.now) }
+{
+    match certificate {
+        None => false,
+        Some(certificate) => {
+            let certificate = certificate.get();
+            (certificate.round, certificate.author) != (block.round, block.author)
+        }
+    }
+}
+
+/// The first digest of a slot, where it is another and this one has no certificate.
+fn rival(
+    certificate: Option<&Shared<Certificate>>,
+    first: Option<Digest>,
+    digest: &Digest,
+) -> Option<Digest>
+    ensures { result ≡ (if is_some (option_copied certificate.entry)
+        then None
+        else option_and_then (λ first. if is_digest first digest.now then None else Some first)
+        first) }
+{
+    match (certificate, first) {
+        (None, Some(first)) if first != *digest => Some(first),
+        _ => None,
     }
 }

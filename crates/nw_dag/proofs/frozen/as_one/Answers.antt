@@ -1,6 +1,6 @@
 use Rattle.std.proofs.Common.{ap, ◌∙◌}
 use Rattle.nw_dag.proofs.Freezing.{over_nothing}
-use Rattle.nw_dag.proofs.frozen.joined.Goals as goal
+use Rattle.nw_dag.proofs.frozen.as_one.Goals as goal
 
 pub returns-clause-blocks : goal.returns-clause-blocks
 returns-clause-blocks c =
