@@ -1,11 +1,14 @@
 -- Searches among ascending entries.
-use Rattle.std.proofs.Common.{◌≡◌, ℕ, Bool, true, false, List, [], ◌∷◌, ◌++◌, Some, None, cond, length, take, drop, refl, ap, sym, ◌∙◌, arith}
+use Rattle.std.proofs.Common.{◌≡◌, ℕ, ◌/◌, ◌%◌, Bool, true, false, List, [], ◌∷◌, ◌++◌, Some, None, cond, length, take, drop, get_or, refl, ap, sym, ◌∙◌, arith}
 use Rattle.std.specs.declared.cmp.Ordering.{Ordering}
 use Rattle.std.specs.declared.cmp.Ordering.TheVariants.{Less, Equal, Greater}
-use Rattle.std.specs.Ordering.{is_eq, is_lt, ordering_reverse}
+use Rattle.std.specs.Ordering.{is_eq, nat_cmp, ordering_reverse, ordering_then}
 use Rattle.std.specs.Str.{bytes_eq}
-use Rattle.std.proofs.lemmas.List.{take-append-drop}
 use Rattle.std.proofs.lemmas.Map.Text.{is_eq-slice_cmp}
+use Rattle.std.specs.Cmp.{nat_cmp_is, ranks}
+use Rattle.std.specs.Cmp.Lexicographic.{slice_cmp}
+use Rattle.std.proofs.lemmas.Cmp.{by_ranked}
+use Rattle.std.proofs.lemmas.List.{take-append-drop}
 use Rattle.std.specs.Map.{keys_of}
 use Rattle.std.specs.Prelude.{filter}
 use Rattle.std.proofs.lemmas.Map.Keys.{sorted_head, sorted_tail}
@@ -15,7 +18,7 @@ use Rattle.nw_digest.specs.Order.{digest_cmp}
 use Rattle.nw_trie.proofs.Inserts.{above_all, below_all as each_above}
 use Rattle.nw_trie.proofs.Keys.{each_filter}
 use Rattle.nw_model.proofs.Maps.{digests_total, find_below, find_lookup}
-use Rattle.nw_generation.specs.Entries.{Ascend, IsBelow, under}
+use Rattle.nw_generation.specs.Entries.{AreHeads, Ascend, IsBelow, IsHead, under}
 
 abbrev pub Entries : Type 0
 Entries = List (Digest × Block)
@@ -90,35 +93,14 @@ module _ (d k : Digest) (b : Block) (after : Entries) where
       front [] below = tt
       front (x ∷ es) below = (below.0, front es below.1)
 
--- ---- what comparisons tell
-
-ordered : (o r : Ordering) → o ≡ ordering_reverse r → is_eq r ≡ false → is_lt r ≡ false → o ≡ Less
-ordered o Less turn apart lt = cc
-ordered o Equal turn apart lt = cc
-ordered o Greater turn apart lt = turn
-
-less : (r : Ordering) → is_lt r ≡ true → r ≡ Less
-less Less lt = refl
-less Equal lt = cc
-less Greater lt = cc
-
-tie : (o r : Ordering) → o ≡ ordering_reverse r → is_eq r ≡ true → o ≡ Equal
-tie o Less turn same = cc
-tie o Equal turn same = turn
-tie o Greater turn same = cc
-
-pub is_tie : (k d : Digest) → true ≡ bytes_eq k.0 d.0 → digest_cmp d k ≡ Equal
-is_tie k d same = tie (digest_cmp d k) (digest_cmp k d) (digests_total.antisymm d k) (is_eq-slice_cmp k.0 d.0 ∙ sym same)
-
-pub is_behind : (k d : Digest) → true ≡ is_lt (digest_cmp k d) → digest_cmp k d ≡ Less
-is_behind k d lt = less (digest_cmp k d) (sym lt)
-
-pub is_before : (k d : Digest) → false ≡ bytes_eq k.0 d.0 → false ≡ is_lt (digest_cmp k d) → digest_cmp d k ≡ Less
-is_before k d apart lt = ordered (digest_cmp d k) (digest_cmp k d) (digests_total.antisymm d k) (is_eq-slice_cmp k.0 d.0 ∙ sym apart) (sym lt)
-
--- a list that is split at a place, and an entry there
-pub split : (left front rest after : Entries) (e : Digest × Block) (place : ℕ) → front ≡ take place left → rest ≡ drop place left → rest ≡ e ∷ after → front ++ e ∷ after ≡ left
-split left front rest after e place is are first = ap (λ es. es ++ e ∷ after) is ∙ ap (λ es. take place left ++ es) (sym first ∙ are) ∙ take-append-drop place left
+-- equal bytes tie
+pub is_tie : (d k : Digest) → true ≡ bytes_eq d.0 k.0 → Equal ≡ digest_cmp d k
+is_tie d k same = by (digest_cmp d k) (is_eq-slice_cmp d.0 k.0 ∙ sym same)
+  where
+    by : (r : Ordering) → is_eq r ≡ true → Equal ≡ r
+    by Less eq = cc
+    by Equal eq = refl
+    by Greater eq = cc
 
 -- some of the entries ascend too
 pub filtered_ascend : (keep : Digest × Block → Bool) (es : Entries) → Ascend es → Ascend (filter keep es)
@@ -130,3 +112,36 @@ filtered_ascend keep (e ∷ es) ascend =
       | true ↦ (above_all e.0 (filter keep es) (each_filter _ keep es (each_above e.0 es ascend.0)), rest)
       | false ↦ rest
     ]
+
+-- ---- heads
+
+-- the heads of what is before an entry, of it, and of what is after it
+pub heads_parted : (heads later : List ℕ) (es after : Entries) (head : ℕ) (e : Digest × Block) → length heads ≡ length es → AreHeads (heads ++ head ∷ later) (es ++ e ∷ after) → AreHeads heads es × IsHead head e.0 × AreHeads later after
+heads_parted [] later [] after head e same are = (refl, ap (λ bs. get_or bs 0 []) are, ap (drop 1) are)
+heads_parted [] later (x ∷ es) after head e same are = absurd (omega (arith, same))
+heads_parted (h ∷ heads) later [] after head e same are = absurd (omega (arith, same))
+heads_parted (h ∷ heads) later (x ∷ es) after head e same are =
+    let parts = heads_parted heads later es after head e (omega (arith, same)) (ap (drop 1) are) in
+    let first : h / 256 ∷ h % 256 ∷ [] ≡ take 2 x.0.0 = ap (λ bs. get_or bs 0 []) are in
+    let others = parts.0 in
+    (cc, parts.1, parts.2)
+
+spelled : (g h : ℕ) (rest : Ordering) → (g ≡ h → ⊥) → ordering_then (nat_cmp (g / 256) (h / 256)) (ordering_then (nat_cmp (g % 256) (h % 256)) rest) ≡ nat_cmp g h
+spelled g h rest apart =
+    by_ranked _ _ _ (nat_cmp (g / 256) (h / 256)) (ranks (g / 256) (h / 256)) (λ is low. ap (λ o. ordering_then o last) is ∙ nat_cmp_is g h Less (omega arith))
+    (λ is same. ap (λ o. ordering_then o last) is ∙ by_ranked _ _ _ (nat_cmp (g % 256) (h % 256)) (ranks (g % 256) (h % 256)) (λ is low. ap (λ o. ordering_then o rest) is ∙ nat_cmp_is g h Less (omega arith))
+    (λ is both. absurd (apart (omega arith))) (λ is high. ap (λ o. ordering_then o rest) is ∙ nat_cmp_is g h Greater (omega arith)))
+    (λ is high. ap (λ o. ordering_then o last) is ∙ nat_cmp_is g h Greater (omega arith))
+  where
+    last : Ordering
+    last = ordering_then (nat_cmp (g % 256) (h % 256)) rest
+
+-- bytes that begin with these two
+begins : (two bytes : List ℕ) → two ≡ take 2 bytes → bytes ≡ two ++ drop 2 bytes
+begins two bytes is = sym (take-append-drop 2 bytes) ∙ ap (λ bs. bs ++ drop 2 bytes) (sym is)
+
+-- digests whose heads differ are ordered as these
+pub heads_decide : (k d : Digest) (head wanted : ℕ) → IsHead head k → IsHead wanted d → (head ≡ wanted → ⊥) → nat_cmp head wanted ≡ digest_cmp k d
+heads_decide k d head wanted is are apart =
+    sym (spelled head wanted (slice_cmp nat_cmp (drop 2 k.0) (drop 2 d.0)) apart)
+    ∙ ap (λ bs. slice_cmp nat_cmp (head / 256 ∷ head % 256 ∷ drop 2 k.0) bs) (sym (begins _ d.0 are)) ∙ ap (λ bs. slice_cmp nat_cmp bs d.0) (sym (begins _ k.0 is))

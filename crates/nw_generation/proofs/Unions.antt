@@ -4,14 +4,14 @@ use Rattle.std.specs.Option.{option_or}
 use Rattle.std.specs.declared.cmp.Ordering.{Ordering}
 use Rattle.std.specs.BTreeMap.{is_at}
 use Rattle.std.specs.List.{AllByRecursion}
-use Rattle.std.specs.Map.{lookup}
 use Rattle.std.proofs.lemmas.List.Elements.{recursion_from_All}
-use Rattle.std.specs.FinMap.{FinMap, entries, from_entries, get, get-empty, get-entries, get-from_entries}
+use Rattle.std.specs.FinMap.{FinMap, entries, get, get-empty, get-entries, get-from_entries}
 use Rattle.std.specs.FinMap.Entries.{find}
 use Rattle.nw_digest.specs.declared.digest.Digest.{Digest}
 use Rattle.nw_codec.specs.declared.block.Block.{Block}
 use Rattle.nw_digest.specs.Order.{digest_cmp}
-use Rattle.nw_model.proofs.Maps.{digests_total, get_lookup}
+use Rattle.nw_model.proofs.Maps.{digests_total}
+use Rattle.nw_generation.specs.Entries.{under}
 use Rattle.nw_generation.specs.Seen.{IsOf, IsWithin, latest_first, union}
 
 or_later : {X : Type 0} (b : Bool) (v : X) (first later : Option X) → cond b (Some v) (option_or first later) ≡ option_or (cond b (Some v) first) later
@@ -56,21 +56,16 @@ of_latest left older latest (Some round) d is of = by (get latest d) (subst (λ 
     by (Some b) h = h
 
 -- entries of other rounds alone have no block of this one
-pub none_of : (es : List (Digest × Block)) (rounds : Option (ℕ × ℕ)) (round : ℕ) (d : Digest) → All (λ (e : Digest × Block). IsWithin rounds e.1.round) es → (IsWithin rounds round → ⊥)
-    → IsOf (Some round) (get (from_entries {R = digest_cmp} es) d) → None ≡ get (from_entries {R = digest_cmp} es) d
-none_of es rounds round d within out of = by (get (from_entries es) d) found of
+pub none_of : (es : List (Digest × Block)) (rounds : Option (ℕ × ℕ)) (round : ℕ) (d : Digest) → All (λ (e : Digest × Block). IsWithin rounds e.1.round) es → (IsWithin rounds round → ⊥) → IsOf (Some round) (under es d) → None ≡ under es d
+none_of es rounds round d within out of = by (under es d) (look es (recursion_from_All (λ (e : Digest × Block). IsWithin rounds e.1.round) es within)) of
   where
     pick : (t : Bool) (b : Block) (o : Option Block) → IsWithin rounds b.round → IfSome o (λ (x : Block). IsWithin rounds x.round) → IfSome (cond t (Some b) o) (λ (x : Block). IsWithin rounds x.round)
     pick true b o here later = here
     pick false b o here later = later
 
-    look : (fs : List (Digest × Block)) → AllByRecursion (λ (e : Digest × Block). IsWithin rounds e.1.round) fs → IfSome (lookup (is_at (digest_cmp d)) fs) (λ (b : Block). IsWithin rounds b.round)
+    look : (fs : List (Digest × Block)) → AllByRecursion (λ (e : Digest × Block). IsWithin rounds e.1.round) fs → IfSome (under fs d) (λ (b : Block). IsWithin rounds b.round)
     look [] all = tt
-    look (e ∷ fs) all = pick (is_at (digest_cmp d) e.0) e.1 (lookup (is_at (digest_cmp d)) fs) all.0 (look fs all.1)
-
-    found : IfSome (get (from_entries {R = digest_cmp} es) d) (λ (b : Block). IsWithin rounds b.round)
-    found = subst (λ o. IfSome o (λ (b : Block). IsWithin rounds b.round)) (sym (get_lookup digests_total es d))
-        (look es (recursion_from_All (λ (e : Digest × Block). IsWithin rounds e.1.round) es within))
+    look (e ∷ fs) all = pick (is_at (digest_cmp d) e.0) e.1 (under fs d) all.0 (look fs all.1)
 
     by : (o : Option Block) → IfSome o (λ (b : Block). IsWithin rounds b.round) → IfSome o (λ (b : Block). b.round ≡ round) → None ≡ o
     by None w is = refl

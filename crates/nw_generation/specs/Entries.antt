@@ -1,5 +1,5 @@
 -- Blocks under their digests, ascending.
-use Rattle.std.specs.Prelude.{◌≡◌, ◌+◌, ◌<◌, List, [], ◌∷◌, Option, length}
+use Rattle.std.specs.Prelude.{◌≡◌, ℕ, ◌+◌, ◌<◌, ◌/◌, ◌%◌, List, [], ◌∷◌, Option, length, map, take}
 use Rattle.std.specs.declared.cmp.Ordering.TheVariants.{Less}
 use Rattle.std.specs.BTreeMap.{is_at}
 use Rattle.std.specs.List.{AllByRecursion}
@@ -13,6 +13,14 @@ use Rattle.nw_digest.specs.Order.{digest_cmp}
 -- each digest comes after the one before it
 abbrev pub Ascend : List (Digest × Block) → Type 0
 Ascend entries = IsStrictlySortedBy digest_cmp (keys_of entries)
+
+-- the head is the number that the first two bytes of the digest make
+abbrev pub IsHead : ℕ → Digest → Type 0
+IsHead head d = head / 256 ∷ head % 256 ∷ [] ≡ take 2 d.0
+
+-- these are the heads of the entries, in order
+abbrev pub AreHeads : List ℕ → List (Digest × Block) → Type 0
+AreHeads heads entries = map (λ head. head / 256 ∷ head % 256 ∷ []) heads ≡ map (λ e. take 2 e.0.0) entries
 
 -- the digest comes before those of all entries
 abbrev pub IsBelow : Digest → List (Digest × Block) → Type 0

@@ -1,8 +1,8 @@
 //! Blocks under their digests, ascending. Each entry is one piece of memory, which the lists that have it share.
-ghost use Rattle.std.specs.Prelude.{◌≡◌, ◌<◌, ◌≤◌, IfOk, IfSome, [], drop, filter, length, nat_le};
-ghost use Rattle.std.specs.Option.{MatchOption, option_copied};
+ghost use Rattle.std.specs.Prelude.{◌≡◌, ◌≤◌, IfOk, IfSome, [], drop, filter, length, nat_le};
+ghost use Rattle.std.specs.Option.{MatchOption};
 ghost use Rattle.std.specs.FinMap as map;
-ghost use Rattle.nw_generation.specs.Entries.{Ascend, IsNext, under};
+ghost use Rattle.nw_generation.specs.Entries.{Ascend, IsNext};
 ghost use Rattle.nw_generation.specs.Seen.{IsOver};
 
 use nw_codec::Block;
@@ -30,7 +30,7 @@ impl<'a> Model for Lent<'a> {
     ghost view = { λ l. l.entry.now };
 }
 
-/// The entries of the trie, which both share.
+/// An entry for each of the trie. The blocks are shared.
 pub(crate) fn of_trie<A: Allocator>(
     alloc: Global,
     trie: &Trie<Shared<Block>, A>,
@@ -106,64 +106,4 @@ pub(crate) fn owned(alloc: Global, entries: &[Lent], round: Round) -> Result<Vec
     }
     kept.shrink_to_fit();
     Ok(kept)
-}
-
-/// The block under the digest.
-///
-/// Digests are spread evenly, so that their first bytes tell nearly where one stands: a search among thousands of entries
-/// looks at three or four. Where digests are crowded, every eighth look halves what is left.
-pub(crate) fn find<'a>(entries: &'a [Entry], digest: &Digest) -> Option<&'a Shared<Block>>
-    requires { Ascend entries.now }
-    ensures { option_copied result ≡ under entries.now digest.now }
-{
-    let (mut left, mut looks) = (entries, 0u32);
-    let (mut low, mut high) = (0, u32::MAX);
-    while !left.is_empty() {
-        let place = if looks % 8 == 7 {
-            left.len() / 2
-        } else {
-            guess(left.len(), entries.len(), low, head(digest), high)
-        };
-        let (before, rest) = left.split_at(place);
-        let Some((entry, after)) = rest.split_first() else {
-            return None;
-        };
-        let (key, block) = entry.get();
-        if key == digest {
-            return Some(block);
-        }
-        if key < digest {
-            (left, low) = (after, head(key));
-        } else {
-            (left, high) = (before, head(key));
-        }
-        looks = looks.wrapping_add(1);
-    }
-    None
-}
-
-/// The place of a head among so many entries with heads from the low one to the high one, where so many in all are spread
-/// evenly. It is counted from the nearer end.
-fn guess(entries: usize, all: usize, low: u32, head: u32, high: u32) -> usize
-    requires { 0 < entries }
-    ensures { result < entries }
-{
-    let (above, below) = (head.saturating_sub(low), high.saturating_sub(head));
-    let last = entries - 1;
-    if above < below {
-        last.min(expected(all, above))
-    } else {
-        last.saturating_sub(expected(all, below))
-    }
-}
-
-/// How many of so many heads that are spread evenly lie in a range of this width.
-fn expected(all: usize, width: u32) -> usize {
-    (u64::from(width).saturating_mul(all as u64) >> 32) as usize
-}
-
-/// The first four bytes of the digest, as a number.
-fn head(digest: &Digest) -> u32 {
-    let bytes = &digest.0;
-    u32::from_be_bytes([bytes[0], bytes[1], bytes[2], bytes[3]])
 }

@@ -1,13 +1,14 @@
 //! Generations: blocks that are frozen at one moment.
-ghost use Rattle.std.specs.Prelude.{◌≡◌, ◌↔◌, ℕ, All, IfOk, IfErr, IsTrue, Some};
+ghost use Rattle.std.specs.Prelude.{◌≡◌, IfOk, IfErr};
 ghost use Rattle.std.specs.Option.{option_copied};
 ghost use Rattle.std.specs.FinMap as map;
 ghost use Rattle.nw_generation.specs.Entries.{Ascend};
-ghost use Rattle.nw_generation.specs.Seen.{IsOf, IsWithin};
+ghost use Rattle.nw_generation.specs.Seen.{IsOf};
 
-use crate::entries::{Entry, find, of_trie};
+use crate::entries::{Entry, of_trie};
+use crate::index::Index;
 use nw_codec::Block;
-use nw_digest::{Digest, InRound, NoMemory, Round, Sequence, Shared};
+use nw_digest::{Digest, NoMemory, Round, Shared};
 use nw_trie::Trie;
 use std::alloc::{Allocator, Global};
 use std::marker::Model;
@@ -15,10 +16,7 @@ use std::marker::Model;
 /// One owner of blocks that never change, under their digests. Contracts see the finite map of these.
 #[derive(Drop)]
 pub struct Generation {
-    /// Ascending by digest, so that a search looks at few of them.
-    entries: Shared<Sequence<Entry>>,
-    /// The least and the greatest round of the blocks.
-    rounds: Option<(Round, Round)>,
+    index: Shared<Index>,
 }
 
 impl Model for Generation {
@@ -31,13 +29,7 @@ impl Model for Generation {
 
     ghost coded = { map.code coded_digest coded_block };
 
-    ghost view = { λ g. map.from_entries g.entries };
-
-    ghost use Rattle.std.specs.Prelude.{All};
-    ghost use Rattle.nw_generation.specs.Entries.{Ascend};
-    ghost use Rattle.nw_generation.specs.Seen.{IsWithin};
-
-    ghost invariant = { λ g. Ascend g.entries × All (λ e. IsWithin g.rounds e.1.round) g.entries };
+    ghost view = { λ g. map.from_entries g.index };
 }
 
 /// The generation of these blocks, which it shares. Want of memory hands the trie back, as it was.
@@ -70,9 +62,10 @@ impl Generation {
         requires { Ascend entries.items }
         ensures { IfOk result (λ generation. generation ≡ map.from_entries entries.items) }
     {
-        let rounds = rounds_of(&entries);
-        let entries = Shared::new(alloc, Sequence::new(entries))?;
-        Ok(Generation { entries, rounds })
+        let index = Index::of(alloc, entries)?;
+        Ok(Generation {
+            index: Shared::new(alloc, index)?,
+        })
     }
 
     /// One more owner of the same blocks.
@@ -80,8 +73,7 @@ impl Generation {
         ensures { IfOk result (λ generation. generation ≡ self.now) }
     {
         Ok(Generation {
-            entries: self.entries.try_clone()?,
-            rounds: self.rounds,
+            index: self.index.try_clone()?,
         })
     }
 
@@ -90,7 +82,7 @@ impl Generation {
         ensures entries { map.from_entries result.now ≡ self.now }
         ensures ascend { Ascend result.now }
     {
-        self.entries.get().as_slice()
+        self.index.get().entries()
     }
 
     /// The block under the digest, which is of this round where one is named: one search, or none where no block is of the
@@ -99,42 +91,6 @@ impl Generation {
         requires { IsOf round (map.get self.now digest.now) }
         ensures { option_copied result ≡ map.get self.now digest.now }
     {
-        match round {
-            Some(round) if !is_within(self.rounds, round) => None,
-            _ => find(self.entries.get().as_slice(), digest),
-        }
-    }
-}
-
-/// The least and the greatest round of the blocks, or `None` where there are none. The clause says only that the rounds of
-/// all lie between these two.
-fn rounds_of(entries: &[Entry]) -> Option<(Round, Round)>
-    ensures { All (λ e. IsWithin result e.1.round) entries.now }
-{
-    let mut rounds = None;
-    for entry in entries {
-        rounds = Some(widened(rounds, entry.get().1.round()));
-    }
-    rounds
-}
-
-/// The rounds between these two, and this one.
-fn widened(rounds: Option<(Round, Round)>, round: Round) -> (Round, Round)
-    ensures this { IsWithin (Some result) round }
-    ensures those { (other : ℕ) → IsWithin rounds other → IsWithin (Some result) other }
-{
-    match rounds {
-        None => (round, round),
-        Some((least, greatest)) => (least.min(round), greatest.max(round)),
-    }
-}
-
-/// Whether the round is one of these.
-fn is_within(rounds: Option<(Round, Round)>, round: Round) -> bool
-    ensures { IsTrue result ↔ IsWithin rounds round }
-{
-    match rounds {
-        None => false,
-        Some((least, greatest)) => least <= round && round <= greatest,
+        self.index.get().get(round, digest)
     }
 }

@@ -9,6 +9,7 @@
 mod entries;
 mod generation;
 mod generations;
+mod index;
 mod view;
 
 pub use generation::{Generation, freeze};

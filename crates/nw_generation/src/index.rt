@@ -1,0 +1,205 @@
+//! Blocks that are searched by their digests.
+ghost use Rattle.std.specs.Prelude.{◌≡◌, ◌↔◌, ◌<◌, ◌++◌, ◌∷◌, ℕ, All, IfOk, IsTrue, Some, length};
+ghost use Rattle.std.specs.Option.{option_copied};
+ghost use Rattle.nw_digest.specs.Order.{digest_cmp};
+ghost use Rattle.nw_generation.specs.Entries.{AreHeads, Ascend, IsHead, under};
+ghost use Rattle.nw_generation.specs.Seen.{IsOf, IsWithin};
+
+use crate::entries::Entry;
+use nw_codec::Block;
+use nw_digest::{Digest, InRound, NoMemory, Round, Shared};
+use std::alloc::Global;
+use std::cmp::Ordering;
+use std::marker::Model;
+
+/// Blocks under their digests, ascending. Contracts see the list of these.
+#[derive(Drop)]
+pub(crate) struct Index {
+    /// The first two bytes of each digest, so that a search follows few pointers.
+    heads: Vec<u16>,
+    entries: Vec<Entry>,
+    /// The least and the greatest round of the blocks.
+    rounds: Option<(Round, Round)>,
+}
+
+impl Model for Index {
+    ghost use Rattle.std.specs.Prelude.{List};
+    ghost use Rattle.nw_codec.specs.declared.block.Block.{Block};
+    ghost use Rattle.nw_digest.specs.declared.digest.Digest.{Digest};
+
+    ghost Value = { List (Digest × Block) };
+
+    ghost view = { λ i. i.entries.items };
+
+    ghost use Rattle.std.specs.Prelude.{All};
+    ghost use Rattle.nw_generation.specs.Entries.{AreHeads, Ascend};
+    ghost use Rattle.nw_generation.specs.Seen.{IsWithin};
+
+    ghost invariant = { λ i. AreHeads i.heads.items i.entries.items × Ascend i.entries.items
+        × All (λ e. IsWithin i.rounds e.1.round) i.entries.items };
+}
+
+impl Index {
+    /// The index of these entries.
+    pub(crate) fn of(alloc: Global, entries: Vec<Entry>) -> Result<Index, NoMemory>
+        requires { Ascend entries.items }
+        ensures { IfOk result (λ index. index ≡ entries.items) }
+    {
+        Ok(Index {
+            heads: heads_of(alloc, &entries)?,
+            rounds: rounds_of(&entries),
+            entries,
+        })
+    }
+
+    /// Its entries, ascending.
+    pub(crate) fn entries(&self) -> &[Entry]
+        ensures entries { result.now ≡ self.now }
+        ensures ascend { Ascend result.now }
+    {
+        self.entries.as_slice()
+    }
+
+    /// The block under the digest, which is of this round where one is named: one search, or none where no block is of the
+    /// round.
+    pub(crate) fn get(&self, round: Option<Round>, digest: &Digest) -> Option<&Shared<Block>>
+        requires { IsOf round (under self.now digest.now) }
+        ensures { option_copied result ≡ under self.now digest.now }
+    {
+        match round {
+            Some(round) if !is_within(self.rounds, round) => None,
+            _ => find(self.heads.as_slice(), self.entries.as_slice(), digest),
+        }
+    }
+}
+
+/// The block under the digest.
+///
+/// Digests are spread evenly, so that their heads tell nearly where one stands: a search goes by heads, which lie side by side,
+/// and follows a pointer only where the head is that of the digest. Where digests are crowded, every eighth look halves what
+/// is left.
+fn find<'a>(heads: &[u16], entries: &'a [Entry], digest: &Digest) -> Option<&'a Shared<Block>>
+    requires heads { AreHeads heads.now entries.now }
+    requires ascend { Ascend entries.now }
+    ensures { option_copied result ≡ under entries.now digest.now }
+{
+    let (all, head) = (entries.len(), head_of(digest));
+    let (mut heads, mut left, mut looks) = (heads, entries, 0u32);
+    let (mut low, mut high) = (0, u16::MAX);
+    while !left.is_empty() {
+        let place = next_place(looks, left.len(), all, low, head, high);
+        let (heads_before, other, heads_after) = parted(heads, place);
+        let (before, entry, after) = parted(left, place);
+        match order(head, digest, *other, entry) {
+            Ordering::Less => (heads, left, high) = (heads_before, before, *other),
+            Ordering::Equal => return Some(&entry.get().1),
+            Ordering::Greater => (heads, left, low) = (heads_after, after, *other),
+        }
+        looks = looks.wrapping_add(1);
+    }
+    None
+}
+
+/// What is before the place, what is there, and what is after it.
+fn parted<T>(items: &[T], place: usize) -> (&[T], &T, &[T])
+    requires { place < length items.now }
+    ensures parts { result.0.now ++ result.1.now ∷ result.2.now ≡ items.now }
+    ensures place { length result.0.now ≡ place }
+{
+    let (before, rest) = items.split_at(place);
+    let Some((item, after)) = rest.split_first() else {
+        unreachable!()
+    };
+    (before, item, after)
+}
+
+/// How the digest compares to the entry's, where these are their heads.
+fn order(head: u16, digest: &Digest, other: u16, entry: &Entry) -> Ordering
+    requires head { IsHead head digest.now }
+    requires other { IsHead other entry.now.0 }
+    ensures { result ≡ digest_cmp digest.now entry.now.0 }
+{
+    if head != other {
+        return head.cmp(&other);
+    }
+    let key = &entry.get().0;
+    // (most that share a head are one, and equality is told sooner)
+    if digest == key {
+        Ordering::Equal
+    } else {
+        digest.cmp(key)
+    }
+}
+
+/// The place to look at next, after so many looks, for a head among so many entries with heads from the low one to the high one,
+/// where so many in all are spread evenly. It is counted from the nearer end.
+fn next_place(looks: u32, entries: usize, all: usize, low: u16, head: u16, high: u16) -> usize
+    requires { 0 < entries }
+    ensures { result < entries }
+{
+    let (above, below) = (head.saturating_sub(low), high.saturating_sub(head));
+    let last = entries - 1;
+    if looks % 8 == 7 {
+        entries / 2
+    } else if above < below {
+        last.min(expected(all, above))
+    } else {
+        last.saturating_sub(expected(all, below))
+    }
+}
+
+/// How many of so many heads that are spread evenly lie in a range of this width.
+fn expected(all: usize, width: u16) -> usize {
+    (u64::from(width).saturating_mul(all as u64) >> 16) as usize
+}
+
+/// The first two bytes of the digest, as a number.
+fn head_of(digest: &Digest) -> u16
+    ensures { IsHead result digest.now }
+{
+    u16::from(digest.0[0]) * 256 + u16::from(digest.0[1])
+}
+
+/// The heads of the entries, in order.
+fn heads_of(alloc: Global, entries: &[Entry]) -> Result<Vec<u16>, NoMemory>
+    ensures { IfOk result (λ heads. AreHeads heads.items entries.now) }
+{
+    let mut heads = Vec::with_capacity(alloc, entries.len())?;
+    for entry in entries {
+        heads.push(head_of(&entry.get().0))?;
+    }
+    Ok(heads)
+}
+
+/// The least and the greatest round of the blocks, or `None` where there are none. The clause says only that the rounds of
+/// all lie between these two.
+fn rounds_of(entries: &[Entry]) -> Option<(Round, Round)>
+    ensures { All (λ e. IsWithin result e.1.round) entries.now }
+{
+    let mut rounds = None;
+    for entry in entries {
+        rounds = Some(widened(rounds, entry.get().1.round()));
+    }
+    rounds
+}
+
+/// The rounds between these two, and this one.
+fn widened(rounds: Option<(Round, Round)>, round: Round) -> (Round, Round)
+    ensures this { IsWithin (Some result) round }
+    ensures those { (other : ℕ) → IsWithin rounds other → IsWithin (Some result) other }
+{
+    match rounds {
+        None => (round, round),
+        Some((least, greatest)) => (least.min(round), greatest.max(round)),
+    }
+}
+
+/// Whether the round is one of these.
+fn is_within(rounds: Option<(Round, Round)>, round: Round) -> bool
+    ensures { IsTrue result ↔ IsWithin rounds round }
+{
+    match rounds {
+        None => false,
+        Some((least, greatest)) => least <= round && round <= greatest,
+    }
+}
