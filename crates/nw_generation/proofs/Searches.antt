@@ -2,13 +2,9 @@
 use Rattle.std.proofs.Common.{◌≡◌, ℕ, ◌/◌, ◌%◌, Bool, true, false, List, [], ◌∷◌, ◌++◌, Some, None, cond, length, take, drop, get_or, refl, ap, sym, ◌∙◌, arith}
 use Rattle.std.specs.declared.cmp.Ordering.{Ordering}
 use Rattle.std.specs.declared.cmp.Ordering.TheVariants.{Less, Equal, Greater}
-use Rattle.std.specs.Ordering.{is_eq, nat_cmp, ordering_reverse, ordering_then}
+use Rattle.std.specs.Ordering.{is_eq, ordering_reverse}
 use Rattle.std.specs.Str.{bytes_eq}
 use Rattle.std.proofs.lemmas.Map.Text.{is_eq-slice_cmp}
-use Rattle.std.specs.Cmp.{nat_cmp_is, ranks}
-use Rattle.std.specs.Cmp.Lexicographic.{slice_cmp}
-use Rattle.std.proofs.lemmas.Cmp.{by_ranked}
-use Rattle.std.proofs.lemmas.List.{take-append-drop}
 use Rattle.std.specs.Map.{keys_of}
 use Rattle.std.specs.Prelude.{filter}
 use Rattle.std.proofs.lemmas.Map.Keys.{sorted_head, sorted_tail}
@@ -113,8 +109,6 @@ filtered_ascend keep (e ∷ es) ascend =
       | false ↦ rest
     ]
 
--- ---- heads
-
 -- the heads of what is before an entry, of it, and of what is after it
 pub heads_parted : (heads later : List ℕ) (es after : Entries) (head : ℕ) (e : Digest × Block) → length heads ≡ length es → AreHeads (heads ++ head ∷ later) (es ++ e ∷ after) → AreHeads heads es × IsHead head e.0 × AreHeads later after
 heads_parted [] later [] after head e same are = (refl, ap (λ bs. get_or bs 0 []) are, ap (drop 1) are)
@@ -125,23 +119,3 @@ heads_parted (h ∷ heads) later (x ∷ es) after head e same are =
     let first : h / 256 ∷ h % 256 ∷ [] ≡ take 2 x.0.0 = ap (λ bs. get_or bs 0 []) are in
     let others = parts.0 in
     (cc, parts.1, parts.2)
-
-spelled : (g h : ℕ) (rest : Ordering) → (g ≡ h → ⊥) → ordering_then (nat_cmp (g / 256) (h / 256)) (ordering_then (nat_cmp (g % 256) (h % 256)) rest) ≡ nat_cmp g h
-spelled g h rest apart =
-    by_ranked _ _ _ (nat_cmp (g / 256) (h / 256)) (ranks (g / 256) (h / 256)) (λ is low. ap (λ o. ordering_then o last) is ∙ nat_cmp_is g h Less (omega arith))
-    (λ is same. ap (λ o. ordering_then o last) is ∙ by_ranked _ _ _ (nat_cmp (g % 256) (h % 256)) (ranks (g % 256) (h % 256)) (λ is low. ap (λ o. ordering_then o rest) is ∙ nat_cmp_is g h Less (omega arith))
-    (λ is both. absurd (apart (omega arith))) (λ is high. ap (λ o. ordering_then o rest) is ∙ nat_cmp_is g h Greater (omega arith)))
-    (λ is high. ap (λ o. ordering_then o last) is ∙ nat_cmp_is g h Greater (omega arith))
-  where
-    last : Ordering
-    last = ordering_then (nat_cmp (g % 256) (h % 256)) rest
-
--- bytes that begin with these two
-begins : (two bytes : List ℕ) → two ≡ take 2 bytes → bytes ≡ two ++ drop 2 bytes
-begins two bytes is = sym (take-append-drop 2 bytes) ∙ ap (λ bs. bs ++ drop 2 bytes) (sym is)
-
--- digests whose heads differ are ordered as these
-pub heads_decide : (k d : Digest) (head wanted : ℕ) → IsHead head k → IsHead wanted d → (head ≡ wanted → ⊥) → nat_cmp head wanted ≡ digest_cmp k d
-heads_decide k d head wanted is are apart =
-    sym (spelled head wanted (slice_cmp nat_cmp (drop 2 k.0) (drop 2 d.0)) apart)
-    ∙ ap (λ bs. slice_cmp nat_cmp (head / 256 ∷ head % 256 ∷ drop 2 k.0) bs) (sym (begins _ d.0 are)) ∙ ap (λ bs. slice_cmp nat_cmp bs d.0) (sym (begins _ k.0 is))
