@@ -1,10 +1,9 @@
 //! Books: a history, and the tables that its calls leave.
 ghost use Rattle.std.specs.Prelude.{◌≡◌, ◌↔◌, [], None, IfOk, IfErr, OnOk, OnErr};
 ghost use Rattle.std.specs.Result.{IsErrOf};
-ghost use Rattle.nw_model.specs.State.{opening};
 ghost use Rattle.nw_model.specs.declared.call.Call.TheVariants as Call;
 ghost use Rattle.nw_history.specs.Limits.{AreInRange};
-ghost use Rattle.nw_history.specs.Story.{IsLegalStory};
+ghost use Rattle.nw_history.specs.Story.{IsLegalStory, first_origin, story_of};
 ghost use Rattle.nw_book.specs.Answer.{IsFor, Takes, front_of, reply_of};
 ghost use Rattle.nw_book.specs.Command.{call_of, committee_of};
 ghost use Rattle.nw_book.specs.Turn.{IsRefusal, MayStep};
@@ -65,12 +64,7 @@ impl<S: Scheme> Book<S> {
         committee: Shared<Committee>,
         limits: Limits,
     ) -> Result<Book<S>, BookError>
-        ensures empty { IfOk result (λ book. book ≡ record {
-          committee = committee;
-          limits = limits;
-          base = opening;
-          events = [];
-        }) }
+        ensures empty { IfOk result (λ book. book ≡ story_of (first_origin committee limits) []) }
         ensures in_range { OnOk result (AreInRange limits) }
         ensures bad_limits { IsErrOf result BookError.BadLimits ↔ (AreInRange limits → ⊥) }
         ensures no_memory { IsErrOf result BookError.NoMemory → AreInRange limits }
@@ -154,8 +148,7 @@ impl<S: Scheme> Book<S> {
     }
 
     /// Lets later tickets share one copy of what is complete, without what was collected. Nothing else changes: not the
-    /// history, no reply, and no ticket of before. It costs what is frozen; want of memory changes nothing, and may be asked
-    /// again.
+    /// history, no reply, and no ticket of before. It costs what is frozen; want of memory changes no answer.
     pub fn compact(&mut self, alloc: Global) -> Result<(), NoMemory>
         ensures { self.new ≡ self.old }
     {

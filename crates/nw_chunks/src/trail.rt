@@ -61,7 +61,7 @@ impl<T: Drop> Trail<T> {
         Trail { last: None }
     }
 
-    /// The same list, with one more owner of its last item.
+    /// The same list, with one more owner of its last node.
     pub(crate) fn try_clone(&self) -> Result<Trail<T>, NoMemory>
         ensures { IfOk result (λ t. t ≡ self.now) }
     {
@@ -91,13 +91,10 @@ impl<T: Drop> Trail<T> {
         for _ in 0..places {
             node = node?.before.as_ref();
         }
-        match node {
-            None => None,
-            Some(node) => Some(&node.item),
-        }
+        node.map(|node| &node.item)
     }
 
-    /// A link to each item, in order. Room for so many is taken at once.
+    /// A link to each item, in order. Room for so many links is taken at once.
     pub(crate) fn items(&self, alloc: Global, room: usize) -> Result<Vec<Link<T>>, NoMemory>
         ensures { IfOk result (λ items. items.items ≡ reverse self.now) }
     {

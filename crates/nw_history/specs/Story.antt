@@ -2,7 +2,7 @@
 use Rattle.std.specs.Prelude.{List, [], ◌∷◌, ◌++◌}
 use Rattle.nw_committee.specs.declared.member.Member.{Member}
 use Rattle.nw_sig.specs.Signed.{Meaning}
-use Rattle.nw_model.specs.State.{State}
+use Rattle.nw_model.specs.State.{State, opening}
 use Rattle.nw_model.specs.Step.{Bounds, Tables}
 use Rattle.nw_model.specs.History.{Terms, IsLegal, replay}
 use Rattle.nw_model.specs.declared.event.Event.{Event}
@@ -20,6 +20,10 @@ pub record Origin : Type 0 where
   pub committee : List Member
   pub limits : Limits
   pub base : State
+
+-- what it starts with where nothing came before it
+abbrev pub first_origin : List Member → Limits → Origin
+first_origin committee limits = record { committee = committee; limits = limits; base = opening }
 
 -- the history of these events
 abbrev pub story_of : Origin → List Event → Story

@@ -7,8 +7,8 @@ ghost use Rattle.nw_chunks.specs.Chunks.{items_of};
 ghost use Rattle.nw_chunks.specs.declared.chunk.TheConstants.{CHUNK};
 ghost use Rattle.nw_model.specs.State.{opening};
 ghost use Rattle.nw_model.specs.Step.{after};
-ghost use Rattle.nw_history.specs.Story.{IsLegalStory, bounds_of, reopened, story_of, tables_of};
-ghost use Rattle.nw_history.specs.Story.{with_event};
+ghost use Rattle.nw_history.specs.Story.{IsLegalStory, bounds_of, first_origin, reopened, story_of};
+ghost use Rattle.nw_history.specs.Story.{tables_of, with_event};
 ghost use Rattle.nw_history.specs.Prefix.{IsPrefixOf, AreAlike};
 
 use crate::Limits;
@@ -59,12 +59,7 @@ impl<S: Scheme> Front<S> {
         committee: Shared<Committee>,
         limits: Limits,
     ) -> Result<Front<S>, NoMemory>
-        ensures empty { IfOk result (λ front. front ≡ record {
-          committee = committee;
-          limits = limits;
-          base = opening;
-          events = [];
-        }) }
+        ensures empty { IfOk result (λ front. front ≡ story_of (first_origin committee limits) []) }
     {
         let base = Base::of(Plain::new(alloc, limits.blocks, limits.window));
         Front::without_events(alloc, Start::new(committee, limits, base))
@@ -90,7 +85,7 @@ impl<S: Scheme> Front<S> {
         Ok(Front::of(Chunks::new(alloc, Shared::new(alloc, start)?)?))
     }
 
-    /// The history of these events, which start with their head.
+    /// The history that starts with the head of these events, and goes on with them.
     fn of(events: Chunks<Start, Event>) -> Front<S>
         requires { IsLegalStory S.accepts (story_of events.head (items_of events)) }
         ensures { result ≡ story_of events.head (items_of events) }

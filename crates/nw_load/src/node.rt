@@ -1,6 +1,6 @@
 //! One node: its store, its two threads, and what it reports.
 ghost use Rattle.std.specs.Prelude.{◌≡◌};
-ghost use Rattle.nw_store.specs.Journal.{first_origin};
+ghost use Rattle.nw_history.specs.Story.{first_origin};
 ghost use Rattle.nw_store.specs.Kept.{parts_of_a_ledger};
 
 use crate::client::Client;

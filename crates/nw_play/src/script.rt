@@ -12,13 +12,15 @@ use nw_store::Opening;
 use std::alloc::Global;
 use std::io::{BufWriter, Read, Write};
 use std::marker::Brand;
+use std::mem::forget;
 use std::sync::Wait;
 
 /// Plays the script that the reader gives, and prints its answers to the writer, a line each.
 ///
 /// The whole script is read before its first line is played. What was printed before a fault stands, and a bad line
 /// prints its fault, as sessions do that differ. `Read` and `TooLong` print nothing. It waits for the lock of its stores,
-/// which nobody else holds.
+/// which nobody else holds. What the last store and the names of the script take is not given back: it goes with the process,
+/// at once and not owner by owner.
 pub fn play<Rt: Wait, R: Read + Drop, W: Write + Drop>(
     rt: &Rt,
     alloc: Global,
@@ -66,7 +68,7 @@ fn play_stores<Rt: Wait, W: Write>(
     let start = first(alloc, &committee, lines.taken())?;
     let mut desk = Desk::new(alloc, committee);
     let played = play_from(rt, alloc, start, &mut desk, &mut lines, out, script.len());
-    drop(desk);
+    forget(desk);
     played
 }
 

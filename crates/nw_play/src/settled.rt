@@ -9,6 +9,7 @@ use nw_sig::DemoScheme;
 use nw_store::{Home, Settled, settle};
 use std::alloc::Global;
 use std::io::Write;
+use std::mem::forget;
 
 /// Settles the store with all its sessions, and gives the start of the store that goes on behind it, if one does.
 pub fn settled<L: Home, W: Write>(
@@ -37,7 +38,7 @@ fn told<L: Home, W: Write>(
     match goes_on(alloc, &settled, lines, out) {
         Ok(true) => reopened(alloc, settled, out),
         Ok(false) => {
-            drop(settled);
+            forget(settled);
             Ok(None)
         }
         Err(fault) => {

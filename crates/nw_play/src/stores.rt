@@ -14,6 +14,7 @@ use nw_sig::DemoScheme;
 use nw_store::{Home, Opening};
 use std::alloc::Global;
 use std::io::Write;
+use std::mem::forget;
 use std::sync::Wait;
 
 /// What a store is not asked any more behind.
@@ -55,14 +56,20 @@ fn play_calls<'a, L: Home, R: Wait, W: Write>(
     lines: &mut Lines<'a>,
     out: &mut W,
 ) -> Result<Option<Start>, PlayFault> {
-    let end = play_all(rt, alloc, &mut calls, desk, lines, out);
-    if let Ok(End::Settle) = end {
-        return settled(alloc, calls, lines, out);
-    }
-    drop(calls);
-    match end? {
-        End::Limits(line) => limited(alloc, desk.committee(), line, lines.taken()),
-        End::Script | End::Settle => Ok(None),
+    match play_all(rt, alloc, &mut calls, desk, lines, out) {
+        Ok(End::Settle) => settled(alloc, calls, lines, out),
+        Ok(End::Limits(line)) => {
+            drop(calls);
+            limited(alloc, desk.committee(), line, lines.taken())
+        }
+        Ok(End::Script) => {
+            forget(calls);
+            Ok(None)
+        }
+        Err(fault) => {
+            drop(calls);
+            Err(fault)
+        }
     }
 }
 

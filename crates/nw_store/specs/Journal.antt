@@ -3,12 +3,9 @@ use Rattle.std.specs.Prelude.{◌≡◌, ℕ, ◌+◌, List, [], ◌∷◌, ◌+
 use Rattle.std.specs.List.{Contains}
 use mathlib.Core.Logic.{◌⊎◌}
 use Rattle.nw_log.specs.Claims.{Name}
-use Rattle.nw_committee.specs.declared.member.Member.{Member}
 use Rattle.nw_sig.specs.Signed.{Meaning}
-use Rattle.nw_model.specs.State.{opening}
 use Rattle.nw_model.specs.declared.event.Event.{Event}
-use Rattle.nw_history.specs.Story.{Story, Origin, IsLegalStory}
-use Rattle.nw_history.specs.declared.limits.Limits.{Limits}
+use Rattle.nw_history.specs.Story.{Story, Origin, IsLegalStory, first_origin}
 use Rattle.nw_history.specs.Prefix.{IsPrefixOf}
 
 -- which log and which ledger a store is opened on
@@ -19,10 +16,6 @@ pub record Names : Type 0 where
 -- what a history starts with
 abbrev pub origin_of : Story → Origin
 origin_of s = record { committee = s.committee; limits = s.limits; base = s.base }
-
--- what it starts with where nothing came before it
-abbrev pub first_origin : List Member → Limits → Origin
-first_origin committee limits = record { committee = committee; limits = limits; base = opening }
 
 -- what no history starts with
 abbrev pub no_origin : Origin

@@ -166,7 +166,7 @@ pub fn session_locked<S: Scheme, L: Home>(
 }
 
 /// Lets later tickets share one copy of what is complete, without what was collected, while the guard is lent. No history, no
-/// reply and no ticket of before changes. Want of memory changes nothing.
+/// reply and no ticket of before changes. Want of memory changes no answer.
 pub fn compact_locked<S: Scheme, L: Home>(
     locked: &mut Locked<S, L>,
     alloc: Global,

@@ -16,10 +16,11 @@ ghost use Rattle.std.specs.Result.{IsErrOf};
 ghost use Rattle.nw_model.specs.Checks.{digest_of};
 ghost use Rattle.nw_model.specs.declared.call.Call.TheVariants as Call;
 ghost use Rattle.nw_history.specs.Limits.{AreInRange};
+ghost use Rattle.nw_history.specs.Story.{first_origin};
 ghost use Rattle.nw_history.specs.declared.limits.TheConstants.{MOST_SESSIONS};
 ghost use Rattle.nw_book.specs.Answer.{IsFor, front_of, reply_of};
 ghost use Rattle.nw_book.specs.Command.{call_of, committee_of};
-ghost use Rattle.nw_store.specs.Journal.{KnowsAll, first_origin, origin_of};
+ghost use Rattle.nw_store.specs.Journal.{KnowsAll, origin_of};
 ghost use Rattle.nw_store.specs.Kept.{parts_of_a_ledger};
 ghost use Rattle.nw_store.specs.Answered.{IsExplained, TakesNoStep};
 
@@ -236,7 +237,7 @@ impl<S: Scheme, L: Home> Store<S, L> {
     }
 
     /// Lets later tickets share one copy of what is complete, without what was collected. It is no call of a session: no history,
-    /// no reply and no ticket of before changes. It costs what is frozen; want of memory changes nothing.
+    /// no reply and no ticket of before changes. It costs what is frozen; want of memory changes no answer.
     pub fn compact<R: Wait>(&self, rt: &R, alloc: Global) -> Result<(), NoMemory> {
         compact_locked(&mut *self.locked.lock(rt), alloc)
     }

@@ -111,7 +111,7 @@ impl<S: Scheme> Book<S> {
     }
 
     /// Records the event of a call in its turn, with the reply that is decided, and answers the front with it, for two owners.
-    /// All memory is taken first: the event, the front, and what the tables take.
+    /// All memory is taken first: what the front takes, and what the tables take.
     fn record(&mut self, alloc: Global, event: Event) -> Result<(Front<S>, Front<S>), NoMemory>
         requires turn { IsInTurn self.old event.session event.number }
         requires room { HasRoom self.old }

@@ -1,4 +1,4 @@
-use Rattle.nw_store.specs.Journal.{first_origin}
+use Rattle.nw_history.specs.Story.{first_origin}
 use Rattle.nw_store.specs.Kept.{parts_of_a_ledger}
 use Rattle.nw_load.proofs.node.open_store.Given as goal
 
