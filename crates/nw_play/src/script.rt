@@ -19,8 +19,8 @@ use std::sync::Wait;
 ///
 /// The whole script is read before its first line is played. What was printed before a fault stands, and a bad line
 /// prints its fault, as sessions do that differ. `Read` and `TooLong` print nothing. It waits for the lock of its stores,
-/// which nobody else holds. What the last store and the names of the script take is not given back: it goes with the process,
-/// at once and not owner by owner.
+/// which nobody else holds. What the names and tickets of the script take is not given back, nor, where there was no fault,
+/// what its last store takes: it goes with the process, at once and not owner by owner.
 pub fn play<Rt: Wait, R: Read + Drop, W: Write + Drop>(
     rt: &Rt,
     alloc: Global,
