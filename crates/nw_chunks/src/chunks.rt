@@ -134,7 +134,10 @@ impl<H: Drop, T: Drop> Chunks<H, T> {
         ensures { option_copied result
             ≡ slice_get (items_of self.now) (length (items_of self.now) - 1) }
     {
-        self.get(self.len().checked_sub(1)?)
+        match self.behind.back(0) {
+            Some(item) => Some(item),
+            None => self.get(self.len().checked_sub(1)?),
+        }
     }
 
     /// How many links it holds: one to each full chunk, and one to each item behind them.

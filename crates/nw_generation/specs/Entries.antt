@@ -14,13 +14,17 @@ use Rattle.nw_digest.specs.Order.{digest_cmp}
 abbrev pub Ascend : List (Digest × Block) → Type 0
 Ascend entries = IsStrictlySortedBy digest_cmp (keys_of entries)
 
+-- the two bytes that make the number
+abbrev pub bytes_of : ℕ → List ℕ
+bytes_of n = n / 256 ∷ n % 256 ∷ []
+
 -- the head is the number that the first two bytes of the digest make
 abbrev pub IsHead : ℕ → Digest → Type 0
-IsHead head d = head / 256 ∷ head % 256 ∷ [] ≡ take 2 d.0
+IsHead head d = bytes_of head ≡ take 2 d.0
 
 -- these are the heads of the entries, in order
 abbrev pub AreHeads : List ℕ → List (Digest × Block) → Type 0
-AreHeads heads entries = map (λ head. head / 256 ∷ head % 256 ∷ []) heads ≡ map (λ e. take 2 e.0.0) entries
+AreHeads heads entries = map bytes_of heads ≡ map (λ e. take 2 e.0.0) entries
 
 -- the digest comes before those of all entries
 abbrev pub IsBelow : Digest → List (Digest × Block) → Type 0

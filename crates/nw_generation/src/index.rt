@@ -123,7 +123,7 @@ fn order(head: u16, digest: &Digest, other: u16, entry: &Entry) -> Ordering
         return head.cmp(&other);
     }
     let key = &entry.get().0;
-    // (most that share a head are one, and equality is told sooner)
+    // Two digests with one head are mostly equal, which is told sooner than their order.
     if digest == key {
         Ordering::Equal
     } else {

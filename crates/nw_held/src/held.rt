@@ -133,8 +133,8 @@ impl Held {
         self.certificates.len()
     }
 
-    /// What names the block under the digest, or `None` where it does not stand: it is held and certified. What is not certified
-    /// takes one look-up.
+    /// What names the block under the digest where it stands, that is, where it is held and certified; else `None`. A digest
+    /// that is not certified takes one look-up.
     pub fn standing(&self, digest: &Digest) -> Option<Wanted>
         ensures stands { IsSome result ↔ Stands self.now.state digest.now }
         ensures name { IfSome result (λ name. Some name
