@@ -1,7 +1,10 @@
 //! Walks: the blocks that happened before a block, in a view.
-ghost use Rattle.std.specs.Prelude.{◌≡◌, ◌+◌, ◌≤◌, IfOk, OnOk, [], All};
+ghost use Rattle.std.specs.Prelude.{◌≡◌, ◌+◌, ◌≤◌, IfOk, OnOk, [], All, length};
+ghost use Rattle.std.specs.List.Sorted.{IsBinarySearchResult, IsSearchInRange};
+ghost use Rattle.std.specs.Ordering.{nat_cmp};
 ghost use Rattle.nw_model.specs.View.{HasParent, IsClosed, IsThere, IsWalk};
 ghost use Rattle.nw_model.specs.Search.{IsNamed, IsParentOfAny};
+ghost use Rattle.nw_causal.specs.declared.ancestor.Ancestor.{Ancestor};
 ghost use Rattle.nw_causal.specs.Looked.{AreFound, Gains, IsLevel, digests};
 
 use crate::ancestor::Ancestor;
@@ -74,7 +77,7 @@ fn find_parents_of_all<'a>(
 }
 
 /// Adds the blocks of the round that are referred to, descending by author. A reference tells the author, so that each block is
-/// looked up once.
+/// looked up once; and references ascend, so that the next author mostly stands just before the last one.
 fn find_parents<'a>(
     view: &'a View,
     round: Round,
@@ -89,14 +92,29 @@ fn find_parents<'a>(
     ensures gains { OnOk result
         (Gains (IsNamed references.now) parents.old.items parents.new.items) }
 {
+    let mut last = parents.len();
     for reference in references {
-        let author = reference.author;
-        if let Err(place) = parents.binary_search_by(|other| author.cmp(
-            &other.block.get().author,
-        )) {
-            let parent = Ancestor::look_up(view, Some(round), reference.digest);
-            parents.insert(place, parent)?;
+        match place_of(parents, reference.author, last.saturating_sub(1)) {
+            Ok(place) => last = place,
+            Err(place) => {
+                let parent = Ancestor::look_up(view, Some(round), reference.digest);
+                parents.insert(place, parent)?;
+                last = place;
+            }
         }
     }
     Ok(())
+}
+
+/// Where the author's block stands among these, which descend by author, or else where it is to be put. The guess is tried before
+/// the others.
+fn place_of(level: &[Ancestor<'_>], author: u16, guess: usize) -> Result<usize, usize>
+    ensures bound { IsSearchInRange result (length level.now) }
+    ensures position { IsBinarySearchResult
+        (λ (a : Ancestor). nat_cmp author a.block.now.author) level.now result }
+{
+    match level.get(guess) {
+        Some(other) if other.block.get().author == author => Ok(guess),
+        _ => level.binary_search_by(|other| author.cmp(&other.block.get().author)),
+    }
 }

@@ -1,9 +1,7 @@
-use Rattle.std.proofs.Common.{◌≡◌, ◌+◌, Some, List, [], IfSome, get_or, take, rules, ap, sym, ◌∙◌, subst, arith}
+use Rattle.std.proofs.Common.{◌≡◌, ◌+◌, Some, List, [], IfSome, get_or, take, ap, sym, ◌∙◌, subst, arith}
 use Rattle.std.specs.FinMap.{get}
 use Rattle.std.specs.List.{insert}
-use Rattle.std.specs.Ordering.{nat_cmp}
 use Rattle.std.proofs.lemmas.List.{take_all}
-use Rattle.std.proofs.lemmas.Fn.{always_returns_same}
 use Rattle.nw_codec.specs.declared.block.Ref.{Ref}
 use Rattle.nw_codec.specs.declared.block.Block.{Block}
 use Rattle.nw_model.specs.Search.{IsNamed}
@@ -14,7 +12,7 @@ use Rattle.nw_causal.specs.declared.ancestor.Ancestor.{Ancestor}
 use Rattle.nw_causal.specs.Looked.{Gains}
 use Rattle.nw_causal.proofs.Levels.{gains_more, gains_none, gains_on, level_more}
 use Rattle.nw_causal.proofs.walks.find_parents.Goals as goal
-use Rattle.nw_causal.proofs.walks.find_parents.Goals.{in-Err+in_ok-insert, in_default}
+use Rattle.nw_causal.proofs.walks.find_parents.Goals.{in-Err+in_ok-insert-in-Err, in-Ok}
 
 pub look_up-parent-requires : goal.look_up-parent-requires
 look_up-parent-requires c =
@@ -29,12 +27,11 @@ loop-reference-preserved c =
     let none : Ref = record { author = 0; digest = record { 0 = [] } } in
     let r : Ref = get_or refs c.loop-reference.reference-index none in
     let there : HasParent v.blocks (c.args.round + 1) r = c.requires.there c.loop-reference.reference-index none c.loop-reference-test.true in
-    let ord = λ (x : Ancestor). nat_cmp r.author x.block.now.author in
     let on = λ (after : List Ancestor) (step : Gains (λ e. r.digest ≡ e) c.loop-reference.parents.items after).
     gains_on (IsNamed (take c.loop-reference.reference-index refs)) (λ e. r.digest ≡ e) (IsNamed (take (c.loop-reference.reference-index + 1) refs)) c.args.parents.now.items c.loop-reference.parents.items after
     c.loop-reference.invariant.gains step (names_more refs c.loop-reference.reference-index none c.loop-reference-test.true) in
-    elim c.match-binary_search_by.branch [
-      | in-Err+in_ok-insert w ↦
+    elim c.match-place_of.branch [
+      | in-Err+in_ok-insert-in-Err w ↦
           let a : Ancestor = w.look_up-parent.result in
           let p = w.in-Err.place in
           let block : Block = a.block.now in
@@ -42,16 +39,16 @@ loop-reference-preserved c =
           let one : there.0 ≡ block = one_block there.0 block there.1 w.look_up-parent.ensures.block in
           let before : block.round + 1 ≡ c.args.round + 1 = subst (λ (x : Block). x.round + 1 ≡ c.args.round + 1) one there.3 in
           let by : r.author ≡ block.author = sym there.2 ∙ ap (λ (x : Block). x.author) one in
-          rw (w.parents-is, w.in_ok-insert.ensures.items) (record {
+          rw (w.parents-is, w.in_ok-insert-in-Err.ensures.items) (record {
             level = level_more v c.args.round p c.loop-reference.parents.items a c.loop-reference.invariant.level at (omega (arith, before)) (rw (← c.deref.ensures.value) w.in-Err.ensures.bound)
-                (rw (← by, ← c.deref.ensures.value) (w.in-Err.ensures.position ord (always_returns_same _ _ _ (λ a r f called. search rules))));
+                (rw (← by, ← c.deref.ensures.value) w.in-Err.ensures.position);
             gains = on (insert c.loop-reference.parents.items p a) (gains_more c.loop-reference.parents.items p a r.digest w.look_up-parent.ensures.digest);
           })
-      | in_default w ↦ rw (w.parents-is) (record {
+      | in-Ok w ↦ rw (w.parents-is) (record {
         level = c.loop-reference.invariant.level;
-        gains = on c.loop-reference.parents.items (gains_none v c.args.round w.in_default.field-0 c.loop-reference.parents.items r c.requires.closed c.requires.floor c.loop-reference.invariant.level there
-            (rw (← c.deref.ensures.value) w.in_default.ensures.bound)
-            (rw (← c.deref.ensures.value) (w.in_default.ensures.position ord (always_returns_same _ _ _ (λ a r f called. search rules)))));
+        gains = on c.loop-reference.parents.items (gains_none v c.args.round w.in-Ok.place c.loop-reference.parents.items r c.requires.closed c.requires.floor c.loop-reference.invariant.level there
+            (rw (← c.deref.ensures.value) w.in-Ok.ensures.bound)
+            (rw (← c.deref.ensures.value) w.in-Ok.ensures.position));
       })
     ]
 
