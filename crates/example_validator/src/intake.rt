@@ -116,7 +116,7 @@ impl<'a, L: Home, R: Threads + Wait + Sync> Intake<'a, L, R> {
         let Host { rt, alloc, .. } = *self.host;
         let done = self.store.write(rt, alloc, &mut self.session, block)?;
         let later = matches!(
-            &done.reply,
+            done.reply(),
             Reply::Write(WriteReply::TooFar | WriteReply::Equivocates(_) | WriteReply::Full)
         );
         drop(done);

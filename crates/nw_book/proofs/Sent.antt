@@ -4,14 +4,14 @@ use denote.Param.Send.{IsSend, IsSync, sendable, view_send, view_sync}
 use denote.Param.SendFields.{declared_send, declared_sync}
 use Rattle.std.proofs.Crossing.{crosses}
 use Rattle.nw_digest.proofs.digest.Digest.TheSendSync as digest
-use Rattle.nw_model.proofs.reply.Reply.TheSendSync as reply
 use Rattle.nw_generation.proofs.view.View.TheSendSync as view
 use Rattle.nw_dag.proofs.Sent.{dag_send}
 use Rattle.nw_history.proofs.Sent.{front_send, front_sync}
 use Rattle.nw_sig.specs.declared.scheme.Scheme.{Ghosts}
 use Rattle.nw_book.specs.contracts.book.Book as book
 use Rattle.nw_book.specs.contracts.book.Book.TheInside as book_inside
-use Rattle.nw_book.specs.contracts.book.Done as done
+use Rattle.nw_book.specs.contracts.done.Done as done
+use Rattle.nw_book.specs.contracts.done.Done.TheInside as done_inside
 use Rattle.nw_book.specs.contracts.ticket.Ticket as ticket
 use Rattle.nw_book.specs.contracts.ticket.Ticket.TheInside as ticket_inside
 
@@ -20,10 +20,10 @@ module _ (S : RattleType) (g : Ghosts S.Denot) where
   book_send = view_send (book_inside.the_row S g) _ _ _ _ (declared_send (book_inside.the_type S g) (front_send S g, (dag_send, (search (sendable, crosses) depth 30, tt))))
 
   pub done_send : IsSend (done.the_row S g)
-  done_send = declared_send (done.the_type S g) (reply.the_send, (front_send S g, tt))
+  done_send = view_send (done_inside.the_row S g) _ _ _ _ (declared_send (done_inside.the_type S g) (front_send S g, (search (sendable, crosses) depth 30, tt)))
 
   pub done_sync : IsSync (done.the_row S g)
-  done_sync = declared_sync (done.the_type S g) (reply.the_sync, (front_sync S g, tt))
+  done_sync = view_sync (done_inside.the_row S g) _ _ _ _ (declared_sync (done_inside.the_type S g) (front_sync S g, (search (sendable, crosses) depth 30, tt)))
 
   pub ticket_send : IsSend (ticket.the_row S g)
   ticket_send = view_send (ticket_inside.the_row S g) _ _ _ _ (declared_send (ticket_inside.the_type S g) (digest.the_send, (front_send S g, (view.the_send, tt))))

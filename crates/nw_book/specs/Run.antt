@@ -20,10 +20,10 @@ use Rattle.nw_book.specs.declared.moves.Stop.{Stop}
 -- the answer of a move: with the history and the tickets before it, and those after it
 abbrev pub IsAnswer : {S : Type 0} → Meaning → Story → List Given → Move S → Answer S → Story → List Given → Type 0
 IsAnswer accepts old given (moves.Call session asked) (answers.Done done) new after =
-    Takes accepts old new session (next_number old session) (call_of asked) done.reply done.front
+    Takes accepts old new session (next_number old session) (call_of asked) done.event.reply done.front
     × IsOf old.committee (committee_of asked) × (after ≡ given)
-IsAnswer {S = S} accepts old given (moves.Open session d) (answers.Done done) new after =
-    Takes accepts old new session (next_number old session) (calls.Causal d) done.reply done.front × IsFor {S = S} d (Err done) × (after ≡ given)
+IsAnswer accepts old given (moves.Open session d) (answers.Done done) new after =
+    Takes accepts old new session (next_number old session) (calls.Causal d) done.event.reply done.front × IsFor d (Err done) × (after ≡ given)
 IsAnswer accepts old given (moves.Open session d) answers.Opened new after =
     (t : Given) × Takes accepts old new session (next_number old session) (calls.Causal d) replies.Ready t.front × (t.digest ≡ d) × (after ≡ given ++ t ∷ [])
 IsAnswer accepts old given (moves.Walk ticket) (answers.Walked blocks) new after =

@@ -12,24 +12,14 @@ mod reopen;
 mod steps;
 mod turn;
 
-use crate::{BookError, Command, NoStep, Ticket};
+use crate::{BookError, Command, Done, NoStep, Ticket};
 use nw_committee::Committee;
 use nw_dag::{Dag, DagLimits};
 use nw_digest::{Digest, NoMemory, Shared};
 use nw_history::{Front, History, Limits};
-use nw_model::Reply;
 use nw_sig::Scheme;
 use std::alloc::Global;
 use std::marker::Model;
-
-/// An answer: the reply to a call, and the history up to and with that call.
-#[derive(Drop)]
-pub struct Done<S: Scheme> {
-    /// The reply to the call.
-    pub reply: Reply,
-    /// The history whose last event is the call with its reply.
-    pub front: Front<S>,
-}
 
 /// A history that grows, with the tables that its calls leave, where `S` says which signatures are accepted. Contracts see
 /// the history, with its committee and limits.
@@ -108,7 +98,7 @@ impl<S: Scheme> Book<S> {
     ) -> Result<Done<S>, NoStep>
         ensures taken { IfOk result (λ done.
             Takes S.accepts self.old self.new session number
-            (call_of command.now) done.reply done.front) }
+            (call_of command.now) done.event.reply done.front) }
         ensures may { OnOk result (MayStep self.old session number (committee_of command.now)) }
         ensures refused { IfErr result
             (IsRefusal self.old session number (committee_of command.now)) }

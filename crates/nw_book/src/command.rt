@@ -33,7 +33,7 @@ pub enum Command<S: Scheme> {
 
 impl<S: Scheme> Command<S> {
     /// The call that is asked, in which a block stands under its digest.
-    pub fn call(&self) -> Result<Call, NoMemory>
+    pub(crate) fn call(&self) -> Result<Call, NoMemory>
         ensures call { IfOk result (λ call. call ≡ call_of self.now) }
         ensures admitted { (members : List Member) → IsOf members (committee_of self.now)
             → IsAdmitted S.accepts members (call_of self.now) }

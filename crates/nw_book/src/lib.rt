@@ -9,13 +9,15 @@
 
 mod book;
 mod command;
+mod done;
 mod error;
 mod moves;
 mod run;
 mod ticket;
 
-pub use book::{Book, Done};
+pub use book::Book;
 pub use command::Command;
+pub use done::Done;
 pub use error::{BookError, NoStep};
 pub use moves::{Answer, Cause, Move, Run, Stop};
 pub use nw_causal::Agreement;

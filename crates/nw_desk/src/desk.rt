@@ -64,7 +64,7 @@ impl<'a> Desk<'a> {
         drop(self.tickets.insert(name.as_str(), ticket)?);
         Ok(Answer::Told {
             name,
-            words: "ready",
+            words: " ready",
         })
     }
 

@@ -6,7 +6,8 @@ use nw_model::{Counts, Wanted};
 use nw_script::Name;
 use std::io::{self, Write};
 
-/// The answer to a request, which is printed on a line of its own.
+/// The answer to a request, which is printed on a line of its own. Words beside a name or a number have the spaces that part them
+/// from it.
 #[derive(Drop)]
 pub enum Answer<'a> {
     /// Words that speak of no name.
@@ -86,7 +87,7 @@ impl<'a> Answer<'a> {
     pub(crate) fn over_limit(name: Name<'a>) -> Answer<'a> {
         Answer::Told {
             name,
-            words: "refused over limit",
+            words: " refused over limit",
         }
     }
 }
@@ -101,27 +102,33 @@ impl Answer<'_> {
     fn write_words<W: Write>(&self, out: &mut W) -> io::Result<()> {
         match self {
             Answer::Words(words) => out.write_all(words.as_bytes()),
-            Answer::Counted { words, number } => write_count(out, words, *number),
-            Answer::Told { name, words } => write_two(out, name.as_str(), words),
+            Answer::Counted { words, number } => {
+                out.write_all(words.as_bytes())?;
+                write_number(out, *number)
+            }
+            Answer::Told { name, words } => write_both(out, name.as_str(), words),
             Answer::ToldOf { name, words, other } => {
-                write_two(out, name.as_str(), words)?;
-                write_behind(out, other.as_str())
+                write_both(out, name.as_str(), words)?;
+                out.write_all(other.as_str().as_bytes())
             }
             Answer::ToldCount {
                 name,
                 words,
                 number,
             } => {
-                write_two(out, name.as_str(), words)?;
-                write_number(out, b' ', *number)
+                write_both(out, name.as_str(), words)?;
+                write_number(out, *number)
             }
             Answer::Bound { name, body } => {
-                write_two(out, "block", name.as_str())?;
-                write_number(out, b' ', *body as u64)
+                write_both(out, "block ", name.as_str())?;
+                write_number_behind(out, b' ', *body as u64)
             }
             Answer::BadBlock { name, fault } => write!(out, "{name} refused {fault}"),
             Answer::BadCert { name, fault } => write!(out, "{name} refused {fault}"),
-            Answer::Bytes { name, hex } => write_two(out, name.as_str(), hex.as_str()),
+            Answer::Bytes { name, hex } => {
+                out.write_all(name.as_str().as_bytes())?;
+                write_behind(out, hex.as_str())
+            }
             Answer::Hash(hex) => out.write_all(hex.as_bytes()),
             Answer::Gathered { name, votes } => write_list(out, name.as_str(), "", votes),
             Answer::Signers { name, signers } => write_signers(out, name.as_str(), signers),
@@ -133,14 +140,9 @@ impl Answer<'_> {
     }
 }
 
-fn write_count<W: Write>(out: &mut W, words: &str, number: u64) -> io::Result<()> {
-    out.write_all(words.as_bytes())?;
-    write_number(out, b' ', number)
-}
-
-fn write_two<W: Write>(out: &mut W, one: &str, two: &str) -> io::Result<()> {
+fn write_both<W: Write>(out: &mut W, one: &str, two: &str) -> io::Result<()> {
     out.write_all(one.as_bytes())?;
-    write_behind(out, two)
+    out.write_all(two.as_bytes())
 }
 
 // The word behind a space.
@@ -149,16 +151,19 @@ fn write_behind<W: Write>(out: &mut W, word: &str) -> io::Result<()> {
     out.write_all(word.as_bytes())
 }
 
-// The number behind the byte.
-fn write_number<W: Write>(out: &mut W, before: u8, number: u64) -> io::Result<()> {
-    out.write_all(&[before])?;
+fn write_number<W: Write>(out: &mut W, number: u64) -> io::Result<()> {
     out.write_all(Buffer::new().format(number).as_bytes())
+}
+
+// The number behind the byte.
+fn write_number_behind<W: Write>(out: &mut W, before: u8, number: u64) -> io::Result<()> {
+    out.write_all(&[before])?;
+    write_number(out, number)
 }
 
 // The name, the words behind it, and each item behind a space.
 fn write_list<W: Write>(out: &mut W, name: &str, words: &str, items: &[&str]) -> io::Result<()> {
-    out.write_all(name.as_bytes())?;
-    out.write_all(words.as_bytes())?;
+    write_both(out, name, words)?;
     for item in items {
         write_behind(out, item)?;
     }
@@ -167,10 +172,10 @@ fn write_list<W: Write>(out: &mut W, name: &str, words: &str, items: &[&str]) ->
 
 // Numbers parted by commas.
 fn write_signers<W: Write>(out: &mut W, name: &str, signers: &[u16]) -> io::Result<()> {
-    write_two(out, name, "certified by")?;
+    write_both(out, name, " certified by")?;
     let mut before = b' ';
     for signer in signers {
-        write_number(out, before, u64::from(*signer))?;
+        write_number_behind(out, before, u64::from(*signer))?;
         before = b',';
     }
     Ok(())
@@ -179,7 +184,7 @@ fn write_signers<W: Write>(out: &mut W, name: &str, signers: &[u16]) -> io::Resu
 fn write_settled<W: Write>(out: &mut W, counts: &[usize]) -> io::Result<()> {
     out.write_all(b"settled")?;
     for count in counts {
-        write_number(out, b' ', *count as u64)?;
+        write_number_behind(out, b' ', *count as u64)?;
     }
     Ok(())
 }
@@ -187,8 +192,8 @@ fn write_settled<W: Write>(out: &mut W, counts: &[usize]) -> io::Result<()> {
 fn write_missing<W: Write>(out: &mut W, wanted: &[Wanted], names: &[Name<'_>]) -> io::Result<()> {
     out.write_all(b"missing")?;
     for (parent, name) in wanted.iter().zip(names) {
-        write_number(out, b' ', parent.round.get())?;
-        write_number(out, b'.', u64::from(parent.author))?;
+        write_number_behind(out, b' ', parent.round.get())?;
+        write_number_behind(out, b'.', u64::from(parent.author))?;
         out.write_all(b".")?;
         out.write_all(name.as_str().as_bytes())?;
     }
@@ -196,17 +201,16 @@ fn write_missing<W: Write>(out: &mut W, wanted: &[Wanted], names: &[Name<'_>]) -
 }
 
 fn write_status<W: Write>(out: &mut W, counts: &Counts) -> io::Result<()> {
-    let Counts {
-        floor,
-        blocks,
-        certificates,
-        complete,
-        wanted,
-    } = counts;
-    write!(
-        out,
-        "status g={} blocks={blocks} certificates={certificates}",
-        floor.get()
-    )?;
-    write!(out, " complete={complete} wanted={wanted}")
+    let counts = [
+        ("status g=", counts.floor.get()),
+        (" blocks=", counts.blocks),
+        (" certificates=", counts.certificates),
+        (" complete=", counts.complete),
+        (" wanted=", counts.wanted),
+    ];
+    for (words, count) in counts {
+        out.write_all(words.as_bytes())?;
+        write_number(out, count)?;
+    }
+    Ok(())
 }

@@ -38,9 +38,9 @@ impl<'a> Desk<'a> {
             Reply::Certificate(Some(certificate)) => {
                 signed(alloc, name, certificate.get().votes.as_slice())
             }
-            Reply::Certificate(None) => Ok(told(name, "none")),
+            Reply::Certificate(None) => Ok(told(name, " none")),
             Reply::Read(Some(block)) => found(name, block.get()),
-            Reply::Read(None) => Ok(told(name, "unknown")),
+            Reply::Read(None) => Ok(told(name, " unknown")),
             Reply::Causal(reply) => Ok(told(name, word_of(*reply))),
             Reply::Ready | Reply::List(_) => Err(LineFault::Bad),
             Reply::Collect(_) | Reply::Missing(_) | Reply::Status(_) => Err(LineFault::Bad),
@@ -51,11 +51,11 @@ impl<'a> Desk<'a> {
     fn stated(&self, alloc: Global, reply: &Reply) -> Result<Answer<'a>, LineFault> {
         match reply {
             Reply::Collect(CollectReply::Raised { dropped }) => Ok(Answer::Counted {
-                words: "raised",
+                words: "raised ",
                 number: *dropped,
             }),
             Reply::Collect(CollectReply::NotHigher(floor)) => Ok(Answer::Counted {
-                words: "not higher",
+                words: "not higher ",
                 number: floor.get(),
             }),
             Reply::Missing(wanted) => self.missing(alloc, wanted.as_slice()),
@@ -89,15 +89,15 @@ impl<'a> Desk<'a> {
         let words = match reply {
             WriteReply::Collected(floor) => return Ok(collected(name, floor)),
             WriteReply::Equivocates(first) => {
-                return self.told_of(name, "equivocates", first);
+                return self.told_of(name, " equivocates ", first);
             }
-            WriteReply::TooFar => "too far",
-            WriteReply::Held => "held",
-            WriteReply::Clash => "clash",
-            WriteReply::Misfit => "misfit",
-            WriteReply::Full => "full",
-            WriteReply::Stored { vote: true } => "stored vote",
-            WriteReply::Stored { vote: false } => "stored",
+            WriteReply::TooFar => " too far",
+            WriteReply::Held => " held",
+            WriteReply::Clash => " clash",
+            WriteReply::Misfit => " misfit",
+            WriteReply::Full => " full",
+            WriteReply::Stored { vote: true } => " stored vote",
+            WriteReply::Stored { vote: false } => " stored",
         };
         Ok(told(name, words))
     }
@@ -105,12 +105,12 @@ impl<'a> Desk<'a> {
     fn certified(&self, name: Name<'a>, reply: CertifyReply) -> Result<Answer<'a>, LineFault> {
         let words = match reply {
             CertifyReply::Collected(floor) => return Ok(collected(name, floor)),
-            CertifyReply::Conflict(other) => return self.told_of(name, "conflict", other),
-            CertifyReply::TooFar => "too far",
-            CertifyReply::Already => "already",
-            CertifyReply::Misfit => "misfit",
-            CertifyReply::Full => "full",
-            CertifyReply::Certified => "certified",
+            CertifyReply::Conflict(other) => return self.told_of(name, " conflict ", other),
+            CertifyReply::TooFar => " too far",
+            CertifyReply::Already => " already",
+            CertifyReply::Misfit => " misfit",
+            CertifyReply::Full => " full",
+            CertifyReply::Certified => " certified",
         };
         Ok(told(name, words))
     }
@@ -158,7 +158,7 @@ fn told<'a>(name: Name<'a>, words: &'static str) -> Answer<'a> {
 fn collected(name: Name<'_>, floor: Round) -> Answer<'_> {
     Answer::ToldCount {
         name,
-        words: "collected",
+        words: " collected ",
         number: floor.get(),
     }
 }
@@ -169,14 +169,14 @@ fn found<'a>(name: Name<'a>, block: &Block) -> Result<Answer<'a>, LineFault> {
     }
     Ok(Answer::ToldCount {
         name,
-        words: "found",
+        words: " found ",
         number: block.body_size() as u64,
     })
 }
 
 fn signed<'a>(alloc: Global, name: Name<'a>, votes: &[Seal]) -> Result<Answer<'a>, LineFault> {
     if votes.is_empty() {
-        return Ok(told(name, "certified by -"));
+        return Ok(told(name, " certified by -"));
     }
     let mut signers = Vec::with_capacity(alloc, votes.len())?;
     for seal in votes {
@@ -187,8 +187,8 @@ fn signed<'a>(alloc: Global, name: Name<'a>, votes: &[Seal]) -> Result<Answer<'a
 
 fn word_of(reply: CausalReply) -> &'static str {
     match reply {
-        CausalReply::Unknown => "unknown",
-        CausalReply::Uncertified => "uncertified",
-        CausalReply::Incomplete => "incomplete",
+        CausalReply::Unknown => " unknown",
+        CausalReply::Uncertified => " uncertified",
+        CausalReply::Incomplete => " incomplete",
     }
 }

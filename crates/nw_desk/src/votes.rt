@@ -42,7 +42,7 @@ impl<'a> Desk<'a> {
         let certificate = certificate(alloc, signers, bound.digest, &bound.block)?;
         let is_valid = valid::<DemoScheme>(self.committee.get(), bound.digest, &certificate);
         drop(certificate);
-        let words = if is_valid { "valid yes" } else { "valid no" };
+        let words = if is_valid { " valid yes" } else { " valid no" };
         Ok(Answer::Told { name, words })
     }
 
@@ -72,7 +72,7 @@ impl<'a> Desk<'a> {
             }
             Err(StartFault::Author) => Ok(Answer::Told {
                 name,
-                words: "refused author",
+                words: " refused author",
             }),
             Err(StartFault::NoMemory) => Err(LineFault::NoMemory),
         }

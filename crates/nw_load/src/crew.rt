@@ -26,7 +26,7 @@ type Started = JoinHandle<Result<NodeReport, End>>;
 ///
 /// The fault is the first of these that applies: `BadNodes`, and then `BadRounds`, before anything else and without memory;
 /// `NoMemory`; `Spawn`; `GateShut`; `Causal`; `Unsettled`. All threads that were started have ended when it returns, and it waits
-/// for them.
+/// for them. What a settled store takes is not given back: it goes with the process, at once and not owner by owner.
 pub fn load<G: Gate + Sync, R: Threads + Wait + Sync>(
     rt: &R,
     alloc: Global,

@@ -19,6 +19,7 @@ use nw_store::{
 };
 use std::alloc::Global;
 use std::marker::Brand;
+use std::mem::forget;
 use std::sync::Wait;
 use std::thread;
 use std::thread::{JoinHandle, Scope, Threads};
@@ -287,7 +288,8 @@ fn walk_with<'a, L: Home, R: Wait, G: Gate>(
     walked
 }
 
-/// What the node reports, once both sessions settle: how many events the history has, and this last walk.
+/// What the node reports, once both sessions settle: how many events the history has, and this last walk. The store goes with the
+/// process.
 fn settled<L: Home>(
     node: u16,
     store: Store<DemoScheme, L>,
@@ -297,7 +299,7 @@ fn settled<L: Home>(
     match settle(store, sessions) {
         Ok(settled) => {
             let events = settled.history().len();
-            drop(settled);
+            forget(settled);
             Ok(NodeReport { events, last })
         }
         Err(refused) => {

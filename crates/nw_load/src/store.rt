@@ -26,7 +26,10 @@ impl<'a, L: Home> LinkCalls<'a, L> {
     ) -> Result<bool, End> {
         match self.store.write(rt, alloc, self.session, block) {
             Ok(done) => {
-                let vote = matches!(&done.reply, Reply::Write(WriteReply::Stored { vote: true }));
+                let vote = matches!(
+                    done.reply(),
+                    Reply::Write(WriteReply::Stored { vote: true })
+                );
                 drop(done);
                 Ok(vote)
             }

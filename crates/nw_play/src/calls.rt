@@ -164,7 +164,7 @@ impl<L: Home> Calls<L> {
         }
         self.current = place;
         Ok(Answer::Counted {
-            words: "session",
+            words: "session ",
             number: u64::from(id),
         })
     }
@@ -189,7 +189,7 @@ fn told<'a>(
     name: Option<Name<'a>>,
     done: Done<DemoScheme>,
 ) -> Result<Answer<'a>, LineFault> {
-    let answer = desk.told(alloc, name, &done.reply);
+    let answer = desk.told(alloc, name, done.reply());
     drop(done);
     answer
 }

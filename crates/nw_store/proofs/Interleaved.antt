@@ -9,12 +9,13 @@ use mathlib.Core.List.{IsPrefix}
 use Rattle.nw_model.specs.declared.event.Event.{Event}
 use Rattle.nw_model.specs.History.{events_of, AreNumbered}
 use Rattle.nw_history.specs.Story.{Story}
-use Rattle.nw_store.specs.Journal.{Answer, Kept, Journal, AreBegun, AreAnswers}
+use Rattle.nw_book.specs.Answer.{Told}
+use Rattle.nw_store.specs.Journal.{Kept, Journal, AreBegun, AreAnswers}
 use Rattle.nw_store.specs.Settled.{events_in, AreInOrder, AreSettled, AreAllComparable}
 use Rattle.nw_store.proofs.Begun.{comparable}
 
 -- each front begins these events
-abbrev AreBegunBy : List Event → List Answer → Type 0
+abbrev AreBegunBy : List Event → List Told → Type 0
 AreBegunBy h answers = All (λ a. IsPrefix a.front.events h) answers
 
 -- the calls of the sessions below n, added up
@@ -28,7 +29,7 @@ AreBelow made [] = Unit {0}
 AreBelow made (e ∷ es) = (e.session < made) × AreBelow made es
 
 -- the answers of the journal at this place
-abbrev answers_at : List Journal → ℕ → List Answer
+abbrev answers_at : List Journal → ℕ → List Told
 answers_at [] s = []
 answers_at (j ∷ js) zero = j.answers
 answers_at (j ∷ js) (suc s) = answers_at js s
@@ -58,7 +59,7 @@ numbered_at n (x ∷ es) zero e h at = let same : x ≡ e = cc (at) in omega (ar
 numbered_at n (x ∷ es) (suc j) e h at = let r = numbered_at (n + 1) es j e h.1 at in omega (arith, r)
 
 -- the answers' events stand in the session's events, each at its number
-places : (s m : ℕ) (answers : List Answer) (h : List Event) → AreNumbered 1 (events_of s h) → AreAnswers s (m + 1) answers → AreBegunBy h answers
+places : (s m : ℕ) (answers : List Told) (h : List Event) → AreNumbered 1 (events_of s h) → AreAnswers s (m + 1) answers → AreBegunBy h answers
     → (k : ℕ) (x : Event) → slice_get (events_in answers) k ≡ Some x → slice_get (events_of s h) (m + k) ≡ Some x
 places s m [] h numbered are begun k x at = absurd (cc (at))
 places s m (e ∷ es) h numbered are begun zero x at =
@@ -185,14 +186,14 @@ all_below : (made : ℕ) (h : List Event) → all_outside h made ≡ 0 → AreBe
 all_below made [] z = tt
 all_below made (e ∷ es) z = (is_below e.session made (omega (arith, z)), all_below made es (omega (arith, z)))
 
-length_events_in : (es : List Answer) → length (events_in es) ≡ length es
+length_events_in : (es : List Told) → length (events_in es) ≡ length es
 length_events_in [] = refl
 length_events_in (e ∷ es) = let r = length_events_in es in omega (arith, r)
 
 zero_plus : (k : ℕ) → 0 + k ≡ k
 zero_plus k = omega arith
 
-settled : (made : ℕ) (h : List Event) (journal : ℕ → List Answer) → ((s : ℕ) → AreNumbered 1 (events_of s h))
+settled : (made : ℕ) (h : List Event) (journal : ℕ → List Told) → ((s : ℕ) → AreNumbered 1 (events_of s h))
     → ((s : ℕ) → s < made → AreAnswers s 1 (journal s) × AreBegunBy h (journal s)) → sum_upto (λ s. length (journal s)) made ≡ length h
     → ((s : ℕ) → s < made → events_of s h ≡ events_in (journal s)) × AreBelow made h
 settled made h journal numbered each sum =

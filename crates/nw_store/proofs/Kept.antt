@@ -9,7 +9,8 @@ use Rattle.nw_model.specs.declared.event.Event.{Event}
 use Rattle.nw_history.specs.Limits.{AreInRange}
 use Rattle.nw_history.specs.Story.{Story, Origin, IsLegalStory, with_event}
 use Rattle.nw_history.specs.Prefix.{IsPrefixOf}
-use Rattle.nw_store.specs.Journal.{Answer, Journal, AreAmong, IsAnswer, AreAnswers, origin_of}
+use Rattle.nw_book.specs.Answer.{Told}
+use Rattle.nw_store.specs.Journal.{Journal, AreAmong, IsAnswer, AreAnswers, origin_of}
 use Rattle.nw_store.specs.Kept.{IsKept, IsSession}
 use Rattle.nw_store.proofs.Begun.{among_longer, told_more, answers_last}
 
@@ -32,7 +33,7 @@ pub starts_so : (h next : Story) (e : Event) (o : Origin) → next ≡ with_even
 starts_so h next e o is starts = ap origin_of is ∙ starts
 
 -- the session with one more answer, whose front is claimed
-pub session_more : (id parts same amount more : ℕ) (claim longer : List Story) (answers after : List Answer) (a : Answer)
+pub session_more : (id parts same amount more : ℕ) (claim longer : List Story) (answers after : List Told) (a : Told)
     → IsSession parts amount (record { id = id; answers = answers; known = claim })
     → same ≡ parts → more ≡ amount + 1 → IsPrefix claim longer → Contains longer a.front → after ≡ answers ++ a ∷ [] → IsAnswer id (1 + length answers) a
     → IsSession same more (record { id = id; answers = after; known = longer })
@@ -40,11 +41,11 @@ session_more id parts same amount more claim longer answers after a s part one p
   id_below = s.id_below;
   part = part ∙ s.part;
   counted = one ∙ (ap (λ n. n + 1) s.counted ∙ sym (ap length items ∙ length-append answers (a ∷ [])));
-  claimed = subst (λ l. AreAmong longer l) (sym items) (All-push (λ (x : Answer). Contains longer x.front) answers a (among_longer claim longer answers p s.claimed) claimed);
+  claimed = subst (λ l. AreAmong longer l) (sym items) (All-push (λ (x : Told). Contains longer x.front) answers a (among_longer claim longer answers p s.claimed) claimed);
   numbered = subst (λ l. AreAnswers id 1 l) (sym items) (answers_last id 1 answers a s.numbered is);
 }
 
-pub answer_is : (id number : ℕ) (h front : Story) (e : Event) (a : Answer) → front ≡ with_event h e → e.session ≡ id → e.number ≡ number → a.front ≡ front → a.event ≡ e → IsAnswer id number a
+pub answer_is : (id number : ℕ) (h front : Story) (e : Event) (a : Told) → front ≡ with_event h e → e.session ≡ id → e.number ≡ number → a.front ≡ front → a.event ≡ e → IsAnswer id number a
 answer_is id number h front e a is session number_is same event = record {
   session = ap (λ (x : Event). x.session) event ∙ session;
   number_is = ap (λ (x : Event). x.number) event ∙ number_is;

@@ -7,6 +7,7 @@ use Rattle.nw_sig.specs.Signed.{Meaning}
 use Rattle.nw_model.specs.declared.event.Event.{Event}
 use Rattle.nw_history.specs.Story.{Story, Origin, IsLegalStory, first_origin}
 use Rattle.nw_history.specs.Prefix.{IsPrefixOf}
+use Rattle.nw_book.specs.Answer.{Told}
 
 -- which log and which ledger a store is opened on
 pub record Names : Type 0 where
@@ -31,27 +32,22 @@ pub record Kept : Type 0 where
   pub history : Story
   pub made : ℕ
 
--- what a session keeps of an answer: the event that was recorded, and the history up to and with it
-pub record Answer : Type 0 where
-  pub event : Event
-  pub front : Story
-
 -- a session: its id, its answers in order, and the histories that it knows of
 pub record Journal : Type 0 where
   pub id : ℕ
-  pub answers : List Answer
+  pub answers : List Told
   pub known : List Story
 
 -- each front is a beginning of the history
-abbrev pub AreBegun : Story → List Answer → Type 0
+abbrev pub AreBegun : Story → List Told → Type 0
 AreBegun history answers = All (λ a. IsPrefixOf a.front history) answers
 
 -- of any two answers, one's front is a beginning of the other's
-abbrev pub AreComparable : List Answer → List Answer → Type 0
+abbrev pub AreComparable : List Told → List Told → Type 0
 AreComparable answers others = All (λ a. All (λ b. IsPrefixOf a.front b.front ⊎ IsPrefixOf b.front a.front) others) answers
 
 -- each front is one of these
-abbrev pub AreAmong : List Story → List Answer → Type 0
+abbrev pub AreAmong : List Story → List Told → Type 0
 AreAmong fronts answers = All (λ a. Contains fronts a.front) answers
 
 -- who knows of the first knows of each of the others
@@ -59,13 +55,13 @@ abbrev pub KnowsAll : List Story → List Story → Type 0
 KnowsAll known others = (s : Story) → Contains others s → Contains known s
 
 -- the answer is to the call of this session with this number, and its front ends with that call
-pub record IsAnswer (id number : ℕ) (a : Answer) : Type 0 where
+pub record IsAnswer (id number : ℕ) (a : Told) : Type 0 where
   pub session : a.event.session ≡ id
   pub number_is : a.event.number ≡ number
   pub last : (earlier : List Event) × (a.front.events ≡ earlier ++ a.event ∷ [])
 
 -- the answers are to the calls of this session, numbered from this one on
-abbrev pub AreAnswers : ℕ → ℕ → List Answer → Type 0
+abbrev pub AreAnswers : ℕ → ℕ → List Told → Type 0
 AreAnswers id n [] = Unit {0}
 AreAnswers id n (a ∷ others) = IsAnswer id n a × AreAnswers id (n + 1) others
 

@@ -6,12 +6,13 @@ use mathlib.Core.Logic.{◌⊎◌}
 use Rattle.nw_model.specs.History.{events_of}
 use Rattle.nw_model.specs.declared.event.Event.{Event}
 use Rattle.nw_history.specs.Story.{Story}
-use Rattle.nw_store.specs.Journal.{Answer, Kept, Journal, AreBegun, AreComparable}
+use Rattle.nw_book.specs.Answer.{Told}
+use Rattle.nw_store.specs.Journal.{Kept, Journal, AreBegun, AreComparable}
 use Rattle.nw_store.specs.declared.error.SettleFault.{SettleFault}
 use Rattle.nw_store.specs.declared.error.SettleFault.TheVariants as faults
 
 -- the calls of these answers, in order
-abbrev pub events_in : List Answer → List Event
+abbrev pub events_in : List Told → List Event
 events_in answers = map (λ a. a.event) answers
 
 -- the journals are of the sessions from this one on, in order

@@ -1,18 +1,18 @@
 //! Calls of sessions, while the guard of the lock is lent.
-ghost use Rattle.std.specs.Prelude.{◌≡◌, Some, None, IfOk, IfErr, OnOk, OnErr};
+ghost use Rattle.std.specs.Prelude.{◌≡◌, List, Some, None, IfOk, IfErr, OnOk, OnErr};
 ghost use Rattle.std.specs.Option.{option_copied};
+ghost use Rattle.nw_committee.specs.declared.member.Member.{Member};
 ghost use Rattle.nw_model.specs.Checks.{digest_of};
 ghost use Rattle.nw_model.specs.History.{IsAdmitted};
 ghost use Rattle.nw_history.specs.Story.{IsLegalStory};
 ghost use Rattle.nw_book.specs.Answer.{IsFor, front_of, reply_of};
-ghost use Rattle.nw_book.specs.Command.{call_of, committee_of};
 ghost use Rattle.nw_book.specs.Turn.{HasRoom, IsInTurn, IsRefusal, MayStep};
 ghost use Rattle.nw_store.specs.Journal.{next_number, origin_of};
 ghost use Rattle.nw_store.specs.Answered.{IsAnswered};
 
-use crate::session::{Entry, Session};
+use crate::session::Session;
 use crate::{Home, Locked};
-use nw_book::{Command, Done, NoStep, Ticket};
+use nw_book::{Done, NoStep, Ticket};
 use nw_check::{CheckedBlock, CheckedCert};
 use nw_committee::Committee;
 use nw_digest::{Digest, NoMemory};
@@ -20,33 +20,33 @@ use nw_model::Call;
 use nw_sig::Scheme;
 use std::alloc::Global;
 
-/// Makes the session's next call, while the guard is lent.
+/// Makes the session's next call, which hands in nothing, while the guard is lent.
 ///
 /// It is refused as the book refuses it: `OutOfTurn` exactly where it is not the turn of the session's next number, else
-/// `OtherCommittee` exactly where what is handed in was checked under another committee, else `HistoryFull` exactly where the
-/// history has as many events as its limit, else `NoMemory` where memory is refused, which is asked for after these tests. A
-/// refusal changes neither what the lock holds nor the session.
-pub fn call_locked<S: Scheme, L: Home>(
+/// `HistoryFull` exactly where the history has as many events as its limit, else `NoMemory` where memory is refused, which is
+/// asked for after these tests. A refusal changes neither what the lock holds nor the session.
+pub fn ask_locked<S: Scheme, L: Home>(
     locked: &mut Locked<S, L>,
     alloc: Global,
     session: &mut Session<S, L>,
-    command: &Command<S>,
+    call: Call,
 ) -> Result<Done<S>, NoStep>
+    requires { (members : List Member) → IsAdmitted S.accepts members call }
     ensures answered { IfOk result (λ done. IsAnswered S.accepts locked.old.history session.old
-        session.new (call_of command.now) done.reply done.front) }
+        session.new call done.event.reply done.front) }
     ensures starts { origin_of locked.old.history ≡ L.origin }
     ensures legal { IsLegalStory S.accepts locked.old.history }
     ensures history { IfOk result (λ done.
         locked.new ≡ record { history = done.front; made = locked.old.made }) }
-    ensures may { OnOk result (MayStep locked.old.history session.old.id
-        (next_number session.old) (committee_of command.now)) }
-    ensures refused { IfErr result (IsRefusal locked.old.history session.old.id
-        (next_number session.old) (committee_of command.now)) }
+    ensures may { OnOk result
+        (MayStep locked.old.history session.old.id (next_number session.old) None) }
+    ensures refused { IfErr result
+        (IsRefusal locked.old.history session.old.id (next_number session.old) None) }
     ensures unchanged { OnErr result (locked.new ≡ locked.old) }
     ensures session { OnErr result (session.new ≡ session.old) }
 {
-    let number = may_call(locked, session, command.committee())?;
-    Ok(take_call(locked, alloc, session, number, command.call()?)?)
+    let number = may_call(locked, session, None)?;
+    Ok(take_call(locked, alloc, session, number, call)?)
 }
 
 /// Opens a causal read as the session's next call, while the guard is lent: a ticket where there is a list, else an answer that
@@ -80,7 +80,12 @@ pub fn open_locked<S: Scheme, L: Home>(
 }
 
 /// Writes the block, which is lent, as the session's next call, while the guard is lent.
-pub(crate) fn write_locked<S: Scheme, L: Home>(
+///
+/// It is refused as the book refuses it: `OutOfTurn` exactly where it is not the turn of the session's next number, else
+/// `OtherCommittee` exactly where the block was checked under another committee, else `HistoryFull` exactly where the history has
+/// as many events as its limit, else `NoMemory` where memory is refused, which is asked for after these tests. A refusal changes
+/// neither what the lock holds nor the session.
+pub fn write_locked<S: Scheme, L: Home>(
     locked: &mut Locked<S, L>,
     alloc: Global,
     session: &mut Session<S, L>,
@@ -88,13 +93,16 @@ pub(crate) fn write_locked<S: Scheme, L: Home>(
 ) -> Result<Done<S>, NoStep>
     ensures answered { IfOk result (λ done. IsAnswered S.accepts locked.old.history session.old
         session.new
-        (Call.Write (digest_of block.now.block) block.now.block) done.reply done.front) }
+        (Call.Write (digest_of block.now.block) block.now.block) done.event.reply done.front) }
     ensures starts { origin_of locked.old.history ≡ L.origin }
     ensures legal { IsLegalStory S.accepts locked.old.history }
+    ensures history { IfOk result (λ done.
+        locked.new ≡ record { history = done.front; made = locked.old.made }) }
     ensures may { OnOk result (MayStep locked.old.history session.old.id
         (next_number session.old) (Some block.now.committee)) }
     ensures refused { IfErr result (IsRefusal locked.old.history session.old.id
         (next_number session.old) (Some block.now.committee)) }
+    ensures unchanged { OnErr result (locked.new ≡ locked.old) }
     ensures session { OnErr result (session.new ≡ session.old) }
 {
     let number = may_call(locked, session, Some(block.committee().get()))?;
@@ -102,21 +110,24 @@ pub(crate) fn write_locked<S: Scheme, L: Home>(
     Ok(take_call(locked, alloc, session, number, call)?)
 }
 
-/// Hands in the certificate, which is lent, as the session's next call, while the guard is lent.
-pub(crate) fn certify_locked<S: Scheme, L: Home>(
+/// Hands in the certificate, which is lent, as the session's next call, while the guard is lent. It is refused as a write is.
+pub fn certify_locked<S: Scheme, L: Home>(
     locked: &mut Locked<S, L>,
     alloc: Global,
     session: &mut Session<S, L>,
     certificate: &CheckedCert<S>,
 ) -> Result<Done<S>, NoStep>
     ensures answered { IfOk result (λ done. IsAnswered S.accepts locked.old.history session.old
-        session.new (Call.Certify certificate.now.certificate) done.reply done.front) }
+        session.new (Call.Certify certificate.now.certificate) done.event.reply done.front) }
     ensures starts { origin_of locked.old.history ≡ L.origin }
     ensures legal { IsLegalStory S.accepts locked.old.history }
+    ensures history { IfOk result (λ done.
+        locked.new ≡ record { history = done.front; made = locked.old.made }) }
     ensures may { OnOk result (MayStep locked.old.history session.old.id
         (next_number session.old) (Some certificate.now.committee)) }
     ensures refused { IfErr result (IsRefusal locked.old.history session.old.id
         (next_number session.old) (Some certificate.now.committee)) }
+    ensures unchanged { OnErr result (locked.new ≡ locked.old) }
     ensures session { OnErr result (session.new ≡ session.old) }
 {
     let number = may_call(locked, session, Some(certificate.committee().get()))?;
@@ -162,7 +173,7 @@ fn take_call<S: Scheme, L: Home>(
     requires admitted { IsAdmitted S.accepts locked.old.history.committee call }
     requires room { HasRoom locked.old.history }
     ensures answered { IfOk result (λ done. IsAnswered S.accepts locked.old.history session.old
-        session.new call done.reply done.front) }
+        session.new call done.event.reply done.front) }
     ensures history { IfOk result (λ done.
         locked.new ≡ record { history = done.front; made = locked.old.made }) }
     ensures unchanged { OnErr result (locked.new ≡ locked.old) }
@@ -170,8 +181,8 @@ fn take_call<S: Scheme, L: Home>(
 {
     session.journal.reserve(1)?;
     let (done, kept) = locked.book.take_step(alloc, session.id, number, call)?;
-    locked.tally.tell(&mut session.pass, &kept);
-    session.journal.push_reserved(Entry::of(kept));
+    locked.tally.tell(&mut session.pass, kept.front());
+    session.journal.push_reserved(kept);
     Ok(done)
 }
 
@@ -197,7 +208,7 @@ fn take_open<S: Scheme, L: Home>(
 {
     session.journal.reserve(1)?;
     let (answer, kept) = locked.book.take_open(alloc, session.id, number, digest)?;
-    locked.tally.tell(&mut session.pass, &kept);
-    session.journal.push_reserved(Entry::of(kept));
+    locked.tally.tell(&mut session.pass, kept.front());
+    session.journal.push_reserved(kept);
     Ok(answer)
 }

@@ -17,7 +17,7 @@ mod session;
 mod settlement;
 mod store;
 
-pub use calls::{call_locked, open_locked};
+pub use calls::{ask_locked, certify_locked, open_locked, write_locked};
 pub use error::{SettleFault, TooMany};
 pub use home::Home;
 pub use locked::{Locked, compact_locked, compare_locked, renew_locked, session_locked};
@@ -28,6 +28,6 @@ pub use nw_book::{
     MOST_SESSIONS, NoMemory, NoStep, Reply, Round, Scheme, Sequence, Shared, Ticket, View,
 };
 pub use opening::Opening;
-pub use session::{Entry, Session};
+pub use session::Session;
 pub use settlement::{Settled, Unsettled, settle, settle_locked};
 pub use store::Store;

@@ -10,8 +10,8 @@ ghost use Rattle.nw_store.specs.Settled.{AreAll, AreAllComparable, AreSettled, I
 ghost use Rattle.nw_store.specs.Settled.{IsFirstStray, IsStray, ids_of};
 
 use crate::locked::renew_locked;
-use crate::{Entry, Home, Locked, Session, SettleFault, Store};
-use nw_book::{Book, History, MOST_SESSIONS};
+use crate::{Home, Locked, Session, SettleFault, Store};
+use nw_book::{Book, Done, History, MOST_SESSIONS};
 use nw_digest::NoMemory;
 use nw_sig::Scheme;
 use std::alloc::Global;
@@ -71,7 +71,7 @@ impl<S: Scheme, L: Home> Settled<S, L> {
     }
 
     /// The journal of the session, or `None` where no session has this id.
-    pub fn journal(&self, session: u16) -> Option<&[Entry<S>]>
+    pub fn journal(&self, session: u16) -> Option<&[Done<S>]>
         ensures journal { IfSome result (λ entries. (j : Journal)
             × (slice_get self.now.journals session ≡ Some j) × (entries.now ≡ j.answers)) }
         ensures none { IfNone result (length self.now.journals ≤ session) }

@@ -6,6 +6,7 @@ ghost use Rattle.std.specs.Prelude.{
   [],
   Some,
   None,
+  List,
   IsOk,
   IfOk,
   IfErr,
@@ -13,25 +14,26 @@ ghost use Rattle.std.specs.Prelude.{
   OnErr,
 };
 ghost use Rattle.std.specs.Result.{IsErrOf};
+ghost use Rattle.nw_committee.specs.declared.member.Member.{Member};
 ghost use Rattle.nw_model.specs.Checks.{digest_of};
-ghost use Rattle.nw_model.specs.declared.call.Call.TheVariants as Call;
+ghost use Rattle.nw_model.specs.History.{IsAdmitted};
 ghost use Rattle.nw_history.specs.Limits.{AreInRange};
 ghost use Rattle.nw_history.specs.Story.{first_origin};
 ghost use Rattle.nw_history.specs.declared.limits.TheConstants.{MOST_SESSIONS};
 ghost use Rattle.nw_book.specs.Answer.{IsFor, front_of, reply_of};
-ghost use Rattle.nw_book.specs.Command.{call_of, committee_of};
 ghost use Rattle.nw_store.specs.Journal.{KnowsAll, origin_of};
 ghost use Rattle.nw_store.specs.Kept.{parts_of_a_ledger};
 ghost use Rattle.nw_store.specs.Answered.{IsExplained, TakesNoStep};
 
-use crate::calls::{call_locked, certify_locked, open_locked, write_locked};
+use crate::calls::{ask_locked, certify_locked, open_locked, write_locked};
 use crate::locked::{compact_locked, session_locked};
 use crate::notes::{hear_locked, note_locked};
 use crate::{Home, Locked, Note, Opening, Session, TooMany};
-use nw_book::{Book, BookError, Command, Done, Limits, NoStep, Ticket};
+use nw_book::{Book, BookError, Done, Limits, NoStep, Ticket};
 use nw_check::{CheckedBlock, CheckedCert};
 use nw_committee::Committee;
 use nw_digest::{Digest, NoMemory, Round, Shared};
+use nw_model::Call;
 use nw_sig::Scheme;
 use std::alloc::Global;
 use std::sync::{Mutex, Wait};
@@ -123,7 +125,7 @@ impl<S: Scheme, L: Home> Store<S, L> {
     ) -> Result<Done<S>, NoStep>
         ensures answered { IfOk result
             (λ done. IsExplained S.accepts L.origin session.old session.new
-            (Call.Write (digest_of block.now.block) block.now.block) done.reply done.front) }
+            (Call.Write (digest_of block.now.block) block.now.block) done.event.reply done.front) }
         ensures own_committee { OnOk result (block.now.committee ≡ L.origin.committee) }
         ensures no_step { IfErr result
             (TakesNoStep S.accepts L.origin session.old (Some block.now.committee)) }
@@ -142,7 +144,7 @@ impl<S: Scheme, L: Home> Store<S, L> {
     ) -> Result<Done<S>, NoStep>
         ensures answered { IfOk result
             (λ done. IsExplained S.accepts L.origin session.old session.new
-            (Call.Certify certificate.now.certificate) done.reply done.front) }
+            (Call.Certify certificate.now.certificate) done.event.reply done.front) }
         ensures own_committee { OnOk result (certificate.now.committee ≡ L.origin.committee) }
         ensures no_step { IfErr result
             (TakesNoStep S.accepts L.origin session.old (Some certificate.now.committee)) }
@@ -161,11 +163,11 @@ impl<S: Scheme, L: Home> Store<S, L> {
     ) -> Result<Done<S>, NoStep>
         ensures answered { IfOk result
             (λ done. IsExplained S.accepts L.origin session.old session.new
-            (Call.Certificate digest) done.reply done.front) }
+            (Call.Certificate digest) done.event.reply done.front) }
         ensures no_step { IfErr result (TakesNoStep S.accepts L.origin session.old None) }
         ensures unchanged { OnErr result (session.new ≡ session.old) }
     {
-        self.call(rt, alloc, session, &Command::Certificate(digest))
+        self.ask(rt, alloc, session, Call::Certificate(digest))
     }
 
     /// Reads the block that is held under the digest: a call of the session.
@@ -178,11 +180,11 @@ impl<S: Scheme, L: Home> Store<S, L> {
     ) -> Result<Done<S>, NoStep>
         ensures answered { IfOk result
             (λ done. IsExplained S.accepts L.origin session.old session.new
-            (Call.Read digest) done.reply done.front) }
+            (Call.Read digest) done.event.reply done.front) }
         ensures no_step { IfErr result (TakesNoStep S.accepts L.origin session.old None) }
         ensures unchanged { OnErr result (session.new ≡ session.old) }
     {
-        self.call(rt, alloc, session, &Command::Read(digest))
+        self.ask(rt, alloc, session, Call::Read(digest))
     }
 
     /// Drops what is of a round below this one, which is the garbage round from then on: a call of the session. Tickets that
@@ -196,11 +198,11 @@ impl<S: Scheme, L: Home> Store<S, L> {
     ) -> Result<Done<S>, NoStep>
         ensures answered { IfOk result
             (λ done. IsExplained S.accepts L.origin session.old session.new
-            (Call.Collect round) done.reply done.front) }
+            (Call.Collect round) done.event.reply done.front) }
         ensures no_step { IfErr result (TakesNoStep S.accepts L.origin session.old None) }
         ensures unchanged { OnErr result (session.new ≡ session.old) }
     {
-        self.call(rt, alloc, session, &Command::Collect(round))
+        self.ask(rt, alloc, session, Call::Collect(round))
     }
 
     /// Reads the first so many of the parents that are wanted: a call of the session.
@@ -213,11 +215,11 @@ impl<S: Scheme, L: Home> Store<S, L> {
     ) -> Result<Done<S>, NoStep>
         ensures answered { IfOk result
             (λ done. IsExplained S.accepts L.origin session.old session.new
-            (Call.Missing most) done.reply done.front) }
+            (Call.Missing most) done.event.reply done.front) }
         ensures no_step { IfErr result (TakesNoStep S.accepts L.origin session.old None) }
         ensures unchanged { OnErr result (session.new ≡ session.old) }
     {
-        self.call(rt, alloc, session, &Command::Missing(most))
+        self.ask(rt, alloc, session, Call::Missing(most))
     }
 
     /// Reads how much is kept and how much is wanted: a call of the session.
@@ -229,11 +231,11 @@ impl<S: Scheme, L: Home> Store<S, L> {
     ) -> Result<Done<S>, NoStep>
         ensures answered { IfOk result
             (λ done. IsExplained S.accepts L.origin session.old session.new
-            Call.Status done.reply done.front) }
+            Call.Status done.event.reply done.front) }
         ensures no_step { IfErr result (TakesNoStep S.accepts L.origin session.old None) }
         ensures unchanged { OnErr result (session.new ≡ session.old) }
     {
-        self.call(rt, alloc, session, &Command::Status)
+        self.ask(rt, alloc, session, Call::Status)
     }
 
     /// Lets later tickets share one copy of what is complete, without what was collected. It is no call of a session: no history,
@@ -261,21 +263,21 @@ impl<S: Scheme, L: Home> Store<S, L> {
         open_locked(&mut *self.locked.lock(rt), alloc, session, digest)
     }
 
-    /// Makes the session's next call, of a command that hands in nothing or what was checked.
-    fn call<R: Wait>(
+    /// Makes the session's next call, which hands in nothing.
+    fn ask<R: Wait>(
         &self,
         rt: &R,
         alloc: Global,
         session: &mut Session<S, L>,
-        command: &Command<S>,
+        call: Call,
     ) -> Result<Done<S>, NoStep>
+        requires { (members : List Member) → IsAdmitted S.accepts members call }
         ensures answered { IfOk result
             (λ done. IsExplained S.accepts L.origin session.old session.new
-            (call_of command.now) done.reply done.front) }
-        ensures no_step { IfErr result
-            (TakesNoStep S.accepts L.origin session.old (committee_of command.now)) }
+            call done.event.reply done.front) }
+        ensures no_step { IfErr result (TakesNoStep S.accepts L.origin session.old None) }
         ensures unchanged { OnErr result (session.new ≡ session.old) }
     {
-        call_locked(&mut *self.locked.lock(rt), alloc, session, command)
+        ask_locked(&mut *self.locked.lock(rt), alloc, session, call)
     }
 }

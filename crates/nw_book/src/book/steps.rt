@@ -8,8 +8,8 @@ ghost use Rattle.nw_history.specs.Story.{IsLegalStory, bounds_of, state_of, with
 ghost use Rattle.nw_book.specs.Answer.{IsFor, Takes, front_of, reply_of};
 ghost use Rattle.nw_book.specs.Turn.{HasRoom, IsInTurn, event};
 
-use super::{Book, Done};
-use crate::Ticket;
+use super::Book;
+use crate::{Done, Ticket};
 use nw_dag::Dag;
 use nw_digest::{Digest, NoMemory};
 use nw_generation::View;
@@ -19,26 +19,28 @@ use nw_sig::Scheme;
 use std::alloc::Global;
 
 impl<S: Scheme> Book<S> {
-    /// Takes the step of a call that may be taken, and answers it, with one more owner of the front for whoever keeps a
-    /// journal. It is refused for want of memory alone, and then changes nothing.
+    /// Takes the step of a call that may be taken, and answers it, twice: once for whoever keeps a journal. It is refused for want
+    /// of memory alone, and then changes nothing.
     pub fn take_step(
         &mut self,
         alloc: Global,
         session: u16,
         number: u32,
         call: Call,
-    ) -> Result<(Done<S>, Front<S>), NoMemory>
+    ) -> Result<(Done<S>, Done<S>), NoMemory>
         requires turn { IsInTurn self.old session number }
         requires admitted { IsAdmitted S.accepts self.old.committee call }
         requires room { HasRoom self.old }
         ensures taken { IfOk result (λ taken.
-            Takes S.accepts self.old self.new session number call taken.0.reply taken.0.front) }
-        ensures kept { IfOk result (λ taken. taken.1 ≡ self.new) }
+            Takes S.accepts self.old self.new session number call taken.0.event.reply taken.0.front) }
+        ensures kept { IfOk result (λ taken. taken.1 ≡ record {
+          event = event session number call taken.0.event.reply;
+          front = self.new;
+        }) }
         ensures unchanged { OnErr result (self.new ≡ self.old) }
     {
-        let answer = self.reply(alloc, &call)?;
-        let call = with_kept(&self.tables, call, &answer)?;
-        let reply = answer.try_clone(alloc)?;
+        let reply = self.reply(alloc, &call)?;
+        let call = with_kept(&self.tables, call, &reply)?;
         let event = Event {
             session,
             number,
@@ -46,41 +48,39 @@ impl<S: Scheme> Book<S> {
             reply,
         };
         let (front, kept) = self.record(alloc, event)?;
-        let done = Done {
-            reply: answer,
-            front,
-        };
-        Ok((done, kept))
+        Ok((Done::of(front), Done::of(kept)))
     }
 
-    /// Takes the step of a causal read that may be taken, and answers it, with one more owner of the front for whoever keeps a
-    /// journal. It is refused for want of memory alone, and then changes nothing.
+    /// Takes the step of a causal read that may be taken, and answers it, and gives one answer more for whoever keeps a journal. It
+    /// is refused for want of memory alone, and then changes nothing.
     pub fn take_open(
         &mut self,
         alloc: Global,
         session: u16,
         number: u32,
         digest: Digest,
-    ) -> Result<(Result<Ticket<S>, Done<S>>, Front<S>), NoMemory>
+    ) -> Result<(Result<Ticket<S>, Done<S>>, Done<S>), NoMemory>
         requires turn { IsInTurn self.old session number }
         requires room { HasRoom self.old }
         ensures taken { IfOk result (λ taken. Takes S.accepts self.old self.new session number
             (Call.Causal digest) (reply_of taken.0) (front_of taken.0)) }
         ensures told { IfOk result (λ taken. IsFor digest taken.0) }
-        ensures kept { IfOk result (λ taken. taken.1 ≡ self.new) }
+        ensures kept { IfOk result (λ taken. taken.1 ≡ record {
+          event = event session number (Call.Causal digest) (reply_of taken.0);
+          front = self.new;
+        }) }
         ensures unchanged { OnErr result (self.new ≡ self.old) }
     {
         match self.freeze_for(alloc, digest)? {
             Ok(view) => {
                 let event = read_event(session, number, digest, Reply::Ready);
                 let (front, kept) = self.record(alloc, event)?;
-                Ok((Ok(Ticket::new(digest, front, view)), kept))
+                Ok((Ok(Ticket::new(digest, front, view)), Done::of(kept)))
             }
             Err(refusal) => {
                 let event = read_event(session, number, digest, Reply::Causal(refusal));
                 let (front, kept) = self.record(alloc, event)?;
-                let reply = Reply::Causal(refusal);
-                Ok((Err(Done { reply, front }), kept))
+                Ok((Err(Done::of(front)), Done::of(kept)))
             }
         }
     }

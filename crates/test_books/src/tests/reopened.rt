@@ -15,14 +15,13 @@ fn answers(
     alloc: Global,
     writes: [&Command<DemoScheme>; 2],
 ) -> Result<([Reply; 2], Front<DemoScheme>), NoStep> {
-    let first = ask(book, alloc, writes[0])?.reply;
-    match ask(book, alloc, writes[1]) {
-        Ok(Done { reply, front }) => Ok(([first, reply], front)),
-        Err(refusal) => {
-            drop(first);
-            Err(refusal)
-        }
-    }
+    let first = ask(book, alloc, writes[0])?;
+    let second = ask(book, alloc, writes[1])?;
+    let replies = [
+        first.reply().try_clone(alloc)?,
+        second.reply().try_clone(alloc)?,
+    ];
+    Ok((replies, second.front().try_clone()?))
 }
 
 /// Whether the front starts from a base with this certified block of round 0 and author 0, and nothing else.

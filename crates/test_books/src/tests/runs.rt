@@ -52,7 +52,7 @@ fn word(answer: &Answer<DemoScheme>) -> (&'static str, &[Shared<Block>]) {
     match answer {
         Answer::Opened => ("opened", &[]),
         Answer::Walked(list) => ("walked", list.as_slice()),
-        Answer::Done(done) => match &done.reply {
+        Answer::Done(done) => match done.reply() {
             Reply::Write(WriteReply::Stored { vote: true }) => ("stored vote", &[]),
             Reply::Certify(CertifyReply::Certified) => ("certified", &[]),
             Reply::Collect(CollectReply::Raised { dropped: 1 }) => ("raised 1", &[]),

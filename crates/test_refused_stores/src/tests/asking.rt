@@ -59,7 +59,7 @@ fn open<L: Home, R: Wait>(
     tickets: &mut Vec<Ticket<DemoScheme>>,
 ) -> Result<Reply, NoStep> {
     match store.open_causal(rt, alloc, session, link.block.digest())? {
-        Err(done) => Ok(done.reply),
+        Err(done) => Ok(done.reply().try_clone(alloc)?),
         Ok(ticket) => match tickets.push(ticket) {
             Ok(()) => Ok(Reply::Ready),
             Err(_) => Err(NoStep::NoMemory),
@@ -92,7 +92,12 @@ fn reply_to<L: Home, R: Wait>(
             Ok(()) => Ok(Reply::Ready),
             Err(NoMemory) => Err(NoStep::NoMemory),
         },
-        _ => Ok(call(rt, alloc, store, session, link, asked)?.reply),
+        _ => {
+            let done = call(rt, alloc, store, session, link, asked)?;
+            let reply = again!(NoMemory, done.reply().try_clone(alloc));
+            drop(done);
+            Ok(reply?)
+        }
     }
 }
 

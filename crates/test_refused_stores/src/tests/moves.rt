@@ -57,7 +57,7 @@ fn text_of(alloc: Global, answer: &Answer<DemoScheme>) -> Result<String, AllocEr
             }
             more => format!(in alloc; "Walked {} blocks", more.len()),
         },
-        Answer::Done(done) => format!(in alloc; "{:?}", done.reply),
+        Answer::Done(done) => format!(in alloc; "{:?}", done.reply()),
     }
 }
 

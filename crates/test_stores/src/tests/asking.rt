@@ -58,7 +58,7 @@ fn open<L: Home, R: Wait>(
         }
         Err(done) => {
             *ticket = None;
-            Ok(done.reply)
+            Ok(done.reply().try_clone(alloc)?)
         }
     }
 }
@@ -84,6 +84,10 @@ pub(super) fn reply_to<L: Home, R: Wait>(
     match asked {
         Ask::Open => open(rt, alloc, store, session, link, ticket),
         Ask::Walk => walk(alloc, ticket),
-        _ => Ok(call(rt, alloc, store, session, link, asked)?.reply),
+        _ => Ok(
+            call(rt, alloc, store, session, link, asked)?
+                .reply()
+                .try_clone(alloc)?,
+        ),
     }
 }

@@ -15,7 +15,7 @@ use Rattle.nw_load.proofs.node.start_client.Lts as lts
 -- what the closure captures: what all nodes share, the node, the store, the session and the news
 pub spawn-requires-send-F : goal.spawn-requires-send-F
 spawn-requires-send-F g c κs within =
-    let names = lts.name-37 g.row.L g.row.R g.row.G g.L.laws g.R.laws g.G.laws g.L.Home g.L.Home-dict g.L.Place g.L.Place-dict g.L.Ledger g.L.Ledger-dict g.R.Threads g.R.Threads-dict g.R.Wait g.R.Wait-dict g.G.Gate g.G.Gate-dict in
+    let names = lts.name-38 g.row.L g.row.R g.row.G g.L.laws g.R.laws g.G.laws g.L.Home g.L.Home-dict g.L.Place g.L.Place-dict g.L.Ledger g.L.Ledger-dict g.R.Threads g.R.Threads-dict g.R.Wait g.R.Wait-dict g.G.Gate g.G.Gate-dict in
     let captured = lts.of-40 g.row.L g.row.R g.row.G g.L.laws g.R.laws g.G.laws g.L.Home g.L.Home-dict g.L.Place g.L.Place-dict g.L.Ledger g.L.Ledger-dict g.R.Threads g.R.Threads-dict g.R.Wait g.R.Wait-dict g.G.Gate g.G.Gate-dict
     (record { mir = named 5; lft = κs.1.1.1.1.1.0 }) (record { mir = named 6; lft = κs.1.1.1.1.1.1.0 }) (record { mir = named 7; lft = κs.1.1.1.1.1.1.1.0 }) in
     let closure = type_at names captured in

@@ -6,7 +6,7 @@ use Rattle.nw_store.proofs.store.Store.certify.Goals as goal
 pub returns-clause-answered : goal.returns-clause-answered
 returns-clause-answered g c =
     let known : IsHistoryOf g.S.Scheme.accepts g.L.Home.origin _ = record { starts = c.certify_locked.ensures.starts; legal = c.certify_locked.ensures.legal } in
-    explained g.S.Scheme.accepts _ _ _ _ _ (λ done. done.reply) (λ done. done.front) c.certify_locked.result known c.certify_locked.ensures.answered
+    explained g.S.Scheme.accepts _ _ _ _ _ (λ done. done.event.reply) (λ done. done.front) c.certify_locked.result known c.certify_locked.ensures.answered
 
 pub returns-clause-no_step : goal.returns-clause-no_step
 returns-clause-no_step g c =
