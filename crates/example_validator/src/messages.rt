@@ -4,7 +4,8 @@ use crate::intake::{Inbox, Text};
 use crate::scheme::sign;
 use crossbeam_channel::unbounded;
 use nw_codec::{
-    Block, Certificate, Message, Ref, Seal, block_digest, encode_block, encode_message,
+    Block, Certificate, Message, Ref, Seal, Transactions, block_digest, encode_block,
+    encode_message,
 };
 use nw_committee::{Committee, Key};
 use nw_digest::{Digest, Round, Sequence, Shared};
@@ -115,13 +116,13 @@ fn signed_block(
     parents: &[Ref],
     transaction: u8,
 ) -> Result<(Digest, Text), End> {
-    let mut transactions = Vec::new(alloc);
-    transactions.push(Sequence::new([transaction].to_vec(alloc)?))?;
+    let mut transactions = Transactions::new(alloc);
+    transactions.push(&[transaction])?;
     let block = Block {
         author,
         round: Round::new(round).unwrap_or(Round::ZERO),
         parents: Sequence::new(parents.to_vec(alloc)?),
-        transactions: Sequence::new(transactions),
+        transactions,
     };
     if !block.fits() {
         return Err(End::Unasked);

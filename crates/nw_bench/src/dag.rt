@@ -2,10 +2,11 @@
 
 use anyhow::Error;
 use nw_codec::{
-    Block, Certificate, Message, Ref, Seal, Signature, block_digest, encode_block, encode_message,
+    Block, Certificate, EncodeError, Message, Ref, Seal, Signature, Transactions, block_digest,
+    encode_block, encode_message,
 };
 use nw_committee::{Committee, Key};
-use nw_digest::{Digest, NoMemory, Round, Sequence, Shared};
+use nw_digest::{Digest, Round, Sequence, Shared};
 use nw_sig::{DemoSigner, Signer, block_text, vote_text};
 use std::alloc::Global;
 
@@ -94,7 +95,7 @@ fn messages_of(
         author,
         round,
         parents: Sequence::new(parents.to_vec(alloc)?),
-        transactions: Sequence::new(transactions(alloc, author)?),
+        transactions: transactions(alloc, author)?,
     };
     if !block.fits() {
         return Err(Error::msg("the block breaks a limit"));
@@ -110,12 +111,12 @@ fn messages_of(
 }
 
 /// As many transactions as a block has at most, each of the author's number and zeros.
-fn transactions(alloc: Global, author: u16) -> Result<Vec<Sequence<u8>>, NoMemory> {
-    let mut transactions = Vec::with_capacity(alloc, TRANSACTIONS)?;
+fn transactions(alloc: Global, author: u16) -> Result<Transactions, EncodeError> {
+    let mut transaction = [0; BYTES];
+    transaction[..2].copy_from_slice(&author.to_be_bytes());
+    let mut transactions = Transactions::new(alloc);
     for _ in 0..TRANSACTIONS {
-        let mut transaction = vec![in alloc; 0; BYTES]?;
-        transaction[..2].copy_from_slice(&author.to_be_bytes());
-        transactions.push(Sequence::new(transaction))?;
+        transactions.push(&transaction)?;
     }
     Ok(transactions)
 }

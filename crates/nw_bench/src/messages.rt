@@ -2,7 +2,7 @@
 ghost use Rattle.std.specs.Prelude.{◌≡◌, IfOk, vec_len, length};
 
 use anyhow::Error;
-use nw_codec::{Block, block_digest, encode_block};
+use nw_codec::{Block, Transactions, block_digest, encode_block};
 use nw_committee::{Committee, Key};
 use nw_digest::{NoMemory, Round, Sequence, Shared};
 use nw_sig::{DemoSigner, Signer, block_text};
@@ -33,13 +33,13 @@ pub fn messages(alloc: Global, count: u32, bytes: usize) -> Result<Vec<Vec<u8>>,
 
 /// The message of a block of round 0 with one transaction, signed by its author.
 fn message(alloc: Global, number: u32, bytes: usize) -> Result<Vec<u8>, Error> {
-    let mut transactions = Vec::new(alloc);
-    transactions.push(Sequence::new(transaction(alloc, number, bytes)?))?;
+    let mut transactions = Transactions::new(alloc);
+    transactions.push(&transaction(alloc, number, bytes)?)?;
     let block = Block {
         author: 0,
         round: Round::ZERO,
         parents: Sequence::new(Vec::new(alloc)),
-        transactions: Sequence::new(transactions),
+        transactions,
     };
     if !block.fits() {
         return Err(Error::msg("the block breaks a limit"));

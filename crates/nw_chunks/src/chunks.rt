@@ -5,7 +5,7 @@ ghost use Rattle.std.specs.Option.{option_copied};
 ghost use Rattle.nw_chunks.specs.Chunks.{AreChunked, items_of};
 
 use crate::chunk::{CHUNK, Chunk};
-use crate::trail::Trail;
+use crate::trail::{Link, Trail};
 use nw_digest::{NoMemory, Shared};
 use std::alloc::Global;
 use std::marker::Model;
@@ -127,6 +127,26 @@ impl<H: Drop, T: Drop> Chunks<H, T> {
             return None;
         }
         self.behind.back(self.count - 1 - place)
+    }
+
+    /// A link to each item behind the full chunks, in order: at most 255. It takes one list of memory.
+    pub fn behind(&self, alloc: Global) -> Result<Vec<Link<T>>, NoMemory>
+        ensures { IfOk result (λ links. links.items ≡ self.now.behind) }
+    {
+        self.behind.items(alloc, self.count)
+    }
+
+    /// The item at the index, as `get` gives it, by the links that `behind` gave: it costs a constant number of steps.
+    pub fn get_by<'a>(&'a self, behind: &'a [Link<T>], index: usize) -> Option<&'a T>
+        requires { behind.now ≡ self.now.behind }
+        ensures { option_copied result ≡ slice_get (items_of self.now) index }
+    {
+        let chunks = self.root.get().full.as_slice().len();
+        if index / CHUNK < chunks {
+            return self.get(index);
+        }
+        let link = behind.get(index - CHUNK * chunks)?;
+        Some(link.item())
     }
 
     /// The last item, or `None` where it has none. Its cost is the same for every list.

@@ -10,3 +10,4 @@ mod trail;
 
 pub use chunk::CHUNK;
 pub use chunks::Chunks;
+pub use trail::Link;

@@ -14,9 +14,9 @@ struct Node<T: Drop> {
     before: Option<Arc<Node<T>>>,
 }
 
-/// One owner of a node, and so of its item. Contracts see the item.
+/// One owner of an item of a list. Contracts see the item.
 #[derive(Drop)]
-pub(crate) struct Link<T: Drop> {
+pub struct Link<T: Drop> {
     node: Arc<Node<T>>,
 }
 

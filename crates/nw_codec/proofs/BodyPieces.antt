@@ -4,7 +4,8 @@ use Rattle.std.specs.List.{flat_map}
 use Rattle.std.specs.Int.{to_be_bytes, w16}
 use Rattle.nw_codec.specs.declared.block.Ref.{Ref}
 use Rattle.nw_codec.specs.declared.block.Block.{Block}
-use Rattle.nw_codec.specs.Grammar.{body, round_bytes, parent_bytes, transaction_bytes}
+use Rattle.nw_codec.specs.Grammar.{body, round_bytes, parent_bytes}
+use Rattle.nw_codec.specs.Packed.{transaction_bytes}
 
 pub pieces_of_body : (text : List ℕ) (b : Block) (author round parents_count : List ℕ) (parents : List Ref) (transactions_count : List ℕ) (transactions : List (List ℕ))
     → author ≡ to_be_bytes w16 b.author → round ≡ round_bytes b.round

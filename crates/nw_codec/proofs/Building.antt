@@ -27,7 +27,7 @@ pub record IsNext {X : Type 0} (piece : X → List ℕ) (P : X → Type 0) (coun
   pub cut : here ≡ piece item ++ after
   pub next : IsBuilt piece P count (counter + 1) text (made ++ item ∷ []) after
 
-flat_map-push : {X : Type 0} (piece : X → List ℕ) (xs : List X) (x : X) → flat_map piece (xs ++ x ∷ []) ≡ flat_map piece xs ++ piece x
+pub flat_map-push : {X : Type 0} (piece : X → List ℕ) (xs : List X) (x : X) → flat_map piece (xs ++ x ∷ []) ≡ flat_map piece xs ++ piece x
 flat_map-push piece [] x = append-nil (piece x)
 flat_map-push piece (y ∷ ys) x = ap (λ (t : List ℕ). piece y ++ t) (flat_map-push piece ys x) ∙ sym (append_assoc (piece y) (flat_map piece ys) (piece x))
 

@@ -9,7 +9,8 @@ use Rattle.nw_codec.specs.declared.block.Block.{Block}
 use Rattle.nw_codec.specs.declared.certificate.Signature.{Signature}
 use Rattle.nw_codec.specs.declared.message.Message.{Message}
 use Rattle.nw_codec.specs.declared.message.Message.TheVariants as messages
-use Rattle.nw_codec.specs.Grammar.{round_bytes, parent_bytes, transaction_bytes, message}
+use Rattle.nw_codec.specs.Grammar.{round_bytes, parent_bytes, message}
+use Rattle.nw_codec.specs.Packed.{transaction_bytes}
 use Rattle.nw_codec.specs.Fits.{Fits}
 use Rattle.nw_codec.specs.Typed.{IsRef, IsBlock, IsSignature}
 use Rattle.nw_codec.specs.Spelled.{Spells, IsBlockText, BeginsWithParents, BeginsWithTransactions}

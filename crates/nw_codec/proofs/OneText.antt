@@ -10,7 +10,8 @@ use Rattle.nw_codec.specs.declared.certificate.Certificate.{Certificate}
 use Rattle.nw_codec.specs.declared.vote.Vote.{Vote}
 use Rattle.nw_codec.specs.declared.message.Message.{Message}
 use Rattle.nw_codec.specs.declared.message.Message.TheVariants as messages
-use Rattle.nw_codec.specs.Grammar.{round_bytes, parent_bytes, transaction_bytes, message}
+use Rattle.nw_codec.specs.Grammar.{round_bytes, parent_bytes, message}
+use Rattle.nw_codec.specs.Packed.{transaction_bytes}
 use Rattle.nw_codec.specs.Fits.{Fits, MessageFits}
 use Rattle.nw_codec.specs.Typed.{IsRef, IsBlock, IsSignature, IsMessage}
 use Rattle.nw_codec.specs.Spelled.{Spells}

@@ -6,7 +6,8 @@ use Rattle.std.proofs.lemmas.List.Elements.{recursion_from_All}
 use Rattle.std.proofs.lemmas.List.Sums.{sum_by-cons}
 use Rattle.nw_codec.specs.declared.block.Ref.{Ref}
 use Rattle.nw_codec.specs.declared.block.Block.{Block}
-use Rattle.nw_codec.specs.Grammar.{round_bytes, parent_bytes, transaction_bytes, body}
+use Rattle.nw_codec.specs.Grammar.{round_bytes, parent_bytes, body}
+use Rattle.nw_codec.specs.Packed.{transaction_bytes}
 use Rattle.nw_codec.specs.Fits.{transactions_size, body_size}
 use Rattle.nw_codec.specs.Typed.{IsRef, IsBlock}
 

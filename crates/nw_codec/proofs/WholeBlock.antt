@@ -10,7 +10,8 @@ use Rattle.nw_codec.specs.declared.block.Block.{Block}
 use Rattle.nw_codec.specs.declared.certificate.Signature.{Signature}
 use Rattle.nw_codec.specs.declared.message.Message.TheVariants as messages
 use Rattle.nw_codec.specs.declared.error.DecodeError.TheVariants.{Version, TooManyParents, ParentOrder, TooManyTransactions, TransactionTooLong, BodyTooLong}
-use Rattle.nw_codec.specs.Grammar.{round_bytes, parent_bytes, transaction_bytes, message}
+use Rattle.nw_codec.specs.Grammar.{round_bytes, parent_bytes, message}
+use Rattle.nw_codec.specs.Packed.{transaction_bytes}
 use Rattle.nw_codec.specs.Fits.{authors, transactions_size, Fits}
 use Rattle.nw_codec.specs.Typed.{AreBytes, IsRef, IsBlock, IsSignature}
 use Rattle.nw_codec.specs.Faults.{AtVersion, AtAuthor, AtRound, AtParentCount, AtParentAuthor, AtParentDigest, AtTransactionCount, AtTransactionLength, AtTransaction, AtSignature, AtEnd, at_parents, at_transactions, number16, number32, comes_after, Reaches}

@@ -1,8 +1,9 @@
 -- The bytes of a body and of a message. All numbers are unsigned, highest byte first.
 use Rattle.std.specs.Prelude.{ℕ, List, ◌∷◌, ◌++◌, length, drop}
 use Rattle.std.specs.List.{flat_map}
-use Rattle.std.specs.Int.{to_be_bytes, w16, w32, w64}
+use Rattle.std.specs.Int.{to_be_bytes, w16, w64}
 use Rattle.nw_digest.specs.declared.digest.Digest.{Digest}
+use Rattle.nw_codec.specs.Packed.{transaction_bytes}
 use Rattle.nw_codec.specs.declared.block.Ref.{Ref}
 use Rattle.nw_codec.specs.declared.block.Block.{Block}
 use Rattle.nw_codec.specs.declared.certificate.Seal.{Seal}
@@ -16,9 +17,6 @@ round_bytes n = drop 2 (to_be_bytes w64 n)
 
 abbrev pub parent_bytes : Ref → List ℕ
 parent_bytes r = to_be_bytes w16 r.author ++ r.digest.0
-
-abbrev pub transaction_bytes : List ℕ → List ℕ
-transaction_bytes t = to_be_bytes w32 (length t) ++ t
 
 -- version 1, author, round, the parents with their count, the transactions with theirs
 unfoldable pub body : Block → List ℕ

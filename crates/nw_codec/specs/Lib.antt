@@ -1,3 +1,4 @@
+pub mod Packed
 pub mod Grammar
 pub mod Fits
 pub mod Same

@@ -10,7 +10,8 @@ use Rattle.nw_codec.specs.declared.limits.TheConstants.{MAX_TRANSACTION}
 use Rattle.nw_codec.specs.declared.vote.Vote.{Vote}
 use Rattle.nw_codec.specs.declared.message.Message.{Message}
 use Rattle.nw_codec.specs.declared.message.Message.TheVariants as messages
-use Rattle.nw_codec.specs.Grammar.{parent_bytes, transaction_bytes, seal_bytes, message}
+use Rattle.nw_codec.specs.Grammar.{parent_bytes, seal_bytes, message}
+use Rattle.nw_codec.specs.Packed.{transaction_bytes}
 use Rattle.nw_codec.specs.Fits.{MessageFits}
 use Rattle.nw_codec.specs.Typed.{IsRef, IsSeal, IsMessage}
 

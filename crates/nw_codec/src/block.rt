@@ -1,9 +1,10 @@
 //! Blocks of transactions, and references to blocks.
-ghost use Rattle.std.specs.Prelude.{◌≡◌, ◌↔◌, ◌+◌, ◌*◌, ◌<◌, ◌≤◌, IsTrue, All, length};
+ghost use Rattle.std.specs.Prelude.{◌≡◌, ◌↔◌, ◌<◌, ◌≤◌, IsTrue};
 ghost use Rattle.std.specs.List.Sorted.{IsStrictlyIncreasing};
-ghost use Rattle.nw_codec.specs.Fits.{Fits, authors, body_size, transactions_size};
+ghost use Rattle.nw_codec.specs.Fits.{Fits, authors, body_size};
 
-use crate::limits::{MAX_BODY, MAX_PARENTS, MAX_TRANSACTION, MAX_TRANSACTIONS};
+use crate::limits::{MAX_BODY, MAX_PARENTS, MAX_TRANSACTIONS};
+use crate::transactions::Transactions;
 use nw_digest::{Digest, InRound, Round, Sequence};
 
 /// A reference to a parent: its author and its digest.
@@ -19,7 +20,7 @@ pub struct Block {
     pub author: u16,
     pub round: Round,
     pub parents: Sequence<Ref>,
-    pub transactions: Sequence<Sequence<u8>>,
+    pub transactions: Transactions,
 }
 
 impl Block {
@@ -29,12 +30,10 @@ impl Block {
         ensures { IsTrue result ↔ Fits self.now }
     {
         let parents = self.parents.as_slice();
-        let transactions = self.transactions.as_slice();
         parents.len() <= MAX_PARENTS
             && is_ascending(parents)
-            && transactions.len() <= MAX_TRANSACTIONS
-            && are_short(transactions)
-            && size_of(parents, transactions) <= MAX_BODY
+            && self.transactions.len() <= MAX_TRANSACTIONS
+            && 13 + 34 * parents.len() + self.transactions.size() <= MAX_BODY
     }
 
     /// How many bytes its body has.
@@ -43,7 +42,7 @@ impl Block {
         ensures size { result ≡ body_size self.now }
         ensures small { result ≤ MAX_BODY }
     {
-        size_of(self.parents.as_slice(), self.transactions.as_slice())
+        13 + 34 * self.parents.as_slice().len() + self.transactions.size()
     }
 }
 
@@ -60,35 +59,4 @@ fn is_ascending(parents: &[Ref]) -> bool
     ensures { IsTrue result ↔ IsStrictlyIncreasing (authors parents.now) }
 {
     parents.is_sorted_by(|before, next| before.author < next.author)
-}
-
-/// Whether each transaction is within its limit.
-fn are_short(transactions: &[Sequence<u8>]) -> bool
-    ensures { IsTrue result ↔ All (λ t. length t ≤ MAX_TRANSACTION) transactions.now }
-{
-    transactions.iter().all(|transaction| transaction.as_slice().len() <= MAX_TRANSACTION)
-}
-
-/// How many bytes a body of these has.
-fn size_of(parents: &[Ref], transactions: &[Sequence<u8>]) -> usize
-    requires parents { length parents.now ≤ MAX_PARENTS }
-    requires few { length transactions.now ≤ MAX_TRANSACTIONS }
-    requires short { All (λ t. length t ≤ MAX_TRANSACTION) transactions.now }
-    ensures { result ≡ 13 + 34 * length parents.now + transactions_size transactions.now }
-{
-    13 + 34 * parents.len() + size_of_all(transactions)
-}
-
-/// How many bytes the transactions take in a body, each with its length before it.
-fn size_of_all(transactions: &[Sequence<u8>]) -> usize
-    requires few { length transactions.now ≤ MAX_TRANSACTIONS }
-    requires short { All (λ t. length t ≤ MAX_TRANSACTION) transactions.now }
-    ensures size { result ≡ transactions_size transactions.now }
-    ensures small { result ≤ MAX_TRANSACTIONS * (4 + MAX_TRANSACTION) }
-{
-    let mut size = 0;
-    for transaction in transactions {
-        size += 4 + transaction.as_slice().len();
-    }
-    size
 }

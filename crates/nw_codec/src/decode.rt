@@ -12,6 +12,7 @@ use crate::{DecodeError, Message};
 use block::{block_message_of, check_block};
 use certificate::{certificate_message_of, check_certificate, check_vote, vote_message_of};
 use fields::field;
+pub(crate) use fields::front;
 use nw_digest::NoMemory;
 use std::alloc::Global;
 

@@ -1,21 +1,20 @@
 //! Values as bytes.
-ghost use Rattle.std.specs.Prelude.{◌≡◌, ◌↔◌, ◌++◌, ◌<◌, ◌≤◌, ℕ};
-ghost use Rattle.std.specs.Prelude.{IfOk, OnOk, IsErrOf, All, List, length};
+ghost use Rattle.std.specs.Prelude.{◌≡◌, ◌↔◌, ◌++◌, ◌<◌, ℕ};
+ghost use Rattle.std.specs.Prelude.{IfOk, OnOk, IsErrOf, All, List};
 ghost use Rattle.std.specs.List.{flat_map};
 ghost use Rattle.std.specs.Int.{to_be_bytes};
 ghost use Rattle.sha2.specs.Sha256.{sha256};
-ghost use Rattle.nw_codec.specs.Grammar.{body, parent_bytes, transaction_bytes};
+ghost use Rattle.nw_codec.specs.Grammar.{body, parent_bytes};
 ghost use Rattle.nw_codec.specs.Fits.{Fits, MessageFits};
 ghost use Rattle.nw_codec.specs.Typed.{AreBytes, IsRef, IsBlock};
 ghost use Rattle.nw_codec.specs.Spelled.{Spells};
-ghost use Rattle.nw_codec.specs.declared.limits.TheConstants.{MAX_TRANSACTION};
 
 mod certificate;
 
 use crate::limits::{BLOCK_TAG, SIGNATURE_BYTES, VERSION};
 use crate::{Block, EncodeError, Message, Ref, Signature};
 use certificate::{encode_certificate_message, encode_vote_message};
-use nw_digest::{Digest, Sequence};
+use nw_digest::Digest;
 use sha2::Sha256;
 use std::alloc::{AllocError, Global};
 use std::convert::Infallible;
@@ -69,20 +68,6 @@ fn put_parents<S: Sink>(sink: &mut S, parents: &[Ref]) -> Result<(), S::Refusal>
     Ok(())
 }
 
-fn put_transactions<S: Sink>(sink: &mut S, transactions: &[Sequence<u8>]) -> Result<(), S::Refusal>
-    requires { All (λ t. length t ≤ MAX_TRANSACTION) transactions.now }
-    ensures text { OnOk result ((text : List ℕ) → S.holds sink.old text
-        → S.holds sink.new (text ++ flat_map transaction_bytes transactions.now)) }
-    ensures typed { OnOk result (All AreBytes transactions.now) }
-{
-    for transaction in transactions {
-        let bytes = transaction.as_slice();
-        sink.put(&(bytes.len() as u32).to_be_bytes())?;
-        sink.put(bytes)?;
-    }
-    Ok(())
-}
-
 /// The body of a block, field by field.
 #[tactic(auto, unfolding(crate::specs::Grammar::body))]
 fn put_body<S: Sink>(sink: &mut S, block: &Block) -> Result<(), S::Refusal>
@@ -92,14 +77,13 @@ fn put_body<S: Sink>(sink: &mut S, block: &Block) -> Result<(), S::Refusal>
     ensures typed { OnOk result (IsBlock block.now) }
 {
     let parents = block.parents.as_slice();
-    let transactions = block.transactions.as_slice();
     sink.put(&[VERSION])?;
     sink.put(&block.author.to_be_bytes())?;
     sink.put(&block.round.get().to_be_bytes()[2..])?;
     sink.put(&(parents.len() as u16).to_be_bytes())?;
     put_parents(sink, parents)?;
-    sink.put(&(transactions.len() as u16).to_be_bytes())?;
-    put_transactions(sink, transactions)
+    sink.put(&(block.transactions.len() as u16).to_be_bytes())?;
+    sink.put(block.transactions.text())
 }
 
 /// The SHA-256 digest of the block's body, which is fed in pieces and never built. It takes no memory.

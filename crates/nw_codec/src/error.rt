@@ -5,10 +5,10 @@ use nw_digest::NoMemory;
 use std::alloc::{AllocError, AllocFailed};
 use thiserror::Error;
 
-/// Why a value was not encoded.
+/// Why a value was not encoded, or a transaction not added to those of a block.
 #[derive(Clone, Copy, Debug, PartialEq, Eq, Error)]
 pub enum EncodeError {
-    /// The value does not fit: a limit or an order is broken.
+    /// It does not fit: a limit or an order is broken.
     #[error("over limit")]
     OverLimit,
     /// Memory was refused.
@@ -23,6 +23,28 @@ impl From<AllocError> for EncodeError {
     ghost from_gives = { λ _ e. e ≡ NoMemory };
 
     fn from(_error: AllocError) -> EncodeError {
+        EncodeError::NoMemory
+    }
+}
+
+impl<T: Drop> From<AllocFailed<T>> for EncodeError {
+    ghost use Rattle.std.specs.Prelude.{◌≡◌};
+    ghost use Rattle.nw_codec.specs.declared.error.EncodeError.TheVariants.{NoMemory};
+
+    ghost from_gives = { λ _ e. e ≡ NoMemory };
+
+    fn from(_error: AllocFailed<T>) -> EncodeError {
+        EncodeError::NoMemory
+    }
+}
+
+impl From<NoMemory> for EncodeError {
+    ghost use Rattle.std.specs.Prelude.{◌≡◌};
+    ghost use Rattle.nw_codec.specs.declared.error.EncodeError.TheVariants.{NoMemory};
+
+    ghost from_gives = { λ _ e. e ≡ NoMemory };
+
+    fn from(_error: NoMemory) -> EncodeError {
         EncodeError::NoMemory
     }
 }

@@ -12,6 +12,7 @@ mod error;
 mod laws;
 mod limits;
 mod message;
+mod transactions;
 mod vote;
 
 pub use block::{Block, Ref};
@@ -21,4 +22,5 @@ pub use encode::{block_digest, encode_block, encode_body, encode_message};
 pub use error::{DecodeError, EncodeError};
 pub use laws::{body_has_its_size, grammar_or_fault, one_text, trailing_follows_a_message};
 pub use message::Message;
+pub use transactions::{Transactions, TransactionsIter};
 pub use vote::Vote;

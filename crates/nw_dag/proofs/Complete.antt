@@ -30,17 +30,17 @@ pub satisfied_from_met : (s : State) (round : ℕ) (r : Ref) (w : Wanted) → Is
 satisfied_from_met s round r w (before, author, digest) (p, stands, same, here) =
     (p, subst (λ q. IsStanding s q p) digest stands, same ∙ author, omega (arith, before, here))
 
-module _ (s : State) (lacking : Pairs) (sound : IsSound s) (far : AreLacking s lacking []) where
-  complete_below : (n : ℕ) (d : Digest) (b : Block) → b.round < n → IsStanding s d b → IsReady s lacking d → IsComplete s d
-  complete_below zero d b below stands ready = absurd (omega (arith, below))
-  complete_below (suc n) d b below stands ready = elim (cases_lt s.floor b.round) [
+module _ (s : State) (lacking : Pairs) (far : AreLacking s lacking []) where
+  complete_below : IsSound s → (n : ℕ) (d : Digest) (b : Block) → b.round < n → IsStanding s d b → IsReady s lacking d → IsComplete s d
+  complete_below sound zero d b below stands ready = absurd (omega (arith, below))
+  complete_below sound (suc n) d b below stands ready = elim (cases_lt s.floor b.round) [
     | inl above ↦ complete_from_parents s d b sound stands (inr (λ k r lt.
         let reference = get_or b.parents k r in
         let w = named_by b.round reference in
         let named : IsNamedBy b.round reference w = (omega (arith, above), refl, refl) in
         elim (far.each d w (b, stands.0, above, (reference, Contains-get_or b.parents k r lt, named))) [
           | inl lacks ↦ absurd (ready.1 w lacks)
-          | inr (met, promoted) ↦ (satisfied_from_met s b.round reference w named met, complete_below n reference.digest met.0 (omega (arith, met.3, below, above)) met.1 promoted.0)
+          | inr (met, promoted) ↦ (satisfied_from_met s b.round reference w named met, complete_below sound n reference.digest met.0 (omega (arith, met.3, below, above)) met.1 promoted.0)
         ]))
     | inr low ↦ complete_from_parents s d b sound stands (inl low)
   ]
@@ -62,8 +62,8 @@ module _ (s : State) (lacking : Pairs) (sound : IsSound s) (far : AreLacking s l
         both.1 met (ready_below n w.digest met.0 (omega (arith, met.3, named.0, below)) met.1 (subst (λ q. IsComplete s q) (sym named.2) parent.1), contains_none w.digest),
   )
 
-  pub ready_complete : (d : Digest) → IsReady s lacking d ↔ IsComplete s d
-  ready_complete d = (
-    λ ready. complete_below (ready.0.0.round + 1) d ready.0.0 (omega arith) ready.0.1 ready,
-    λ whole. ready_below (whole.stands.0.round + 1) d whole.stands.0 (omega arith) whole.stands.1 whole,
-  )
+  pub complete_ready : (d : Digest) → IsComplete s d → IsReady s lacking d
+  complete_ready d whole = ready_below (whole.stands.0.round + 1) d whole.stands.0 (omega arith) whole.stands.1 whole
+
+  pub ready_complete : IsSound s → (d : Digest) → IsReady s lacking d ↔ IsComplete s d
+  ready_complete sound d = (λ ready. complete_below sound (ready.0.0.round + 1) d ready.0.0 (omega arith) ready.0.1 ready, complete_ready d)

@@ -171,7 +171,7 @@ pub shown : (s : State) (unmet lacking : Pairs) (pending : ℕ) (v : Frozen) →
 shown s unmet lacking pending v sound settled floor are = record {
   floor = floor;
   complete = λ d b.
-      let same = ready_complete s lacking sound settled.settling.promoted d in (
+      let same = ready_complete s lacking settled.settling.promoted sound d in (
         λ (at, kept).
             let held = (are d b (omega (arith, floor, kept))).0 at in
             (held.1, omega (arith, floor, kept), same.0 held.0),

@@ -123,12 +123,12 @@ impl Roll {
     }
 }
 
-/// Whether the block stands and lacks nothing.
+/// Whether the block stands and lacks nothing. It is looked up only where it lacks nothing.
 pub(crate) fn is_ready(held: &Held, lacking: &Waiting<Global>, digest: Digest) -> bool
     ensures ready { IsTrue result ↔ IsReady held.now.state lacking.now digest }
-    ensures sound { IsSound held.now.state }
+    ensures sound { IsTrue result → IsSound held.now.state }
 {
-    held.standing(&digest).is_some() && lacks_nothing(lacking, digest)
+    lacks_nothing(lacking, digest) && held.standing(&digest).is_some()
 }
 
 /// Whether the holder lacks nothing.

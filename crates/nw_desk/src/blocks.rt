@@ -4,8 +4,8 @@ use crate::desk::Desk;
 use crate::fault::LineFault;
 use crate::members::block_message;
 use crate::print::Answer;
-use nw_codec::{Block, encode_body};
-use nw_digest::{Digest, Sequence};
+use nw_codec::{Block, EncodeError, Transactions, encode_body};
+use nw_digest::Digest;
 use nw_script::{BlockLine, Name};
 use std::alloc::Global;
 
@@ -35,7 +35,7 @@ impl<'a> Desk<'a> {
             author: line.author,
             round: line.round,
             parents: self.names.references(alloc, &line.parents)?,
-            transactions: copied(alloc, &line.transactions)?,
+            transactions: packed(alloc, &line.transactions)?,
         })
     }
 
@@ -69,11 +69,11 @@ fn in_hex<'a>(alloc: Global, name: Name<'a>, bytes: &[u8]) -> Result<Answer<'a>,
     Ok(Answer::Bytes { name, hex })
 }
 
-// The words as the transactions of a block.
-fn copied(alloc: Global, words: &[&str]) -> Result<Sequence<Sequence<u8>>, LineFault> {
-    let mut transactions = Vec::with_capacity(alloc, words.len())?;
+// The words as the transactions of a block. Each is short.
+fn packed(alloc: Global, words: &[&str]) -> Result<Transactions, EncodeError> {
+    let mut transactions = Transactions::new(alloc);
     for word in words {
-        transactions.push(Sequence::new(word.as_bytes().to_vec(alloc)?))?;
+        transactions.push(word.as_bytes())?;
     }
-    Ok(Sequence::new(transactions))
+    Ok(transactions)
 }

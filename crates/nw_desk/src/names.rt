@@ -19,7 +19,6 @@ pub struct Bound {
 #[derive(Drop)]
 struct Slot<'a> {
     name: Name<'a>,
-    digest: Digest,
     // Whether nothing of another digest was bound since.
     is_alone: bool,
 }
@@ -77,7 +76,7 @@ impl<'a> Names<'a> {
         Ok(())
     }
 
-    // Keeps the name for the digest and for the round and author, if it is their first.
+    // Keeps the name, which is free, for the digest and for the round and author, if it is their first.
     fn keep(
         &mut self,
         name: Name<'a>,
@@ -88,11 +87,10 @@ impl<'a> Names<'a> {
         self.first_names.entry(digest.0)?.or_insert(name);
         let slot = self.slots.entry((round.get(), author))?.or_insert(Slot {
             name,
-            digest,
             is_alone: true,
         });
-        if slot.digest != digest {
-            slot.is_alone = false;
+        if let Some(first) = self.bound.get(slot.name.as_str()) {
+            slot.is_alone &= first.digest == digest;
         }
         Ok(())
     }
@@ -108,7 +106,7 @@ impl<'a> Names<'a> {
     /// The first name that was bound to a block of the wanted one's digest.
     pub fn name_of_wanted(&self, wanted: &Wanted) -> Result<Name<'a>, LineFault> {
         match self.slots.get(&(wanted.round.get(), wanted.author)) {
-            Some(slot) if slot.digest == wanted.digest => Ok(slot.name),
+            Some(slot) if self.bound(slot.name)?.digest == wanted.digest => Ok(slot.name),
             _ => self.first_name(&wanted.digest),
         }
     }

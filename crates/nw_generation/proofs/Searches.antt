@@ -1,5 +1,5 @@
 -- Searches among ascending entries.
-use Rattle.std.proofs.Common.{◌≡◌, ℕ, ◌/◌, ◌%◌, Bool, true, false, List, [], ◌∷◌, ◌++◌, Some, None, cond, length, take, drop, get_or, refl, ap, sym, ◌∙◌, arith}
+use Rattle.std.proofs.Common.{◌≡◌, ℕ, Bool, true, false, List, [], ◌∷◌, ◌++◌, Some, None, cond, length, take, drop, get_or, refl, ap, sym, ◌∙◌, arith}
 use Rattle.std.specs.declared.cmp.Ordering.{Ordering}
 use Rattle.std.specs.declared.cmp.Ordering.TheVariants.{Less, Equal, Greater}
 use Rattle.std.specs.Ordering.{is_eq, ordering_reverse}
@@ -14,7 +14,7 @@ use Rattle.nw_digest.specs.Order.{digest_cmp}
 use Rattle.nw_trie.proofs.Inserts.{above_all, below_all as each_above}
 use Rattle.nw_trie.proofs.Keys.{each_filter}
 use Rattle.nw_model.proofs.Maps.{digests_total, find_below, find_lookup}
-use Rattle.nw_generation.specs.Entries.{AreHeads, Ascend, IsBelow, IsHead, under}
+use Rattle.nw_generation.specs.Entries.{AreHeads, Ascend, IsBelow, IsHead, under, bytes_of}
 
 abbrev pub Entries : Type 0
 Entries = List (Digest × Block)
@@ -116,6 +116,6 @@ heads_parted [] later (x ∷ es) after head e same are = absurd (omega (arith, s
 heads_parted (h ∷ heads) later [] after head e same are = absurd (omega (arith, same))
 heads_parted (h ∷ heads) later (x ∷ es) after head e same are =
     let parts = heads_parted heads later es after head e (omega (arith, same)) (ap (drop 1) are) in
-    let first : h / 256 ∷ h % 256 ∷ [] ≡ take 2 x.0.0 = ap (λ bs. get_or bs 0 []) are in
+    let first : bytes_of h ≡ take 2 x.0.0 = ap (λ bs. get_or bs 0 []) are in
     let others = parts.0 in
     (cc, parts.1, parts.2)

@@ -232,8 +232,9 @@ impl<S: Scheme> Front<S> {
         ensures { IfOk result (λ tables. tables ≡ tables_of self.now) }
     {
         let mut tables = self.events.head().tables(alloc)?;
+        let behind = self.events.behind(alloc)?;
         for index in 0..self.len() {
-            if let Some(event) = self.event(index) {
+            if let Some(event) = self.events.get_by(&behind, index) {
                 take_again(&mut tables, &event.call)?;
             }
         }

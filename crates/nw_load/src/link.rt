@@ -9,7 +9,7 @@ use nw_check::{
     Checked, CheckedBlock, CheckedCert, Counted, FinishFault, Gather, GatherFault, StartFault,
     check_message,
 };
-use nw_codec::{Block, Ref, Vote};
+use nw_codec::{Block, Ref, Transactions, Vote};
 use nw_committee::Committee;
 use nw_desk::vote_message;
 use nw_digest::{Round, Sequence, Shared};
@@ -134,7 +134,7 @@ impl<'a, L: Home, G: Gate> Link<'a, L, G> {
             author: self.node,
             round: Round::new(u64::from(self.made)).unwrap_or(Round::ZERO),
             parents: Sequence::new(parents),
-            transactions: Sequence::new(Vec::new(self.alloc)),
+            transactions: Transactions::new(self.alloc),
         }
     }
 

@@ -2,7 +2,7 @@
 ghost use Rattle.std.specs.Prelude.{◌≡◌, ◌+◌, ◌*◌, ◌<◌, IfOk};
 ghost use Rattle.sample_blocks.specs.Sample.{NameBases, name_of};
 
-use nw_codec::{Block, Ref};
+use nw_codec::{Block, Ref, Transactions};
 use nw_digest::{Digest, NoMemory, Round, Sequence, Shared};
 use std::alloc::Global;
 
@@ -34,13 +34,13 @@ pub fn block(
     ensures { IfOk result
         (λ b. (b.round ≡ slot.0) × (b.author ≡ slot.1) × (b.parents ≡ parents.items)) }
 {
-    let mut transactions = Vec::new(alloc);
-    transactions.push(Sequence::new(text.to_vec(alloc)?))?;
+    let mut transactions = Transactions::new(alloc);
+    transactions.push(text).map_err(|_| NoMemory)?;
     let block = Block {
         author: slot.1,
         round: slot.0,
         parents: Sequence::new(parents),
-        transactions: Sequence::new(transactions),
+        transactions,
     };
     Ok(Shared::new(alloc, block)?)
 }

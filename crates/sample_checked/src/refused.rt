@@ -2,7 +2,7 @@
 use crate::signing::seal;
 pub use crate::signing::signature;
 use nw_check::{BlockFault, CertFault, CheckedBlock, CheckedCert, check_block, check_cert};
-use nw_codec::{Block, Certificate, Ref, Vote};
+use nw_codec::{Block, Certificate, Ref, Transactions, Vote};
 use nw_committee::{Committee, Key};
 use nw_digest::{Digest, NoMemory, Round, Sequence, Shared};
 use nw_sig::DemoScheme;
@@ -81,13 +81,13 @@ pub fn checked_certificate(
 
 /// A block of the slot with one transaction of this byte.
 pub fn unsigned(alloc: Global, slot: Slot, parents: &[Ref], text: u8) -> Result<Block, NoMemory> {
-    let mut transactions = Vec::new(alloc);
-    transactions.push(Sequence::new([text].to_vec(alloc)?))?;
+    let mut transactions = Transactions::new(alloc);
+    transactions.push(&[text]).map_err(|_| NoMemory)?;
     Ok(Block {
         author: slot.1,
         round: slot.0,
         parents: Sequence::new(parents.to_vec(alloc)?),
-        transactions: Sequence::new(transactions),
+        transactions,
     })
 }
 

@@ -3,7 +3,7 @@ ghost use Rattle.std.specs.Prelude.{◌≡◌, IfOk, length};
 
 use crate::signing::{seal, signature};
 use nw_check::{CheckedBlock, CheckedCert, check_block, check_cert};
-use nw_codec::{Block, Certificate, Ref};
+use nw_codec::{Block, Certificate, Ref, Transactions};
 use nw_committee::{Committee, Key};
 use nw_digest::{Digest, Round, Sequence, Shared};
 use nw_sig::DemoScheme;
@@ -44,7 +44,7 @@ pub fn block(
     ensures { IfOk result
         (λ b. (b.committee ≡ committee.now) × (b.block.author ≡ author) × (b.block.round ≡ round)) }
 {
-    let transactions = Vec::new(alloc);
+    let transactions = Transactions::new(alloc);
     checked(alloc, committee, author, round, parents, transactions)
 }
 
@@ -57,8 +57,8 @@ pub fn block_with(
     ensures { IfOk result
         (λ b. (b.committee ≡ committee.now) × (b.block.author ≡ 0) × (b.block.round ≡ 0)) }
 {
-    let mut transactions = Vec::new(alloc);
-    transactions.push(Sequence::new(transaction.to_vec(alloc)?))?;
+    let mut transactions = Transactions::new(alloc);
+    transactions.push(transaction)?;
     checked(alloc, committee, 0, 0, &[], transactions)
 }
 
@@ -69,7 +69,7 @@ fn checked(
     author: u16,
     round: u64,
     parents: &[Digest],
-    transactions: Vec<Sequence<u8>>,
+    transactions: Transactions,
 ) -> Result<CheckedBlock<DemoScheme>, Fail>
     ensures { IfOk result
         (λ b. (b.committee ≡ committee.now) × (b.block.author ≡ author) × (b.block.round ≡ round)) }
@@ -85,7 +85,7 @@ fn checked(
         author,
         round: round_of(round)?,
         parents: Sequence::new(references),
-        transactions: Sequence::new(transactions),
+        transactions,
     };
     let Some(signature) = signature(committee.get(), &block, author) else {
         return Err(Fail::from("the block breaks a limit"));

@@ -1,5 +1,5 @@
 use nw_causal::walk;
-use nw_codec::{Block, Certificate, Ref};
+use nw_codec::{Block, Certificate, Ref, Transactions};
 use nw_dag::{Dag, DagLimits};
 use nw_digest::{Digest, NoMemory, Round, Sequence, Shared};
 use nw_generation::View;
@@ -51,13 +51,13 @@ fn block_of(
     parents: Vec<Ref>,
     text: &[u8],
 ) -> Result<Shared<Block>, NoMemory> {
-    let mut transactions = Vec::new(alloc);
-    transactions.push(Sequence::new(text.to_vec(alloc)?))?;
+    let mut transactions = Transactions::new(alloc);
+    transactions.push(text).map_err(|_| NoMemory)?;
     let block = Block {
         author: slot.1,
         round: round(slot.0)?,
         parents: Sequence::new(parents),
-        transactions: Sequence::new(transactions),
+        transactions,
     };
     Shared::new(alloc, block)
 }

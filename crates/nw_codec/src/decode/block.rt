@@ -4,13 +4,14 @@ ghost use Rattle.std.specs.Prelude.{List, length, drop, MatchResult, IfOk, Some,
 ghost use Rattle.nw_codec.specs.Faults.{AtVersion, AtParentCount, AtParentAuthor};
 ghost use Rattle.nw_codec.specs.Faults.{AtTransactionCount, AtTransactionLength, AtSignature};
 ghost use Rattle.nw_codec.specs.Faults.{AtEnd, at_parents, at_transactions, Reaches, FaultFrom};
-ghost use Rattle.nw_codec.specs.Grammar.{parent_bytes, transaction_bytes};
+ghost use Rattle.nw_codec.specs.Grammar.{parent_bytes};
 ghost use Rattle.nw_codec.specs.Spelled.{Spells, IsBlockText, BeginsWithParents};
 ghost use Rattle.nw_codec.specs.Spelled.{BeginsWithTransactions};
 ghost use Rattle.nw_codec.specs.Typed.{IsRef};
 
 use super::fields::{field, front, is_in_order, number_of, round_of};
 use crate::limits::{MAX_BODY, MAX_PARENTS, MAX_TRANSACTION, MAX_TRANSACTIONS, VERSION};
+use crate::transactions::{Transactions, first_transaction};
 use crate::{Block, DecodeError, Message, Ref, Signature};
 use nw_digest::{Digest, NoMemory, Sequence};
 use std::alloc::Global;
@@ -187,38 +188,34 @@ fn parents_of(alloc: Global, count: usize, text: &[u8]) -> Result<(Sequence<Ref>
     Ok((Sequence::new(parents), rest))
 }
 
-/// The transaction at the front of the text, and the rest.
-fn transaction_of(alloc: Global, text: &[u8]) -> Result<(Sequence<u8>, &[u8]), NoMemory>
-    requires { (bytes : List ℕ) × (rest : List ℕ) × (length bytes ≤ MAX_TRANSACTION)
-        × (text.now ≡ transaction_bytes bytes ++ rest) }
-    ensures { (bytes : List ℕ) (rest : List ℕ)
-        → length bytes ≤ MAX_TRANSACTION → text.now ≡ transaction_bytes bytes ++ rest
-        → IfOk result (λ x. (x.0 ≡ bytes) × (x.1.now ≡ rest)) }
-{
-    let (len, rest) = front::<4>(text);
-    let (bytes, rest) = rest.split_at(u32::from_be_bytes(*len) as usize);
-    Ok((Sequence::new(Vec::from_slice(alloc, bytes)?), rest))
-}
-
 /// So many transactions at the front of the text, and the rest.
 fn transactions_of(
     alloc: Global,
     count: usize,
     text: &[u8],
-) -> Result<(Sequence<Sequence<u8>>, &[u8]), NoMemory>
+) -> Result<(Transactions, &[u8]), NoMemory>
     requires { (transactions : List (List ℕ)) × (rest : List ℕ) × (length transactions ≡ count)
         × BeginsWithTransactions text.now transactions rest }
     ensures { IfOk result
         (λ x. (length x.0 ≡ count) × BeginsWithTransactions text.now x.0 x.1.now) }
 {
-    let mut transactions = Vec::with_capacity(alloc, count)?;
+    let rest = behind_transactions(count, text);
+    let packed = &text[..text.len() - rest.len()];
+    Ok((Transactions::of_text(alloc, count, packed)?, rest))
+}
+
+/// The rest behind so many transactions.
+fn behind_transactions(count: usize, text: &[u8]) -> &[u8]
+    requires { (transactions : List (List ℕ)) × (rest : List ℕ) × (length transactions ≡ count)
+        × BeginsWithTransactions text.now transactions rest }
+    ensures { (transactions : List (List ℕ)) (rest : List ℕ) → length transactions ≡ count
+        → BeginsWithTransactions text.now transactions rest → result.now ≡ rest }
+{
     let mut rest = text;
     for _ in 0..count {
-        let (transaction, after) = transaction_of(alloc, rest)?;
-        transactions.push(transaction)?;
-        rest = after;
+        (_, rest) = first_transaction(rest);
     }
-    Ok((Sequence::new(transactions), rest))
+    rest
 }
 
 /// The message of a block that the text spells.

@@ -26,7 +26,7 @@ pub(super) fn is_in_order(before: Option<u16>, author: u16) -> bool
 }
 
 /// The first `N` bytes of the text, and the rest.
-pub(super) fn front<const N: usize>(text: &[u8]) -> (&[u8; N], &[u8])
+pub(crate) fn front<const N: usize>(text: &[u8]) -> (&[u8; N], &[u8])
     requires { N ≤ length text.now }
     ensures front { result.0.now ≡ take N text.now }
     ensures back { result.1.now ≡ drop N text.now }

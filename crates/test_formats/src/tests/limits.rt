@@ -1,11 +1,11 @@
 //! Blocks and bodies of the largest size, and larger ones.
-use nw_codec::{Block, DecodeError, EncodeError, Ref, decode_message, encode_body};
+use nw_codec::{Block, DecodeError, EncodeError, Ref, Transactions, decode_message, encode_body};
 use nw_digest::{Digest, Round, Sequence};
 use std::alloc::{AllocError, Global};
 use std::test::Fail;
 
 /// A block of author 0 and round 0 over so many, with transactions of these lengths.
-fn block(alloc: Global, parents: u16, lengths: &[usize]) -> Result<Block, AllocError> {
+fn block(alloc: Global, parents: u16, lengths: &[usize]) -> Result<Block, EncodeError> {
     let mut refs = Vec::new(alloc);
     for author in 0..parents {
         refs.push(Ref {
@@ -13,27 +13,21 @@ fn block(alloc: Global, parents: u16, lengths: &[usize]) -> Result<Block, AllocE
             digest: Digest([7; 32]),
         })?;
     }
-    let mut transactions = Vec::new(alloc);
+    let mut transactions = Transactions::new(alloc);
     for length in lengths {
-        transactions.push(Sequence::new(vec![in alloc; b'x'; *length]?))?;
+        transactions.push(&vec![in alloc; b'x'; *length]?)?;
     }
     Ok(Block {
         author: 0,
         round: Round::ZERO,
         parents: Sequence::new(refs),
-        transactions: Sequence::new(transactions),
+        transactions,
     })
 }
 
-/// How many bytes the body of such a block has, and whether the block fits.
-fn sized(
-    alloc: Global,
-    parents: u16,
-    lengths: &[usize],
-) -> Result<(Result<usize, EncodeError>, bool), AllocError> {
-    let block = block(alloc, parents, lengths)?;
-    let size = encode_body(alloc, &block).map(|body| body.len());
-    Ok((size, block.fits()))
+/// How many bytes the body of such a block has.
+fn sized(alloc: Global, parents: u16, lengths: &[usize]) -> Result<usize, EncodeError> {
+    Ok(encode_body(alloc, &block(alloc, parents, lengths)?)?.len())
 }
 
 /// The lengths of the transactions of the largest body, without parents.
@@ -72,8 +66,7 @@ fn blocks_fit_up_to_their_limits(rt: HostRuntime) -> Result<(), Fail> {
         ),
     ];
     for (shows, parents, lengths, size) in cases {
-        let wanted = (size, size.is_ok());
-        assert!(rt; sized(rt.alloc(), parents, lengths)? == wanted, "{shows}");
+        assert!(rt; sized(rt.alloc(), parents, lengths) == size, "{shows}");
     }
     Ok(())
 }

@@ -1,7 +1,7 @@
 //! Messages, and their bytes.
 use nw_codec::{
-    Block, Certificate, DecodeError, Message, Ref, Seal, Signature, Vote, block_digest,
-    decode_message, encode_body, encode_message,
+    Block, Certificate, DecodeError, Message, Ref, Seal, Signature, Transactions, Vote,
+    block_digest, decode_message, encode_body, encode_message,
 };
 use nw_digest::{Digest, Round, Sequence, digest_of};
 use std::alloc::{AllocError, Global};
@@ -35,13 +35,13 @@ fn block(alloc: Global, parents: &[u16]) -> Result<Block, Fail> {
             digest: Digest([9; 32]),
         })?;
     }
-    let mut transactions = Vec::new(alloc);
-    transactions.push(Sequence::new(b"x".to_vec(alloc)?))?;
+    let mut transactions = Transactions::new(alloc);
+    transactions.push(b"x")?;
     Ok(Block {
         author: 0,
         round: Round::new(u64::from(!parents.is_empty())).ok_or("a round has 48 bits")?,
         parents: Sequence::new(refs),
-        transactions: Sequence::new(transactions),
+        transactions,
     })
 }
 

@@ -16,18 +16,24 @@ fn numbers(alloc: Global, count: u32) -> Result<Chunks<u32, u32>, NoMemory> {
 }
 
 /// Whether the list has the numbers below `count`, and no others, and `count` for its head.
-fn has_numbers(list: &Chunks<u32, u32>, count: u32) -> bool {
+fn has_numbers(alloc: Global, list: &Chunks<u32, u32>, count: u32) -> Result<bool, NoMemory> {
+    let behind = list.behind(alloc)?;
     for index in [0, 1, 254, 255, 256, 257, 511, 512, 513] {
         let expected = if index < count { Some(index) } else { None };
-        if list.get(index as usize).copied() != expected {
-            return false;
+        let index = index as usize;
+        for found in [list.get(index), list.get_by(&behind, index)] {
+            if found.copied() != expected {
+                return Ok(false);
+            }
         }
     }
     let (length, last) = (list.len(), list.last().copied());
-    *list.head() == count
-        && length == count as usize
-        && list.is_empty() == (count == 0)
-        && last == count.checked_sub(1)
+    Ok(
+        *list.head() == count
+            && length == count as usize
+            && list.is_empty() == (count == 0)
+            && last == count.checked_sub(1),
+    )
 }
 
 #[test]
@@ -36,10 +42,8 @@ fn lists_around_full_chunks_have_their_items_and_few_parts(rt: HostRuntime) {
         let list = numbers(rt.alloc(), count).expect(&rt, "there is memory");
         let copy = list.try_clone().expect(&rt, "there is memory");
         drop(list);
-        assert!(rt;
-            has_numbers(&copy, count) && copy.parts() == parts,
-            "{count}"
-        );
+        let has = has_numbers(rt.alloc(), &copy, count).expect(&rt, "there is memory");
+        assert!(rt; has && copy.parts() == parts, "{count}");
     }
 }
 

@@ -75,10 +75,7 @@ fn compared(
 
 /// The transaction of a block that has one.
 fn text_of(block: &Block) -> &[u8] {
-    match block.transactions.as_slice() {
-        [only] => only.as_slice(),
-        _ => &[],
-    }
+    block.transactions.iter().next().unwrap_or(&[])
 }
 
 /// Whether the walks from the digest agree in views of this floor, where the first blocks of one have "x", and of the other this text.

@@ -106,13 +106,9 @@ fn are_wanted(found: &[Wanted], wanted: &[(Slot, Name)]) -> bool {
 
 /// Whether it is the block of that name.
 fn is_block(block: &Block, name: Name) -> bool {
-    match block.transactions.as_slice() {
-        [text] => {
-            (block.round.get(), block.author) == (name.0, name.1)
-                && text.as_slice() == [name.2].as_slice()
-        }
-        _ => false,
-    }
+    (block.round.get(), block.author) == (name.0, name.1)
+        && block.transactions.len() == 1
+        && block.transactions.iter().next() == Some(&[name.2])
 }
 
 /// Whether the reply has more in it than words say, and that is so.

@@ -1,7 +1,12 @@
-use Rattle.nw_dag.proofs.Complete.{ready_complete}
+use Rattle.nw_dag.proofs.Complete.{complete_ready, ready_complete}
 use Rattle.nw_dag.proofs.dag.Dag.is_complete.Goals as goal
 
 pub returns : goal.returns
 returns c =
-    let ready = ready_complete c.self.inside.held.state c.self.inside.waits.lacking c.is_ready.ensures.sound c.self.invariant.settled.settling.promoted c.args.digest.now in
-    rw (← c.self.view_is) (λ true. ready.0 (c.is_ready.ensures.ready.0 true), λ whole. c.is_ready.ensures.ready.1 (ready.1 whole))
+    let s = c.self.inside.held.state in
+    let lacking = c.self.inside.waits.lacking in
+    let promoted = c.self.invariant.settled.settling.promoted in
+    rw (← c.self.view_is) (
+      λ true. (ready_complete s lacking promoted (c.is_ready.ensures.sound true) c.args.digest.now).0 (c.is_ready.ensures.ready.0 true),
+      λ whole. c.is_ready.ensures.ready.1 (complete_ready s lacking promoted c.args.digest.now whole),
+    )
