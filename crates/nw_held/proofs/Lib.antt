@@ -5,3 +5,4 @@ pub mod Filtered
 pub mod HeldRaised
 pub mod Sent
 pub mod Counted
+pub mod Slotted

@@ -145,20 +145,15 @@ impl Held {
         self.name(*digest)
     }
 
-    /// Whether what is wanted stands, of that round and author. A block of another round or author does not count.
+    /// Whether what is wanted stands, of that round and author. A block of another round or author does not count. The slot
+    /// is looked up, and the block only where it is not the first of its slot.
     pub fn is_met(&self, wanted: &Wanted) -> bool
         ensures { IsTrue result ↔ IsMet self.now.state wanted.now }
     {
-        if self.certificate(&wanted.digest).is_none() {
-            return false;
-        }
-        match self.block(&wanted.digest) {
-            None => false,
-            Some(block) => {
-                let block = block.get();
-                block.author == wanted.author && block.round == wanted.round
-            }
-        }
+        let (round, author) = (wanted.round, wanted.author);
+        self.slots.certified(round, author) == Some(wanted.digest)
+            && (self.slots.first(round, author) == Some(wanted.digest)
+                || self.holds(&wanted.digest))
     }
 
     /// What names the block that is held under the digest, or `None` where none is.

@@ -98,15 +98,12 @@ pub enum Request<'a> {
 
 /// The line that the bytes spell, without their line end. It is bad where they are not ASCII, or no line of the grammar.
 pub fn parse_line(alloc: Global, bytes: &[u8]) -> Result<Line<'_>, LineFault> {
-    let Ok(text) = str::from_utf8(bytes) else {
-        return Err(LineFault::Bad);
-    };
     // What is not ASCII is no comment, nor a word that a line may have.
-    if (text.is_empty() || text.starts_with('#')) && bytes.is_ascii() {
+    if bytes.is_empty() || (bytes[0] == b'#' && bytes.is_ascii()) {
         return Ok(Line::Skipped);
     }
-    let mut words = Words::new(text);
-    let line = match words.next()?.as_bytes() {
+    let mut words = Words::new(bytes);
+    let line = match words.next()? {
         b"committee" => Line::Committee(committee(alloc, &mut words)?),
         b"limits" => Line::Limits(limits(&mut words)?),
         b"settle" => Line::Settle,
@@ -196,7 +193,7 @@ fn signed<'a>(
 }
 
 fn committee(alloc: Global, words: &mut Words<'_>) -> Result<CommitteeLine, LineFault> {
-    match words.next()?.as_bytes() {
+    match words.next()? {
         b"v1" => Ok(CommitteeLine::Equal {
             members: words.limit()?,
         }),
@@ -227,7 +224,7 @@ fn signer(words: &mut Words<'_>) -> Result<Option<u16>, LineFault> {
 
 // The next word, of which `-` is the empty text.
 fn hashed<'a>(words: &mut Words<'a>) -> Result<&'a str, LineFault> {
-    match words.next()? {
+    match words.text()? {
         "-" => Ok(""),
         word => transaction(word).ok_or(LineFault::Bad),
     }

@@ -9,28 +9,30 @@ use std::alloc::Global;
 /// The words of a line that are not yet read, parted by one space. A line has at least one word, which may be empty.
 #[derive(Drop)]
 pub struct Words<'a> {
-    rest: Option<&'a str>,
+    rest: Option<&'a [u8]>,
 }
 
 impl<'a> Words<'a> {
     /// The words of the line.
-    pub fn new(line: &'a str) -> Words<'a> {
+    pub fn new(line: &'a [u8]) -> Words<'a> {
         Words { rest: Some(line) }
     }
 
     /// The next word. The line is bad where it has no more.
-    pub fn next(&mut self) -> Result<&'a str, LineFault> {
-        let text = self.rest.ok_or(LineFault::Bad)?;
-        match text.split_once(' ') {
-            Some((word, rest)) => {
-                self.rest = Some(rest);
-                Ok(word)
-            }
-            None => {
-                self.rest = None;
-                Ok(text)
+    pub fn next(&mut self) -> Result<&'a [u8], LineFault> {
+        let rest = self.rest.take().ok_or(LineFault::Bad)?;
+        match rest.iter().position(|byte| *byte == b' ') {
+            None => Ok(rest),
+            Some(end) => {
+                self.rest = Some(&rest[end + 1..]);
+                Ok(&rest[..end])
             }
         }
+    }
+
+    /// The next word, which must be a text.
+    pub fn text(&mut self) -> Result<&'a str, LineFault> {
+        str::from_utf8(self.next()?).ok().ok_or(LineFault::Bad)
     }
 
     /// Whether each word was read.
@@ -40,17 +42,17 @@ impl<'a> Words<'a> {
 
     /// The next word, which must be a name.
     pub fn name(&mut self) -> Result<Name<'a>, LineFault> {
-        Name::new(self.next()?).ok_or(LineFault::Bad)
+        Name::new(self.text()?).ok_or(LineFault::Bad)
     }
 
     /// The next word, which must be a number below 2^64.
     pub fn number(&mut self) -> Result<u64, LineFault> {
-        number(self.next()?).ok_or(LineFault::Bad)
+        number(self.text()?).ok_or(LineFault::Bad)
     }
 
     /// The next word, which must be a number below 2^32.
     pub fn limit(&mut self) -> Result<u32, LineFault> {
-        weight(self.next()?).ok_or(LineFault::Bad)
+        weight(self.text()?).ok_or(LineFault::Bad)
     }
 
     /// The next word, which must be the number of a round.
@@ -60,26 +62,26 @@ impl<'a> Words<'a> {
 
     /// The next word, which must be a number below 2^16: a member's or a session's.
     pub fn member(&mut self) -> Result<u16, LineFault> {
-        member(self.next()?).ok_or(LineFault::Bad)
+        member(self.text()?).ok_or(LineFault::Bad)
     }
 
     /// The next word, which must be a list of names.
     pub fn names(&mut self, alloc: Global) -> Result<Vec<Name<'a>>, LineFault> {
-        list(alloc, self.next()?, Name::new)
+        list(alloc, self.text()?, Name::new)
     }
 
     /// The next word, which must be a list of members.
     pub fn members(&mut self, alloc: Global) -> Result<Vec<u16>, LineFault> {
-        list(alloc, self.next()?, member)
+        list(alloc, self.text()?, member)
     }
 
     /// The next word, which must be a list of weights.
     pub fn weights(&mut self, alloc: Global) -> Result<Vec<u32>, LineFault> {
-        list(alloc, self.next()?, weight)
+        list(alloc, self.text()?, weight)
     }
 
     /// The next word, which must be a list of transactions.
     pub fn transactions(&mut self, alloc: Global) -> Result<Vec<&'a str>, LineFault> {
-        list(alloc, self.next()?, transaction)
+        list(alloc, self.text()?, transaction)
     }
 }
