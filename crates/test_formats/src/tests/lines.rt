@@ -85,3 +85,11 @@ fn a_line_of_no_kind_is_bad(rt: HostRuntime) {
         assert!(rt; fault == Some(LineFault::Bad), "{shows}");
     }
 }
+
+#[test]
+fn bytes_that_are_no_text_are_bad_in_a_word_and_in_a_comment(rt: HostRuntime) {
+    for line in [b"read \xff", b"hash \xff", b"# no \xff"] {
+        let fault = parse_line(rt.alloc(), line.as_slice()).err();
+        assert!(rt; fault == Some(LineFault::Bad));
+    }
+}
