@@ -1,10 +1,10 @@
-/* Refuses memory to the program that it is preloaded into (.ci/refusals).
+/* Makes allocations fail in the program that it is preloaded into (.ci/refusals).
 
-   REFUSE_NTH=N refuses the Nth request for memory, counted from 1 in all threads from the moment when this library is started: the
-   dynamic linker's own work is before that, main and all threads are behind it. A request is a call of malloc, calloc, realloc,
-   aligned_alloc, posix_memalign or memalign. A request for REFUSE_ALL bytes, which is served, has every later one refused, until
-   one for REFUSE_NONE bytes. REFUSE_TELL is a file descriptor, which is told "r" where the Nth request was refused, and "a" where
-   the first request for REFUSE_ALL bytes came. */
+   REFUSE_NTH=N fails the Nth allocation, counted from 1 in all threads since this library was started: the dynamic linker's own
+   allocations come before that, those of main and of all threads after it. An allocation is a call of malloc, calloc, realloc,
+   aligned_alloc, posix_memalign or memalign. After an allocation of REFUSE_ALL bytes, which succeeds, every later one fails, until
+   one of REFUSE_NONE bytes. REFUSE_TELL is a file descriptor, to which one byte is written each time: "l" when the library starts,
+   "r" when it fails the Nth allocation, and "a" when all allocations begin to fail. */
 #include <errno.h>
 #include <stdlib.h>
 #include <unistd.h>
@@ -14,14 +14,7 @@ enum { REFUSE_ALL = 1000003, REFUSE_NONE = 1000033 };
 void *__libc_malloc(size_t), *__libc_calloc(size_t, size_t), *__libc_realloc(void *, size_t), *__libc_memalign(size_t, size_t);
 
 static long nth, count;
-static int all, told_all, tell = -1;
-
-__attribute__((constructor)) static void start(void)
-{
-	const char *number = getenv("REFUSE_NTH"), *to = getenv("REFUSE_TELL");
-	tell = to ? atoi(to) : -1;
-	__atomic_store_n(&nth, number ? atol(number) : 0, __ATOMIC_SEQ_CST);
-}
+static int all, tell = -1;
 
 static void tell_of(const char *what)
 {
@@ -29,12 +22,19 @@ static void tell_of(const char *what)
 		abort();
 }
 
+__attribute__((constructor)) static void start(void)
+{
+	const char *number = getenv("REFUSE_NTH"), *to = getenv("REFUSE_TELL");
+	tell = to ? atoi(to) : -1;
+	tell_of("l");
+	__atomic_store_n(&nth, number ? atol(number) : 0, __ATOMIC_SEQ_CST);
+}
+
 static int is_refused(size_t size)
 {
 	if (size == REFUSE_ALL || size == REFUSE_NONE) {
-		if (size == REFUSE_ALL && !__atomic_exchange_n(&told_all, 1, __ATOMIC_SEQ_CST))
+		if (!__atomic_exchange_n(&all, size == REFUSE_ALL, __ATOMIC_SEQ_CST) && size == REFUSE_ALL)
 			tell_of("a");
-		__atomic_store_n(&all, size == REFUSE_ALL, __ATOMIC_SEQ_CST);
 		return 0;
 	}
 	if (!__atomic_load_n(&all, __ATOMIC_SEQ_CST)) {

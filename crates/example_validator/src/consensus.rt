@@ -89,20 +89,39 @@ fn is_leader(slot: Slot) -> bool {
     round % 2 == 0 && round / 2 % u64::from(MEMBERS) == u64::from(slot.author)
 }
 
-/// What decides: its session, and what is decided.
+/// What the thread of the consensus owns.
 #[derive(Drop)]
 pub(crate) struct Decider<'a, L: Home, R> {
     pub(crate) host: &'a Host<'a, R>,
     pub(crate) store: &'a Store<NetworkScheme, L>,
     pub(crate) session: Session<NetworkScheme, L>,
     pub(crate) consensus: Consensus,
+    pub(crate) intake: Receiver<Vec<Certified>>,
+}
+
+/// What the thread of the consensus hands back, and why it ended.
+#[derive(Drop)]
+pub(crate) struct Decided<L: Home> {
+    pub(crate) session: Session<NetworkScheme, L>,
+    pub(crate) consensus: Consensus,
+    pub(crate) outcome: Result<(), End>,
 }
 
 impl<'a, L: Home, R: Wait> Decider<'a, L, R> {
+    /// Decides until the intake ends.
+    pub(crate) fn run(mut self) -> Decided<L> {
+        let outcome = self.hear_all();
+        Decided {
+            session: self.session,
+            consensus: self.consensus,
+            outcome,
+        }
+    }
+
     /// Decides leaders as the intake tells what is certified, until it ends.
-    pub(crate) fn run(&mut self, intake: &Receiver<Vec<Certified>>) -> Result<(), End> {
+    fn hear_all(&mut self) -> Result<(), End> {
         for _ in 0..u64::MAX {
-            let Ok(certified) = intake.recv(self.host.rt) else {
+            let Ok(certified) = self.intake.recv(self.host.rt) else {
                 return Ok(());
             };
             again!(self.consensus.hear(&certified))?;

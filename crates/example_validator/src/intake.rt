@@ -22,22 +22,41 @@ const WORKERS: usize = 2;
 /// How many messages are checked at once, at most.
 const MOST_TEXTS: usize = 1024;
 
-/// What an intake works with.
+/// What the thread of the intake owns.
 #[derive(Drop)]
 pub(crate) struct Intake<'a, L: Home, R> {
     pub(crate) host: &'a Host<'a, R>,
     pub(crate) store: &'a Store<NetworkScheme, L>,
     pub(crate) session: Session<NetworkScheme, L>,
+    pub(crate) inbox: &'a Inbox,
     /// Messages of blocks that may be stored later.
     pub(crate) kept: Vec<Text>,
     pub(crate) consensus: Sender<Vec<Certified>>,
 }
 
+/// What the thread of the intake hands back, and why it ended.
+#[derive(Drop)]
+pub(crate) struct Taken<L: Home> {
+    pub(crate) session: Session<NetworkScheme, L>,
+    pub(crate) kept: Vec<Text>,
+    pub(crate) outcome: Result<(), End>,
+}
+
 impl<'a, L: Home, R: Threads + Wait + Sync> Intake<'a, L, R> {
     /// Takes what comes, until the inbox ends.
-    pub(crate) fn run(&mut self, inbox: &Inbox) -> Result<(), End> {
+    pub(crate) fn run(mut self) -> Taken<L> {
+        let outcome = self.take_all();
+        Taken {
+            session: self.session,
+            kept: self.kept,
+            outcome,
+        }
+    }
+
+    /// Takes one batch after another, until the inbox ends.
+    fn take_all(&mut self) -> Result<(), End> {
         for _ in 0..u64::MAX {
-            let Ok(mut texts) = inbox.recv(self.host.rt) else {
+            let Ok(mut texts) = self.inbox.recv(self.host.rt) else {
                 return Ok(());
             };
             again!(texts.append(&mut self.kept))?;

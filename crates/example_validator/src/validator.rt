@@ -3,9 +3,9 @@ ghost use Rattle.std.specs.Prelude.{◌≡◌};
 ghost use Rattle.nw_store.specs.Journal.{origin_of};
 ghost use Rattle.nw_store.specs.Kept.{parts_of_a_ledger};
 
-use crate::consensus::{Certified, Consensus, Decider};
+use crate::consensus::{Certified, Consensus, Decided, Decider};
 use crate::end::End;
-use crate::intake::{Inbox, Intake, Text};
+use crate::intake::{Inbox, Intake, Taken, Text};
 use crate::messages::{Network, inbox};
 use crate::scheme::NetworkScheme;
 use crossbeam_channel::{Receiver, Sender, unbounded};
@@ -149,20 +149,17 @@ fn run_threads<L: Home, R: Threads + Wait + Sync>(
     match (one, other) {
         (Ok(one), Ok(other)) => {
             let state = replace(validator, Validator::new(host.alloc));
-            let ((one, consensus, decided), (other, kept, taken)) = run_both(
-                host,
-                store,
-                inbox,
-                channel,
-                (one, other),
-                state,
-            );
-            *validator = Validator { consensus, kept };
-            let first = sessions.push(one);
-            let second = sessions.push(other);
+            let (decided, taken) = run_both(host, store, inbox, channel, (one, other), state);
+            let outcome = taken.outcome.and(decided.outcome);
+            *validator = Validator {
+                consensus: decided.consensus,
+                kept: taken.kept,
+            };
+            let first = sessions.push(decided.session);
+            let second = sessions.push(taken.session);
             first?;
             second?;
-            taken.and(decided)
+            outcome
         }
         (one, other) => {
             drop(one);
@@ -173,12 +170,7 @@ fn run_threads<L: Home, R: Threads + Wait + Sync>(
     }
 }
 
-/// A session that is handed back, with what its thread decided, and why it ended.
-type Decided<L> = (Session<NetworkScheme, L>, Consensus, Result<(), End>);
-/// A session that is handed back, with what its thread keeps for later, and why it ended.
-type Taken<L> = (Session<NetworkScheme, L>, Vec<Text>, Result<(), End>);
-
-/// Runs the consensus in a thread of its own, and the intake in this one. Where no thread is to be had, one comes after the other.
+/// Runs the consensus in a thread of its own, and the intake in this one; without a second thread, one after the other.
 fn run_both<L: Home, R: Threads + Wait + Sync>(
     host: &Host<'_, R>,
     store: &Store<NetworkScheme, L>,
@@ -187,49 +179,23 @@ fn run_both<L: Home, R: Threads + Wait + Sync>(
     (one, other): (Session<NetworkScheme, L>, Session<NetworkScheme, L>),
     Validator { consensus, kept }: Validator,
 ) -> (Decided<L>, Taken<L>) {
-    thread::join(
-        host.rt,
-        move || decide(host, store, one, consensus, news),
-        move || take(host, store, other, kept, inbox, certified),
-    )
-}
-
-/// Lets the consensus decide by the session, and hands both back.
-fn decide<L: Home, R: Wait>(
-    host: &Host<'_, R>,
-    store: &Store<NetworkScheme, L>,
-    session: Session<NetworkScheme, L>,
-    consensus: Consensus,
-    intake: Receiver<Vec<Certified>>,
-) -> Decided<L> {
-    let mut decider = Decider {
+    let Host { rt, .. } = *host;
+    let decider = Decider {
         host,
         store,
-        session,
+        session: one,
         consensus,
+        intake: news,
     };
-    let decided = decider.run(&intake);
-    (decider.session, decider.consensus, decided)
-}
-
-/// Lets the intake take what comes by the session, and hands it back with what is kept.
-fn take<L: Home, R: Threads + Wait + Sync>(
-    host: &Host<'_, R>,
-    store: &Store<NetworkScheme, L>,
-    session: Session<NetworkScheme, L>,
-    kept: Vec<Text>,
-    inbox: &Inbox,
-    consensus: Sender<Vec<Certified>>,
-) -> Taken<L> {
-    let mut intake = Intake {
+    let intake = Intake {
         host,
         store,
-        session,
+        session: other,
+        inbox,
         kept,
-        consensus,
+        consensus: certified,
     };
-    let taken = intake.run(inbox);
-    (intake.session, intake.kept, taken)
+    thread::join(rt, move || decider.run(), move || intake.run())
 }
 
 /// Settles the sessions, which are all, and gives the book for the next store.

@@ -5,3 +5,4 @@ pub mod Agreed
 pub mod Sent
 pub mod HeldCalls
 pub mod Runs
+pub mod Told

@@ -22,3 +22,8 @@ call_of (command.Read d) = call.Read d
 call_of (command.Collect round) = call.Collect round
 call_of (command.Missing most) = call.Missing most
 call_of command.Status = call.Status
+
+-- the call is no causal read, for which there may be a ticket
+abbrev pub IsNoCausalRead : Call → Type 0
+IsNoCausalRead (call.Causal d) = ⊥
+IsNoCausalRead other = Unit {0}

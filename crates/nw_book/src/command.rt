@@ -3,7 +3,7 @@ ghost use Rattle.std.specs.Prelude.{◌≡◌, List, IfOk};
 ghost use Rattle.std.specs.Option.{option_copied};
 ghost use Rattle.nw_committee.specs.declared.member.Member.{Member};
 ghost use Rattle.nw_model.specs.History.{IsAdmitted};
-ghost use Rattle.nw_book.specs.Command.{call_of, committee_of};
+ghost use Rattle.nw_book.specs.Command.{IsNoCausalRead, call_of, committee_of};
 ghost use Rattle.nw_book.specs.Turn.{IsOf};
 
 use nw_check::{CheckedBlock, CheckedCert};
@@ -32,9 +32,10 @@ pub enum Command<S: Scheme> {
 }
 
 impl<S: Scheme> Command<S> {
-    /// The call that is asked, in which a block stands under its digest.
-    pub(crate) fn call(&self) -> Result<Call, NoMemory>
+    /// The call that is asked, in which a block stands under its digest. What is handed in gets one more owner.
+    pub fn call(&self) -> Result<Call, NoMemory>
         ensures call { IfOk result (λ call. call ≡ call_of self.now) }
+        ensures no_read { IfOk result IsNoCausalRead }
         ensures admitted { (members : List Member) → IsOf members (committee_of self.now)
             → IsAdmitted S.accepts members (call_of self.now) }
     {

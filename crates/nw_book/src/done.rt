@@ -1,46 +1,42 @@
 //! Answers.
-ghost use Rattle.std.specs.Prelude.{◌≡◌, ◌-◌, ◌<◌, ◌++◌, ◌∷◌, [], List, Some, length, slice_get};
-ghost use Rattle.nw_model.specs.declared.event.Event.{Event};
+ghost use Rattle.std.specs.Prelude.{◌≡◌, ◌≢◌, ◌-◌, Some, length, slice_get};
 
+use crate::Entry;
 use nw_history::Front;
-use nw_model::{Call, Event, Reply};
+use nw_model::{Call, Reply};
 use nw_sig::Scheme;
 use std::marker::Model;
-use std::snapshot::Snapshot;
 
-/// An answer: a history that ends with a call and the reply to it. Contracts see the event of the call, and the history.
+/// The answer to a call for which there is no ticket: a history that ends with the call, and the reply to it, which is never
+/// `Ready`. Contracts see the event of the call, and the history.
 #[derive(Drop)]
 pub struct Done<S: Scheme> {
-    front: Front<S>,
-    event: Snapshot<Event>,
+    entry: Entry<S>,
 }
 
 impl<S: Scheme> Model for Done<S> {
-    ghost use Rattle.std.specs.Prelude.{◌≡◌, ◌-◌, Some, length, slice_get};
+    ghost use Rattle.std.specs.Prelude.{◌≢◌};
     ghost use Rattle.std.specs.Coded.{codes};
     ghost use Rattle.nw_model.specs.State.{coded_state};
+    ghost use Rattle.nw_model.specs.declared.reply.Reply.TheVariants as Reply;
     ghost use Rattle.nw_book.specs.Answer.{Told};
 
     ghost Value = { Told };
 
     ghost coded = { Prim.hlevel (codes, coded_state) };
 
-    ghost view = { λ d. record { event = d.event.value; front = d.front } };
+    ghost view = { λ d. d.entry };
 
-    ghost invariant = { λ d.
-        slice_get d.front.events (length d.front.events - 1) ≡ Some d.event.value };
+    ghost invariant = { λ d. d.entry.event.reply ≢ Reply.Ready };
 }
 
 impl<S: Scheme> Done<S> {
-    /// The answer with this front, which ends with the call that is answered.
-    pub(crate) fn of(front: Front<S>) -> Done<S>
-        requires some { 0 < length front.events }
-        ensures front { result.front ≡ front }
-        ensures event { (earlier : List Event) (event : Event)
-            → front.events ≡ earlier ++ event ∷ [] → result.event ≡ event }
+    /// The answer that this entry is kept of.
+    pub(crate) fn of(entry: Entry<S>) -> Done<S>
+        requires { entry.event.reply ≢ Reply.Ready }
+        ensures { result ≡ entry }
     {
-        let event = Snapshot::of(front.last().unwrap());
-        Done { front, event }
+        Done { entry }
     }
 
     /// The call that was answered.
@@ -49,29 +45,21 @@ impl<S: Scheme> Done<S> {
         ensures last { slice_get self.now.front.events (length self.now.front.events - 1)
             ≡ Some self.now.event }
     {
-        &self.event().call
+        self.entry.call()
     }
 
-    /// The reply that the call got; of a causal read whose list could be walked `Ready`.
+    /// The reply that the call got, which is never `Ready`: a ticket stands for that.
     pub fn reply(&self) -> &Reply
-        ensures { result.now ≡ self.now.event.reply }
+        ensures reply { result.now ≡ self.now.event.reply }
+        ensures not_ready { result.now ≢ Reply.Ready }
     {
-        &self.event().reply
+        self.entry.reply()
     }
 
     /// The history up to and with the call.
     pub fn front(&self) -> &Front<S>
         ensures { result.now ≡ self.now.front }
     {
-        &self.front
-    }
-
-    /// The event of the call, which is the last of the front.
-    fn event(&self) -> &Event
-        ensures event { result.now ≡ self.now.event }
-        ensures last { slice_get self.now.front.events (length self.now.front.events - 1)
-            ≡ Some self.now.event }
-    {
-        self.front.last().unwrap()
+        self.entry.front()
     }
 }

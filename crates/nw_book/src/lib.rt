@@ -10,6 +10,7 @@
 mod book;
 mod command;
 mod done;
+mod entry;
 mod error;
 mod moves;
 mod run;
@@ -18,6 +19,7 @@ mod ticket;
 pub use book::Book;
 pub use command::Command;
 pub use done::Done;
+pub use entry::Entry;
 pub use error::{BookError, NoStep};
 pub use moves::{Answer, Cause, Move, Run, Stop};
 pub use nw_causal::Agreement;

@@ -22,5 +22,5 @@ mod table;
 
 pub use crew::load;
 pub use fault::LoadFault;
-pub use program::run;
+pub use program::{print_outcome, run};
 pub use report::NodeReport;

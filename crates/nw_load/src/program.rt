@@ -28,9 +28,15 @@ pub fn run<R: Threads + Wait + Sync, W: Write>(
     let Some((nodes, rounds)) = numbers(words) else {
         return BAD_WORDS;
     };
-    let (written, status) = match load(rt, alloc, nodes, rounds, &FreeGate) {
-        Ok(reports) => (print_reports(&reports, out), DONE),
-        Err(fault) => (print_fault(fault, out), REFUSED),
+    print_outcome(&load(rt, alloc, nodes, rounds, &FreeGate), out)
+}
+
+/// Prints the report of a load, or why there is none, and returns the exit status: 0 for a report, 3 for a refusal, and 1 if the
+/// line cannot be written.
+pub fn print_outcome<W: Write>(outcome: &Result<Vec<NodeReport>, LoadFault>, out: &mut W) -> u8 {
+    let (written, status) = match outcome {
+        Ok(reports) => (print_reports(reports, out), DONE),
+        Err(fault) => (print_fault(*fault, out), REFUSED),
     };
     match written {
         Ok(()) => status,

@@ -246,11 +246,11 @@ kept test (y ∷ ys) x = by (test y) refl (kept test ys x)
       ],
     )
 
-holds_so : {P : Type 0} (decided : Decided P) → holds decided ≡ true → P
+pub holds_so : {P : Type 0} (decided : Decided P) → holds decided ≡ true → P
 holds_so (inl p) e = p
 holds_so (inr refuted) e = absurd cc
 
-so_holds : {P : Type 0} (decided : Decided P) → P → holds decided ≡ true
+pub so_holds : {P : Type 0} (decided : Decided P) → P → holds decided ≡ true
 so_holds (inl p) q = refl
 so_holds (inr refuted) q = absurd (refuted q)
 

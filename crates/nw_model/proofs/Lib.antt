@@ -18,3 +18,4 @@ pub mod Stable
 pub mod Admitted
 pub mod Quorums
 pub mod Integrity
+pub mod Existing

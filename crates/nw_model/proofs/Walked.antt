@@ -81,7 +81,7 @@ below_all b [] h = tt
 below_all b (c ∷ cs) h = (h.0, below_all b cs h.1)
 
 -- blocks whose slots ascend ascend
-ascending_by_slot : (bs : List Block) → IsStrictlySortedBy slot_cmp (map block_slot bs) → IsStrictlySortedBy block_cmp bs
+pub ascending_by_slot : (bs : List Block) → IsStrictlySortedBy slot_cmp (map block_slot bs) → IsStrictlySortedBy block_cmp bs
 unfolding IsStrictlySortedBy
 ascending_by_slot [] h = tt
 ascending_by_slot (b ∷ bs) h = (below_all b bs h.0, ascending_by_slot bs h.1)

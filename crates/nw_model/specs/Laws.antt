@@ -32,6 +32,11 @@ BeginningsOfLegalHistoriesAreLegal =
 abbrev pub ViewsShowTheAncestors : Type 0
 ViewsShowTheAncestors = (v : Frozen) (s : State) (d : Digest) → HasNoneBelow s → Shows v s → IsComplete s d → (a : Digest) → IsAncestorIn v d a ↔ IsAncestor s d a
 
+-- in a sound state a complete digest has a causal list, and each other causal list of it is equal to that
+abbrev pub CompleteDigestsHaveOneCausalList : Type 0
+CompleteDigestsHaveOneCausalList =
+    (s : State) (d : Digest) → IsSound s → IsComplete s d → (blocks : List Block) × IsCausalList s d blocks × ((others : List Block) → IsCausalList s d others → others ≡ blocks)
+
 -- each block of the causal list of a complete block is complete, and its own causal list is contained in that list
 abbrev pub CausalListsContainThoseOfTheirBlocks : Type 0
 CausalListsContainThoseOfTheirBlocks =

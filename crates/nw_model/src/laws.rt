@@ -1,5 +1,6 @@
 //! Laws over the definitions.
 ghost use Rattle.nw_model.specs.Laws.{
+  CompleteDigestsHaveOneCausalList,
   CausalListsContainThoseOfTheirBlocks,
   LegalHistoriesLeaveSoundStates,
   BeginningsOfLegalHistoriesAreLegal,
@@ -31,6 +32,11 @@ pub fn a_beginning_of_a_legal_history_is_legal()
 /// garbage round.
 pub fn ancestors_in_a_view_are_the_states()
     ensures { ViewsShowTheAncestors }
+{}
+
+/// In a sound state a complete digest has exactly one causal list.
+pub fn a_complete_digest_has_one_causal_list()
+    ensures { CompleteDigestsHaveOneCausalList }
 {}
 
 /// The causal list of a complete block contains the causal list of each block in it.

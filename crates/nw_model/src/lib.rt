@@ -15,9 +15,9 @@ pub use event::Event;
 pub use laws::{
     a_beginning_of_a_legal_history_is_legal, a_causal_list_contains_those_of_its_blocks,
     a_causal_list_reaches_a_quorum_in_each_round, a_causal_list_stays,
-    a_first_of_the_base_gets_no_vote, a_legal_history_leaves_a_sound_state,
-    a_legal_history_votes_once_for_a_slot, ancestors_in_a_view_are_the_states,
-    reads_of_a_digest_agree, step_is_a_function,
+    a_complete_digest_has_one_causal_list, a_first_of_the_base_gets_no_vote,
+    a_legal_history_leaves_a_sound_state, a_legal_history_votes_once_for_a_slot,
+    ancestors_in_a_view_are_the_states, reads_of_a_digest_agree, step_is_a_function,
 };
 pub use nw_waiting::Wanted;
 pub use reply::{CausalReply, CertifyReply, CollectReply, Counts, Reply, WriteReply};

@@ -1,6 +1,7 @@
 //! Reading a whole script.
-ghost use Rattle.std.specs.Prelude.{◌≡◌, ◌≤◌, IfOk, IfSome, vec_len};
+ghost use Rattle.std.specs.Prelude.{◌≡◌, ◌≤◌, IfOk, IfErr, IfSome, vec_len};
 ghost use Rattle.nw_play.specs.declared.input.TheConstants.{MAX_SCRIPT};
+ghost use Rattle.nw_play.specs.Unread.{IsUnread};
 
 use crate::PlayFault;
 use std::alloc::Global;
@@ -15,6 +16,7 @@ pub fn read_script<R: Read>(alloc: Global, reader: &mut R) -> Result<Vec<u8>, Pl
     ensures within { IfOk result (λ script. vec_len script ≤ MAX_SCRIPT) }
     ensures whole { IfOk result (λ script.
         IfSome (R.remaining reader.old) (λ bytes. script.items ≡ bytes)) }
+    ensures unread { IfErr result IsUnread }
 {
     let mut script = Vec::new(alloc);
     let mut chunk = [0u8; 4096];

@@ -1,6 +1,7 @@
 //! A whole script.
-ghost use Rattle.std.specs.Prelude.{◌<◌, length, IfSome, IsErr};
+ghost use Rattle.std.specs.Prelude.{◌<◌, length, IfSome, IsErrAnd};
 ghost use Rattle.nw_play.specs.declared.input.TheConstants.{MAX_SCRIPT};
+ghost use Rattle.nw_play.specs.Unread.{IsUnread};
 
 use crate::books::{Start, first, first_committee};
 use crate::fault::{PlayFault, written};
@@ -18,7 +19,8 @@ use std::sync::Wait;
 /// Plays the script that the reader gives, and prints its answers to the writer, a line each.
 ///
 /// The whole script is read before its first line is played. What was printed before a fault stands, and a bad line
-/// prints its fault, as sessions do that differ. `Read` and `TooLong` print nothing. It waits for the lock of its stores,
+/// prints its fault, as sessions do that differ. `Read` and `TooLong` print nothing. A script of more than 1,048,576 bytes is
+/// answered with `TooLong`, unless its reader fails or an allocation does before that is known. It waits for the lock of its stores,
 /// which nobody else holds. What the names and tickets of the script take is not given back, nor, where there was no fault,
 /// what its last store takes: it goes with the process, at once and not owner by owner.
 pub fn play<Rt: Wait, R: Read + Drop, W: Write + Drop>(
@@ -27,7 +29,8 @@ pub fn play<Rt: Wait, R: Read + Drop, W: Write + Drop>(
     mut reader: R,
     writer: W,
 ) -> Result<(), PlayFault>
-    ensures { IfSome (R.remaining reader) (λ bytes. MAX_SCRIPT < length bytes → IsErr result) }
+    ensures { IfSome (R.remaining reader)
+        (λ bytes. MAX_SCRIPT < length bytes → IsErrAnd result IsUnread) }
 {
     let script = read_script(alloc, &mut reader)?;
     let Ok(mut out) = BufWriter::new(alloc, writer) else {

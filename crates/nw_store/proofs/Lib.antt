@@ -1,4 +1,5 @@
 pub mod Begun
+pub mod Crossing
 pub mod Kept
 pub mod Answered
 pub mod Interleaved

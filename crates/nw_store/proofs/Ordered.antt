@@ -6,8 +6,8 @@ use Rattle.std.specs.List.{range_with_len}
 use Rattle.std.specs.List.Sorted.{IsPermutation, IsNonDecreasingBy}
 use Rattle.std.proofs.lemmas.Bool.Decides.{eqb_tells, leb_tells}
 use Rattle.std.proofs.lemmas.List.Sums.{sum_by-cons}
-use Rattle.std.proofs.lemmas.List.Sorted.{IsPermutation-map, length_permutation, sum_by-IsPermutation}
-use Rattle.nw_store.specs.Journal.{Journal}
+use Rattle.std.proofs.lemmas.List.Sorted.{IsPermutation-map, IsPermutation-refl, length_permutation, sum_by-IsPermutation}
+use Rattle.nw_store.specs.Journal.{Kept, Journal}
 use Rattle.nw_store.specs.Settled.{AreInOrder, AreAll, IsStray, times, ids_of}
 
 abbrev one : ℕ → ℕ → ℕ
@@ -183,6 +183,16 @@ order_from_none made js sorted p rising enough none =
     let range = range_from made 0 (ids_of sorted) (rises sorted rising) (omega arith) (omega (arith, enough, kept, many)) (λ id stray. none id (stray_kept made id js sorted p stray)) in
     let whole = range.0 in
     (omega (arith, whole, many), in_order_ids 0 (length (ids_of sorted)) sorted range.1)
+
+-- all journals that were made are so in their order too
+pub all_in_order : (made : ℕ) (js sorted : List Journal) → AreAll made js → IsPermutation js sorted → IsNonDecreasingBy (λ j. j.id) sorted → AreAll made sorted
+all_in_order made js sorted all p rising =
+    let whole = all_length made js all in
+    let order = order_from_none made js sorted p rising (omega (arith, whole)) (none_of_all made js all) in
+    all_from_order made sorted sorted (IsPermutation-refl sorted) order.0 order.1
+
+pub all_still : (old new : Kept) (js after : List Journal) → new ≡ old → after ≡ js → AreAll old.made js → AreAll new.made after
+all_still old new js after same items all = subst (λ (h : Kept). AreAll h.made after) (sym same) (subst (λ (l : List Journal). AreAll old.made l) (sym items) all)
 
 -- none of these numbers strays
 abbrev pub NoneBelow : ℕ → List Journal → ℕ → Type 0

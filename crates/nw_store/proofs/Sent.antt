@@ -12,7 +12,7 @@ use Rattle.nw_log.proofs.log.Keeper.TheSendSync as keeper
 use Rattle.nw_sig.specs.declared.scheme.Scheme.{Ghosts}
 use Rattle.nw_history.specs.contracts.front.Front as front
 use Rattle.nw_history.proofs.Sent.{front_send}
-use Rattle.nw_book.proofs.Sent.{book_send, done_send}
+use Rattle.nw_book.proofs.Sent.{book_send, entry_send}
 use Rattle.nw_store.specs.declared.home.Home.{Ghosts as HomeGhosts}
 use Rattle.nw_store.specs.contracts.notes.Note as note
 use Rattle.nw_store.specs.contracts.notes.Note.TheInside as note_inside
@@ -37,7 +37,7 @@ module _ (S L : RattleType) (g : Ghosts S.Denot) (home : HomeGhosts L.Denot) (pl
 
   pub session_send : IsSend (session.the_row S L g home place ledger)
   session_send = view_send (session_inside.the_row S L g home place ledger) _ _ _ _ (declared_send (session_inside.the_type S L g home place ledger)
-      (search (sendable, crosses), (search (sendable, crosses, done_send S g) depth 30, (pass_send, tt))))
+      (search (sendable, crosses), (search (sendable, crosses, entry_send S g) depth 30, (pass_send, tt))))
 
   pub locked_send : IsSend (locked.the_row S L g home place ledger)
   locked_send = view_send (locked_inside.the_row S L g home place ledger) _ _ _ _ (declared_send (locked_inside.the_type S L g home place ledger)

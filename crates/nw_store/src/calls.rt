@@ -1,18 +1,18 @@
 //! Calls of sessions, while the guard of the lock is lent.
-ghost use Rattle.std.specs.Prelude.{◌≡◌, List, Some, None, IfOk, IfErr, OnOk, OnErr};
+ghost use Rattle.std.specs.Prelude.{◌≡◌, Some, None, IfOk, IfErr, OnOk, OnErr};
 ghost use Rattle.std.specs.Option.{option_copied};
-ghost use Rattle.nw_committee.specs.declared.member.Member.{Member};
 ghost use Rattle.nw_model.specs.Checks.{digest_of};
 ghost use Rattle.nw_model.specs.History.{IsAdmitted};
 ghost use Rattle.nw_history.specs.Story.{IsLegalStory};
 ghost use Rattle.nw_book.specs.Answer.{IsFor, front_of, reply_of};
+ghost use Rattle.nw_book.specs.Command.{IsNoCausalRead, call_of, committee_of};
 ghost use Rattle.nw_book.specs.Turn.{HasRoom, IsInTurn, IsRefusal, MayStep};
 ghost use Rattle.nw_store.specs.Journal.{next_number, origin_of};
 ghost use Rattle.nw_store.specs.Answered.{IsAnswered};
 
 use crate::session::Session;
 use crate::{Home, Locked};
-use nw_book::{Done, NoStep, Ticket};
+use nw_book::{Command, Done, NoStep, Ticket};
 use nw_check::{CheckedBlock, CheckedCert};
 use nw_committee::Committee;
 use nw_digest::{Digest, NoMemory};
@@ -20,32 +20,33 @@ use nw_model::Call;
 use nw_sig::Scheme;
 use std::alloc::Global;
 
-/// Makes the session's next call, which hands in nothing, while the guard is lent.
+/// Makes the command as the session's next call, while the guard is lent. The command is lent: a refused one can be made again.
 ///
 /// It is refused as the book refuses it: `OutOfTurn` exactly where it is not the turn of the session's next number, else
-/// `HistoryFull` exactly where the history has as many events as its limit, else `NoMemory` where memory is refused, which is
-/// asked for after these tests. A refusal changes neither what the lock holds nor the session.
-pub fn ask_locked<S: Scheme, L: Home>(
+/// `OtherCommittee` exactly where what is handed in was checked under another committee, else `HistoryFull` exactly where the
+/// history has as many events as its limit, else `NoMemory` where memory is refused, which is asked for after these tests. A
+/// refusal changes neither what the lock holds nor the session.
+pub fn call_locked<S: Scheme, L: Home>(
     locked: &mut Locked<S, L>,
     alloc: Global,
     session: &mut Session<S, L>,
-    call: Call,
+    command: &Command<S>,
 ) -> Result<Done<S>, NoStep>
-    requires { (members : List Member) → IsAdmitted S.accepts members call }
     ensures answered { IfOk result (λ done. IsAnswered S.accepts locked.old.history session.old
-        session.new call done.event.reply done.front) }
+        session.new (call_of command.now) done.event.reply done.front) }
     ensures starts { origin_of locked.old.history ≡ L.origin }
     ensures legal { IsLegalStory S.accepts locked.old.history }
     ensures history { IfOk result (λ done.
         locked.new ≡ record { history = done.front; made = locked.old.made }) }
-    ensures may { OnOk result
-        (MayStep locked.old.history session.old.id (next_number session.old) None) }
-    ensures refused { IfErr result
-        (IsRefusal locked.old.history session.old.id (next_number session.old) None) }
+    ensures may { OnOk result (MayStep locked.old.history session.old.id
+        (next_number session.old) (committee_of command.now)) }
+    ensures refused { IfErr result (IsRefusal locked.old.history session.old.id
+        (next_number session.old) (committee_of command.now)) }
     ensures unchanged { OnErr result (locked.new ≡ locked.old) }
     ensures session { OnErr result (session.new ≡ session.old) }
 {
-    let number = may_call(locked, session, None)?;
+    let number = may_call(locked, session, command.committee())?;
+    let call = command.call()?;
     Ok(take_call(locked, alloc, session, number, call)?)
 }
 
@@ -79,13 +80,8 @@ pub fn open_locked<S: Scheme, L: Home>(
     Ok(take_open(locked, alloc, session, number, digest)?)
 }
 
-/// Writes the block, which is lent, as the session's next call, while the guard is lent.
-///
-/// It is refused as the book refuses it: `OutOfTurn` exactly where it is not the turn of the session's next number, else
-/// `OtherCommittee` exactly where the block was checked under another committee, else `HistoryFull` exactly where the history has
-/// as many events as its limit, else `NoMemory` where memory is refused, which is asked for after these tests. A refusal changes
-/// neither what the lock holds nor the session.
-pub fn write_locked<S: Scheme, L: Home>(
+/// Makes the write of a block, which is lent, as `call_locked` makes that of a command that has the block.
+pub(crate) fn write_locked<S: Scheme, L: Home>(
     locked: &mut Locked<S, L>,
     alloc: Global,
     session: &mut Session<S, L>,
@@ -110,8 +106,8 @@ pub fn write_locked<S: Scheme, L: Home>(
     Ok(take_call(locked, alloc, session, number, call)?)
 }
 
-/// Hands in the certificate, which is lent, as the session's next call, while the guard is lent. It is refused as a write is.
-pub fn certify_locked<S: Scheme, L: Home>(
+/// Hands in a certificate, which is lent, as `call_locked` does that of a command that has the certificate.
+pub(crate) fn certify_locked<S: Scheme, L: Home>(
     locked: &mut Locked<S, L>,
     alloc: Global,
     session: &mut Session<S, L>,
@@ -159,8 +155,8 @@ fn may_call<S: Scheme, L: Home>(
     Ok(number)
 }
 
-/// Takes the step of a call that the session may make as its next, with that number. It is refused for want of memory alone, and
-/// then changes nothing.
+/// Takes the step of a call, no causal read, that the session may make as its next, with that number. It is refused for want of
+/// memory alone, and then changes nothing.
 fn take_call<S: Scheme, L: Home>(
     locked: &mut Locked<S, L>,
     alloc: Global,
@@ -168,6 +164,7 @@ fn take_call<S: Scheme, L: Home>(
     number: u32,
     call: Call,
 ) -> Result<Done<S>, NoMemory>
+    requires no_read { IsNoCausalRead call }
     requires number { number ≡ next_number session.old }
     requires turn { IsInTurn locked.old.history session.old.id (next_number session.old) }
     requires admitted { IsAdmitted S.accepts locked.old.history.committee call }

@@ -4,7 +4,7 @@ ghost use Rattle.nw_history.specs.declared.limits.TheConstants.{MOST_SESSIONS};
 
 use crate::Home;
 use crate::locked::Pass;
-use nw_book::Done;
+use nw_book::Entry;
 use nw_sig::Scheme;
 use std::marker::Model;
 
@@ -15,7 +15,7 @@ use std::marker::Model;
 #[derive(Drop)]
 pub struct Session<S: Scheme, L: Home> {
     pub(crate) id: u16,
-    pub(crate) journal: Vec<Done<S>>,
+    pub(crate) journal: Vec<Entry<S>>,
     pub(crate) pass: Pass<S, L>,
 }
 

@@ -1,7 +1,7 @@
 //! Settlement: the journals of all sessions, and the history that they are.
 ghost use Rattle.std.specs.Prelude.{ℕ, ◌≡◌, ◌↔◌, ◌+◌, ◌<◌, ◌^◌, ◌≤◌};
-ghost use Rattle.std.specs.Prelude.{IsOk, IsTrue, OnOk, OnErr, IfOk, IfErr, IfSome, IfNone, Some};
-ghost use Rattle.std.specs.Prelude.{All, length, slice_get, sum_by};
+ghost use Rattle.std.specs.Prelude.{IsOk, IsNone, IsTrue, OnOk, OnErr, IfOk, IfErr, IfSome, IfNone};
+ghost use Rattle.std.specs.Prelude.{All, Some, length, slice_get, sum_by};
 ghost use Rattle.std.specs.List.Sorted.{IsPermutation, IsNonDecreasingBy};
 ghost use Rattle.nw_history.specs.Story.{IsLegalStory, reopened};
 ghost use Rattle.nw_history.specs.declared.limits.TheConstants.{MOST_SESSIONS};
@@ -11,7 +11,7 @@ ghost use Rattle.nw_store.specs.Settled.{IsFirstStray, IsStray, ids_of};
 
 use crate::locked::renew_locked;
 use crate::{Home, Locked, Session, SettleFault, Store};
-use nw_book::{Book, Done, History, MOST_SESSIONS};
+use nw_book::{Book, Entry, History, MOST_SESSIONS};
 use nw_digest::NoMemory;
 use nw_sig::Scheme;
 use std::alloc::Global;
@@ -29,7 +29,7 @@ pub struct Settled<S: Scheme, L: Home> {
 impl<S: Scheme, L: Home> Model for Settled<S, L> {
     ghost use Rattle.std.specs.Coded.{codes};
     ghost use Rattle.nw_model.specs.State.{coded_state};
-    ghost use Rattle.nw_store.specs.Settled.{Ledgers, AreSettled};
+    ghost use Rattle.nw_store.specs.Settled.{Ledgers, AreAll, AreSettled};
 
     ghost Value = { Ledgers };
 
@@ -38,14 +38,16 @@ impl<S: Scheme, L: Home> Model for Settled<S, L> {
     ghost view = { λ s.
         record { history = s.locked.history; made = s.locked.made; journals = s.sessions.items } };
 
-    ghost invariant = { λ s. AreSettled s.locked.history s.sessions.items };
+    ghost invariant = { λ s. AreAll s.locked.made s.sessions.items
+        × AreSettled s.locked.history s.sessions.items };
 }
 
 impl<S: Scheme, L: Home> Settled<S, L> {
-    /// The history: an interleaving of the journals, which starts as the store was made. Of any two answers in them, one's front
-    /// is a beginning of the other's.
+    /// The history: an interleaving of the journals, which are those of all sessions that were made, and which starts as the store
+    /// was made. Of any two answers in them, one's front is a beginning of the other's.
     pub fn history(&self) -> &History<S>
         ensures history { result.now ≡ self.now.history }
+        ensures all { AreAll self.now.made self.now.journals }
         ensures settled { AreSettled self.now.history self.now.journals }
         ensures comparable { AreAllComparable self.now.journals }
         ensures starts { origin_of self.now.history ≡ L.origin }
@@ -70,11 +72,11 @@ impl<S: Scheme, L: Home> Settled<S, L> {
         }
     }
 
-    /// The journal of the session, or `None` where no session has this id.
-    pub fn journal(&self, session: u16) -> Option<&[Done<S>]>
+    /// The journal of the session, or `None` exactly where no session with this id was made.
+    pub fn journal(&self, session: u16) -> Option<&[Entry<S>]>
         ensures journal { IfSome result (λ entries. (j : Journal)
             × (slice_get self.now.journals session ≡ Some j) × (entries.now ≡ j.answers)) }
-        ensures none { IfNone result (length self.now.journals ≤ session) }
+        ensures none { IsNone result ↔ (self.now.made ≤ session) }
     {
         let session = self.sessions.get(usize::from(session))?;
         Some(session.journal.as_slice())
@@ -107,6 +109,7 @@ fn settle_in_place<S: Scheme, L: Home>(
     sessions: &mut [Session<S, L>],
 ) -> Result<(), SettleFault>
     ensures exactly { IsOk result ↔ AreAll locked.old.made sessions.old }
+    ensures all { OnOk result (AreAll locked.old.made sessions.new) }
     ensures settled { OnOk result (AreSettled locked.old.history sessions.new) }
     ensures refused { IfErr result (IsFault locked.old sessions.old) }
     ensures permutation { IsPermutation sessions.old sessions.new }

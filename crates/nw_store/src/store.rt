@@ -6,7 +6,6 @@ ghost use Rattle.std.specs.Prelude.{
   [],
   Some,
   None,
-  List,
   IsOk,
   IfOk,
   IfErr,
@@ -14,26 +13,26 @@ ghost use Rattle.std.specs.Prelude.{
   OnErr,
 };
 ghost use Rattle.std.specs.Result.{IsErrOf};
-ghost use Rattle.nw_committee.specs.declared.member.Member.{Member};
 ghost use Rattle.nw_model.specs.Checks.{digest_of};
-ghost use Rattle.nw_model.specs.History.{IsAdmitted};
 ghost use Rattle.nw_history.specs.Limits.{AreInRange};
 ghost use Rattle.nw_history.specs.Story.{first_origin};
 ghost use Rattle.nw_history.specs.declared.limits.TheConstants.{MOST_SESSIONS};
 ghost use Rattle.nw_book.specs.Answer.{IsFor, front_of, reply_of};
+ghost use Rattle.nw_book.specs.Command.{call_of, committee_of};
+ghost use Rattle.nw_book.specs.Turn.{IsOf};
+ghost use Rattle.nw_model.specs.declared.call.Call.TheVariants as Call;
 ghost use Rattle.nw_store.specs.Journal.{KnowsAll, origin_of};
 ghost use Rattle.nw_store.specs.Kept.{parts_of_a_ledger};
 ghost use Rattle.nw_store.specs.Answered.{IsExplained, TakesNoStep};
 
-use crate::calls::{ask_locked, certify_locked, open_locked, write_locked};
+use crate::calls::{call_locked, certify_locked, open_locked, write_locked};
 use crate::locked::{compact_locked, session_locked};
 use crate::notes::{hear_locked, note_locked};
 use crate::{Home, Locked, Note, Opening, Session, TooMany};
-use nw_book::{Book, BookError, Done, Limits, NoStep, Ticket};
+use nw_book::{Book, BookError, Command, Done, Limits, NoStep, Ticket};
 use nw_check::{CheckedBlock, CheckedCert};
 use nw_committee::Committee;
 use nw_digest::{Digest, NoMemory, Round, Shared};
-use nw_model::Call;
 use nw_sig::Scheme;
 use std::alloc::Global;
 use std::sync::{Mutex, Wait};
@@ -115,6 +114,25 @@ impl<S: Scheme, L: Home> Store<S, L> {
         hear_locked(&mut *self.locked.lock(rt), session, note)
     }
 
+    /// Makes the command as the session's next call. The command is lent: a refused one can be made again.
+    pub fn call<R: Wait>(
+        &self,
+        rt: &R,
+        alloc: Global,
+        session: &mut Session<S, L>,
+        command: &Command<S>,
+    ) -> Result<Done<S>, NoStep>
+        ensures answered { IfOk result
+            (λ done. IsExplained S.accepts L.origin session.old session.new
+            (call_of command.now) done.event.reply done.front) }
+        ensures own_committee { OnOk result (IsOf L.origin.committee (committee_of command.now)) }
+        ensures no_step { IfErr result
+            (TakesNoStep S.accepts L.origin session.old (committee_of command.now)) }
+        ensures unchanged { OnErr result (session.new ≡ session.old) }
+    {
+        call_locked(&mut *self.locked.lock(rt), alloc, session, command)
+    }
+
     /// Stores the block under its digest: a call of the session. The block is lent: a refused write can be made again.
     pub fn write<R: Wait>(
         &self,
@@ -167,7 +185,7 @@ impl<S: Scheme, L: Home> Store<S, L> {
         ensures no_step { IfErr result (TakesNoStep S.accepts L.origin session.old None) }
         ensures unchanged { OnErr result (session.new ≡ session.old) }
     {
-        self.ask(rt, alloc, session, Call::Certificate(digest))
+        self.call(rt, alloc, session, &Command::Certificate(digest))
     }
 
     /// Reads the block that is held under the digest: a call of the session.
@@ -184,7 +202,7 @@ impl<S: Scheme, L: Home> Store<S, L> {
         ensures no_step { IfErr result (TakesNoStep S.accepts L.origin session.old None) }
         ensures unchanged { OnErr result (session.new ≡ session.old) }
     {
-        self.ask(rt, alloc, session, Call::Read(digest))
+        self.call(rt, alloc, session, &Command::Read(digest))
     }
 
     /// Drops what is of a round below this one, which is the garbage round from then on: a call of the session. Tickets that
@@ -202,7 +220,7 @@ impl<S: Scheme, L: Home> Store<S, L> {
         ensures no_step { IfErr result (TakesNoStep S.accepts L.origin session.old None) }
         ensures unchanged { OnErr result (session.new ≡ session.old) }
     {
-        self.ask(rt, alloc, session, Call::Collect(round))
+        self.call(rt, alloc, session, &Command::Collect(round))
     }
 
     /// Reads the first so many of the parents that are wanted: a call of the session.
@@ -219,7 +237,7 @@ impl<S: Scheme, L: Home> Store<S, L> {
         ensures no_step { IfErr result (TakesNoStep S.accepts L.origin session.old None) }
         ensures unchanged { OnErr result (session.new ≡ session.old) }
     {
-        self.ask(rt, alloc, session, Call::Missing(most))
+        self.call(rt, alloc, session, &Command::Missing(most))
     }
 
     /// Reads how much is kept and how much is wanted: a call of the session.
@@ -235,7 +253,7 @@ impl<S: Scheme, L: Home> Store<S, L> {
         ensures no_step { IfErr result (TakesNoStep S.accepts L.origin session.old None) }
         ensures unchanged { OnErr result (session.new ≡ session.old) }
     {
-        self.ask(rt, alloc, session, Call::Status)
+        self.call(rt, alloc, session, &Command::Status)
     }
 
     /// Lets later tickets share one copy of what is complete, without what was collected. It is no call of a session: no history,
@@ -261,23 +279,5 @@ impl<S: Scheme, L: Home> Store<S, L> {
         ensures unchanged { OnErr result (session.new ≡ session.old) }
     {
         open_locked(&mut *self.locked.lock(rt), alloc, session, digest)
-    }
-
-    /// Makes the session's next call, which hands in nothing.
-    fn ask<R: Wait>(
-        &self,
-        rt: &R,
-        alloc: Global,
-        session: &mut Session<S, L>,
-        call: Call,
-    ) -> Result<Done<S>, NoStep>
-        requires { (members : List Member) → IsAdmitted S.accepts members call }
-        ensures answered { IfOk result
-            (λ done. IsExplained S.accepts L.origin session.old session.new
-            call done.event.reply done.front) }
-        ensures no_step { IfErr result (TakesNoStep S.accepts L.origin session.old None) }
-        ensures unchanged { OnErr result (session.new ≡ session.old) }
-    {
-        ask_locked(&mut *self.locked.lock(rt), alloc, session, call)
     }
 }

@@ -1,4 +1,4 @@
--- A view of named blocks is closed.
+-- Views of named blocks are closed.
 use Rattle.std.proofs.Common.{◌≡◌, ℕ, ◌<◌, ◌≤◌, ◌⊎◌, [], ◌∷◌, Option, Some, None, get_or, refl, ap, sym, ◌∙◌, inl, inr, arith}
 use Rattle.std.specs.Option.{option_or}
 use Rattle.std.specs.FinMap.{FinMap, get}
@@ -60,3 +60,12 @@ closed_both n older newer floor few bases next = record {
     parent r b round is =
         let base = bases.held r.author is.0 in
         (base.0, both older newer r.digest ∙ of_later (get newer r.digest) (get older r.digest) base.0 (lacks r is.0 is.1) (ap (get older) is.1 ∙ base.1), base.2, omega arith)
+
+pub closed_one : (n : ℕ) (blocks : FinMap digest_cmp Block) (floor : ℕ) → AreBases n blocks → IsClosed (seen_of (blocks ∷ []) floor).frozen
+closed_one n blocks floor bases = record {
+  parents = λ d b at above. let first = bases.first d b (own d b at) in absurd (omega arith);
+  apart = λ d e b c at there kept slots. bases.named d b (own d b at) ∙ ap (λ (s : Slot). name_of s) slots ∙ sym (bases.named e c (own e c there));
+}
+  where
+    own : (d : Digest) (b : Block) → get (union (blocks ∷ [])) d ≡ Some b → get blocks d ≡ Some b
+    own d b at = sym (alone blocks d) ∙ at

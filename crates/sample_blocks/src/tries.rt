@@ -12,12 +12,12 @@ use std::alloc::Global;
 /// Blocks under their digests.
 pub type Blocks = Trie<Shared<Block>, Global>;
 
-/// The blocks of round 0 of three authors, each with this transaction.
-pub fn older(alloc: Global, text: &[u8]) -> Result<Blocks, NoMemory>
-    ensures { IfOk result (λ trie. AreBases 3 (map.from_entries trie)) }
+/// The blocks of round 0 of so many authors, each with this transaction.
+pub fn older(alloc: Global, authors: u8, text: &[u8]) -> Result<Blocks, NoMemory>
+    ensures { IfOk result (λ trie. AreBases authors (map.from_entries trie)) }
 {
     let mut trie = Trie::new_in(alloc);
-    for author in 0..3u8 {
+    for author in 0..authors {
         let slot = (Round::ZERO, author as u16);
         let base = block(alloc, slot, Vec::new(alloc), text)?;
         trie.put(name(0, author), base)?;

@@ -11,4 +11,4 @@ mod signing;
 mod values;
 
 pub use asking::{refuse_all, refuse_none};
-pub use values::{block, block_with, certificate, committee};
+pub use values::{block, block_with, certificate, committee, key};

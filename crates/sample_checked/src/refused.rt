@@ -1,6 +1,7 @@
 //! A committee whose members sign by the demonstration scheme, and blocks, votes and certificates under it.
 use crate::signing::seal;
 pub use crate::signing::signature;
+use crate::values::key;
 use nw_check::{BlockFault, CertFault, CheckedBlock, CheckedCert, check_block, check_cert};
 use nw_codec::{Block, Certificate, Ref, Transactions, Vote};
 use nw_committee::{Committee, Key};
@@ -18,7 +19,7 @@ pub const VOTED: Digest = Digest([7; 32]);
 pub fn keys(alloc: Global, numbers: &[u8]) -> Result<Vec<Key>, NoMemory> {
     let mut keys = Vec::new(alloc);
     for number in numbers {
-        keys.push(Key([*number; 32]))?;
+        keys.push(key(u16::from(*number)))?;
     }
     Ok(keys)
 }
@@ -79,10 +80,17 @@ pub fn checked_certificate(
     check_cert(alloc, committee, certificate)
 }
 
-/// A block of the slot with one transaction of this byte.
-pub fn unsigned(alloc: Global, slot: Slot, parents: &[Ref], text: u8) -> Result<Block, NoMemory> {
+/// A block of the slot with a transaction of each of these bytes.
+pub fn unsigned(
+    alloc: Global,
+    slot: Slot,
+    parents: &[Ref],
+    bytes: &[u8],
+) -> Result<Block, NoMemory> {
     let mut transactions = Transactions::new(alloc);
-    transactions.push(&[text]).map_err(|_| NoMemory)?;
+    for byte in bytes {
+        transactions.push(&[*byte]).map_err(|_| NoMemory)?;
+    }
     Ok(Block {
         author: slot.1,
         round: slot.0,
@@ -97,10 +105,10 @@ pub fn checked_block(
     committee: &Shared<Committee>,
     slot: Slot,
     parents: &[Ref],
-    text: u8,
+    bytes: &[u8],
     signer: u16,
 ) -> Result<CheckedBlock<DemoScheme>, BlockFault> {
-    let block = unsigned(alloc, slot, parents, text)?;
+    let block = unsigned(alloc, slot, parents, bytes)?;
     match signature(committee.get(), &block, signer) {
         None => Err(BlockFault::ParentAuthor),
         Some(signature) => check_block(alloc, committee, block, signature),

@@ -10,7 +10,8 @@ use nw_sig::DemoScheme;
 use std::alloc::Global;
 use std::test::Fail;
 
-fn key(member: u16) -> Key {
+/// The key of the member: 30 bytes 0, and its number in two bytes.
+pub fn key(member: u16) -> Key {
     let mut bytes = [0; 32];
     bytes[30..].copy_from_slice(&member.to_be_bytes());
     Key(bytes)

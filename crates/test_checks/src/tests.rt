@@ -1,13 +1,15 @@
 use nw_check::{BlockFault, CertFault, Checked, check_message};
 use nw_codec::DecodeError;
-use nw_committee::{Committee, Key, Member};
+use nw_committee::{Committee, Member};
 use nw_digest::{NoMemory, Round, Shared};
 use nw_sig::DemoScheme;
+use sample_checked::key;
 use sample_checked::refused::Slot;
 use std::alloc::Global;
 use std::test::Fail;
 
 mod altered;
+mod errors;
 mod lengths;
 mod texts;
 mod threads;
@@ -47,9 +49,9 @@ fn judge(alloc: Global, committee: &Shared<Committee>, text: &[u8]) -> Result<Fo
 /// The committee of members with these weights.
 fn members(alloc: Global, weights: &[u32]) -> Result<Shared<Committee>, Fail> {
     let mut members = Vec::new(alloc);
-    for (number, weight) in (0u8..).zip(weights) {
+    for (number, weight) in (0u16..).zip(weights) {
         members.push(Member {
-            key: Key([number; 32]),
+            key: key(number),
             weight: *weight,
         })?;
     }

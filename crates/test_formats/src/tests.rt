@@ -1,4 +1,5 @@
 mod digests;
+mod errors;
 mod limits;
 mod lines;
 mod messages;

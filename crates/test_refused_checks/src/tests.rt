@@ -8,7 +8,9 @@ use std::test::Fail;
 
 mod checks;
 mod committees;
+mod gathers;
 mod texts;
+mod without;
 mod workers;
 
 /// Of what votes and certificates are.
@@ -21,7 +23,7 @@ fn four(alloc: Global) -> Result<Shared<Committee>, NoMemory> {
 
 /// The message of a block of round 0 of member 0, which this member signs.
 fn block_message(alloc: Global, four: &Committee, signer: u16) -> Result<Message, Fail> {
-    let block = again!(NoMemory, unsigned(alloc, SLOT, &[], b'x'))?;
+    let block = again!(NoMemory, unsigned(alloc, SLOT, &[], b"x"))?;
     match signature(four, &block, signer) {
         Some(signature) => Ok(Message::Block { block, signature }),
         None => {

@@ -8,8 +8,12 @@ use std::alloc::{AllocError, Global};
 use std::test::Fail;
 
 mod asking;
+mod chains;
 mod desk;
 mod endings;
+mod errors;
 mod examples;
+mod limits;
 mod moves;
 mod stores;
+mod without;

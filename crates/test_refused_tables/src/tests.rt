@@ -8,6 +8,7 @@ mod dags;
 mod plains;
 mod tables;
 mod views;
+mod without;
 
 /// A digest that begins and ends with these bytes.
 fn digest(first: u8, last: u8) -> Digest {

@@ -9,11 +9,13 @@ use std::alloc::Global;
 use std::sync::Wait;
 use std::test::Fail;
 
+mod agreeing;
 mod asking;
 mod chains;
 mod crowds;
 mod examples;
 mod followers;
+mod late;
 mod notes;
 mod plans;
 mod records;
@@ -22,19 +24,15 @@ mod scripts;
 mod settling;
 mod tasks;
 
-/// How many blocks a store of these tests holds at most.
-const BLOCKS: u32 = 1024;
-
-/// How many rounds it takes: as many as the longest chain has.
-const WINDOW: u32 = 200;
+/// The limits of a script that sets none.
+const LIMITS: Limits = Limits {
+    blocks: 1024,
+    events: 1024,
+    window: 64,
+    sessions: 16,
+};
 
 /// A book of so many members without events.
-fn book(alloc: Global, members: u16, events: u32, sessions: u32) -> Result<Book<DemoScheme>, Fail> {
-    let limits = Limits {
-        blocks: BLOCKS,
-        events,
-        window: WINDOW,
-        sessions,
-    };
+fn book(alloc: Global, members: u16, limits: Limits) -> Result<Book<DemoScheme>, Fail> {
     Ok(Book::new(alloc, committee(alloc, members)?, limits)?)
 }

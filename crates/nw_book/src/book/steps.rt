@@ -6,10 +6,11 @@ ghost use Rattle.nw_model.specs.Step.{IsReply, IsShort};
 ghost use Rattle.nw_model.specs.View.{Shows};
 ghost use Rattle.nw_history.specs.Story.{IsLegalStory, bounds_of, state_of, with_event};
 ghost use Rattle.nw_book.specs.Answer.{IsFor, Takes, front_of, reply_of};
+ghost use Rattle.nw_book.specs.Command.{IsNoCausalRead};
 ghost use Rattle.nw_book.specs.Turn.{HasRoom, IsInTurn, event};
 
 use super::Book;
-use crate::{Done, Ticket};
+use crate::{Done, Entry, Ticket};
 use nw_dag::Dag;
 use nw_digest::{Digest, NoMemory};
 use nw_generation::View;
@@ -19,15 +20,16 @@ use nw_sig::Scheme;
 use std::alloc::Global;
 
 impl<S: Scheme> Book<S> {
-    /// Takes the step of a call that may be taken, and answers it, twice: once for whoever keeps a journal. It is refused for want
-    /// of memory alone, and then changes nothing.
+    /// Takes the step of a call that may be taken and is no causal read, and gives its answer, and an entry for whoever keeps a
+    /// journal. It is refused for want of memory alone, and then changes nothing.
     pub fn take_step(
         &mut self,
         alloc: Global,
         session: u16,
         number: u32,
         call: Call,
-    ) -> Result<(Done<S>, Done<S>), NoMemory>
+    ) -> Result<(Done<S>, Entry<S>), NoMemory>
+        requires no_read { IsNoCausalRead call }
         requires turn { IsInTurn self.old session number }
         requires admitted { IsAdmitted S.accepts self.old.committee call }
         requires room { HasRoom self.old }
@@ -48,18 +50,19 @@ impl<S: Scheme> Book<S> {
             reply,
         };
         let (front, kept) = self.record(alloc, event)?;
-        Ok((Done::of(front), Done::of(kept)))
+        let answer = Entry::of(front);
+        Ok((Done::of(answer), Entry::of(kept)))
     }
 
-    /// Takes the step of a causal read that may be taken, and answers it, and gives one answer more for whoever keeps a journal. It
-    /// is refused for want of memory alone, and then changes nothing.
+    /// Takes the step of a causal read that may be taken, and gives its answer, and an entry for whoever keeps a journal. It is
+    /// refused for want of memory alone, and then changes nothing.
     pub fn take_open(
         &mut self,
         alloc: Global,
         session: u16,
         number: u32,
         digest: Digest,
-    ) -> Result<(Result<Ticket<S>, Done<S>>, Done<S>), NoMemory>
+    ) -> Result<(Result<Ticket<S>, Done<S>>, Entry<S>), NoMemory>
         requires turn { IsInTurn self.old session number }
         requires room { HasRoom self.old }
         ensures taken { IfOk result (λ taken. Takes S.accepts self.old self.new session number
@@ -75,12 +78,13 @@ impl<S: Scheme> Book<S> {
             Ok(view) => {
                 let event = read_event(session, number, digest, Reply::Ready);
                 let (front, kept) = self.record(alloc, event)?;
-                Ok((Ok(Ticket::new(digest, front, view)), Done::of(kept)))
+                Ok((Ok(Ticket::new(digest, front, view)), Entry::of(kept)))
             }
             Err(refusal) => {
                 let event = read_event(session, number, digest, Reply::Causal(refusal));
                 let (front, kept) = self.record(alloc, event)?;
-                Ok((Err(Done::of(front)), Done::of(kept)))
+                let answer = Entry::of(front);
+                Ok((Err(Done::of(answer)), Entry::of(kept)))
             }
         }
     }

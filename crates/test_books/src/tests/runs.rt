@@ -13,7 +13,7 @@ struct Case {
 
 const CASES: [Case; 2] = [
     Case {
-        shows: "a ticket gives its list before and after a child of its block is stored",
+        shows: "a run with late walks: before and after a child of the block is stored",
         plan: &[
             Plan::Block,
             Plan::Walk(0),
@@ -35,7 +35,7 @@ const CASES: [Case; 2] = [
         ],
     },
     Case {
-        shows: "a ticket gives its list after its block was collected",
+        shows: "a run stops at a ticket that it lacks, after a walk of a collected block",
         plan: &[Plan::Block, Plan::Collect(1), Plan::Walk(0), Plan::Walk(5)],
         answers: &[
             ("stored vote", &[]),

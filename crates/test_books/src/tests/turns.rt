@@ -43,9 +43,7 @@ fn first_other(book: &mut Book<DemoScheme>, alloc: Global) -> Result<Option<u32>
 }
 
 #[test]
-fn a_call_out_of_turn_is_refused_and_then_a_block_of_another_committee(
-    rt: HostRuntime,
-) -> Result<(), Fail> {
+fn out_of_turn_then_another_committee(rt: HostRuntime) -> Result<(), Fail> {
     let limits = Limits {
         events: 1,
         ..LIMITS
@@ -80,7 +78,7 @@ fn refusal(alloc: Global, limits: Limits) -> Result<Option<BookError>, Fail> {
 }
 
 #[test]
-fn limits_are_taken_in_their_ranges_alone(rt: HostRuntime) -> Result<(), Fail> {
+fn bad_limits(rt: HostRuntime) -> Result<(), Fail> {
     for ([blocks, events, window, sessions], why) in LIMITED {
         let limits = Limits {
             blocks,

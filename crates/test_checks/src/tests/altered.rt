@@ -61,7 +61,7 @@ fn count(
 }
 
 #[test]
-fn no_altered_block_is_accepted(rt: HostRuntime) -> Result<(), Fail> {
+fn each_byte_of_a_block_altered(rt: HostRuntime) -> Result<(), Fail> {
     let one = members(rt.alloc(), &[1])?;
     let text = block(rt.alloc(), one.get(), 0)?;
     assert!(rt; judge(rt.alloc(), &one, &text)? == Found::Block);
@@ -71,7 +71,7 @@ fn no_altered_block_is_accepted(rt: HostRuntime) -> Result<(), Fail> {
 }
 
 #[test]
-fn no_altered_certificate_is_accepted(rt: HostRuntime) -> Result<(), Fail> {
+fn each_byte_of_a_certificate_altered(rt: HostRuntime) -> Result<(), Fail> {
     let four = members(rt.alloc(), &[1; 4])?;
     let text = certificate(rt.alloc(), four.get())?;
     assert!(rt; judge(rt.alloc(), &four, &text)? == Found::Cert);
@@ -229,7 +229,7 @@ const OF_A_CERTIFICATE: [Change; 16] = [
 ];
 
 #[test]
-fn each_altered_field_has_its_fault(rt: HostRuntime) -> Result<(), Fail> {
+fn each_field_altered(rt: HostRuntime) -> Result<(), Fail> {
     let one = members(rt.alloc(), &[1])?;
     let text = block(rt.alloc(), one.get(), 0)?;
     for (shows, place, byte, fault) in OF_A_BLOCK {

@@ -152,9 +152,16 @@ fn checked_by<G: Gate + Sync, R: Threads + Wait + Sync>(
 }
 
 #[test]
-fn two_messages_are_checked_at_once(rt: HostRuntime) -> Result<(), Fail> {
-    let together = checked_by(&rt, rt.alloc(), 2, 2, &Meeting::new())?;
-    assert_eq!(rt; together, Ok(true));
+fn two_workers_wait_for_each_other(rt: HostRuntime) -> Result<(), Fail> {
+    let cases = [
+        (2, Ok(true)),
+        (0, Err(IntakeFault::BadWorkers)),
+        (17, Err(IntakeFault::BadWorkers)),
+    ];
+    for (workers, wanted) in cases {
+        let found = checked_by(&rt, rt.alloc(), 2, workers, &Meeting::new())?;
+        assert_eq!(rt; found, wanted, "{workers}");
+    }
     Ok(())
 }
 
@@ -167,14 +174,7 @@ fn one_worker_does_not_pass_a_gate_that_waits_for_two(rt: HostRuntime) -> Result
 
 #[test]
 fn any_number_of_workers_gives_the_same_answers(rt: HostRuntime) -> Result<(), Fail> {
-    let cases = [
-        (1, Ok(true)),
-        (2, Ok(true)),
-        (3, Ok(true)),
-        (16, Ok(true)),
-        (0, Err(IntakeFault::BadWorkers)),
-        (17, Err(IntakeFault::BadWorkers)),
-    ];
+    let cases = [(1, Ok(true)), (2, Ok(true)), (3, Ok(true)), (16, Ok(true))];
     for (workers, wanted) in cases {
         let found = checked_by(&rt, rt.alloc(), 5, workers, &FreeGate)?;
         assert_eq!(rt; found, wanted, "{workers}");

@@ -19,7 +19,7 @@ const OF_ABC_AND_NOTHING: [[u8; 32]; 2] = [
 ];
 
 #[test]
-fn the_digest_of_abc_and_of_the_empty_text(rt: HostRuntime) {
+fn digests_of_known_texts(rt: HostRuntime) {
     let found = [digest_of(b"abc"), digest_of(b"")];
     assert!(rt; found == OF_ABC_AND_NOTHING.map(Digest));
 }

@@ -37,7 +37,7 @@ const LARGEST: [usize; 16] = [
 ];
 
 #[test]
-fn blocks_fit_up_to_their_limits(rt: HostRuntime) -> Result<(), Fail> {
+fn sizes_at_the_limit(rt: HostRuntime) -> Result<(), Fail> {
     let mut larger = LARGEST;
     larger[15] = 65_460;
     let cases: [(&str, u16, &[usize], Result<usize, EncodeError>); 8] = [
@@ -85,7 +85,7 @@ fn message(alloc: Global, last: u32) -> Result<Vec<u8>, AllocError> {
 }
 
 #[test]
-fn the_largest_body_is_read_and_one_byte_more_is_not(rt: HostRuntime) -> Result<(), Fail> {
+fn texts_of_sizes_at_the_limit(rt: HostRuntime) -> Result<(), Fail> {
     let largest = decode_message(rt.alloc(), &message(rt.alloc(), 65_459)?).err();
     let larger = decode_message(rt.alloc(), &message(rt.alloc(), 65_460)?).err();
     assert!(rt; [largest, larger] == [None, Some(DecodeError::BodyTooLong)]);

@@ -1,39 +1,50 @@
 //! Lines of a script, as they are read.
-use nw_script::{LineFault, parse_line};
+use nw_script::{BlockLine, CommitteeLine, Line, LineFault, Request, parse_line};
+use std::alloc::{AllocError, Global};
+use std::test::Fail;
 
-// Lines of each kind, with the least and the greatest numbers that they take. What they ask for is shown by scripts.
-const LINES: [&str; 31] = [
-    "",
-    "# a comment",
-    "committee v1 4",
-    "committee v2 3,1,1,1",
-    "committee v2 -",
-    "limits 16 0 4 4294967295",
-    "block b 65535 281474976710655 a0,a1 x,y",
-    "block a 0 0 - -",
-    "body a",
-    "digest a",
-    "hash abc",
-    "hash -",
-    "write a",
-    "write a 65535",
-    "read a",
-    "certify a 2,0,2",
-    "valid a -",
-    "gather a 0,1,1,2,9",
-    "certificate a",
-    "causal a",
-    "open t a",
-    "walk t",
-    "collect 281474976710655",
-    "missing 65535",
-    "status",
-    "compact",
-    "session 65535",
-    "settle",
-    "reopen",
-    "read abcdefghijklmno1",
-    "hash 0123456789012345678901234567890123456789012345678901234567890123",
+// Lines of each kind, with the least and the greatest numbers that they take, and what is read of each.
+const LINES: [(&str, &str); 31] = [
+    ("", "skipped"),
+    ("# a comment", "skipped"),
+    ("committee v1 4", "4 equal members"),
+    ("committee v2 3,1,1,1", "members of weights [3, 1, 1, 1]"),
+    ("committee v2 -", "members of weights []"),
+    (
+        "limits 16 0 4 4294967295",
+        "LimitsLine { blocks: 16, events: 0, window: 4, sessions: 4294967295 }",
+    ),
+    (
+        "block b 65535 281474976710655 a0,a1 x,y",
+        "block b of 65535 in 281474976710655 over a0 a1 with [\"x\", \"y\"]",
+    ),
+    ("block a 0 0 - -", "block a of 0 in 0 over with []"),
+    ("body a", "body of a"),
+    ("digest a", "digest of a"),
+    ("hash abc", "hash \"abc\""),
+    ("hash -", "hash \"\""),
+    ("write a", "write a by None"),
+    ("write a 65535", "write a by Some(65535)"),
+    ("read a", "read a"),
+    ("certify a 2,0,2", "certify a by [2, 0, 2]"),
+    ("valid a -", "valid a by []"),
+    ("gather a 0,1,1,2,9", "gather a by [0, 1, 1, 2, 9]"),
+    ("certificate a", "certificate of a"),
+    ("causal a", "causal a"),
+    ("open t a", "open t of a"),
+    ("walk t", "walk t"),
+    ("collect 281474976710655", "collect 281474976710655"),
+    ("missing 65535", "missing 65535"),
+    ("status", "status"),
+    ("compact", "compact"),
+    ("session 65535", "session 65535"),
+    ("settle", "settle"),
+    ("reopen", "reopen"),
+    ("read abcdefghijklmno1", "read abcdefghijklmno1"),
+    (
+        "hash 0123456789012345678901234567890123456789012345678901234567890123",
+        "hash \"0123456789012345678901234567890123456789012345678901234567890123\"",
+    ),
 ];
 
 // Lines that are none of a script.
@@ -70,12 +81,83 @@ const BAD: [(&str, &str); 30] = [
     ("a byte over 127", "read \u{e9}"),
 ];
 
-#[test]
-fn each_kind_of_line_is_read(rt: HostRuntime) {
-    for line in &LINES {
-        let read = parse_line(rt.alloc(), line.as_bytes());
-        assert!(rt; read.is_ok(), "{line}");
+/// What a block's line says.
+fn told_of_block(alloc: Global, block: &BlockLine<'_>) -> Result<String, AllocError> {
+    let (name, author, round) = (block.name.as_str(), block.author, block.round.get());
+    let mut told = format!(in alloc; "block {name} of {author} in {round} over")?;
+    for parent in &block.parents {
+        told.push(' ')?;
+        told.push_str(parent.as_str())?;
     }
+    let transactions = format!(in alloc; " with {:?}", block.transactions)?;
+    told.push_str(&transactions)?;
+    Ok(told)
+}
+
+/// What a request's line says, but for a block's.
+fn told_of_request(alloc: Global, request: &Request<'_>) -> Result<String, AllocError> {
+    match request {
+        Request::Block(block) => told_of_block(alloc, block),
+        Request::Body(name) => format!(in alloc; "body of {}", name.as_str()),
+        Request::Digest(name) => format!(in alloc; "digest of {}", name.as_str()),
+        Request::Hash(word) => format!(in alloc; "hash {word:?}"),
+        Request::Write { name, signer } => format!(in alloc;
+            "write {} by {signer:?}",
+            name.as_str()
+        ),
+        Request::Read(name) => format!(in alloc; "read {}", name.as_str()),
+        Request::Certify { name, signers } => {
+            format!(in alloc; "certify {} by {signers:?}", name.as_str())
+        }
+        Request::Valid { name, signers } => {
+            format!(in alloc; "valid {} by {signers:?}", name.as_str())
+        }
+        Request::Gather { name, signers } => {
+            format!(in alloc; "gather {} by {signers:?}", name.as_str())
+        }
+        Request::Certificate(name) => format!(in alloc; "certificate of {}", name.as_str()),
+        Request::Causal(name) => format!(in alloc; "causal {}", name.as_str()),
+        Request::Open { ticket, name } => {
+            format!(in alloc; "open {} of {}", ticket.as_str(), name.as_str())
+        }
+        Request::Walk(ticket) => format!(in alloc; "walk {}", ticket.as_str()),
+        Request::Collect(round) => format!(in alloc; "collect {}", round.get()),
+        Request::Missing(most) => format!(in alloc; "missing {most}"),
+        Request::Status => format!(in alloc; "status"),
+        Request::Compact => format!(in alloc; "compact"),
+        Request::Session(id) => format!(in alloc; "session {id}"),
+    }
+}
+
+/// What a line says.
+fn told(alloc: Global, line: &Line<'_>) -> Result<String, AllocError> {
+    match line {
+        Line::Skipped => format!(in alloc; "skipped"),
+        Line::Committee(CommitteeLine::Equal { members }) => {
+            format!(in alloc; "{members} equal members")
+        }
+        Line::Committee(CommitteeLine::Weighted { weights }) => {
+            format!(in alloc; "members of weights {weights:?}")
+        }
+        Line::Limits(limits) => format!(in alloc; "{limits:?}"),
+        Line::Settle => format!(in alloc; "settle"),
+        Line::Reopen => format!(in alloc; "reopen"),
+        Line::Request(request) => told_of_request(alloc, request),
+    }
+}
+
+/// Whether this is read of the line.
+fn says(alloc: Global, line: &str, wanted: &str) -> Result<bool, Fail> {
+    let read = parse_line(alloc, line.as_bytes())?;
+    Ok(told(alloc, &read)?.as_str() == wanted)
+}
+
+#[test]
+fn each_kind_of_line_is_read(rt: HostRuntime) -> Result<(), Fail> {
+    for (line, wanted) in &LINES {
+        assert!(rt; says(rt.alloc(), line, wanted)?, "{line}");
+    }
+    Ok(())
 }
 
 #[test]

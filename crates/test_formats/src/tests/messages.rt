@@ -1,7 +1,7 @@
 //! Messages, and their bytes.
 use nw_codec::{
-    Block, Certificate, DecodeError, Message, Ref, Seal, Signature, Transactions, Vote,
-    block_digest, decode_message, encode_body, encode_message,
+    Block, Certificate, DecodeError, EncodeError, Message, Ref, Seal, Signature, Transactions,
+    Vote, block_digest, decode_message, encode_body, encode_message,
 };
 use nw_digest::{Digest, Round, Sequence, digest_of};
 use std::alloc::{AllocError, Global};
@@ -64,12 +64,12 @@ fn of_block(alloc: Global, parents: &[u16]) -> Result<(Message, Vec<u8>), Fail> 
     Ok((Message::Block { block, signature }, text))
 }
 
-/// The message of a certificate with votes of members 0, 2 and 258, and its bytes.
-fn of_certificate(alloc: Global) -> Result<(Message, Vec<u8>), Fail> {
+/// The message of a certificate with votes of these three members, and its bytes.
+fn of_certificate(alloc: Global, signers: [u16; 3]) -> Result<(Message, Vec<u8>), Fail> {
     let mut votes = Vec::new(alloc);
     let mut text = [2].to_vec(alloc)?;
     text.extend_from_slice(&VOTED)?;
-    for signer in [0u16, 2, 258] {
+    for signer in signers {
         votes.push(Seal {
             signer,
             signature: Signature([4; 64]),
@@ -126,7 +126,7 @@ fn is_spelled(alloc: Global, sent: (Message, Vec<u8>), length: usize) -> Result<
 }
 
 #[test]
-fn messages_have_their_bytes_and_end_exactly(rt: HostRuntime) -> Result<(), Fail> {
+fn a_message_ends_exactly(rt: HostRuntime) -> Result<(), Fail> {
     let alloc = rt.alloc();
     assert!(rt; is_spelled(alloc, of_block(alloc, &[])?, 83)?, "a block");
     assert!(rt;
@@ -134,7 +134,7 @@ fn messages_have_their_bytes_and_end_exactly(rt: HostRuntime) -> Result<(), Fail
         "a block over two"
     );
     assert!(rt;
-        is_spelled(alloc, of_certificate(alloc)?, 241)?,
+        is_spelled(alloc, of_certificate(alloc, [0, 2, 258])?, 241)?,
         "a certificate"
     );
     assert!(rt; is_spelled(alloc, of_vote(alloc)?, 107)?, "a vote");
@@ -142,7 +142,19 @@ fn messages_have_their_bytes_and_end_exactly(rt: HostRuntime) -> Result<(), Fail
 }
 
 #[test]
-fn a_body_has_its_bytes_and_its_digest(rt: HostRuntime) -> Result<(), Fail> {
+fn a_certificate_whose_signers_do_not_ascend_is_refused(rt: HostRuntime) -> Result<(), Fail> {
+    for signers in [[0, 2, 2], [0, 2, 1], [2, 0, 3]] {
+        let (message, text) = of_certificate(rt.alloc(), signers)?;
+        let unsent = encode_message(rt.alloc(), &message).err();
+        let unread = decode_message(rt.alloc(), &text).err();
+        assert!(rt; unsent == Some(EncodeError::OverLimit));
+        assert!(rt; unread == Some(DecodeError::VoteOrder));
+    }
+    Ok(())
+}
+
+#[test]
+fn a_body_byte_by_byte(rt: HostRuntime) -> Result<(), Fail> {
     let of_x = block(rt.alloc(), &[])?;
     let body = encode_body(rt.alloc(), &of_x)?;
     let digest_is_right = of_x.fits() && block_digest(&of_x) == digest_of(&BODY);

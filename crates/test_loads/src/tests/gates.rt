@@ -1,5 +1,5 @@
 //! Loads under gates that hold threads.
-use nw_intake::{Gate, Point};
+use nw_intake::{Gate, GateShut, Point, pass_start};
 use nw_load::{LoadFault, NodeReport, load};
 use std::sync::atomic::AtomicBool;
 use std::sync::atomic::Ordering::SeqCst;
@@ -12,6 +12,16 @@ use std::thread::yield_now;
 struct Interlocked {
     walk_reached: AtomicBool,
     write_done: AtomicBool,
+}
+
+impl Interlocked {
+    /// Nothing is reached yet.
+    fn new() -> Interlocked {
+        Interlocked {
+            walk_reached: AtomicBool::new(false),
+            write_done: AtomicBool::new(false),
+        }
+    }
 }
 
 impl Gate for Interlocked {
@@ -39,15 +49,53 @@ impl Gate for Interlocked {
 }
 
 #[test]
-fn a_walk_waits_for_a_write_that_waits_for_the_walk(rt: HostRuntime) -> Result<(), Fail> {
-    let gate = Interlocked {
-        walk_reached: AtomicBool::new(false),
-        write_done: AtomicBool::new(false),
-    };
-    let reports = load(&rt, rt.alloc(), 1, 2, &gate);
+fn a_walk_starts_before_a_write_and_ends_after_it(rt: HostRuntime) -> Result<(), Fail> {
+    let reports = load(&rt, rt.alloc(), 1, 2, &Interlocked::new());
     let wanted = vec![in rt.alloc(); NodeReport { events: 6, last: 2 }; 1]?;
     assert_eq!(rt; reports, Ok(wanted));
     Ok(())
+}
+
+// Fails only if the gate is shut. Then one thread waited for the other, as on one thread or under one lock.
+#[test]
+fn neither_thread_of_a_node_holds_the_other_up(rt: HostRuntime) {
+    let reports = load(&rt, rt.alloc(), 1, 2, &Interlocked::new());
+    assert!(rt; reports != Err(LoadFault::GateShut));
+}
+
+/// Passes the starts in turn on one thread, and reaches the end of each before the next one.
+fn passed(gate: &Interlocked, starts: &[(Point, Point)]) -> Result<(), GateShut> {
+    for (start, done) in starts {
+        pass_start(gate, *start)?;
+        gate.reach(*done);
+    }
+    Ok(())
+}
+
+/// The start and the end of the write of this number.
+const fn write(number: u32) -> (Point, Point) {
+    let start = Point::WriteStart { node: 0, number };
+    (start, Point::WriteDone { node: 0, number })
+}
+
+/// The start and the end of the walk of this number.
+const fn walk(number: u32) -> (Point, Point) {
+    let start = Point::WalkStart { node: 0, number };
+    (start, Point::WalkDone { node: 0, number })
+}
+
+#[test]
+fn on_one_thread_the_gate_is_shut(rt: HostRuntime) {
+    for (shows, starts) in [
+        ("the link first", [write(1), write(2), walk(1), walk(2)]),
+        ("each in turn", [write(1), walk(1), write(2), walk(2)]),
+    ] {
+        assert_eq!(rt;
+            passed(&Interlocked::new(), &starts),
+            Err(GateShut),
+            "{shows}"
+        );
+    }
 }
 
 /// A gate that never passes some starts.

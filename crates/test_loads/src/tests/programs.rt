@@ -1,5 +1,5 @@
 //! What the words of a program are answered.
-use nw_load::run;
+use nw_load::{LoadFault, print_outcome, run};
 use std::alloc::Global;
 use std::io::{self, Write};
 use std::sync::Wait;
@@ -138,7 +138,7 @@ fn printed<R: Threads + Wait + Sync>(
 }
 
 #[test]
-fn words_are_answered_by_a_report_a_refusal_or_nothing(rt: HostRuntime) -> Result<(), Fail> {
+fn loads_and_refused_loads(rt: HostRuntime) -> Result<(), Fail> {
     for row in &ROWS {
         let (out, status) = printed(&rt, rt.alloc(), row.words)?;
         assert_eq!(rt;
@@ -149,6 +149,58 @@ fn words_are_answered_by_a_report_a_refusal_or_nothing(rt: HostRuntime) -> Resul
         );
     }
     Ok(())
+}
+
+/// Why a load gives no report, and what is printed of it.
+struct Refusal {
+    fault: LoadFault,
+    prints: &'static str,
+}
+
+const REFUSED: [Refusal; 7] = [
+    Refusal {
+        fault: LoadFault::BadNodes,
+        prints: "load refused nodes\n",
+    },
+    Refusal {
+        fault: LoadFault::BadRounds,
+        prints: "load refused rounds\n",
+    },
+    Refusal {
+        fault: LoadFault::NoMemory,
+        prints: "load refused memory\n",
+    },
+    Refusal {
+        fault: LoadFault::Spawn,
+        prints: "load refused spawn\n",
+    },
+    Refusal {
+        fault: LoadFault::GateShut,
+        prints: "load refused gate\n",
+    },
+    Refusal {
+        fault: LoadFault::Causal { node: 3, round: 2 },
+        prints: "load refused causal\n",
+    },
+    Refusal {
+        fault: LoadFault::Unsettled { node: 3 },
+        prints: "load refused unsettled\n",
+    },
+];
+
+/// Whether the refusal is printed so, with status 3.
+fn is_printed(alloc: Global, refusal: &Refusal) -> bool {
+    let outcome = Err(refusal.fault);
+    let mut out = Vec::new(alloc);
+    let status = print_outcome(&outcome, &mut out);
+    status == 3 && out.as_slice() == refusal.prints.as_bytes()
+}
+
+#[test]
+fn each_refusal_of_a_load_has_its_word_and_status_3(rt: HostRuntime) {
+    for refusal in &REFUSED {
+        assert!(rt; is_printed(rt.alloc(), refusal), "{}", refusal.prints);
+    }
 }
 
 /// A writer that takes nothing.

@@ -35,7 +35,7 @@ fn is_refused(rt: &impl Abort, alloc: Global, heap: &LocalHeap) -> Result<bool, 
 }
 
 #[test]
-fn a_refused_insert_hands_its_value_back(rt: HostRuntime) {
+fn a_trie_of_three_keys_in_small_regions(rt: HostRuntime) {
     for step in 1..=64usize {
         let heap = LocalHeap::new(rt.alloc(), 64 * step).expect(&rt, "there is memory");
         let refused = is_refused(&rt, rt.alloc(), &heap).expect(&rt, "there is memory");

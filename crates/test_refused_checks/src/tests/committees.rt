@@ -1,6 +1,7 @@
 //! Committees that are made, or refused.
 use super::*;
-use nw_committee::{CommitteeFault, Key, Member};
+use nw_committee::{CommitteeFault, Member};
+use sample_checked::key;
 use sample_checked::refused::keys;
 
 /// The quorum of a committee of members with these numbers.
@@ -24,7 +25,7 @@ fn fault_of(alloc: Global, numbers: &[u8]) -> Result<Option<CommitteeFault>, NoM
 }
 
 #[test]
-fn faults_of_committees_take_no_memory(rt: HostRuntime) -> Result<(), Fail> {
+fn bad_committees(rt: HostRuntime) -> Result<(), Fail> {
     let four = again!(CommitteeFault::NoMemory, quorum(rt.alloc(), &[0, 1, 2, 3]))?;
     let size = fault_of(rt.alloc(), &[0, 1, 2])?;
     let repeated = fault_of(rt.alloc(), &[0, 1, 2, 1])?;
@@ -33,12 +34,12 @@ fn faults_of_committees_take_no_memory(rt: HostRuntime) -> Result<(), Fail> {
     Ok(())
 }
 
-/// Members with these weights.
-fn members(alloc: Global, weights: &[u32]) -> Result<Vec<Member>, NoMemory> {
+/// Members with these weights, whose keys are those of the committee of four.
+pub(super) fn members(alloc: Global, weights: &[u32]) -> Result<Vec<Member>, NoMemory> {
     let mut members = Vec::new(alloc);
-    for (number, weight) in (0u8..).zip(weights) {
+    for (number, weight) in (0u16..).zip(weights) {
         members.push(Member {
-            key: Key([number; 32]),
+            key: key(number),
             weight: *weight,
         })?;
     }
@@ -55,12 +56,15 @@ fn weighted(alloc: Global, weights: &[u32]) -> Result<Result<u32, CommitteeFault
 }
 
 #[test]
-fn weighted_committees_take_no_memory(rt: HostRuntime) -> Result<(), Fail> {
-    let cases: [(&[u32], Result<u32, CommitteeFault>); 4] = [
+fn bad_weights(rt: HostRuntime) -> Result<(), Fail> {
+    let cases: [(&[u32], Result<u32, CommitteeFault>); 7] = [
         (&[3, 1, 1, 1], Ok(5)),
         (&[7, 2], Ok(7)),
+        (&[1_000_000; 100], Ok(66_666_667)),
         (&[], Err(CommitteeFault::BadSize)),
+        (&[1; 101], Err(CommitteeFault::BadSize)),
         (&[1_000_001], Err(CommitteeFault::BadWeight)),
+        (&[1, 0], Err(CommitteeFault::BadWeight)),
     ];
     for (weights, wanted) in cases {
         assert_eq!(rt; weighted(rt.alloc(), weights)?, wanted);

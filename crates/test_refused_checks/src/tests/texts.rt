@@ -53,7 +53,7 @@ fn length_of(alloc: Global, message: Message) -> Result<usize, Fail> {
 
 /// How many bytes a block's body has.
 fn length_of_body(alloc: Global) -> Result<usize, Fail> {
-    let unsigned = again!(NoMemory, unsigned(alloc, SLOT, &[], b'x'))?;
+    let unsigned = again!(NoMemory, unsigned(alloc, SLOT, &[], b"x"))?;
     let body = again!(EncodeError::NoMemory, encode_body(alloc, &unsigned));
     drop(unsigned);
     Ok(body?.len())

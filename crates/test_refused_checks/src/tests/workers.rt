@@ -49,7 +49,7 @@ fn find_both<R: Threads + Wait + Sync>(
 }
 
 /// Whether no workers are refused, and a free gate lets a start pass, while all memory is refused.
-fn refuses_none_at_work<R: Threads + Wait + Sync>(
+pub(super) fn refuses_none_at_work<R: Threads + Wait + Sync>(
     rt: &R,
     alloc: Global,
     four: &Shared<Committee>,
@@ -67,8 +67,7 @@ fn refuses_none_at_work<R: Threads + Wait + Sync>(
 fn two_workers_check_two_messages(rt: HostRuntime) -> Result<(), Fail> {
     let four = four(rt.alloc())?;
     let are_found = find_both(&rt, rt.alloc(), &four);
-    let is_refused = refuses_none_at_work(&rt, rt.alloc(), &four);
     drop(four);
-    assert!(rt; are_found? && is_refused);
+    assert!(rt; are_found?);
     Ok(())
 }

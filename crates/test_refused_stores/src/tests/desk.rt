@@ -1,23 +1,28 @@
 //! The blocks of an example, and texts of what is told of them.
 use super::*;
 use nw_check::{BlockFault, CertFault, CheckedBlock, CheckedCert};
-use nw_codec::Ref;
+use nw_codec::{Certificate, Ref};
 use nw_model::{Wanted, WriteReply};
 use sample_checked::refused::{checked_block, checked_certificate, committee};
 
-/// A block by its round, its author, its transaction of one byte, and its parents, by their places in the example.
-pub(super) struct Sketch(u64, u16, u8, &'static [usize]);
+/// A block by its round, its author, its transactions of one byte each, and its parents, by their places in the example.
+pub(super) struct Sketch(
+    pub(super) u64,
+    pub(super) u16,
+    pub(super) &'static [u8],
+    pub(super) &'static [usize],
+);
 
 /// Three blocks of round 0, and one over them.
 pub(super) const FOUR: [Sketch; 4] = [
-    Sketch(0, 0, b'x', &[]),
-    Sketch(0, 1, b'x', &[]),
-    Sketch(0, 2, b'x', &[]),
-    Sketch(1, 0, b'x', &[0, 1, 2]),
+    Sketch(0, 0, b"", &[]),
+    Sketch(0, 1, b"", &[]),
+    Sketch(0, 2, b"", &[]),
+    Sketch(1, 0, b"", &[0, 1, 2]),
 ];
 
 /// Two blocks of one slot.
-pub(super) const TWO: [Sketch; 2] = [Sketch(0, 0, b'x', &[]), Sketch(0, 0, b'y', &[])];
+pub(super) const TWO: [Sketch; 2] = [Sketch(0, 0, b"", &[]), Sketch(0, 0, b"x", &[])];
 
 /// A block and its certificate, with the votes of a quorum.
 #[derive(Drop)]
@@ -47,12 +52,12 @@ fn made(
     links: &[Link],
     sketch: &Sketch,
 ) -> Result<CheckedBlock<DemoScheme>, Fail> {
-    let Sketch(round, author, text, places) = sketch;
+    let Sketch(round, author, bytes, places) = sketch;
     let slot = (Round::new(*round).unwrap_or(Round::ZERO), *author);
     let parents = again!(NoMemory, references(alloc, links, places))?;
     Ok(again!(
         BlockFault::NoMemory,
-        checked_block(alloc, committee, slot, &parents, *text, *author)
+        checked_block(alloc, committee, slot, &parents, bytes, *author)
     )?)
 }
 
@@ -128,23 +133,36 @@ impl Desk {
         Ok(places)
     }
 
-    /// The text of what is missing: of a single block its place.
+    /// The text of what is missing: of a single block its round, its author and its place.
     fn missing(&self, alloc: Global, wanted: &[Wanted]) -> Result<String, AllocError> {
         match wanted {
-            [only] => format!(in alloc; "Missing({})", self.place_under(&only.digest)),
+            [only] => {
+                let (round, place) = (only.round.get(), self.place_under(&only.digest));
+                format!(in alloc; "Missing({round}.{}.{place})", only.author)
+            }
             _ => format!(in alloc; "Missing {}", wanted.len()),
         }
     }
 
-    /// The text of the reply: it names a block by its place in the example, and a certificate by its block's.
+    /// The text of a certificate: its block's place, and its signers.
+    fn certificate(&self, alloc: Global, kept: &Certificate) -> Result<String, AllocError> {
+        let mut signers = Vec::new(alloc);
+        for vote in kept.votes.as_slice() {
+            signers.push(vote.signer)?;
+        }
+        format!(in alloc;
+            "Certificate({} by {signers:?})",
+            self.place_under(&kept.digest)
+        )
+    }
+
+    /// The text of the reply: it names a block by its place in the example, and a certificate by its block's and its signers.
     pub(super) fn text_of(&self, alloc: Global, reply: &Reply) -> Result<String, AllocError> {
         match reply {
             Reply::Write(WriteReply::Equivocates(first)) => {
                 format!(in alloc; "Equivocates({})", self.place_under(first))
             }
-            Reply::Certificate(Some(kept)) => {
-                format!(in alloc; "Certificate({})", self.place_under(&kept.get().digest))
-            }
+            Reply::Certificate(Some(kept)) => self.certificate(alloc, kept.get()),
             Reply::Read(Some(found)) => {
                 format!(in alloc; "Read({})", self.place_of(found.get()))
             }

@@ -1,14 +1,14 @@
 //! Worked examples, played on stores.
 use super::asking::{Ask, Row};
-use super::desk::{Desk, FOUR, TWO};
-use super::stores::played;
+use super::desk::{Desk, FOUR, Sketch, TWO};
+use super::stores::{LIMITS, played, played_anew};
 use super::*;
 use nw_store::Agreement;
 use std::sync::Wait;
 
-const STORED: &str = "Write(Stored { vote: true })";
+pub(super) const STORED: &str = "Write(Stored { vote: true })";
 
-const CERTIFIED: &str = "Certify(Certified)";
+pub(super) const CERTIFIED: &str = "Certify(Certified)";
 
 const ALL: &str = "List([0, 1, 2, 3])";
 
@@ -25,33 +25,26 @@ const WAITING: [Row; 13] = [
     Row(2, Ask::Certify, CERTIFIED),
     Row(3, Ask::Certify, CERTIFIED),
     Row(3, Ask::Open, "Causal(Incomplete)"),
-    Row(0, Ask::Missing, "Missing(2)"),
+    Row(0, Ask::Missing, "Missing(0.2.2)"),
     Row(0, Ask::Status, COUNTS),
     Row(2, Ask::Write, STORED),
     Row(3, Ask::Open, "Ready(1)"),
     Row(0, Ask::Walk(0), ALL),
 ];
 
-/// Tickets are walked after a compaction, and after their rounds were collected.
-const COLLECTED: [Row; 20] = [
+/// A ticket is walked after its blocks were collected.
+pub(super) const COLLECTED: [Row; 13] = [
     Row(0, Ask::Write, STORED),
-    Row(0, Ask::Certify, CERTIFIED),
-    Row(0, Ask::Open, "Ready(1)"),
     Row(1, Ask::Write, STORED),
-    Row(1, Ask::Certify, CERTIFIED),
-    Row(1, Ask::Open, "Ready(2)"),
     Row(2, Ask::Write, STORED),
-    Row(2, Ask::Certify, CERTIFIED),
-    Row(2, Ask::Open, "Ready(3)"),
     Row(3, Ask::Write, STORED),
+    Row(0, Ask::Certify, CERTIFIED),
+    Row(1, Ask::Certify, CERTIFIED),
+    Row(2, Ask::Certify, CERTIFIED),
     Row(3, Ask::Certify, CERTIFIED),
-    Row(3, Ask::Open, "Ready(4)"),
-    Row(0, Ask::Compact, "Ready(4)"),
     Row(3, Ask::Open, "Ready(1)"),
     Row(0, Ask::Collect(2), "Collect(Raised { dropped: 4 })"),
-    Row(0, Ask::Walk(1), "List([1])"),
-    Row(0, Ask::Walk(3), ALL),
-    Row(0, Ask::Walk(4), ALL),
+    Row(0, Ask::Walk(0), ALL),
     Row(3, Ask::Read, "Read(None)"),
     Row(3, Ask::Open, "Causal(Unknown)"),
 ];
@@ -63,45 +56,49 @@ const KEPT: [Row; 6] = [
     Row(0, Ask::Read, "Read(0)"),
     Row(0, Ask::Certify, CERTIFIED),
     Row(0, Ask::Certify, "Certify(Already)"),
-    Row(0, Ask::Certificate, "Certificate(0)"),
+    Row(0, Ask::Certificate, "Certificate(0 by [0, 1, 2])"),
 ];
 
-/// A new book of the desk's committee.
-fn new_book(alloc: Global, desk: &Desk) -> Result<Book<DemoScheme>, BookError> {
-    let limits = Limits {
-        blocks: 64,
-        events: 64,
-        window: 64,
-        sessions: 3,
-    };
-    Book::new(alloc, desk.committee.try_clone()?, limits)
-}
-
-/// How many rows a new store answers as they say, and how many events there are.
-fn seen<R: Wait>(
+/// How many rows a new store answers as they say, and how many events there are. Its committee has members with these numbers.
+pub(super) fn seen<R: Wait>(
     rt: &R,
     alloc: Global,
-    desk: &Desk,
+    members: &[u8],
+    sketches: &[Sketch],
     rows: &[Row],
-    tickets: &mut Vec<Ticket<DemoScheme>>,
 ) -> Result<(usize, usize), Fail> {
-    let book = again!(BookError::NoMemory, new_book(alloc, desk))?;
-    let outcome = played(rt, alloc, book, desk, rows, tickets)?;
+    let desk = Desk::new(alloc, members, sketches)?;
+    let mut tickets = again!(AllocError, Vec::with_capacity(alloc, 18))?;
+    let outcome = played_anew(rt, alloc, &desk, rows, &mut tickets)?;
     let seen = (outcome.answered, outcome.events);
     drop(outcome);
     Ok(seen)
 }
 
 #[test]
-fn stores_answer_as_the_examples_say(rt: HostRuntime) -> Result<(), Fail> {
-    let alloc = rt.alloc();
-    let desk = Desk::new(alloc, &[0, 1, 2, 3], &FOUR)?;
-    for (rows, events) in [(&WAITING[..], 12), (&COLLECTED[..], 16), (&KEPT[..], 6)] {
-        let mut tickets = again!(AllocError, Vec::with_capacity(alloc, 5))?;
-        let seen = seen(&rt, alloc, &desk, rows, &mut tickets)?;
-        assert_eq!(rt; seen, (rows.len(), events));
-    }
+fn a_missing_parent_makes_a_block_incomplete(rt: HostRuntime) -> Result<(), Fail> {
+    let seen = seen(&rt, rt.alloc(), &[0, 1, 2, 3], &FOUR, &WAITING)?;
+    assert_eq!(rt; seen, (13, 12));
     Ok(())
+}
+
+#[test]
+fn a_ticket_is_walked_after_its_blocks_were_collected(rt: HostRuntime) -> Result<(), Fail> {
+    let seen = seen(&rt, rt.alloc(), &[0, 1, 2, 3], &FOUR, &COLLECTED)?;
+    assert_eq!(rt; seen, (13, 12));
+    Ok(())
+}
+
+#[test]
+fn a_block_and_its_certificate_are_kept_once(rt: HostRuntime) -> Result<(), Fail> {
+    let seen = seen(&rt, rt.alloc(), &[0, 1, 2, 3], &FOUR, &KEPT)?;
+    assert_eq!(rt; seen, (6, 6));
+    Ok(())
+}
+
+/// A new book of the desk's committee.
+pub(super) fn new_book(alloc: Global, desk: &Desk) -> Result<Book<DemoScheme>, BookError> {
+    Book::new(alloc, desk.committee.try_clone()?, LIMITS)
 }
 
 /// What a store of one member is asked, and those that go on with what it knew, one after the other.
@@ -140,7 +137,7 @@ fn gone_on<R: Wait>(
 }
 
 #[test]
-fn stores_that_go_on_answer(rt: HostRuntime) -> Result<(), Fail> {
+fn a_reopened_store_votes_once(rt: HostRuntime) -> Result<(), Fail> {
     let alloc = rt.alloc();
     let desk = Desk::new(alloc, &[0], &TWO)?;
     let mut tickets = again!(AllocError, Vec::with_capacity(alloc, 2))?;
@@ -163,26 +160,31 @@ fn agree(
     Ok(matches!(again!(NoMemory, one.agree(alloc, other))?, Agreement::Same))
 }
 
-/// The place of the ticket's block, and how many events its front and how many parts its view has, told while all memory is refused.
-fn told(alloc: Global, desk: &Desk, ticket: &Ticket<DemoScheme>) -> (usize, usize, usize) {
-    refuse_all(alloc);
-    let (front, view) = (ticket.front().len(), ticket.view().parts());
-    let place = desk.place_under(&ticket.digest());
-    refuse_none(alloc);
-    (place, front, view)
+/// The tickets of two new stores, each of which opens the last block of the example.
+fn two_tickets<R: Wait>(
+    rt: &R,
+    alloc: Global,
+    desk: &Desk,
+) -> Result<Vec<Ticket<DemoScheme>>, Fail> {
+    let mut tickets = again!(AllocError, Vec::with_capacity(alloc, 2))?;
+    for _ in 0..2 {
+        let outcome = played_anew(rt, alloc, desk, &COLLECTED[..9], &mut tickets)?;
+        if (outcome.answered, outcome.events) != (9, 9) {
+            drop(outcome);
+            return Err(Fail::from("a store answers otherwise"));
+        }
+        drop(outcome);
+    }
+    Ok(tickets)
 }
 
 #[test]
-fn tickets_of_two_stores_agree(rt: HostRuntime) -> Result<(), Fail> {
-    let alloc = rt.alloc();
-    let desk = Desk::new(alloc, &[0, 1, 2, 3], &FOUR)?;
-    let mut tickets = again!(AllocError, Vec::with_capacity(alloc, 8))?;
-    for _ in 0..2 {
-        let seen = seen(&rt, alloc, &desk, &COLLECTED[..12], &mut tickets)?;
-        assert_eq!(rt; seen, (12, 12));
+fn two_stores_agree(rt: HostRuntime) -> Result<(), Fail> {
+    let desk = Desk::new(rt.alloc(), &[0, 1, 2, 3], &FOUR)?;
+    let tickets = two_tickets(&rt, rt.alloc(), &desk)?;
+    match tickets.as_slice() {
+        [one, other] => assert!(rt; agree(rt.alloc(), one, other)?),
+        _ => return Err(Fail::from("each store gives one ticket")),
     }
-    assert_eq!(rt; tickets.len(), 8);
-    assert!(rt; agree(alloc, &tickets[3], &tickets[7])?);
-    assert_eq!(rt; told(alloc, &desk, &tickets[3]), (3, 12, 4));
     Ok(())
 }

@@ -1,5 +1,6 @@
 //! Stores: from the making of a store to the settlement of its sessions.
 ghost use Rattle.std.specs.Prelude.{◌≡◌};
+ghost use Rattle.nw_history.specs.Story.{first_origin};
 ghost use Rattle.nw_store.specs.Journal.{origin_of};
 ghost use Rattle.nw_store.specs.Kept.{parts_of_a_ledger};
 
@@ -10,6 +11,14 @@ use super::*;
 use nw_store::{Home, Opening, Session, Store};
 use std::marker::Brand;
 use std::sync::Wait;
+
+/// The limits of a new store.
+pub(super) const LIMITS: Limits = Limits {
+    blocks: 64,
+    events: 64,
+    window: 64,
+    sessions: 3,
+};
 
 /// How many rows were answered as they say, how many events there were, and the book that goes on.
 #[derive(Drop)]
@@ -83,6 +92,61 @@ fn play_over<L: Home, R: Wait>(
             drop(book);
             Err(Fail::from("the book has events"))
         }
+    }
+}
+
+/// Asks the rows on a new store, or says why there is none.
+fn play_new<L: Home, R: Wait>(
+    rt: &R,
+    alloc: Global,
+    opening: Opening<DemoScheme>,
+    committee: Shared<Committee>,
+    limits: Limits,
+    desk: &Desk,
+    rows: &[Row],
+    tickets: &mut Vec<Ticket<DemoScheme>>,
+) -> Result<Result<Outcome, BookError>, Fail>
+    requires log { opening.log ≡ L.log }
+    requires ledger { (opening.ledger ≡ L.name) × (L.parts ≡ parts_of_a_ledger) }
+    requires origin { first_origin committee limits ≡ L.origin }
+{
+    match Store::<DemoScheme, L>::new(alloc, opening, committee, limits) {
+        Ok(store) => Ok(Ok(play(rt, alloc, store, desk, rows, tickets)?)),
+        Err(error) => Ok(Err(error)),
+    }
+}
+
+/// Asks the rows on a new store, which has an opening of its own, or says why there is none.
+fn play_anew<R: Wait>(
+    rt: &R,
+    alloc: Global,
+    desk: &Desk,
+    rows: &[Row],
+    tickets: &mut Vec<Ticket<DemoScheme>>,
+) -> Result<Result<Outcome, BookError>, Fail> {
+    let opening = again!(NoMemory, Opening::new(alloc))?;
+    match again!(NoMemory, desk.committee.try_clone()) {
+        Ok(committee) => play_new::<Brand, R>(
+            rt, alloc, opening, committee, LIMITS, desk, rows, tickets,
+        ),
+        Err(refused) => {
+            drop(opening);
+            Err(Fail::from(refused))
+        }
+    }
+}
+
+/// What becomes of a new store. Where it is refused memory it is made again, with another opening.
+pub(super) fn played_anew<R: Wait>(
+    rt: &R,
+    alloc: Global,
+    desk: &Desk,
+    rows: &[Row],
+    tickets: &mut Vec<Ticket<DemoScheme>>,
+) -> Result<Outcome, Fail> {
+    match play_anew(rt, alloc, desk, rows, tickets)? {
+        Err(BookError::NoMemory) => Ok(play_anew(rt, alloc, desk, rows, tickets)??),
+        played => Ok(played?),
     }
 }
 

@@ -93,28 +93,18 @@ fn needs_no_parents(dag: &mut Dag, alloc: Global) -> Result<bool, NoMemory> {
     )
 }
 
-/// Whether the store counts one complete block of its garbage round, and a new store has none.
-fn has_one(dag: &Dag, alloc: Global) -> bool {
-    let expected = Counts {
+#[test]
+fn a_collection_completes_a_block(rt: HostRuntime) {
+    let dag = &mut Dag::new(rt.alloc(), ROOM);
+    assert_eq!(rt; needs_no_parents(dag, rt.alloc()), Ok(true));
+    let counts = Counts {
         floor: round(1),
         blocks: 1,
         certificates: 1,
         complete: 1,
         wanted: 0,
     };
-    dag.status() == expected
-        && dag.is_complete(&digest(2, 0))
-        && Dag::new(alloc, ROOM).status().blocks == 0
-}
-
-#[test]
-fn a_block_of_the_garbage_round_needs_no_parents(rt: HostRuntime) {
-    let dag = &mut Dag::new(rt.alloc(), ROOM);
-    assert_eq!(rt; needs_no_parents(dag, rt.alloc()), Ok(true));
-    refuse_all(rt.alloc());
-    let has_one = has_one(dag, rt.alloc());
-    refuse_none(rt.alloc());
-    assert!(rt; has_one);
+    assert!(rt; dag.status() == counts && dag.is_complete(&digest(2, 0)));
 }
 
 /// Adds the next block of a chain of one author. The number of parts of the view for it.
@@ -148,7 +138,7 @@ fn are_shared(dag: &mut Dag, alloc: Global) -> Result<bool, NoMemory> {
 }
 
 #[test]
-fn views_of_a_chain_share_what_was_frozen(rt: HostRuntime) {
+fn views_share_what_was_frozen(rt: HostRuntime) {
     let dag = &mut Dag::new(rt.alloc(), ROOM);
     assert_eq!(rt; are_shared(dag, rt.alloc()), Ok(true));
 }

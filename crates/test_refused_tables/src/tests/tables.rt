@@ -25,54 +25,43 @@ fn has(trie: &Trie<u64, Global>, entries: &[(Digest, u64)]) -> bool {
     trie.len() == entries.len()
 }
 
-/// Whether a trie with 1 to 3 at these keys has another value put in, lists and changes its values, and gives one up.
-fn is_changed(trie: &mut Trie<u64, Global>, k1: Digest, k2: Digest, k3: Digest) -> bool {
-    let replaced = insert(trie, k1, 9) == Ok(Some(1));
-    let listed = has(trie, &[(k1, 9), (k2, 2), (k3, 3)]);
-    if let Some(value) = trie.get_mut(&k3) {
-        *value = 4;
-    }
-    replaced
-        && listed
-        && trie.get(&k3).copied() == Some(4)
-        && trie.remove(&k2) == Some(2)
-        && trie.remove(&k2).is_none()
-        && trie.get(&digest(1, 0)).is_none()
-        && trie.len() == 2
-        && !trie.is_empty()
-}
-
 #[test]
-fn a_trie_takes_three_keys_and_is_changed_without_memory(rt: HostRuntime) {
+fn a_trie_of_three_keys(rt: HostRuntime) {
     let (k1, k2, k3) = (digest(0, 0), digest(0, 1), digest(128, 0));
     let mut trie = Trie::new_in(rt.alloc());
     for (key, value) in [(k1, 1), (k2, 2), (k3, 3)] {
         assert_eq!(rt; insert(&mut trie, key, value), Ok(None));
     }
-    refuse_all(rt.alloc());
-    let is_changed = is_changed(&mut trie, k1, k2, k3);
-    refuse_none(rt.alloc());
-    assert!(rt; is_changed);
+    assert_eq!(rt; insert(&mut trie, k1, 9), Ok(Some(1)));
+    assert!(rt; has(&trie, &[(k1, 9), (k2, 2), (k3, 3)]));
+    assert_eq!(rt; trie.remove(&k2), Some(2));
+    assert_eq!(rt; trie.len(), 2);
 }
 
-/// Makes the digest the first of round 3 and the author.
-fn put_first(rounds: &mut Rounds<Global>, author: u16, digest: Digest) -> Result<(), NoMemory> {
-    let third = round(3);
-    if rounds.first(third, author).is_some() {
-        return Ok(());
+/// Makes the digest the first of round 3 and the author. Whether there was none.
+pub(super) fn put_first(
+    rounds: &mut Rounds<Global>,
+    author: u16,
+    digest: Digest,
+) -> Result<bool, NoMemory> {
+    if rounds.first(round(3), author).is_some() {
+        return Ok(false);
     }
-    again!(NoMemory, rounds.put_first(third, author, digest))
+    again!(NoMemory, rounds.put_first(round(3), author, digest))?;
+    Ok(true)
 }
 
-/// Puts two first digests and a certified one into round 3.
-fn put_three(rounds: &mut Rounds<Global>) -> Result<(), NoMemory> {
-    put_first(rounds, 1, digest(2, 0))?;
-    put_first(rounds, 2, digest(1, 0))?;
-    let third = round(3);
-    if rounds.certified(third, 1).is_some() {
-        return Ok(());
+/// Certifies the digest for round 3 and the author. Whether none was.
+pub(super) fn put_certified(
+    rounds: &mut Rounds<Global>,
+    author: u16,
+    digest: Digest,
+) -> Result<bool, NoMemory> {
+    if rounds.certified(round(3), author).is_some() {
+        return Ok(false);
     }
-    again!(NoMemory, rounds.put_certified(third, 1, digest(3, 0)))
+    again!(NoMemory, rounds.put_certified(round(3), author, digest))?;
+    Ok(true)
 }
 
 /// Whether round 3 lists these digests, and so do the rounds up to it.
@@ -82,34 +71,35 @@ fn is_listed(rounds: &Rounds<Global>, alloc: Global, digests: &[Digest]) -> Resu
     Ok(own.as_slice() == digests && lower.as_slice() == digests)
 }
 
-/// The digests of author 1, and the first one of author 3.
-fn read(rounds: &Rounds<Global>) -> [Option<Digest>; 3] {
-    let third = round(3);
-    [
-        rounds.first(third, 1),
-        rounds.certified(third, 1),
-        rounds.first(third, 3),
-    ]
+#[test]
+fn slots(rt: HostRuntime) {
+    let (x, y) = (digest(7, 0), digest(8, 0));
+    let mut rounds = Rounds::new_in(rt.alloc());
+    assert_eq!(rt; put_first(&mut rounds, 1, x), Ok(true));
+    assert_eq!(rt; put_certified(&mut rounds, 1, y), Ok(true));
+    let found = [
+        rounds.first(round(3), 1),
+        rounds.certified(round(3), 1),
+        rounds.first(round(3), 2),
+    ];
+    assert_eq!(rt; found, [Some(x), Some(y), None]);
 }
 
 #[test]
-fn slots_are_taken_and_listed_and_read_and_dropped_without_memory(rt: HostRuntime) {
+fn slots_of_a_round_and_below_it(rt: HostRuntime) {
+    let [d1, d2, d3] = [1, 2, 3].map(|first| digest(first, 0));
     let mut rounds = Rounds::new_in(rt.alloc());
-    assert!(rt; put_three(&mut rounds).is_ok());
-    let all = [digest(1, 0), digest(2, 0), digest(3, 0)];
-    assert_eq!(rt; is_listed(&rounds, rt.alloc(), &all), Ok(true));
-    refuse_all(rt.alloc());
-    let before = read(&rounds);
+    assert_eq!(rt; put_first(&mut rounds, 1, d2), Ok(true));
+    assert_eq!(rt; put_first(&mut rounds, 2, d1), Ok(true));
+    assert_eq!(rt; put_certified(&mut rounds, 1, d3), Ok(true));
+    assert_eq!(rt; is_listed(&rounds, rt.alloc(), &[d1, d2, d3]), Ok(true));
     rounds.drop_below(round(4));
-    let after = read(&rounds);
-    refuse_none(rt.alloc());
-    assert_eq!(rt; before, [Some(digest(2, 0)), Some(digest(3, 0)), None]);
-    assert_eq!(rt; after, [None, None, None]);
     assert_eq!(rt; is_listed(&rounds, rt.alloc(), &[]), Ok(true));
+    assert_eq!(rt; rounds.first(round(3), 1), None);
 }
 
 /// What is wanted of round 0 and the author, under the digest that begins with this byte.
-fn wanted(author: u16, first: u8) -> Wanted {
+pub(super) fn wanted(author: u16, first: u8) -> Wanted {
     Wanted {
         round: Round::ZERO,
         author,
@@ -118,7 +108,10 @@ fn wanted(author: u16, first: u8) -> Wanted {
 }
 
 /// Lets two holders want two things. The first of what is wanted.
-fn first_of_three(waiting: &mut Waiting<Global>, alloc: Global) -> Result<Vec<Wanted>, NoMemory> {
+pub(super) fn first_of_three(
+    waiting: &mut Waiting<Global>,
+    alloc: Global,
+) -> Result<Vec<Wanted>, NoMemory> {
     let (u, v, h1, h2) = (wanted(0, 1), wanted(1, 2), digest(8, 0), digest(9, 0));
     again!(NoMemory, waiting.want(u, h1))?;
     again!(NoMemory, waiting.want(v, h1))?;
@@ -127,7 +120,7 @@ fn first_of_three(waiting: &mut Waiting<Global>, alloc: Global) -> Result<Vec<Wa
 }
 
 /// How much there is to want, and what the holders lack.
-fn lacked(waiting: &Waiting<Global>) -> [usize; 3] {
+pub(super) fn lacked(waiting: &Waiting<Global>) -> [usize; 3] {
     [
         waiting.count(),
         waiting.lacks(digest(8, 0)),
@@ -136,20 +129,16 @@ fn lacked(waiting: &Waiting<Global>) -> [usize; 3] {
 }
 
 #[test]
-fn holders_wait_and_are_satisfied_and_give_up_without_memory(rt: HostRuntime) {
+fn holders_of_a_wanted_parent(rt: HostRuntime) {
     let mut waiting = Waiting::new_in(rt.alloc());
     let first = first_of_three(&mut waiting, rt.alloc()).expect(&rt, "there is memory");
     assert_eq!(rt; first.as_slice(), [wanted(0, 1)].as_slice());
-    refuse_all(rt.alloc());
-    let before = lacked(&waiting);
+    assert_eq!(rt; lacked(&waiting), [2, 2, 1]);
     let holders = waiting.satisfy(&wanted(0, 1));
-    let satisfied = lacked(&waiting);
-    waiting.unwant(digest(8, 0));
-    let after = lacked(&waiting);
-    refuse_none(rt.alloc());
-    assert_eq!(rt;
-        (before, satisfied, after),
-        ([2, 2, 1], [1, 1, 0], [0, 0, 0])
-    );
     assert_eq!(rt; holders.as_slice(), [digest(8, 0), digest(9, 0)].as_slice());
+    assert_eq!(rt; lacked(&waiting), [1, 1, 0]);
+    waiting.unwant(digest(8, 0));
+    assert_eq!(rt; lacked(&waiting), [0, 0, 0]);
+    let last = again!(NoMemory, waiting.first_wanted(rt.alloc(), 5));
+    assert!(rt; last.is_ok_and(|wanted| wanted.is_empty()));
 }

@@ -2,7 +2,7 @@
 use super::*;
 use nw_causal::{Agreement, agree, walk};
 use nw_generation::{Generation, View, freeze};
-use sample_blocks::{Blocks, older, view_of_both};
+use sample_blocks::{Blocks, older, view_of_both, view_of_one};
 
 /// The generation of the blocks, which come back where memory is refused, and one more owner of it.
 fn frozen(alloc: Global, trie: Blocks) -> Result<Generation, NoMemory> {
@@ -18,13 +18,11 @@ fn frozen(alloc: Global, trie: Blocks) -> Result<Generation, NoMemory> {
 
 #[test]
 fn a_refused_freeze_hands_its_blocks_back(rt: HostRuntime) {
-    let trie = again!(NoMemory, older(rt.alloc(), b"x")).expect(&rt, "there is memory");
+    let trie = again!(NoMemory, older(rt.alloc(), 3, b"x")).expect(&rt, "there is memory");
     let generation = frozen(rt.alloc(), trie).expect(&rt, "there is memory");
-    refuse_all(rt.alloc());
     let found = [name(0, 2), name(1, 0)].map(|digest: Digest| generation
         .get(None, &digest)
         .is_some());
-    refuse_none(rt.alloc());
     assert_eq!(rt; found, [true, false]);
 }
 
@@ -51,7 +49,7 @@ fn lists(alloc: Global, floor: u8, slots: &[(u64, u16)]) -> Result<bool, NoMemor
 }
 
 #[test]
-fn two_generations_are_walked(rt: HostRuntime) {
+fn a_walk_over_two_generations(rt: HostRuntime) {
     let four = [(0, 0), (0, 1), (0, 2), (1, 0)];
     assert_eq!(rt; lists(rt.alloc(), 0, &four), Ok(true));
     assert_eq!(rt; lists(rt.alloc(), 1, &four[3..]), Ok(true));
@@ -78,11 +76,15 @@ fn text_of(block: &Block) -> &[u8] {
     block.transactions.iter().next().unwrap_or(&[])
 }
 
-/// Whether the walks from the digest agree in views of this floor, where the first blocks of one have "x", and of the other this text.
-fn is_same(alloc: Global, floor: u8, digest: Digest, text: &[u8]) -> Result<bool, NoMemory> {
-    let one = again!(NoMemory, view_of_both(alloc, b"x", round(floor)))?;
-    let other = again!(NoMemory, view_of_both(alloc, text, round(floor)))?;
-    match compared(alloc, &one, &other, digest)? {
+/// Whether the walks from the digest agree; where they do not, two blocks collide, of which one has "x", and the other this text.
+fn is_same(
+    alloc: Global,
+    one: &View,
+    other: &View,
+    digest: Digest,
+    text: &[u8],
+) -> Result<bool, NoMemory> {
+    match compared(alloc, one, other, digest)? {
         Agreement::Same => Ok(true),
         Agreement::Collision { one, other }
             if text_of(one.get()) == b"x".as_slice() && text_of(other.get()) == text => {
@@ -90,6 +92,13 @@ fn is_same(alloc: Global, floor: u8, digest: Digest, text: &[u8]) -> Result<bool
         }
         _ => Err(NoMemory),
     }
+}
+
+/// Whether they agree in views of two generations and this floor, where the first blocks of one have "x", and of the other this text.
+fn agree_in_both(alloc: Global, floor: u8, digest: Digest, text: &[u8]) -> Result<bool, NoMemory> {
+    let one = again!(NoMemory, view_of_both(alloc, b"x", round(floor)))?;
+    let other = again!(NoMemory, view_of_both(alloc, text, round(floor)))?;
+    is_same(alloc, &one, &other, digest, text)
 }
 
 #[test]
@@ -101,6 +110,19 @@ fn walks_agree_or_two_blocks_collide(rt: HostRuntime) {
         (0, name(1, 0), b"y", false),
         (1, name(1, 0), b"y", true),
     ] {
-        assert_eq!(rt; is_same(rt.alloc(), floor, digest, text), Ok(same));
+        assert_eq!(rt; agree_in_both(rt.alloc(), floor, digest, text), Ok(same));
     }
+}
+
+/// Whether they agree in views of one generation with one block, which has "x" in one and this text in the other.
+fn agree_in_one(alloc: Global, text: &[u8]) -> Result<bool, NoMemory> {
+    let one = again!(NoMemory, view_of_one(alloc, b"x", Round::ZERO))?;
+    let other = again!(NoMemory, view_of_one(alloc, text, Round::ZERO))?;
+    is_same(alloc, &one, &other, name(0, 0), text)
+}
+
+#[test]
+fn two_blocks_of_one_digest_are_shown(rt: HostRuntime) {
+    assert_eq!(rt; agree_in_one(rt.alloc(), b"y"), Ok(false));
+    assert_eq!(rt; agree_in_one(rt.alloc(), b"x"), Ok(true));
 }

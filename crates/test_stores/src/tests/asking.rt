@@ -2,6 +2,7 @@
 use super::chains::Link;
 use super::*;
 use nw_digest::Sequence;
+use nw_intake::Point;
 
 /// What is asked, of a block and its certificate.
 #[derive(Clone, Copy)]
@@ -17,6 +18,25 @@ pub(super) enum Ask {
     Collect,
     Missing,
     Status,
+    /// How many parts the view of that ticket has, which is no call.
+    Parts,
+    /// Later tickets share one copy of what is complete, which is no call.
+    Compact,
+    /// The gate lets the start pass, which is no call.
+    Start(Point),
+    /// The gate is told that the point is reached, which is no call.
+    Reach(Point),
+}
+
+impl Ask {
+    /// Whether it is a call of a session, which a history has.
+    pub(super) fn is_call(&self) -> bool {
+        match self {
+            Ask::Write | Ask::Certify | Ask::Certificate | Ask::Read | Ask::Open => true,
+            Ask::Collect | Ask::Missing | Ask::Status => true,
+            Ask::Walk | Ask::Parts | Ask::Compact | Ask::Start(_) | Ask::Reach(_) => false,
+        }
+    }
 }
 
 /// How many missing blocks are asked for at most.

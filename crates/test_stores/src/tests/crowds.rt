@@ -1,7 +1,9 @@
 //! Sessions of one store, each in a thread of its own, until all settle.
 use super::chains::chain;
+use super::late::BEFORE;
 use super::plans::Task;
 use super::scenes::{Scene, played};
+use super::scripts::Row;
 use super::tasks::{Crew, work};
 use super::*;
 use std::thread::{Threads, for_each_mut};
@@ -24,35 +26,38 @@ pub(super) fn in_threads<L: Home, R: Threads + Wait + Sync>(
     );
 }
 
-/// How many events a store has once a crew did these tasks round a chain of so many blocks, how many calls of its first two sessions
-/// are told in order, and in how many threads all was as it is to be.
+/// Asks the rows, and then does each task in a thread of its own, on a store with these limits, of a chain of so many blocks. Gives
+/// how many events there are, how many calls the journals tell as they should, and in how many threads each answer was as planned.
 pub(super) fn worked<R: Threads + Wait + Sync>(
     rt: &R,
     alloc: Global,
+    limits: Limits,
     rounds: u64,
+    before: &[Row],
     tasks: &[Task],
 ) -> Result<(usize, usize, u64), Fail> {
     let sessions = u16::try_from(tasks.len())?;
-    let crew = Crew::new(chain(alloc, rounds)?, tasks.to_vec(alloc)?);
-    let book = book(alloc, 1, 2048, u32::from(sessions))?;
-    let (events, told) = played(rt, alloc, book, &Scene::Crowd(sessions, &crew))?;
+    let crew = Crew::new(chain(alloc, rounds)?, tasks.to_vec(alloc)?, limits);
+    let book = book(alloc, 1, limits)?;
+    let seen = played(rt, alloc, book, &Scene::Crowd(sessions, before, &crew))?;
     let agreeing = crew.agreeing();
     drop(crew);
-    Ok((events, told, agreeing))
+    Ok((seen.events, seen.told, agreeing))
 }
 
-#[test]
-fn fronts_of_513_events_share_two_chunks(rt: HostRuntime) -> Result<(), Fail> {
-    assert_eq!(rt; worked(&rt, rt.alloc(), 1, &[Task::Count])?, (513, 513, 1));
-    Ok(())
-}
+/// Room for a chain of 200 blocks of two sessions.
+const WIDE: Limits = Limits {
+    window: 200,
+    sessions: 2,
+    ..LIMITS
+};
 
 #[test]
-fn what_two_threads_write_settles(rt: HostRuntime) -> Result<(), Fail> {
+fn two_threads_write_a_hundred_blocks_each_and_settle(rt: HostRuntime) -> Result<(), Fail> {
     let tasks = [Task::Share; 2];
     assert_eq!(rt;
-        worked(&rt, rt.alloc(), 200, &tasks)?,
-        (2 * 100, 2 * 100, 2)
+        worked(&rt, rt.alloc(), WIDE, 200, &[], &tasks)?,
+        (200, 200, 2)
     );
     Ok(())
 }
@@ -61,20 +66,43 @@ fn what_two_threads_write_settles(rt: HostRuntime) -> Result<(), Fail> {
 fn sixteen_threads_follow_a_chain_and_settle(rt: HostRuntime) -> Result<(), Fail> {
     let tasks = [Task::Follow; 16];
     assert_eq!(rt;
-        worked(&rt, rt.alloc(), 4, &tasks)?,
-        (16 * 4 * 4, 2 * 4 * 4, 16)
+        worked(&rt, rt.alloc(), LIMITS, 4, &[], &tasks)?,
+        (16 * 4 * 4, 16 * 4 * 4, 16)
     );
     Ok(())
 }
 
+/// Room for many events of two sessions.
+const LATE: Limits = Limits {
+    events: 4096,
+    sessions: 2,
+    ..LIMITS
+};
+
 #[test]
-fn fourteen_threads_walk_beside_a_writer_and_a_collector(rt: HostRuntime) -> Result<(), Fail> {
+fn a_walk_starts_after_a_collection_in_another_thread(rt: HostRuntime) -> Result<(), Fail> {
+    let tasks = [Task::Beside; 2];
+    assert_eq!(rt;
+        worked(&rt, rt.alloc(), LATE, 5, &BEFORE, &tasks)?,
+        (14, 11 + 3, 2)
+    );
+    Ok(())
+}
+
+/// Room for many events of sixteen sessions.
+const CROWDED: Limits = Limits {
+    events: 2048,
+    ..LIMITS
+};
+
+#[test]
+fn fourteen_readers_beside_a_writer_and_a_collector(rt: HostRuntime) -> Result<(), Fail> {
     let mut tasks = [Task::Read; 16];
     tasks[0] = Task::Write;
     tasks[1] = Task::Collect;
     assert_eq!(rt;
-        worked(&rt, rt.alloc(), 64, &tasks)?,
-        (2 * 64 + 32 + 14 * 100, 2 * 64 + 32, 16)
+        worked(&rt, rt.alloc(), CROWDED, 64, &[], &tasks)?,
+        (1560, 128 + 32 + 14 * 100, 16)
     );
     Ok(())
 }

@@ -1,13 +1,36 @@
 //! What scripts show.
 use super::asking::Ask;
 use super::chains::{Link, chain, link_over};
+use super::late::{CERTIFIED, STORED};
 use super::scenes::{Scene, played};
 use super::scripts::{PARENT, Row};
+use super::settling::Seen;
+use super::tasks::Crew;
 use super::*;
+use sample_checked::block_with;
+use std::sync::Wait;
+use std::thread::Threads;
 
-const STORED: &str = "Write(Stored { vote: true })";
+/// What is seen of a store of so many members, with these limits, once its sessions asked the rows.
+fn asked<R: Threads + Wait + Sync>(
+    rt: &R,
+    alloc: Global,
+    (members, limits): (u16, Limits),
+    links: Vec<Link>,
+    rows: &[Row],
+) -> Result<Seen, Fail> {
+    let sessions = u16::try_from(limits.sessions)?;
+    let crew = Crew::new(links, Vec::new(alloc), limits);
+    let book = book(alloc, members, limits)?;
+    let seen = played(rt, alloc, book, &Scene::Script(sessions, rows, &crew));
+    drop(crew);
+    seen
+}
 
-const CERTIFIED: &str = "Certify(Certified)";
+/// The limits of a script, with so many sessions.
+const fn limits_of(sessions: u32) -> Limits {
+    Limits { sessions, ..LIMITS }
+}
 
 const COUNTS: &str =
     "Status(Counts { floor: Round { number: 0 }, blocks: 2, certificates: 1, complete: 1, wanted: 1 })";
@@ -33,11 +56,27 @@ fn a_journal_alone_tells_what_was_asked_and_answered(rt: HostRuntime) -> Result<
     let alloc = rt.alloc();
     let mut links = chain(alloc, 1)?;
     links.push(link_over(alloc, &committee(alloc, 1)?, 1, &[PARENT])?)?;
-    let scene = Scene::Script(1, &DIALOGUE, &links);
-    assert_eq!(rt;
-        played(&rt, alloc, book(alloc, 1, 16, 1)?, &scene)?,
-        (12, 12)
-    );
+    let seen = asked(&rt, alloc, (1, limits_of(1)), links, &DIALOGUE)?;
+    assert_eq!(rt; (seen.events, seen.told), (12, 12));
+    Ok(())
+}
+
+/// The first session writes, and the second reads.
+const WRITTEN: [Row; 2] = [
+    Row(0, 0, Ask::Write, STORED),
+    Row(1, 0, Ask::Read, "Read(true)"),
+];
+
+#[test]
+fn a_second_session_reads_what_the_first_wrote(rt: HostRuntime) -> Result<(), Fail> {
+    let alloc = rt.alloc();
+    let one = committee(alloc, 1)?;
+    let block = block_with(alloc, &one, b"x")?;
+    let digest = block.digest();
+    let certificate = certificate(alloc, &one, 0, 0, digest)?;
+    let links = vec![in alloc; Link { block, certificate }]?;
+    let seen = asked(&rt, alloc, (1, limits_of(2)), links, &WRITTEN)?;
+    assert_eq!(rt; (seen.withheld, seen.events, seen.told), ((2, 1), 2, 2));
     Ok(())
 }
 
@@ -50,65 +89,89 @@ const SILENT: [Row; 2] = [
 #[test]
 fn sessions_settle_once_all_of_them_are_given(rt: HostRuntime) -> Result<(), Fail> {
     let alloc = rt.alloc();
-    let links = chain(alloc, 1)?;
-    let scene = Scene::Script(3, &SILENT, &links);
-    assert_eq!(rt; played(&rt, alloc, book(alloc, 1, 16, 3)?, &scene)?, (2, 1));
+    let seen = asked(&rt, alloc, (1, limits_of(3)), chain(alloc, 1)?, &SILENT)?;
+    assert_eq!(rt; (seen.withheld, seen.events, seen.told), ((3, 2), 2, 2));
     Ok(())
 }
 
 /// A block of another committee, and then reads of a store with room for one event.
 const REFUSED: [Row; 4] = [
-    Row(0, 0, Ask::Write, "OtherCommittee"),
-    Row(0, 0, Ask::Write, "OtherCommittee"),
+    Row(0, 0, Ask::Write, "refused OtherCommittee"),
+    Row(0, 0, Ask::Write, "refused OtherCommittee"),
     Row(0, 0, Ask::Read, "Read(None)"),
-    Row(0, 0, Ask::Read, "HistoryFull"),
+    Row(0, 0, Ask::Read, "refused HistoryFull"),
 ];
 
 /// The same block in a store of its own committee.
 const TAKEN: [Row; 1] = [Row(0, 0, Ask::Write, STORED)];
 
+/// Room for one event.
+const SHORT: Limits = Limits {
+    events: 1,
+    sessions: 1,
+    ..LIMITS
+};
+
 #[test]
 fn a_refused_call_can_be_followed_by_others(rt: HostRuntime) -> Result<(), Fail> {
     let alloc = rt.alloc();
-    let links = [link_over(alloc, &committee(alloc, 4)?, 0, &[])?];
-    let other = Scene::Script(1, &REFUSED, &links);
-    assert_eq!(rt; played(&rt, alloc, book(alloc, 1, 1, 1)?, &other)?, (1, 0));
-    let own = Scene::Script(1, &TAKEN, &links);
-    assert_eq!(rt; played(&rt, alloc, book(alloc, 4, 1, 1)?, &own)?, (1, 1));
+    for (members, rows) in [(1, REFUSED.as_slice()), (4, TAKEN.as_slice())] {
+        let links = vec![in alloc; link_over(alloc, &committee(alloc, 4)?, 0, &[])?]?;
+        let seen = asked(&rt, alloc, (members, SHORT), links, rows)?;
+        assert_eq!(rt; (seen.events, seen.told), (1, 1), "{members}");
+    }
     Ok(())
 }
 
-/// A read is opened, its rounds are collected and a further block is written, and then its ticket is walked; after that the read is
-/// opened anew.
-const LATE: [Row; 16] = [
-    Row(0, 0, Ask::Write, STORED),
-    Row(0, 0, Ask::Certify, CERTIFIED),
-    Row(0, 1, Ask::Write, STORED),
-    Row(0, 1, Ask::Certify, CERTIFIED),
-    Row(0, 2, Ask::Write, STORED),
-    Row(0, 2, Ask::Certify, CERTIFIED),
-    Row(0, 3, Ask::Write, STORED),
-    Row(0, 3, Ask::Certify, CERTIFIED),
-    Row(1, 3, Ask::Open, "Ready"),
-    Row(0, 3, Ask::Collect, "Collect(Raised { dropped: 3 })"),
-    Row(0, 4, Ask::Write, STORED),
-    Row(0, 4, Ask::Certify, CERTIFIED),
-    Row(1, 3, Ask::Walk, "List([0, 1, 2, 3])"),
-    Row(1, 3, Ask::Open, "Ready"),
-    Row(1, 3, Ask::Walk, "List([3])"),
-    Row(1, 0, Ask::Read, "Read(None)"),
+/// Room for 513 events.
+const FULL: Limits = Limits {
+    blocks: 16,
+    events: 513,
+    window: 4,
+    sessions: 1,
+};
+
+#[test]
+fn fronts_of_513_events_share_chunks(rt: HostRuntime) -> Result<(), Fail> {
+    let alloc = rt.alloc();
+    let mut rows = [Row(0, 0, Ask::Read, "Read(true)"); 514];
+    rows[0] = Row(0, 0, Ask::Write, STORED);
+    rows[513] = Row(0, 0, Ask::Read, "refused HistoryFull");
+    let seen = asked(&rt, alloc, (1, FULL), chain(alloc, 1)?, &rows)?;
+    assert_eq!(rt; (seen.events, seen.told), (513, 513));
+    Ok(())
+}
+
+/// A chain of seventeen blocks, each handed in and opened in turn.
+fn openings(alloc: Global) -> Result<Vec<Row>, Fail> {
+    let mut rows = Vec::new(alloc);
+    for place in 0..17 {
+        rows.push(Row(0, place, Ask::Write, STORED))?;
+        rows.push(Row(0, place, Ask::Certify, CERTIFIED))?;
+        rows.push(Row(0, place, Ask::Open, "Ready"))?;
+    }
+    Ok(rows)
+}
+
+const WHOLE: &str = "List([0, 1, 2, 3, 4, 5, 6, 7, 8, 9, 10, 11, 12, 13, 14, 15, 16])";
+
+/// The last ticket's view is looked at, also after the store is compacted, and then that of a new one.
+const COMPACTED: [Row; 7] = [
+    Row(0, 16, Ask::Parts, "Parts(2)"),
+    Row(0, 16, Ask::Compact, ""),
+    Row(0, 16, Ask::Parts, "Parts(2)"),
+    Row(0, 16, Ask::Walk, WHOLE),
+    Row(0, 16, Ask::Open, "Ready"),
+    Row(0, 16, Ask::Parts, "Parts(1)"),
+    Row(0, 16, Ask::Walk, WHOLE),
 ];
 
 #[test]
-fn a_walk_lists_its_moment_though_it_starts_after_a_collection(
-    rt: HostRuntime,
-) -> Result<(), Fail> {
+fn views_of_a_store_share_what_was_frozen(rt: HostRuntime) -> Result<(), Fail> {
     let alloc = rt.alloc();
-    let links = chain(alloc, 5)?;
-    let scene = Scene::Script(2, &LATE, &links);
-    assert_eq!(rt;
-        played(&rt, alloc, book(alloc, 1, 16, 2)?, &scene)?,
-        (14, 8)
-    );
+    let mut rows = openings(alloc)?;
+    rows.extend_from_slice(&COMPACTED)?;
+    let seen = asked(&rt, alloc, (1, limits_of(1)), chain(alloc, 17)?, &rows)?;
+    assert_eq!(rt; (seen.events, seen.told), (17 * 3 + 1, 17 * 3 + 1));
     Ok(())
 }

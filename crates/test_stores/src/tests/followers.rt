@@ -11,10 +11,10 @@ pub(super) struct Follower {
 }
 
 impl Follower {
-    /// It was given no call yet.
-    pub(super) fn new(alloc: Global) -> Follower {
+    /// It was given no call yet of a store with these limits.
+    pub(super) fn new(alloc: Global, limits: Limits) -> Follower {
         Follower {
-            plain: Plain::new(alloc, BLOCKS, WINDOW),
+            plain: Plain::new(alloc, limits.blocks, limits.window),
             played: 0,
         }
     }

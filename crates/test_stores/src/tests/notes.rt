@@ -155,12 +155,19 @@ pub(super) fn tell<L: Home, R: Threads + Wait + Sync>(
     }
 }
 
+/// Room for two sessions.
+const TWO: Limits = Limits {
+    events: 96,
+    sessions: 2,
+    ..LIMITS
+};
+
 // Where nothing was heard, nothing is promised: this read found nothing, though its thread may have been told by other means that
 // the block was on its way. A note of the write can only be taken after the write, so whoever hears it reads after the write.
 #[test]
 fn without_a_note_a_read_may_come_before_the_write(rt: HostRuntime) -> Result<(), Fail> {
     let tasks = [Task::Early, Task::Late];
-    assert_eq!(rt; worked(&rt, rt.alloc(), 1, &tasks)?, (3, 3, 2));
+    assert_eq!(rt; worked(&rt, rt.alloc(), TWO, 1, &[], &tasks)?, (3, 3, 2));
     Ok(())
 }
 
@@ -169,9 +176,7 @@ fn what_one_thread_wrote_another_walks_once_it_heard_of_it(rt: HostRuntime) -> R
     let alloc = rt.alloc();
     let links = chain(alloc, 32)?;
     let scene = Scene::Notes(&links);
-    assert_eq!(rt;
-        played(&rt, alloc, book(alloc, 1, 96, 2)?, &scene)?,
-        (3 * 32, 3 * 32)
-    );
+    let seen = played(&rt, alloc, book(alloc, 1, TWO)?, &scene)?;
+    assert_eq!(rt; (seen.events, seen.told), (3 * 32, 3 * 32));
     Ok(())
 }

@@ -19,8 +19,8 @@ pub(super) enum Task {
     Read,
     /// It hands in the chain beside others, and opens, reads and walks each block.
     Follow,
-    /// It reads a block that is not held, 513 times.
-    Count,
+    /// It asks the rows of a walk beside a collection.
+    Beside,
     /// It reads the first block before it is handed in, and lets the one go on that waits for this.
     Early,
     /// It hands the first block in once another session read in vain.
@@ -93,14 +93,6 @@ const FOLLOW: Plan = Plan {
     ..WRITE
 };
 
-const COUNT: Plan = Plan {
-    asks: &[Ask::Read],
-    turns: 513,
-    stride: 0,
-    floor: 1,
-    ..WRITE
-};
-
 const EARLY: Plan = Plan {
     asks: &[Ask::Read],
     turns: 1,
@@ -116,17 +108,17 @@ const LATE: Plan = Plan {
 };
 
 impl Task {
-    /// How it is done.
-    pub(super) fn plan(&self) -> &'static Plan {
+    /// How it is done, turn by turn, if no rows say it.
+    pub(super) fn plan(&self) -> Option<&'static Plan> {
         match self {
-            Task::Write => &WRITE,
-            Task::Share => &SHARE,
-            Task::Collect => &COLLECT,
-            Task::Read => &READ,
-            Task::Follow => &FOLLOW,
-            Task::Count => &COUNT,
-            Task::Early => &EARLY,
-            Task::Late => &LATE,
+            Task::Write => Some(&WRITE),
+            Task::Share => Some(&SHARE),
+            Task::Collect => Some(&COLLECT),
+            Task::Read => Some(&READ),
+            Task::Follow => Some(&FOLLOW),
+            Task::Early => Some(&EARLY),
+            Task::Late => Some(&LATE),
+            Task::Beside => None,
         }
     }
 }

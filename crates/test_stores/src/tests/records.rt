@@ -1,9 +1,15 @@
-//! What journals tell of scripts.
+//! What journals tell, and how they stand in the history.
 use super::asking::{Ask, MOST};
 use super::chains::Link;
+use super::late::BESIDE;
+use super::scenes::Scene;
 use super::scripts::{Row, text_of};
+use super::tasks::Crew;
 use super::*;
-use nw_store::{Call, Done, NoMemory};
+use nw_store::{Call, Entry, History, NoMemory};
+
+/// How many parts fronts of these lengths have.
+const PARTS: [(usize, usize); 4] = [(255, 255), (256, 1), (257, 2), (513, 3)];
 
 /// What is asked, as a history has it.
 fn call_of(asked: &Ask, link: &Link) -> Result<Call, NoMemory> {
@@ -13,37 +19,119 @@ fn call_of(asked: &Ask, link: &Link) -> Result<Call, NoMemory> {
         Ask::Certify => Call::Certify(link.certificate.certificate().try_clone()?),
         Ask::Certificate => Call::Certificate(digest),
         Ask::Read => Call::Read(digest),
-        Ask::Open | Ask::Walk => Call::Causal(digest),
+        Ask::Open => Call::Causal(digest),
         Ask::Collect => Call::Collect(link.block.block().get().round),
         Ask::Missing => Call::Missing(MOST),
-        Ask::Status => Call::Status,
+        _ => Call::Status,
     })
 }
 
-/// Whether the answer has the row's call and reply, at the end of so many calls.
+/// Adds the session's own rows that its journal has.
+fn add_rows(rows: &[Row], session: u16, own: &mut Vec<Row>) -> Result<(), NoMemory> {
+    for row in rows {
+        if row.0 == usize::from(session) && row.is_recorded() {
+            own.push(*row)?;
+        }
+    }
+    Ok(())
+}
+
+/// Adds the calls of the session's task, whose answers its thread compares.
+fn add_task(crew: &Crew, session: u16, own: &mut Vec<Row>) -> Result<(), NoMemory> {
+    let place = usize::from(session);
+    let Some(plan) = crew.plan(place) else {
+        return add_rows(&BESIDE, session, own);
+    };
+    for turn in 0..plan.turns {
+        for asked in plan.asks {
+            own.push(Row(place, plan.place(turn, session), *asked, ""))?;
+        }
+    }
+    Ok(())
+}
+
+/// Adds the calls of the session that are asked of each link in turn.
+fn add_asks(asks: &[Ask], links: usize, session: u16, own: &mut Vec<Row>) -> Result<(), NoMemory> {
+    for place in 0..links {
+        for asked in asks {
+            own.push(Row(usize::from(session), place, *asked, ""))?;
+        }
+    }
+    Ok(())
+}
+
+/// The calls of the session in the scene, in order: what its journal is to tell.
+pub(super) fn calls_of(
+    alloc: Global,
+    scene: &Scene<'_>,
+    session: u16,
+) -> Result<Vec<Row>, NoMemory> {
+    let mut own = Vec::new(alloc);
+    match scene {
+        Scene::Script(_, rows, _) => add_rows(rows, session, &mut own)?,
+        Scene::Crowd(_, before, crew) => {
+            add_rows(before, session, &mut own)?;
+            add_task(crew, session, &mut own)?;
+        }
+        Scene::Notes(links) if session == 0 => {
+            add_asks(&[Ask::Write, Ask::Certify], links.len(), session, &mut own)?;
+        }
+        Scene::Notes(links) => add_asks(&[Ask::Open], links.len(), session, &mut own)?,
+    }
+    Ok(own)
+}
+
+/// Whether the answer has the row's call, and the reply that the row tells, if it tells one.
 fn is_recorded(
     alloc: Global,
-    answer: &Done<DemoScheme>,
-    link: &Link,
+    answer: &Entry<DemoScheme>,
+    links: &[Link],
     row: &Row,
-    calls: usize,
-) -> Result<bool, Fail> {
-    let Row(_, _, asked, told) = row;
+) -> Result<bool, NoMemory> {
+    let Row(_, place, asked, told) = row;
+    let Some(link) = links.get(*place) else {
+        return Ok(false);
+    };
     let call = call_of(asked, link)?;
     let text = text_of(alloc, answer.reply(), link)?;
-    let is_it = answer.call().is_same(&call) && text.as_str() == *told;
-    Ok(is_it && answer.front().len() == calls)
+    Ok(answer.call().is_same(&call) && (told.is_empty() || text.as_str() == *told))
+}
+
+/// Whether the journal has the calls of the rows and no others, in order, each answered as its row tells.
+pub(super) fn are_recorded(
+    alloc: Global,
+    journal: &[Entry<DemoScheme>],
+    links: &[Link],
+    rows: &[Row],
+) -> Result<bool, NoMemory> {
+    for (answer, row) in journal.iter().zip(rows) {
+        if !is_recorded(alloc, answer, links, row)? {
+            return Ok(false);
+        }
+    }
+    Ok(journal.len() == rows.len())
+}
+
+/// Whether the front has as many parts as one of its length.
+fn has_parts(front: &History<DemoScheme>) -> bool {
+    let (length, parts) = (front.len(), front.parts());
+    for (some, wanted) in PARTS {
+        if length == some && parts != wanted {
+            return false;
+        }
+    }
+    parts == length / 256 + length % 256
 }
 
 /// Whether the front of each answer ends with the session's call of that place, and has a part for each full chunk of 256 events and
 /// for each event behind them: none copies what is in a full chunk.
-pub(super) fn are_fronts(journal: &[Done<DemoScheme>]) -> bool {
-    for (place, answer) in journal.iter().enumerate() {
-        let front = answer.front();
-        let length = front.len();
-        let last = front.event(length.saturating_sub(1));
-        let number = last.map(|event| event.number as usize);
-        if number != Some(place.saturating_add(1)) || front.parts() != length / 256 + length % 256 {
+pub(super) fn are_fronts(journal: &[Entry<DemoScheme>], session: u16) -> bool {
+    for (answer, number) in journal.iter().zip(1u32..) {
+        let Some(last) = answer.front().last() else {
+            return false;
+        };
+        let is_own = last.session == session && last.number == number;
+        if !is_own || !last.call.is_same(answer.call()) || !has_parts(answer.front()) {
             return false;
         }
     }
@@ -51,7 +139,7 @@ pub(super) fn are_fronts(journal: &[Done<DemoScheme>]) -> bool {
 }
 
 /// Whether each front of the journal begins the next one, which does not begin it.
-pub(super) fn grows(journal: &[Done<DemoScheme>]) -> bool {
+pub(super) fn grows(journal: &[Entry<DemoScheme>]) -> bool {
     for (earlier, later) in journal.iter().zip(journal.iter().skip(1)) {
         let (earlier, later) = (earlier.front(), later.front());
         if !earlier.is_prefix_of(later) || later.is_prefix_of(earlier) {
@@ -61,23 +149,23 @@ pub(super) fn grows(journal: &[Done<DemoScheme>]) -> bool {
     true
 }
 
-/// How many answers, from the first on, are of the row at the same place, in a journal whose fronts grow.
-pub(super) fn recorded(
-    alloc: Global,
-    journal: &[Done<DemoScheme>],
-    links: &[Link],
-    rows: &[Row],
-) -> Result<usize, Fail> {
-    if !grows(journal) {
-        return Err(Fail::from("a front does not begin the next one"));
-    }
-    for (place, (answer, row)) in journal.iter().zip(rows).enumerate() {
-        let Some(link) = links.get(row.1) else {
-            return Ok(place);
-        };
-        if !is_recorded(alloc, answer, link, row, place.saturating_add(1))? {
-            return Ok(place);
+/// Whether the session's events in the history are the calls of its journal, in order.
+pub(super) fn stands(
+    history: &History<DemoScheme>,
+    journal: &[Entry<DemoScheme>],
+    session: u16,
+) -> bool {
+    let mut next: usize = 0;
+    for index in 0..history.len() {
+        match history.event(index) {
+            Some(event) if event.session == session => match journal.get(next) {
+                Some(answer) if event.call.is_same(answer.call()) => {
+                    next = next.saturating_add(1);
+                }
+                _ => return false,
+            },
+            _ => {}
         }
     }
-    Ok(journal.len().min(rows.len()))
+    next == journal.len()
 }

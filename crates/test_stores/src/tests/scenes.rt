@@ -7,7 +7,7 @@ use super::chains::Link;
 use super::crowds::in_threads;
 use super::notes::tell;
 use super::scripts::{Row, play_script};
-use super::settling::seen_settled;
+use super::settling::{Seen, seen_settled};
 use super::tasks::Crew;
 use super::*;
 use nw_store::{Opening, TooMany};
@@ -17,12 +17,30 @@ use std::thread::Threads;
 /// What is done in the sessions of a store, whose number is given.
 #[derive(Drop)]
 pub(super) enum Scene<'a> {
-    /// They ask these rows of these blocks in turn.
-    Script(u16, &'a [Row], &'a [Link]),
-    /// Each does a task of the crew in a thread of its own.
-    Crowd(u16, &'a Crew),
+    /// They ask these rows of the crew's blocks in turn.
+    Script(u16, &'a [Row], &'a Crew),
+    /// They ask these rows in turn, and then each does its task of the crew in a thread of its own.
+    Crowd(u16, &'a [Row], &'a Crew),
     /// One of two threads writes these blocks, and tells the other of each.
     Notes(&'a [Link]),
+}
+
+impl Scene<'_> {
+    /// How many sessions it has.
+    pub(super) fn sessions(&self) -> u16 {
+        match self {
+            Scene::Script(count, _, _) | Scene::Crowd(count, _, _) => *count,
+            Scene::Notes(_) => 2,
+        }
+    }
+
+    /// The blocks that they ask of.
+    pub(super) fn links(&self) -> &[Link] {
+        match self {
+            Scene::Script(_, _, crew) | Scene::Crowd(_, _, crew) => crew.links(),
+            Scene::Notes(links) => links,
+        }
+    }
 }
 
 /// Makes so many sessions, which are all that the store makes.
@@ -54,14 +72,15 @@ fn perform<L: Home, R: Threads + Wait + Sync>(
     scene: &Scene<'_>,
 ) -> Result<(), Fail> {
     match scene {
-        Scene::Crowd(count, crew) => {
+        Scene::Crowd(count, before, crew) => {
             make_sessions(rt, alloc, store, sessions, *count)?;
+            play_script(rt, alloc, store, sessions.as_mut_slice(), crew, before)?;
             in_threads(rt, alloc, store, sessions.as_mut_slice(), crew);
             Ok(())
         }
-        Scene::Script(count, rows, links) => {
+        Scene::Script(count, rows, crew) => {
             make_sessions(rt, alloc, store, sessions, *count)?;
-            play_script(rt, alloc, store, sessions.as_mut_slice(), links, rows)
+            play_script(rt, alloc, store, sessions.as_mut_slice(), crew, rows)
         }
         Scene::Notes(links) => {
             make_sessions(rt, alloc, store, sessions, 2)?;
@@ -70,14 +89,13 @@ fn perform<L: Home, R: Threads + Wait + Sync>(
     }
 }
 
-/// Plays the scene on the store, and settles its sessions: how many events there are, and how many of the calls the journals tell
-/// of as they should.
+/// Plays the scene on the store, and settles its sessions.
 fn on_store<L: Home, R: Threads + Wait + Sync>(
     rt: &R,
     alloc: Global,
     store: Store<DemoScheme, L>,
     scene: &Scene<'_>,
-) -> Result<(usize, usize), Fail> {
+) -> Result<Seen, Fail> {
     let mut sessions = Vec::new(alloc);
     match perform(rt, alloc, &store, &mut sessions, scene) {
         Ok(()) => seen_settled(alloc, store, sessions, scene),
@@ -96,7 +114,7 @@ fn play<L: Home, R: Threads + Wait + Sync>(
     opening: Opening<DemoScheme>,
     book: Book<DemoScheme>,
     scene: &Scene<'_>,
-) -> Result<(usize, usize), Fail>
+) -> Result<Seen, Fail>
     requires log { opening.log ≡ L.log }
     requires ledger { (opening.ledger ≡ L.name) × (L.parts ≡ parts_of_a_ledger) }
     requires origin { origin_of book ≡ L.origin }
@@ -110,14 +128,13 @@ fn play<L: Home, R: Threads + Wait + Sync>(
     }
 }
 
-/// Plays the scene on a store of its own, which goes on with the book: how many events the store has then, and how many of the
-/// calls the journals tell of as they should.
+/// Plays the scene on a store of its own, which goes on with the book, and settles its sessions.
 pub(super) fn played<R: Threads + Wait + Sync>(
     rt: &R,
     alloc: Global,
     book: Book<DemoScheme>,
     scene: &Scene<'_>,
-) -> Result<(usize, usize), Fail> {
+) -> Result<Seen, Fail> {
     let opening = Opening::new(alloc)?;
     play::<Brand, R>(rt, alloc, opening, book, scene)
 }

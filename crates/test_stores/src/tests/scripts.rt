@@ -1,11 +1,14 @@
 //! What sessions ask in turn, and what they are told.
 use super::asking::{Ask, reply_to};
 use super::chains::Link;
+use super::tasks::Crew;
 use super::*;
+use nw_intake::Gate;
 use nw_model::Wanted;
-use nw_store::Block;
+use nw_store::{Block, NoMemory};
 
-/// A session, the place of a block, what the session asks of it, and the text of what it is told.
+/// A session, the place of a block, what the session asks of it, and the text of what it is told. An empty text is not compared.
+#[derive(Clone, Copy)]
 pub(super) struct Row(
     pub(super) usize,
     pub(super) usize,
@@ -16,8 +19,18 @@ pub(super) struct Row(
 /// The parent that is not held.
 pub(super) const PARENT: Digest = Digest([7; 32]);
 
+impl Row {
+    /// Whether the session's journal has it, as it has each call that is not refused.
+    pub(super) fn is_recorded(&self) -> bool {
+        self.2.is_call() && !self.3.starts_with(REFUSED)
+    }
+}
+
+/// How the text of a refusal begins.
+const REFUSED: &str = "refused ";
+
 /// The rounds of the blocks.
-fn rounds_of(alloc: Global, blocks: &[Shared<Block>]) -> Result<Vec<u64>, Fail> {
+fn rounds_of(alloc: Global, blocks: &[Shared<Block>]) -> Result<Vec<u64>, NoMemory> {
     let mut rounds = Vec::new(alloc);
     for block in blocks {
         rounds.push(block.get().round.get())?;
@@ -26,7 +39,7 @@ fn rounds_of(alloc: Global, blocks: &[Shared<Block>]) -> Result<Vec<u64>, Fail> 
 }
 
 /// The text of what is missing: of a single parent its round and author, and whether it is the one that is not held.
-fn missing(alloc: Global, wanted: &[Wanted]) -> Result<String, Fail> {
+fn missing(alloc: Global, wanted: &[Wanted]) -> Result<String, NoMemory> {
     match wanted {
         [only] => {
             let is_it = only.digest == PARENT;
@@ -37,7 +50,7 @@ fn missing(alloc: Global, wanted: &[Wanted]) -> Result<String, Fail> {
 }
 
 /// The text of the reply: of a block or a certificate whether it is this one, and of a list its rounds.
-pub(super) fn text_of(alloc: Global, reply: &Reply, link: &Link) -> Result<String, Fail> {
+pub(super) fn text_of(alloc: Global, reply: &Reply, link: &Link) -> Result<String, NoMemory> {
     match reply {
         Reply::Certificate(Some(kept)) => {
             let is_it = kept.get() == link.certificate.certificate().get();
@@ -62,33 +75,56 @@ fn is_told(
     reply: &Result<Reply, NoStep>,
     link: &Link,
     told: &str,
-) -> Result<bool, Fail> {
+) -> Result<bool, NoMemory> {
     let text = match reply {
         Ok(reply) => text_of(alloc, reply, link)?,
-        Err(refusal) => format!(in alloc; "{refusal:?}")?,
+        Err(refusal) => format!(in alloc; "refused {refusal:?}")?,
     };
     Ok(text.as_str() == told)
 }
 
-/// Whether the row's session is told what the row says.
+/// Whether this text tells how many parts the ticket's view has.
+fn has_parts(
+    alloc: Global,
+    ticket: &Option<Ticket<DemoScheme>>,
+    told: &str,
+) -> Result<bool, NoMemory> {
+    let parts = match ticket {
+        Some(ticket) => ticket.view().parts(),
+        None => 0,
+    };
+    let text = format!(in alloc; "Parts({parts})")?;
+    Ok(text.as_str() == told)
+}
+
+/// Whether the session is told what the row says.
 fn is_answered<L: Home, R: Wait>(
     rt: &R,
     alloc: Global,
     store: &Store<DemoScheme, L>,
-    sessions: &mut [Session<DemoScheme, L>],
-    links: &[Link],
+    session: &mut Session<DemoScheme, L>,
+    crew: &Crew,
     ticket: &mut Option<Ticket<DemoScheme>>,
     row: &Row,
-) -> Result<bool, Fail> {
-    let Row(session, place, asked, told) = row;
-    match (sessions.get_mut(*session), links.get(*place)) {
-        (Some(session), Some(link)) => {
+) -> Result<bool, NoMemory> {
+    let Row(_, place, asked, told) = row;
+    let Some(link) = crew.links().get(*place) else {
+        return Ok(false);
+    };
+    match asked {
+        Ask::Parts => has_parts(alloc, ticket, told),
+        Ask::Compact => Ok(store.compact(rt, alloc).is_ok()),
+        Ask::Start(point) => Ok(crew.passes(*point)),
+        Ask::Reach(point) => {
+            crew.reach(*point);
+            Ok(true)
+        }
+        _ => {
             let reply = reply_to(rt, alloc, store, session, link, ticket, asked);
             let is_told = is_told(alloc, &reply, link, told);
             drop(reply);
             is_told
         }
-        _ => Ok(false),
     }
 }
 
@@ -98,12 +134,15 @@ fn ask_all<L: Home, R: Wait>(
     alloc: Global,
     store: &Store<DemoScheme, L>,
     sessions: &mut [Session<DemoScheme, L>],
-    links: &[Link],
+    crew: &Crew,
     ticket: &mut Option<Ticket<DemoScheme>>,
     rows: &[Row],
 ) -> Result<(), Fail> {
     for row in rows {
-        if !is_answered(rt, alloc, store, sessions, links, ticket, row)? {
+        let Some(session) = sessions.get_mut(row.0) else {
+            return Err(Fail::from("the row has a session"));
+        };
+        if !is_answered(rt, alloc, store, session, crew, ticket, row)? {
             return Err(Fail::from(row.3));
         }
     }
@@ -116,11 +155,66 @@ pub(super) fn play_script<L: Home, R: Wait>(
     alloc: Global,
     store: &Store<DemoScheme, L>,
     sessions: &mut [Session<DemoScheme, L>],
-    links: &[Link],
+    crew: &Crew,
     rows: &[Row],
 ) -> Result<(), Fail> {
     let mut ticket = None;
-    let played = ask_all(rt, alloc, store, sessions, links, &mut ticket, rows);
+    let played = ask_all(rt, alloc, store, sessions, crew, &mut ticket, rows);
     drop(ticket);
     played
+}
+
+/// Asks the session's own rows in turn. Whether each is answered as it says.
+fn ask_own<L: Home, R: Wait>(
+    rt: &R,
+    alloc: Global,
+    store: &Store<DemoScheme, L>,
+    session: &mut Session<DemoScheme, L>,
+    crew: &Crew,
+    ticket: &mut Option<Ticket<DemoScheme>>,
+    rows: &[Row],
+) -> Result<bool, NoMemory> {
+    let own = usize::from(session.id());
+    for row in rows {
+        if row.0 == own && !is_answered(rt, alloc, store, session, crew, ticket, row)? {
+            return Ok(false);
+        }
+    }
+    Ok(true)
+}
+
+/// The same. The last ticket is dropped.
+pub(super) fn play_own<L: Home, R: Wait>(
+    rt: &R,
+    alloc: Global,
+    store: &Store<DemoScheme, L>,
+    session: &mut Session<DemoScheme, L>,
+    crew: &Crew,
+    rows: &[Row],
+) -> Result<bool, NoMemory> {
+    let mut ticket = None;
+    let played = ask_own(rt, alloc, store, session, crew, &mut ticket, rows);
+    drop(ticket);
+    played
+}
+
+/// Asks the session's own rows in turn. The last ticket, if each row is answered as it says and there is one.
+pub(super) fn opened_by<L: Home, R: Wait>(
+    rt: &R,
+    alloc: Global,
+    store: &Store<DemoScheme, L>,
+    session: &mut Session<DemoScheme, L>,
+    crew: &Crew,
+    rows: &[Row],
+) -> Result<Option<Ticket<DemoScheme>>, NoMemory> {
+    let mut ticket = None;
+    let played = ask_own(rt, alloc, store, session, crew, &mut ticket, rows);
+    match played {
+        Ok(true) => Ok(ticket),
+        other => {
+            drop(ticket);
+            other?;
+            Ok(None)
+        }
+    }
 }

@@ -1,43 +1,61 @@
 //! What is seen of a store once its sessions settle.
-use super::records::{are_fronts, grows, recorded};
+use super::records::{are_fronts, are_recorded, calls_of, grows, stands};
 use super::scenes::Scene;
 use super::*;
-use nw_store::{SettleFault, Settled, Unsettled, settle, settle_locked};
+use nw_store::{Entry, NoMemory, SettleFault, Settled, Unsettled, settle, settle_locked};
 
-/// How many calls the first two sessions made, each of whose fronts ends with its call and begins the session's next one.
-fn in_order<L: Home>(settled: &Settled<DemoScheme, L>) -> usize {
-    let mut calls: usize = 0;
-    for session in 0..2 {
-        let journal = settled.journal(session).unwrap_or(&[]);
-        if grows(journal) && are_fronts(journal) {
-            calls = calls.saturating_add(journal.len());
-        }
-    }
-    calls
+/// What is seen of a store once its sessions settle.
+#[derive(Clone, Copy)]
+pub(super) struct Seen {
+    /// How many sessions were made and given, when the last one was withheld.
+    pub(super) withheld: (u16, usize),
+    /// How many events there are.
+    pub(super) events: usize,
+    /// How many calls are in journals that tell exactly what was asked and answered, in the order of the history.
+    pub(super) told: usize,
 }
 
-/// How many events there are, and of a script how many rows the first session's journal tells of, from the first on, of a crowd how
-/// many calls of its first two sessions are told in order.
-fn seen<L: Home>(
+/// Whether the session's journal has exactly the session's calls of the scene, in order, each with its answer and its front, and
+/// the history has them in the same order.
+fn is_told<L: Home>(
     alloc: Global,
     settled: &Settled<DemoScheme, L>,
     scene: &Scene<'_>,
-) -> Result<(usize, usize), Fail> {
-    let events = settled.history().len();
-    let journal = settled.journal(0).unwrap_or(&[]);
-    match scene {
-        Scene::Script(_, rows, links) => Ok((events, recorded(alloc, journal, links, rows)?)),
-        Scene::Crowd(_, _) | Scene::Notes(_) => Ok((events, in_order(settled))),
-    }
+    session: u16,
+    journal: &[Entry<DemoScheme>],
+) -> Result<bool, NoMemory> {
+    let rows = calls_of(alloc, scene, session)?;
+    Ok(
+        are_recorded(alloc, journal, scene.links(), &rows)?
+            && grows(journal)
+            && are_fronts(journal, session)
+            && stands(settled.history(), journal, session),
+    )
 }
 
-/// The same, once the sessions settle, which are all. Without the last one they do not, be it silent or not.
+/// How many calls are in such journals.
+fn count_told<L: Home>(
+    alloc: Global,
+    settled: &Settled<DemoScheme, L>,
+    scene: &Scene<'_>,
+) -> Result<usize, NoMemory> {
+    let mut told: usize = 0;
+    for session in 0..scene.sessions() {
+        let journal = settled.journal(session).unwrap_or(&[]);
+        if is_told(alloc, settled, scene, session, journal)? {
+            told = told.saturating_add(journal.len());
+        }
+    }
+    Ok(told)
+}
+
+/// Settles the sessions twice: without the last one, which is refused, and then with all of them.
 pub(super) fn seen_settled<L: Home>(
     alloc: Global,
     store: Store<DemoScheme, L>,
     mut sessions: Vec<Session<DemoScheme, L>>,
     scene: &Scene<'_>,
-) -> Result<(usize, usize), Fail> {
+) -> Result<Seen, Fail> {
     let last = sessions.pop();
     match (settle(store, sessions), last) {
         (Err(refused), Some(last)) => seen_of_all(alloc, refused, last, scene),
@@ -49,27 +67,31 @@ pub(super) fn seen_settled<L: Home>(
     }
 }
 
-/// The same, once the last session is given too, where it alone was missing.
+/// Settles all sessions, with the one that was withheld.
 fn seen_of_all<L: Home>(
     alloc: Global,
     refused: Unsettled<DemoScheme, L>,
     last: Session<DemoScheme, L>,
     scene: &Scene<'_>,
-) -> Result<(usize, usize), Fail> {
+) -> Result<Seen, Fail> {
     let Unsettled {
         fault,
         locked,
         mut sessions,
     } = refused;
-    let lacks_one = lacks_one(fault, sessions.len());
+    let withheld = withheld(fault, sessions.len());
     let pushed = sessions.push(last);
     match settle_locked(locked, sessions) {
         Ok(settled) => {
-            let seen = seen(alloc, &settled, scene);
+            let events = settled.history().len();
+            let told = count_told(alloc, &settled, scene);
             drop(settled);
-            let seen = seen?;
             pushed?;
-            Ok(lacks_one.then_some(seen).ok_or("one session is missing")?)
+            Ok(Seen {
+                withheld,
+                events,
+                told: told?,
+            })
         }
         Err((_, locked, sessions)) => {
             drop(locked);
@@ -79,12 +101,34 @@ fn seen_of_all<L: Home>(
     }
 }
 
-/// Whether one session more was made than these, and this is why they do not settle.
-fn lacks_one(fault: SettleFault, sessions: usize) -> bool {
+/// How many sessions were made and given, if all that were given came back.
+fn withheld(fault: SettleFault, back: usize) -> (u16, usize) {
     match fault {
-        SettleFault::Unfinished { made, given } => {
-            given == sessions && usize::from(made).checked_sub(1) == Some(given)
-        }
-        SettleFault::Differs { .. } => false,
+        SettleFault::Unfinished { made, given } if given == back => (made, given),
+        _ => (0, 0),
     }
+}
+
+/// Why sessions do not settle, in words. No program gets the second fault: sessions of another store have another type.
+const FAULTS: [(SettleFault, &str); 2] = [
+    (
+        SettleFault::Unfinished { made: 2, given: 1 },
+        "1 of 2 sessions",
+    ),
+    (
+        SettleFault::Differs {
+            session: 3,
+            number: 0,
+        },
+        "session 3 was not made, or is given twice",
+    ),
+];
+
+#[test]
+fn each_fault_of_a_settlement_has_its_words(rt: HostRuntime) -> Result<(), Fail> {
+    for (fault, words) in FAULTS {
+        let text = format!(in rt.alloc(); "{fault}")?;
+        assert_eq!(rt; text.as_str(), words);
+    }
+    Ok(())
 }

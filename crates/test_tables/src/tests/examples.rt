@@ -187,7 +187,7 @@ fn is_played(alloc: Global, example: &Example) -> bool {
 }
 
 #[test]
-fn small_stores_answer_as_the_table_of_steps_says(rt: HostRuntime) {
+fn the_tables_answer_as_the_plain_store(rt: HostRuntime) {
     for example in &tables::EXAMPLES {
         assert!(rt; is_played(rt.alloc(), example), "{}", example.shows);
     }

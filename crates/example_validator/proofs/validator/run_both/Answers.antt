@@ -1,45 +1,10 @@
-use mir.Syntax.{named}
-use denote.Exit.{no}
-use denote.Param.{param}
-use denote.Struct.Declared.{row}
-use denote.Struct.Tuple.{type_at}
-use denote.Param.Send.{IsSend, sendable, param_send, arg_send}
-use denote.Param.SendFields.{declared_send}
-use Rattle.std.proofs.Crossing.{crosses}
-use Rattle.nw_store.proofs.Sent.{session_send, store_sync}
-use Rattle.crossbeam_channel.proofs.channel.Receiver.TheSendSync as receiver
-use Rattle.example_validator.proofs.Sent.{consensus_send}
-use Rattle.example_validator.proofs.validator.Host.TheSendSync as host
+use denote.Param.Send.{sendable}
+use Rattle.nw_store.proofs.Crossing.{taken_send}
+use Rattle.example_validator.proofs.Sent.{decider_send, decided_send}
 use Rattle.example_validator.proofs.validator.run_both.Goals as goal
-use Rattle.example_validator.proofs.validator.run_both.Lts as lts
 
--- what the consensus takes along: what all validators work with, the store, the session, what is decided, and what the intake tells
 pub join-requires-send-F : goal.join-requires-send-F
-join-requires-send-F g c κs within =
-    let names = lts.name-25 g.row.L g.row.R g.L.laws g.R.laws g.L.Home g.L.Home-dict g.L.Place g.L.Place-dict g.L.Ledger g.L.Ledger-dict g.R.Threads g.R.Threads-dict g.R.Wait g.R.Wait-dict in
-    let captured = lts.of-54 g.row.L g.row.R g.L.laws g.R.laws g.L.Home g.L.Home-dict g.L.Place g.L.Place-dict g.L.Ledger g.L.Ledger-dict g.R.Threads g.R.Threads-dict g.R.Wait g.R.Wait-dict
-    (record { mir = named 6; lft = κs.1.1.1.1.1.1.0 }) (record { mir = named 7; lft = κs.1.1.1.1.1.1.1.0 }) (record { mir = named 8; lft = κs.1.1.1.1.1.1.1.1.0 }) in
-    let closure = type_at names captured in
-    let shared = host.the_sync (record { mir = named 7; lft = κs.1.1.1.1.1.1.1.0 }) (param 1 g.row.R) c.type_bounds.sync-R in
-    let fields : IsSend (row closure) = declared_send closure (
-      search (sendable, crosses, shared) depth 40,
-      (
-        search (sendable, crosses, store_sync) depth 40,
-        (
-          search (sendable, crosses, session_send) depth 40,
-          (consensus_send, (search (sendable, crosses, receiver.the_send) depth 40, tt)),
-        ),
-      ),
-    ) in
-    let whole : IsSend (lts.arg-0-1 g.row.L g.row.R g.L.laws g.R.laws g.L.Home g.L.Home-dict g.L.Place g.L.Place-dict g.L.Ledger g.L.Ledger-dict g.R.Threads g.R.Threads-dict g.R.Wait g.R.Wait-dict κs) = arg_send _ no (row closure) fields in
-    param_send 1 (lts.arg-0-1 g.row.L g.row.R g.L.laws g.R.laws g.L.Home g.L.Home-dict g.L.Place g.L.Place-dict g.L.Ledger g.L.Ledger-dict g.R.Threads g.R.Threads-dict g.R.Wait g.R.Wait-dict κs) whole
+join-requires-send-F g c κs within = search (taken_send, decider_send, c.type_bounds.sync-R) depth 30
 
--- what it hands back: the session, what is decided, and why it ended
 pub join-requires-send-A : goal.join-requires-send-A
-join-requires-send-A g c κs within =
-    let names = lts.name-2 g.row.L g.row.R g.L.laws g.R.laws g.L.Home g.L.Home-dict g.L.Place g.L.Place-dict g.L.Ledger g.L.Ledger-dict g.R.Threads g.R.Threads-dict g.R.Wait g.R.Wait-dict in
-    let answered = lts.of-42 g.row.L g.row.R g.L.laws g.R.laws g.L.Home g.L.Home-dict g.L.Place g.L.Place-dict g.L.Ledger g.L.Ledger-dict g.R.Threads g.R.Threads-dict g.R.Wait g.R.Wait-dict in
-    let answer = type_at names answered in
-    let fields : IsSend (row answer) = declared_send answer (search (sendable, crosses, session_send) depth 40, (consensus_send, (search (sendable, crosses) depth 40, tt))) in
-    let whole : IsSend (lts.arg-0-3 g.row.L g.row.R g.L.laws g.R.laws g.L.Home g.L.Home-dict g.L.Place g.L.Place-dict g.L.Ledger g.L.Ledger-dict g.R.Threads g.R.Threads-dict g.R.Wait g.R.Wait-dict κs) = arg_send _ no (row answer) fields in
-    param_send 3 (lts.arg-0-3 g.row.L g.row.R g.L.laws g.R.laws g.L.Home g.L.Home-dict g.L.Place g.L.Place-dict g.L.Ledger g.L.Ledger-dict g.R.Threads g.R.Threads-dict g.R.Wait g.R.Wait-dict κs) whole
+join-requires-send-A g c κs within = search (sendable, decided_send) depth 30

@@ -6,7 +6,7 @@ use Rattle.nw_model.specs.History.{events_of, AreNumbered}
 use Rattle.nw_store.specs.Journal.{Kept, Journal, AreBegun, AreAnswers}
 use Rattle.nw_store.specs.Settled.{ids_of, AreAll, IsFirstStray, IsStray}
 use Rattle.nw_store.proofs.Interleaved.{joined}
-use Rattle.nw_store.proofs.Ordered.{all_length, all_from_order, none_of_all, order_from_none}
+use Rattle.nw_store.proofs.Ordered.{all_length, all_from_order, all_in_order, none_of_all, order_from_none}
 use Rattle.nw_store.proofs.settlement.settle_in_place.Goals as goal
 
 pub returns-then-given-from-clause-exactly : goal.returns-then-given-from-clause-exactly
@@ -50,6 +50,12 @@ returns-clause-exactly g c =
     let none : (id : ℕ) → IsStray c.args.locked.now.made (ids_of c.args.sessions.now) id → ⊥ = subst (λ m. (id : ℕ) → IsStray m (ids_of c.args.sessions.now) id → ⊥) made (subst (λ (js : List Journal). (id : ℕ) → IsStray c.locked.inside.made (ids_of js) id → ⊥) same c.in_default.ensures.none) in
     let order = order_from_none c.args.locked.now.made c.args.sessions.now c.sort.new.sessions p c.sort.ensures.sorted (omega (arith, given, from, made)) none in
     (λ _. all_from_order c.args.locked.now.made c.args.sessions.now c.sort.new.sessions p order.0 order.1, λ _. refl)
+
+pub returns-clause-all : goal.returns-clause-all
+returns-clause-all g c =
+    let same : c.renew_all.new.sessions ≡ c.args.sessions.now = c.renew_all.ensures.sessions ∙ c.add_up.ensures.sessions in
+    let p : IsPermutation c.args.sessions.now c.sort.new.sessions = subst (λ (js : List Journal). IsPermutation js c.sort.new.sessions) same c.sort.ensures.permutation in
+    all_in_order c.args.locked.now.made c.args.sessions.now c.sort.new.sessions ((returns-clause-exactly g c).0 refl) p c.sort.ensures.sorted
 
 pub returns-clause-settled : goal.returns-clause-settled
 returns-clause-settled g c =

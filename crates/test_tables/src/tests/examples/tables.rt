@@ -34,7 +34,7 @@ const U0: Name = (4, 0, 0);
 
 const Z0: Name = (LAST, 0, 0);
 
-pub(super) const EXAMPLES: [Example; 15] = [
+pub(super) const EXAMPLES: [Example; 16] = [
     replies::EQUIVOCATION,
     replies::ONE_DIGEST,
     replies::FAR,
@@ -46,6 +46,7 @@ pub(super) const EXAMPLES: [Example; 15] = [
     parents::MISSING,
     parents::ABSENT,
     parents::COLLECTED,
+    parents::COMPLETED,
     parents::SKIPPED,
     parents::UNCERTIFIED,
     parents::MISNAMED,

@@ -1,45 +1,27 @@
-use mir.Syntax.{named}
-use denote.Exit.{no}
-use denote.Struct.Declared.{row}
-use denote.Struct.Tuple.{type_at}
-use denote.Param.Send.{IsSend, sendable, param_send, arg_send}
-use denote.Param.SendFields.{declared_send}
-use Rattle.std.proofs.Crossing.{crosses}
-use Rattle.nw_store.proofs.Sent.{note_send, session_send, store_sync}
+use denote.Param.{param}
+use denote.Param.Send.{IsSend, sendable, shr_send, shr_slice_send}
+use Rattle.std.proofs.Crossing.{frees, send, sync}
+use Rattle.std.specs.contracts.alloc.Global as heap
+use Rattle.std.specs.contracts.impls.GlobalAllocator.TheImpl.{ghosts}
+use Rattle.crossbeam_channel.specs.contracts.channel.Sender as senders
 use Rattle.crossbeam_channel.proofs.channel.Sender.TheSendSync as sender
+use Rattle.nw_sig.specs.contracts.demo.DemoScheme as demo
+use Rattle.nw_sig.specs.contracts.demo.DemoSchemeScheme.TheImpl as demo_is
+use Rattle.nw_store.specs.contracts.notes.Note as notes
+use Rattle.nw_store.proofs.Sent.{note_send, session_send, store_sync}
+use Rattle.nw_store.proofs.Crossing.{taken_send, along_send}
+use Rattle.nw_store.proofs.Crossing.Sends.{none, also}
 use Rattle.test_stores.proofs.tests.chains.Link.TheSendSync as link
 use Rattle.test_stores.proofs.tests.notes.in_both.Goals as goal
-use Rattle.test_stores.proofs.tests.notes.in_both.Lts as lts
 
 -- what the writer takes along: the handle, the allocator, the store, the session, the blocks, and where notes go
 pub join-requires-send-F : goal.join-requires-send-F
 join-requires-send-F g c κs within =
-    let names = lts.name-53 g.row.L g.row.R g.L.laws g.R.laws g.L.Home g.L.Home-dict g.L.Place g.L.Place-dict g.L.Ledger g.L.Ledger-dict g.R.Threads g.R.Threads-dict g.R.Wait g.R.Wait-dict in
-    let captured = lts.of-40 g.row.L g.row.R g.L.laws g.R.laws g.L.Home g.L.Home-dict g.L.Place g.L.Place-dict g.L.Ledger g.L.Ledger-dict g.R.Threads g.R.Threads-dict g.R.Wait g.R.Wait-dict
-    (record { mir = named 6; lft = κs.1.1.1.1.1.1.0 }) (record { mir = named 7; lft = κs.1.1.1.1.1.1.1.0 }) (record { mir = named 8; lft = κs.1.1.1.1.1.1.1.1.0 }) in
-    let closure = type_at names captured in
-    let fields : IsSend (row closure) = declared_send closure (
-      search (sendable, crosses, c.type_bounds.sync-R) depth 40,
-      (
-        search (sendable, crosses) depth 40,
-        (
-          search (sendable, crosses, store_sync) depth 40,
-          (
-            search (sendable, crosses, session_send) depth 40,
-            (search (sendable, crosses, link.the_sync) depth 40, (search (sendable, crosses, sender.the_send, note_send) depth 40, tt)),
-          ),
-        ),
-      ),
-    ) in
-    let whole : IsSend (lts.arg-0-1 g.row.L g.row.R g.L.laws g.R.laws g.L.Home g.L.Home-dict g.L.Place g.L.Place-dict g.L.Ledger g.L.Ledger-dict g.R.Threads g.R.Threads-dict g.R.Wait g.R.Wait-dict κs) = arg_send _ no (row closure) fields in
-    param_send 1 (lts.arg-0-1 g.row.L g.row.R g.L.laws g.R.laws g.L.Home g.L.Home-dict g.L.Place g.L.Place-dict g.L.Ledger g.L.Ledger-dict g.R.Threads g.R.Threads-dict g.R.Wait g.R.Wait-dict κs) whole
+    let store = store_sync demo.the_row (param 0 g.row.L) demo_is.ghosts g.L.Home g.L.Place g.L.Ledger in
+    let session = session_send demo.the_row (param 0 g.row.L) demo_is.ghosts g.L.Home g.L.Place g.L.Ledger in
+    let told : IsSend (senders.the_row (notes.the_row demo.the_row (param 0 g.row.L) demo_is.ghosts g.L.Home g.L.Place g.L.Ledger) heap.the_row ghosts) = search (sender.the_send, note_send, send, sync, frees) depth 20 in
+    along_send _ _ _ _ (also _ _ (shr_send _ _ _ c.type_bounds.sync-R) (also _ _ send (also _ _ (shr_send _ _ _ store) (also _ _ session (also _ _ (shr_slice_send _ _ _ link.the_sync) (also _ _ told none))))))
 
 -- what it hands back: the session, and a count
 pub join-requires-send-A : goal.join-requires-send-A
-join-requires-send-A g c κs within =
-    let names = lts.name-1 g.row.L g.row.R g.L.laws g.R.laws g.L.Home g.L.Home-dict g.L.Place g.L.Place-dict g.L.Ledger g.L.Ledger-dict g.R.Threads g.R.Threads-dict g.R.Wait g.R.Wait-dict in
-    let answered = lts.of-16 g.row.L g.row.R g.L.laws g.R.laws g.L.Home g.L.Home-dict g.L.Place g.L.Place-dict g.L.Ledger g.L.Ledger-dict g.R.Threads g.R.Threads-dict g.R.Wait g.R.Wait-dict in
-    let answer = type_at names answered in
-    let fields : IsSend (row answer) = declared_send answer (search (sendable, crosses, session_send) depth 40, (search (sendable, crosses) depth 40, tt)) in
-    let whole : IsSend (lts.arg-0-3 g.row.L g.row.R g.L.laws g.R.laws g.L.Home g.L.Home-dict g.L.Place g.L.Place-dict g.L.Ledger g.L.Ledger-dict g.R.Threads g.R.Threads-dict g.R.Wait g.R.Wait-dict κs) = arg_send _ no (row answer) fields in
-    param_send 3 (lts.arg-0-3 g.row.L g.row.R g.L.laws g.R.laws g.L.Home g.L.Home-dict g.L.Place g.L.Place-dict g.L.Ledger g.L.Ledger-dict g.R.Threads g.R.Threads-dict g.R.Wait g.R.Wait-dict κs) whole
+join-requires-send-A g c κs within = search (taken_send, sendable, session_send) depth 20

@@ -99,6 +99,21 @@ pub(super) const COLLECTED: Example = Example {
     ],
 };
 
+pub(super) const COMPLETED: Example = Example {
+    shows: "a collection completes a block",
+    room: 16,
+    asked: &[
+        (Write(K0, &[]), Is("stored vote")),
+        (Certify(K0), Is("certified")),
+        (Naming(L0, 1, &[K0]), Is("stored vote")),
+        (Certify(L0), Is("certified")),
+        (Causal(L0), Is("incomplete")),
+        (Missing(1), Wanted(&[((0, 1), K0)])),
+        (Collect(1), Raised(1)),
+        (Causal(L0), List(&[(1, 0)])),
+    ],
+};
+
 pub(super) const SKIPPED: Example = Example {
     shows: "a collection of two rounds completes a block whose parents it drops",
     room: 16,

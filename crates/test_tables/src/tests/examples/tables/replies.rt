@@ -8,7 +8,7 @@ use super::super::Asked::{
 use super::*;
 
 pub(super) const EQUIVOCATION: Example = Example {
-    shows: "the other block of a slot is stored once it is certified, and the first one's certificate conflicts",
+    shows: "an equivocating block is stored once it is certified; two certified blocks of one slot conflict",
     room: 16,
     asked: &[
         (Write(K0, &[]), Is("stored vote")),
@@ -27,18 +27,17 @@ pub(super) const EQUIVOCATION: Example = Example {
 };
 
 pub(super) const ONE_DIGEST: Example = Example {
-    shows: "another block under a digest is a clash, and another slot of it a misfit",
+    shows: "one digest with two blocks clashes, with two slots misfits",
     room: 16,
     asked: &[
-        (Read(K0), Is("no block")),
         (Write(K0, &[]), Is("stored vote")),
-        (Write(K0, &[]), Is("held")),
         (Under(K0, (0, 0)), Is("clash")),
+        (Read(K0), Found(K0)),
+        (CertifyAs(K0, (0, 1)), Is("certificate misfit")),
+        (Write(K0, &[]), Is("held")),
         (Under(K0, (0, 1)), Is("clash")),
         (Read(K0), Found(K0)),
         (Read(L0), Is("no block")),
-        (CertifyAs(K0, (0, 1)), Is("certificate misfit")),
-        (Read(K0), Found(K0)),
         (Certificate(L0), Is("no certificate")),
         (CertifyAs(L0, (1, 1)), Is("certified")),
         (Certificate(L0), Kept((1, 1))),
@@ -52,7 +51,7 @@ pub(super) const ONE_DIGEST: Example = Example {
 };
 
 pub(super) const FAR: Example = Example {
-    shows: "a far block is refused, and a far collection leaves nothing",
+    shows: "the window moves with the garbage round, up to the last round",
     room: 16,
     asked: &[
         (Write(N0, &[M0]), Is("stored vote")),

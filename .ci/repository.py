@@ -1,0 +1,68 @@
+"""What the commands beside this file share: the files of the repository, its crates, and its worked scripts."""
+import functools
+import glob
+import os
+import re
+import subprocess
+
+ROOT = os.path.dirname(os.path.dirname(os.path.abspath(__file__)))
+# So many programs or crates run at once.
+AT_ONCE = min(os.cpu_count() or 1, 4)
+# One run of a program may take so many seconds.
+SECONDS = 60
+SCRIPTS = "crates/nw/scripts"
+
+
+def content(path):
+    """The text of a file, named from the top of the repository."""
+    return content_in_bytes(path).decode()
+
+
+def content_in_bytes(path):
+    with open(f"{ROOT}/{path}", "rb") as file:
+        return file.read()
+
+
+def paths(pattern):
+    """The files that match the pattern, named from the top of the repository, in order."""
+    return [os.path.relpath(path, ROOT) for path in sorted(glob.glob(f"{ROOT}/{pattern}", recursive=True))]
+
+
+def crates():
+    """The names in crates.txt."""
+    return re.findall(r"^(\w+)[^:\n]*:", content("crates.txt"), re.M)
+
+
+@functools.cache
+def more_seconds():
+    """The flag that gives a test five minutes in place of one, where this kit has it: a test may be slow beside others."""
+    usage = subprocess.run(["rt", "help"], stdin=subprocess.DEVNULL, capture_output=True, text=True).stdout
+    return ["--seconds", "300"] if "--seconds" in usage else []
+
+
+def tried(folder):
+    """The status and the output of the tests of the crate in this folder, which run without proofs."""
+    ran = subprocess.run(
+        ["rt", "try", "--test", *more_seconds()], cwd=folder, stdin=subprocess.DEVNULL, stdout=subprocess.PIPE, stderr=subprocess.STDOUT, text=True
+    )
+    return ran.returncode, ran.stdout
+
+
+def program(crate):
+    """The program that `rt run` or `rt ci` made of the crate."""
+    return f"{ROOT}/crates/{crate}/out/{crate}"
+
+
+def worked_scripts():
+    """Each worked script: its subject, its name, the script, and the output that it must have."""
+    for path in paths(f"{SCRIPTS}/*/*.script"):
+        subject, name = path.removesuffix(".script").split("/")[-2:]
+        yield subject, name, content_in_bytes(path), content_in_bytes(path.removesuffix("script") + "prints")
+
+
+def status_of(prints):
+    """The exit status of a play with this output: 2 after a bad line, 3 if sessions differ, else 0."""
+    last = prints.rpartition(b"\n")[0].rpartition(b"\n")[2]
+    if re.fullmatch(rb"line \d+ bad", last):
+        return 2
+    return 3 if last.startswith(b"differs ") else 0

@@ -1,0 +1,20 @@
+-- What an answer tells, where no ticket stands for it.
+use Rattle.std.proofs.Common.{◌≢◌, subst}
+use Rattle.nw_model.specs.State.{State}
+use Rattle.nw_model.specs.Step.{Bounds, IsReply}
+use Rattle.nw_model.specs.declared.call.Call.{Call}
+use Rattle.nw_model.specs.declared.call.Call.TheVariants as calls
+use Rattle.nw_model.specs.declared.reply.Reply.{Reply}
+use Rattle.nw_model.specs.declared.reply.Reply.TheVariants as replies
+use Rattle.nw_book.specs.Command.{IsNoCausalRead}
+
+-- Ready replies to causal reads alone
+pub not_ready : (bounds : Bounds) (s : State) (asked : Call) (r : Reply) → IsNoCausalRead asked → IsReply bounds s asked r → r ≢ replies.Ready
+not_ready bounds s (calls.Write d b) r no_read is e = subst (λ q. IsReply bounds s (calls.Write d b) q) e is
+not_ready bounds s (calls.Certify c) r no_read is e = subst (λ q. IsReply bounds s (calls.Certify c) q) e is
+not_ready bounds s (calls.Certificate d) r no_read is e = subst (λ q. IsReply bounds s (calls.Certificate d) q) e is
+not_ready bounds s (calls.Read d) r no_read is e = subst (λ q. IsReply bounds s (calls.Read d) q) e is
+not_ready bounds s (calls.Causal d) r no_read is e = absurd no_read
+not_ready bounds s (calls.Collect round) r no_read is e = subst (λ q. IsReply bounds s (calls.Collect round) q) e is
+not_ready bounds s (calls.Missing most) r no_read is e = subst (λ q. IsReply bounds s (calls.Missing most) q) e is
+not_ready bounds s calls.Status r no_read is e = subst (λ q. IsReply bounds s calls.Status q) e is

@@ -1,0 +1,78 @@
+//! What is kept of answers.
+ghost use Rattle.std.specs.Prelude.{◌≡◌, ◌-◌, ◌<◌, ◌++◌, ◌∷◌, [], List, Some, length, slice_get};
+ghost use Rattle.nw_model.specs.declared.event.Event.{Event};
+
+use nw_history::Front;
+use nw_model::{Call, Event, Reply};
+use nw_sig::Scheme;
+use std::marker::Model;
+use std::snapshot::Snapshot;
+
+/// What a journal keeps of an answer, also of a ticket: a history that ends with the call, and the reply to it. Contracts see the
+/// event of the call, and the history.
+#[derive(Drop)]
+pub struct Entry<S: Scheme> {
+    front: Front<S>,
+    event: Snapshot<Event>,
+}
+
+impl<S: Scheme> Model for Entry<S> {
+    ghost use Rattle.std.specs.Prelude.{◌≡◌, ◌-◌, Some, length, slice_get};
+    ghost use Rattle.std.specs.Coded.{codes};
+    ghost use Rattle.nw_model.specs.State.{coded_state};
+    ghost use Rattle.nw_book.specs.Answer.{Told};
+
+    ghost Value = { Told };
+
+    ghost coded = { Prim.hlevel (codes, coded_state) };
+
+    ghost view = { λ d. record { event = d.event.value; front = d.front } };
+
+    ghost invariant = { λ d.
+        slice_get d.front.events (length d.front.events - 1) ≡ Some d.event.value };
+}
+
+impl<S: Scheme> Entry<S> {
+    /// The entry with this front, which ends with the call that is answered.
+    pub(crate) fn of(front: Front<S>) -> Entry<S>
+        requires some { 0 < length front.events }
+        ensures front { result.front ≡ front }
+        ensures event { (earlier : List Event) (event : Event)
+            → front.events ≡ earlier ++ event ∷ [] → result.event ≡ event }
+    {
+        let event = Snapshot::of(front.last().unwrap());
+        Entry { front, event }
+    }
+
+    /// The call that was answered.
+    pub fn call(&self) -> &Call
+        ensures call { result.now ≡ self.now.event.call }
+        ensures last { slice_get self.now.front.events (length self.now.front.events - 1)
+            ≡ Some self.now.event }
+    {
+        &self.event().call
+    }
+
+    /// The reply that the call got: `Ready` exactly where it is a causal read for which a ticket was given.
+    pub fn reply(&self) -> &Reply
+        ensures { result.now ≡ self.now.event.reply }
+    {
+        &self.event().reply
+    }
+
+    /// The history up to and with the call.
+    pub fn front(&self) -> &Front<S>
+        ensures { result.now ≡ self.now.front }
+    {
+        &self.front
+    }
+
+    /// The event of the call, which is the last of the front.
+    fn event(&self) -> &Event
+        ensures event { result.now ≡ self.now.event }
+        ensures last { slice_get self.now.front.events (length self.now.front.events - 1)
+            ≡ Some self.now.event }
+    {
+        self.front.last().unwrap()
+    }
+}

@@ -1,0 +1,12 @@
+-- Why a script is not read whole.
+use Rattle.nw_play.specs.declared.fault.PlayFault.{PlayFault}
+use Rattle.nw_play.specs.declared.fault.PlayFault.TheVariants as fault
+
+-- the script is too long, or its reader failed or an allocation did before that was known
+abbrev pub IsUnread : PlayFault → Type 0
+IsUnread fault.TooLong = Unit {0}
+IsUnread fault.Read = Unit {0}
+IsUnread fault.NoMemory = Unit {0}
+IsUnread fault.Write = ⊥
+IsUnread (fault.BadLine line) = ⊥
+IsUnread (fault.Differs session) = ⊥

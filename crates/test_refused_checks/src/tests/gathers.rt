@@ -1,0 +1,159 @@
+//! Votes that are gathered.
+use super::committees::members;
+use super::*;
+use nw_check::{Counted, FinishFault, Gather, GatherFault, StartFault};
+use nw_codec::{Seal, Vote};
+use nw_digest::Digest;
+use nw_sig::DemoScheme;
+use sample_checked::refused::vote;
+
+/// Gathers the vote of this signer.
+fn add(
+    gather: &mut Gather<DemoScheme>,
+    four: &Committee,
+    signer: u16,
+) -> Result<Counted, GatherFault> {
+    let vote = vote(four, VOTED, SLOT, signer);
+    again!(GatherFault::NoMemory, gather.add(&vote))
+}
+
+/// The certificate so far, whether it has signers 0, 1 and 2.
+fn finished(alloc: Global, gather: &Gather<DemoScheme>) -> Result<bool, FinishFault> {
+    let checked = again!(FinishFault::NoMemory, gather.finish(alloc))?;
+    let has_three = are_first_three(checked.certificate().get().votes.as_slice());
+    drop(checked);
+    Ok(has_three)
+}
+
+/// Whether these are the votes of signers 0, 1 and 2.
+fn are_first_three(votes: &[Seal]) -> bool {
+    match votes {
+        [one, two, three] => [one.signer, two.signer, three.signer] == [0, 1, 2],
+        _ => false,
+    }
+}
+
+/// What the gatherer answers to votes of these signers, and whether it has its certificate after each.
+type Gathered = [(Result<Counted, GatherFault>, Result<bool, FinishFault>); 5];
+
+/// What a gatherer answers to votes of these signers.
+fn gathered(
+    alloc: Global,
+    four: &Shared<Committee>,
+    signers: [u16; 5],
+) -> Result<Gathered, StartFault> {
+    let mut gather = again!(
+        StartFault::NoMemory,
+        Gather::new(alloc, four, VOTED, Round::ZERO, 0)
+    )?;
+    let answers = signers.map(|signer| {
+        let counted = add(&mut gather, four.get(), signer);
+        (counted, finished(alloc, &gather))
+    });
+    drop(gather);
+    Ok(answers)
+}
+
+/// The committee of four whose members are said to weigh 1.
+fn weighted_four(alloc: Global) -> Result<Shared<Committee>, NoMemory> {
+    match Committee::weighted(members(alloc, &[1; 4])?) {
+        Ok(four) => Shared::new(alloc, four),
+        Err(_) => Err(NoMemory),
+    }
+}
+
+#[test]
+fn votes_are_gathered_to_a_quorum(rt: HostRuntime) -> Result<(), Fail> {
+    let wanted = [
+        (Ok(Counted::Counted), Err(FinishFault::FewVotes)),
+        (Ok(Counted::Counted), Err(FinishFault::FewVotes)),
+        (Err(GatherFault::Repeated), Err(FinishFault::FewVotes)),
+        (Ok(Counted::Quorum), Ok(true)),
+        (Err(GatherFault::Signer), Ok(true)),
+    ];
+    for is_weighted in [false, true] {
+        let four = match is_weighted {
+            false => four(rt.alloc())?,
+            true => again!(NoMemory, weighted_four(rt.alloc()))?,
+        };
+        let answers = gathered(rt.alloc(), &four, [0, 1, 1, 2, 9]);
+        drop(four);
+        assert_eq!(rt; answers?, wanted);
+    }
+    Ok(())
+}
+
+/// Votes that are not counted beside that of member 0: for another digest, round and author, of member 0 again, of no member, and of
+/// member 2 with the signature of member 1.
+fn uncounted(four: &Committee) -> [Vote; 6] {
+    let (other, later) = (Digest([8; 32]), Round::new(1).unwrap_or(Round::ZERO));
+    let mut forged = vote(four, VOTED, SLOT, 1);
+    forged.signer = 2;
+    [
+        vote(four, other, SLOT, 0),
+        vote(four, VOTED, (later, 0), 1),
+        vote(four, VOTED, (Round::ZERO, 1), 1),
+        vote(four, VOTED, SLOT, 0),
+        vote(four, VOTED, SLOT, 4),
+        forged,
+    ]
+}
+
+/// A gatherer that counted the vote of member 0.
+fn gatherer(alloc: Global, four: &Shared<Committee>) -> Result<Gather<DemoScheme>, Fail> {
+    let mut gather = again!(
+        StartFault::NoMemory,
+        Gather::new(alloc, four, VOTED, Round::ZERO, 0)
+    )?;
+    match add(&mut gather, four.get(), 0) {
+        Ok(_) => Ok(gather),
+        Err(fault) => {
+            drop(gather);
+            Err(Fail::from(fault))
+        }
+    }
+}
+
+/// What the gatherer answers to those votes, and when it is asked for a certificate, while all memory is refused; and what one for
+/// a block of no member is answered.
+fn refused_votes(
+    alloc: Global,
+    four: &Shared<Committee>,
+) -> Result<
+    (
+        [Option<GatherFault>; 6],
+        Option<FinishFault>,
+        Option<StartFault>,
+    ),
+    Fail,
+> {
+    let mut gather = gatherer(alloc, four)?;
+    let votes = uncounted(four.get());
+    refuse_all(alloc);
+    let faults = votes.map(|vote| gather.add(&vote).err());
+    let unfinished = gather.finish(alloc).err();
+    let unstarted = Gather::<DemoScheme>::new(alloc, four, VOTED, Round::ZERO, 4).err();
+    refuse_none(alloc);
+    drop(gather);
+    Ok((faults, unfinished, unstarted))
+}
+
+#[test]
+fn votes_are_refused_each_for_its_reason(rt: HostRuntime) -> Result<(), Fail> {
+    let four = four(rt.alloc())?;
+    let refused = refused_votes(rt.alloc(), &four);
+    drop(four);
+    let (faults, unfinished, unstarted) = refused?;
+    let wanted = [
+        GatherFault::OtherBlock,
+        GatherFault::OtherBlock,
+        GatherFault::OtherBlock,
+        GatherFault::Repeated,
+        GatherFault::Signer,
+        GatherFault::Signature,
+    ];
+    assert_eq!(rt; faults, wanted.map(Some));
+    assert_eq!(rt; unfinished, Some(FinishFault::FewVotes));
+    assert_eq!(rt; unstarted, Some(StartFault::Author));
+    Ok(())
+}

@@ -1,0 +1,287 @@
+//! Calls that take no memory, which are made while all memory is refused.
+use super::*;
+use nw_check::{BlockFault, CertFault, Checked, check_block, check_cert, check_message, valid};
+use nw_codec::{
+    Block, DecodeError, EncodeError, Ref, Signature, Transactions, Vote, block_digest,
+    decode_message, encode_block, encode_body, encode_message,
+};
+use nw_digest::digest_of;
+use nw_sig::{DemoScheme, DemoSigner, Scheme, Signer, block_text, vote_text};
+use sample_checked::refused::{checked_block, checked_certificate, vote};
+
+/// A text by its bytes, each with how often it stands there, and the fault that is found in it.
+type Text = (&'static [(u8, usize)], DecodeError);
+
+/// A text for each fault but a body that is too long.
+const TEXTS: [Text; 10] = [
+    (&[], DecodeError::Short),
+    (&[(3, 1), (0, 107)], DecodeError::Trailing),
+    (&[(4, 1)], DecodeError::Tag),
+    (&[(1, 1), (2, 1)], DecodeError::Version),
+    (&[(1, 2), (0, 9), (101, 1)], DecodeError::TooManyParents),
+    (&[(1, 2), (0, 9), (2, 1), (0, 36)], DecodeError::ParentOrder),
+    (
+        &[(1, 2), (0, 10), (4, 1), (1, 1)],
+        DecodeError::TooManyTransactions,
+    ),
+    (
+        &[(1, 2), (0, 11), (1, 1), (0, 1), (1, 1), (0, 1), (1, 1)],
+        DecodeError::TransactionTooLong,
+    ),
+    (&[(2, 1), (0, 41), (101, 1)], DecodeError::TooManyVotes),
+    (&[(2, 1), (0, 41), (2, 1), (0, 68)], DecodeError::VoteOrder),
+];
+
+/// The text of these bytes.
+fn text_of(alloc: Global, bytes: &[(u8, usize)]) -> Result<Vec<u8>, NoMemory> {
+    let mut text = Vec::new(alloc);
+    for (byte, times) in bytes {
+        text.resize(text.len().saturating_add(*times), *byte)?;
+    }
+    Ok(text)
+}
+
+/// The text of a block's message up to the length of its 16th transaction. Each has 65,536 bytes.
+fn long_text(alloc: Global) -> Result<Vec<u8>, NoMemory> {
+    let mut text = text_of(alloc, &[(1, 2), (0, 11), (16, 1), (0, 1), (1, 1), (0, 2)])?;
+    for _ in 1..16 {
+        text.resize(text.len().saturating_add(65_536), b'x')?;
+        text.extend_from_slice(&[0, 1, 0, 0])?;
+    }
+    Ok(text)
+}
+
+/// The fault of the text, if a check under the committee finds the same.
+fn fault_in(alloc: Global, four: &Shared<Committee>, text: &[u8]) -> Option<DecodeError> {
+    refuse_all(alloc);
+    let decoded = decode_message(alloc, text).err();
+    let checked = check_message::<DemoScheme>(alloc, four, text);
+    refuse_none(alloc);
+    match checked {
+        Ok(Checked::BadText(fault)) if decoded == Some(fault) => Some(fault),
+        _ => None,
+    }
+}
+
+/// Whether each of those texts has its fault.
+fn have_faults(alloc: Global, four: &Shared<Committee>) -> Result<bool, NoMemory> {
+    for (bytes, fault) in TEXTS {
+        let text = again!(NoMemory, text_of(alloc, bytes))?;
+        if fault_in(alloc, four, &text) != Some(fault) {
+            return Ok(false);
+        }
+    }
+    let long = again!(NoMemory, long_text(alloc))?;
+    Ok(fault_in(alloc, four, &long) == Some(DecodeError::BodyTooLong))
+}
+
+/// The vote of the text, which is checked while all memory is refused.
+fn vote_in(alloc: Global, four: &Shared<Committee>, text: &[u8]) -> Option<Vote> {
+    refuse_all(alloc);
+    let checked = check_message::<DemoScheme>(alloc, four, text);
+    refuse_none(alloc);
+    match &checked {
+        Ok(Checked::Vote(found)) => Some(*found),
+        _ => None,
+    }
+}
+
+/// Whether a vote's text is found to be one.
+fn finds_a_vote(alloc: Global, four: &Shared<Committee>) -> Result<bool, Fail> {
+    let message = Message::Vote(vote(four.get(), VOTED, SLOT, 1));
+    let text = texts::text_of(alloc, &message)?;
+    Ok(vote_in(alloc, four, &text) == Some(vote(four.get(), VOTED, SLOT, 1)))
+}
+
+/// A block of the slot over blocks of these authors.
+fn block_over(alloc: Global, slot: Slot, authors: &[u16]) -> Result<Block, NoMemory> {
+    let mut parents = Vec::new(alloc);
+    for author in authors {
+        let digest = VOTED;
+        parents.push(Ref {
+            author: *author,
+            digest,
+        })?;
+    }
+    unsigned(alloc, slot, &parents, b"x")
+}
+
+/// Whether a block that does not fit, and a certificate, are not spelled, and a transaction that is too long is not added.
+fn are_over_limit(alloc: Global, four: &Committee) -> Result<bool, Fail> {
+    let block = again!(NoMemory, block_over(alloc, SLOT, &[1, 0]))?;
+    let certificate = certificate_message(alloc, four, &[1, 0])?;
+    let signature = Signature([0; 64]);
+    let long = again!(NoMemory, text_of(alloc, &[(b'x', 65_537)]))?;
+    refuse_all(alloc);
+    let fits = block.fits() || matches!(&certificate, Message::Certificate(it) if it.fits());
+    let refused = [
+        Transactions::new(alloc).push(&long).err(),
+        encode_body(alloc, &block).err(),
+        encode_block(alloc, &block, &signature).err(),
+        encode_message(alloc, &certificate).err(),
+        encode_message(alloc, &Message::Block { block, signature }).err(),
+    ];
+    refuse_none(alloc);
+    Ok(!fits && refused == [Some(EncodeError::OverLimit); 5])
+}
+
+/// Whether digests, and what is signed, are made, and signatures made and verified.
+fn is_signed(alloc: Global, four: &Committee) -> Result<bool, Fail> {
+    let block = again!(NoMemory, block_over(alloc, SLOT, &[]))?;
+    let body = again!(EncodeError::NoMemory, encode_body(alloc, &block))?;
+    let key = *four.key(1).ok_or("there are four members")?;
+    refuse_all(alloc);
+    let (fits, digest) = (block.fits(), digest_of(&body));
+    let is_its_digest = fits && block_digest(&block) == digest;
+    let (signer, text) = (DemoSigner::new(key), block_text(&digest));
+    let other = vote_text(&digest, Round::ZERO, 0);
+    let signature = signer.sign(&text);
+    let is_verified = DemoScheme::verify(&signer.key(), &text, &signature)
+        && !DemoScheme::verify(&key, &other, &signature);
+    refuse_none(alloc);
+    Ok(is_its_digest && is_verified)
+}
+
+/// Whether committees tell of their members, and are compared.
+fn are_told(alloc: Global, four: &Committee) -> Result<bool, Fail> {
+    let same = again!(NoMemory, committee(alloc, &[0, 1, 2, 3]))?;
+    let other = again!(NoMemory, committee(alloc, &[0, 1, 2, 4]))?;
+    refuse_all(alloc);
+    let sizes = (four.size(), four.total(), four.quorum(), four.weight(3));
+    let members = four.key(3).is_some() && four.key(4).is_none() && four.weight(4).is_none();
+    let reached = four.reaches_quorum(&[0, 1, 2]) && !four.reaches_quorum(&[0, 1]);
+    let compared = four == same.get() && four != other.get();
+    refuse_none(alloc);
+    Ok(sizes == (4, 4, 3, Some(1)) && members && reached && compared)
+}
+
+/// A round, an author, authors of parents, a signer, and the fault of such a block.
+const BLOCKS: [(u64, u16, &[u16], u16, BlockFault); 5] = [
+    (0, 4, &[], 0, BlockFault::Author),
+    (0, 0, &[1, 4], 0, BlockFault::ParentAuthor),
+    (0, 0, &[1], 0, BlockFault::GenesisParents),
+    (1, 0, &[0, 1], 0, BlockFault::FewParents),
+    (1, 0, &[0, 1, 2], 1, BlockFault::Signature),
+];
+
+/// The fault of a block, which is checked while all memory is refused.
+fn block_fault(
+    alloc: Global,
+    four: &Shared<Committee>,
+    block: Block,
+    signer: u16,
+) -> Option<BlockFault> {
+    let Some(signature) = signature(four.get(), &block, signer) else {
+        drop(block);
+        return None;
+    };
+    refuse_all(alloc);
+    let fault = check_block::<DemoScheme>(alloc, four, block, signature).err();
+    refuse_none(alloc);
+    fault
+}
+
+/// Whether each of those blocks has its fault.
+fn blocks_have_faults(alloc: Global, four: &Shared<Committee>) -> Result<bool, NoMemory> {
+    for (number, author, authors, signer, fault) in BLOCKS {
+        let slot = (Round::new(number).unwrap_or(Round::ZERO), author);
+        let block = again!(NoMemory, block_over(alloc, slot, authors))?;
+        if block_fault(alloc, four, block, signer) != Some(fault) {
+            return Ok(false);
+        }
+    }
+    Ok(true)
+}
+
+/// An author, signers, which member signs for the last of them, and the fault of such a certificate.
+const CERTIFICATES: [(u16, &[u16], CertFault); 4] = [
+    (4, &[0, 1, 2], CertFault::Author),
+    (0, &[0, 1, 4], CertFault::Signer),
+    (0, &[0, 1], CertFault::FewVotes),
+    (0, &[0, 1, 2], CertFault::Signature { signer: 0 }),
+];
+
+/// The fault of a certificate of these signers for the author, whose votes are for another author where it is to be a forged one. It
+/// is checked while all memory is refused.
+fn certificate_fault(
+    alloc: Global,
+    four: &Shared<Committee>,
+    author: u16,
+    signers: &[u16],
+) -> Result<Option<CertFault>, NoMemory> {
+    let slot = (Round::ZERO, 1);
+    let mut certificate = again!(
+        NoMemory,
+        certificate(alloc, four.get(), VOTED, slot, signers)
+    )?;
+    certificate.author = author;
+    refuse_all(alloc);
+    let fits = certificate.fits();
+    let is_valid = valid::<DemoScheme>(four.get(), VOTED, &certificate);
+    let fault = if fits {
+        check_cert::<DemoScheme>(alloc, four, certificate).err()
+    } else {
+        None
+    };
+    refuse_none(alloc);
+    Ok(if is_valid { None } else { fault })
+}
+
+/// Whether each of those certificates has its fault.
+fn certificates_have_faults(alloc: Global, four: &Shared<Committee>) -> Result<bool, NoMemory> {
+    for (author, signers, fault) in CERTIFICATES {
+        if certificate_fault(alloc, four, author, signers)? != Some(fault) {
+            return Ok(false);
+        }
+    }
+    Ok(true)
+}
+
+/// Whether what was checked is lent, and a certificate is valid for its own digest alone.
+fn are_lent(alloc: Global, four: &Shared<Committee>) -> Result<bool, Fail> {
+    let block = again!(
+        BlockFault::NoMemory,
+        checked_block(alloc, four, SLOT, &[], b"x", 0)
+    )?;
+    let three = again!(
+        CertFault::NoMemory,
+        checked_certificate(alloc, four, VOTED, SLOT, &[0, 1, 2])
+    )?;
+    refuse_all(alloc);
+    let is_block = block.block().get().fits()
+        && block.digest() == block_digest(block.block().get())
+        && block.committee().get() == four.get();
+    let is_certificate = three.certificate().get().digest == VOTED
+        && three.digest() == VOTED
+        && three.committee().get() == four.get();
+    let certificate = three.certificate().get();
+    let is_valid = valid::<DemoScheme>(four.get(), VOTED, certificate)
+        && !valid::<DemoScheme>(four.get(), block.digest(), certificate);
+    refuse_none(alloc);
+    Ok(is_block && is_certificate && is_valid)
+}
+
+/// Whether calls are right: of texts, of what is signed, of committees, and of checks.
+fn are_right(alloc: Global, four: &Shared<Committee>) -> Result<[bool; 8], Fail> {
+    Ok([
+        have_faults(alloc, four)?,
+        finds_a_vote(alloc, four)?,
+        are_over_limit(alloc, four.get())?,
+        is_signed(alloc, four.get())?,
+        are_told(alloc, four.get())?,
+        blocks_have_faults(alloc, four)?,
+        certificates_have_faults(alloc, four)?,
+        are_lent(alloc, four)?,
+    ])
+}
+
+#[test]
+fn calls_that_take_no_memory(rt: HostRuntime) -> Result<(), Fail> {
+    let four = four(rt.alloc())?;
+    let right = are_right(rt.alloc(), &four);
+    let is_at_work = workers::refuses_none_at_work(&rt, rt.alloc(), &four);
+    drop(four);
+    assert_eq!(rt; right?, [true; 8]);
+    assert!(rt; is_at_work);
+    Ok(())
+}

@@ -1,0 +1,54 @@
+//! The texts of errors.
+use super::*;
+use nw_drawing::DrawFault;
+use nw_store::TooMany;
+use std::fmt::Display;
+
+const OF_BOOKS: [(BookError, &str); 2] = [
+    (BookError::BadLimits, "bad limits"),
+    (BookError::NoMemory, "out of memory"),
+];
+
+const OF_STEPS: [(NoStep, &str); 4] = [
+    (NoStep::OutOfTurn, "out of turn"),
+    (NoStep::OtherCommittee, "other committee"),
+    (NoStep::HistoryFull, "history full"),
+    (NoStep::NoMemory, "out of memory"),
+];
+
+const OF_PICTURES: [(DrawFault, &str); 3] = [
+    (DrawFault::TooMany, "too many blocks for a picture"),
+    (DrawFault::Write, "the picture can't be written"),
+    (DrawFault::NoMemory, "out of memory"),
+];
+
+/// The text of the error.
+fn text_of<T: Display>(alloc: Global, error: &T) -> Result<String, AllocError> {
+    format!(in alloc; "{error}")
+}
+
+/// The first of these texts that is not its error's, if there is one.
+fn wrong_text<T: Display>(
+    alloc: Global,
+    table: &[(T, &'static str)],
+) -> Result<Option<&'static str>, AllocError> {
+    for (error, text) in table {
+        if again!(AllocError, text_of(alloc, error))?.as_str() != *text {
+            return Ok(Some(*text));
+        }
+    }
+    Ok(None)
+}
+
+#[test]
+fn errors_have_their_texts(rt: HostRuntime) -> Result<(), Fail> {
+    let alloc = rt.alloc();
+    let wrong = [
+        wrong_text(alloc, &OF_BOOKS)?,
+        wrong_text(alloc, &OF_STEPS)?,
+        wrong_text(alloc, &[(TooMany, "too many")])?,
+        wrong_text(alloc, &OF_PICTURES)?,
+    ];
+    assert_eq!(rt; wrong, [None; 4]);
+    Ok(())
+}

@@ -1,0 +1,67 @@
+//! Limits that are out of their ranges.
+ghost use Rattle.std.specs.Prelude.{◌≡◌};
+ghost use Rattle.nw_history.specs.Story.{first_origin};
+ghost use Rattle.nw_store.specs.Kept.{parts_of_a_ledger};
+
+use super::*;
+use nw_store::{Home, Opening, Store};
+use sample_checked::refused::committee;
+use std::marker::Brand;
+
+/// Limits of blocks, events, rounds and sessions, one of which is out of its range.
+const BAD: [(u32, u32, u32, u32); 8] = [
+    (0, 1, 1, 1),
+    (65_537, 1, 1, 1),
+    (1, 0, 1, 1),
+    (1, 65_537, 1, 1),
+    (1, 1, 0, 1),
+    (1, 1, 4_097, 1),
+    (1, 1, 1, 0),
+    (1, 1, 1, 257),
+];
+
+/// Why there is no store with these limits.
+fn fault_of<L: Home>(
+    alloc: Global,
+    opening: Opening<DemoScheme>,
+    committee: Shared<Committee>,
+    limits: Limits,
+) -> Option<BookError>
+    requires log { opening.log ≡ L.log }
+    requires ledger { (opening.ledger ≡ L.name) × (L.parts ≡ parts_of_a_ledger) }
+    requires origin { first_origin committee limits ≡ L.origin }
+{
+    Store::<DemoScheme, L>::new(alloc, opening, committee, limits).err()
+}
+
+/// Why there is no book and no store with these limits, which are asked for while all memory is refused.
+fn faults_of(
+    alloc: Global,
+    committee: &Shared<Committee>,
+    limits: Limits,
+) -> Result<[Option<BookError>; 2], NoMemory> {
+    let one = again!(NoMemory, committee.try_clone())?;
+    let committee = again!(NoMemory, committee.try_clone())?;
+    let opening = again!(NoMemory, Opening::new(alloc))?;
+    refuse_all(alloc);
+    let book = Book::<DemoScheme>::new(alloc, one, limits).err();
+    let store = fault_of::<Brand>(alloc, opening, committee, limits);
+    refuse_none(alloc);
+    Ok([book, store])
+}
+
+#[test]
+fn bad_limits(rt: HostRuntime) -> Result<(), Fail> {
+    let committee = again!(NoMemory, committee(rt.alloc(), &[0]))?;
+    for (blocks, events, window, sessions) in BAD {
+        let limits = Limits {
+            blocks,
+            events,
+            window,
+            sessions,
+        };
+        let faults = faults_of(rt.alloc(), &committee, limits)?;
+        assert_eq!(rt; faults, [Some(BookError::BadLimits); 2], "{limits:?}");
+    }
+    Ok(())
+}

@@ -1,0 +1,214 @@
+//! Calls that take no memory, which are made while all memory is refused.
+ghost use Rattle.std.specs.Prelude.{◌≡◌};
+ghost use Rattle.nw_store.specs.Journal.{origin_of};
+ghost use Rattle.nw_store.specs.Kept.{parts_of_a_ledger};
+
+use super::desk::{Desk, FOUR, TWO};
+use super::examples::{COLLECTED, new_book};
+use super::stores::played_anew;
+use super::*;
+use nw_store::{
+    Done, Home, Opening, Session, Settled, Store, Unsettled, session_locked, settle, settle_locked,
+};
+use std::marker::Brand;
+use std::sync::Wait;
+
+/// The limits of a book of two sessions, whose history is full after two events.
+const NARROW: Limits = Limits {
+    blocks: 16,
+    events: 2,
+    window: 4,
+    sessions: 2,
+};
+
+/// A book with those limits.
+fn narrow_book(alloc: Global, desk: &Desk) -> Result<Book<DemoScheme>, BookError> {
+    Book::new(alloc, desk.committee.try_clone()?, NARROW)
+}
+
+/// Fills the history of the book. Gives its first answer.
+fn fill(alloc: Global, book: &mut Book<DemoScheme>) -> Result<Done<DemoScheme>, NoStep> {
+    let first = again!(NoStep::NoMemory, book.step(alloc, 0, 1, &Command::Status))?;
+    match again!(NoStep::NoMemory, book.step(alloc, 0, 2, &Command::Status)) {
+        Ok(second) => {
+            drop(second);
+            Ok(first)
+        }
+        Err(refusal) => {
+            drop(first);
+            Err(refusal)
+        }
+    }
+}
+
+/// Why a full book takes no step out of turn, none of another committee, and no more.
+fn refusals_of(
+    alloc: Global,
+    book: &mut Book<DemoScheme>,
+    own: &Command<DemoScheme>,
+    foreign: &Command<DemoScheme>,
+) -> [Option<NoStep>; 6] {
+    let digest = Digest([7; 32]);
+    [
+        book.step(alloc, 0, 4, foreign).err(),
+        book.step(alloc, 2, 1, own).err(),
+        book.open(alloc, 0, 2, digest).err(),
+        book.step(alloc, 0, 3, foreign).err(),
+        book.step(alloc, 0, 3, own).err(),
+        book.open(alloc, 0, 3, digest).err(),
+    ]
+}
+
+const REFUSALS: [NoStep; 6] = [
+    NoStep::OutOfTurn,
+    NoStep::OutOfTurn,
+    NoStep::OutOfTurn,
+    NoStep::OtherCommittee,
+    NoStep::HistoryFull,
+    NoStep::HistoryFull,
+];
+
+/// Whether the history of the full book, and the front of its first answer, are told of.
+fn are_told(book: &Book<DemoScheme>, desk: &Desk, first: &Done<DemoScheme>) -> bool {
+    let (history, front) = (book.history(), first.front());
+    let lengths = (history.len(), history.parts(), front.len(), front.parts()) == (2, 2, 1, 1);
+    let events = history.event(1).is_some()
+        && history.event(2).is_none()
+        && front.event(0).is_some()
+        && front.event(1).is_none();
+    let origins = history.committee().get() == desk.committee.get()
+        && history.limits() == NARROW
+        && history.base().is_none()
+        && front.committee().get() == desk.committee.get()
+        && front.limits() == NARROW;
+    let begins = front.is_prefix_of(history) && !history.is_prefix_of(front);
+    lengths && events && origins && begins
+}
+
+/// A write of the first block of an example for members with these numbers.
+fn write_under(alloc: Global, members: &[u8]) -> Result<(Desk, Command<DemoScheme>), Fail> {
+    let mut desk = Desk::new(alloc, members, &TWO[..1])?;
+    let link = desk.links.pop().ok_or("an example has blocks")?;
+    Ok((desk, Command::Write(link.block)))
+}
+
+/// Whether books refuse steps, and histories and fronts are told of, without memory.
+fn of_books(alloc: Global) -> Result<bool, Fail> {
+    let (desk, own) = write_under(alloc, &[0])?;
+    let (other, foreign) = write_under(alloc, &[1])?;
+    drop(other);
+    let mut book = again!(BookError::NoMemory, narrow_book(alloc, &desk))?;
+    let first = fill(alloc, &mut book)?;
+    refuse_all(alloc);
+    let refusals = refusals_of(alloc, &mut book, &own, &foreign);
+    let are_told = are_told(&book, &desk, &first);
+    refuse_none(alloc);
+    Ok(refusals == REFUSALS.map(Some) && are_told)
+}
+
+/// The place of the ticket's block, and how many events its front and how many parts its view has, told while all memory is refused.
+fn told(alloc: Global, desk: &Desk, ticket: &Ticket<DemoScheme>) -> (usize, usize, usize) {
+    refuse_all(alloc);
+    let (front, view) = (ticket.front().len(), ticket.view().parts());
+    let place = desk.place_under(&ticket.digest());
+    refuse_none(alloc);
+    (place, front, view)
+}
+
+/// Whether tickets lend what they hold without memory.
+fn of_tickets<R: Wait>(rt: &R, alloc: Global) -> Result<bool, Fail> {
+    let desk = Desk::new(alloc, &[0, 1, 2, 3], &FOUR)?;
+    let mut tickets = again!(AllocError, Vec::with_capacity(alloc, 1))?;
+    drop(played_anew(rt, alloc, &desk, &COLLECTED[..9], &mut tickets)?);
+    match tickets.first() {
+        Some(ticket) => Ok(told(alloc, &desk, ticket) == (3, 9, 1)),
+        None => Ok(false),
+    }
+}
+
+/// Settles these sessions, which is refused since the first is missing, and then them with it and with one more.
+fn settled_later<L: Home>(
+    alloc: Global,
+    store: Store<DemoScheme, L>,
+    first: Session<DemoScheme, L>,
+    given: Vec<Session<DemoScheme, L>>,
+) -> Option<Settled<DemoScheme, L>> {
+    let Err(unsettled) = settle(store, given) else {
+        return None;
+    };
+    let Unsettled {
+        mut locked,
+        mut sessions,
+        ..
+    } = unsettled;
+    let more = session_locked(&mut locked, alloc).ok()?;
+    sessions.push(first).ok()?;
+    sessions.push(more).ok()?;
+    settle_locked(locked, sessions).ok()
+}
+
+/// Whether the session made the one call of the history, and the other two made none.
+fn has_all<L: Home>(settled: &Settled<DemoScheme, L>) -> bool {
+    let of = |session: u16| settled.journal(session).map(|journal| journal.len());
+    settled.history().len() == 1
+        && (of(0), of(1), of(2), of(3)) == (Some(1), Some(0), Some(0), None)
+}
+
+/// Makes sessions of the store, the first of which asks it once, and settles them. What takes no memory is done while all is refused.
+fn of_sessions<L: Home, R: Wait>(
+    rt: &R,
+    alloc: Global,
+    store: Store<DemoScheme, L>,
+) -> Result<bool, Fail> {
+    let mut given = again!(AllocError, Vec::with_capacity(alloc, 3))?;
+    refuse_all(alloc);
+    let made = (store.session(rt, alloc), store.session(rt, alloc));
+    refuse_none(alloc);
+    let (mut first, second) = (made.0?, made.1?);
+    let done = again!(NoStep::NoMemory, store.status(rt, alloc, &mut first))?;
+    drop(done);
+    refuse_all(alloc);
+    let are_counted = (first.id(), first.calls(), second.id(), second.calls()) == (0, 1, 1, 0);
+    let is_given = given.push(second).is_ok();
+    let settled = settled_later(alloc, store, first, given);
+    let has_all = settled.is_some_and(|settled| has_all(&settled));
+    refuse_none(alloc);
+    Ok(are_counted && is_given && has_all)
+}
+
+/// The same of a store that goes on with the book.
+fn of_a_store<L: Home, R: Wait>(
+    rt: &R,
+    alloc: Global,
+    opening: Opening<DemoScheme>,
+    book: Book<DemoScheme>,
+) -> Result<bool, Fail>
+    requires log { opening.log ≡ L.log }
+    requires ledger { (opening.ledger ≡ L.name) × (L.parts ≡ parts_of_a_ledger) }
+    requires origin { origin_of book ≡ L.origin }
+{
+    match Store::<DemoScheme, L>::over(opening, book) {
+        Ok(store) => of_sessions(rt, alloc, store),
+        Err(book) => {
+            drop(book);
+            Ok(false)
+        }
+    }
+}
+
+/// Whether sessions are made, settled and told of without memory.
+fn of_stores<R: Wait>(rt: &R, alloc: Global) -> Result<bool, Fail> {
+    let desk = Desk::new(alloc, &[0], &[])?;
+    let opening = again!(NoMemory, Opening::new(alloc))?;
+    let book = again!(BookError::NoMemory, new_book(alloc, &desk))?;
+    of_a_store::<Brand, R>(rt, alloc, opening, book)
+}
+
+#[test]
+fn calls_that_take_no_memory(rt: HostRuntime) -> Result<(), Fail> {
+    let alloc = rt.alloc();
+    assert!(rt; of_books(alloc)?, "books");
+    assert!(rt; of_tickets(&rt, alloc)?, "tickets");
+    assert!(rt; of_stores(&rt, alloc)?, "stores");
+    Ok(())
+}

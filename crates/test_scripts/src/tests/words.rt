@@ -1,0 +1,101 @@
+//! Words that no script prints. It would need two blocks with one digest, a member that signs with another member's key, or a store
+//! that settles sessions that it did not make.
+use nw_check::CertFault;
+use nw_desk::{Answer, Desk, committee};
+use nw_digest::Shared;
+use nw_model::{CertifyReply, Reply, WriteReply};
+use nw_play::PlayFault;
+use nw_script::{CommitteeLine, Name};
+use std::alloc::Global;
+use std::test::Fail;
+
+/// Replies to a write and to a certificate of the block `a`, and what a script prints of each.
+const WRITTEN: [(WriteReply, &str); 2] = [
+    (WriteReply::Clash, "a clash\n"),
+    (WriteReply::Misfit, "a misfit\n"),
+];
+
+const CERTIFIED: [(CertifyReply, &str); 1] = [(CertifyReply::Misfit, "a misfit\n")];
+
+/// Faults of the certificate of the block `a`, and what a script prints of each.
+const REFUSED: [(CertFault, &str); 2] = [
+    (
+        CertFault::Signature { signer: 0 },
+        "a refused signature 0\n",
+    ),
+    (
+        CertFault::Signature { signer: 65_535 },
+        "a refused signature 65535\n",
+    ),
+];
+
+/// The line of the answer.
+fn line_of(alloc: Global, answer: &Answer<'_>) -> Result<Vec<u8>, Fail> {
+    let mut line = Vec::new(alloc);
+    answer.write(&mut line)?;
+    Ok(line)
+}
+
+/// The line that tells the reply of the name.
+fn told(
+    alloc: Global,
+    desk: &Desk<'static>,
+    name: Name<'static>,
+    reply: &Reply,
+) -> Result<Vec<u8>, Fail> {
+    match desk.told(alloc, Some(name), reply) {
+        Ok(answer) => {
+            let line = line_of(alloc, &answer);
+            drop(answer);
+            line
+        }
+        Err(_) => Err(Fail::from("a reply has its words")),
+    }
+}
+
+/// A desk of one member, without names.
+fn desk_of_one(alloc: Global) -> Result<Desk<'static>, Fail> {
+    match committee(alloc, &CommitteeLine::Equal { members: 1 }) {
+        Ok(one) => Ok(Desk::new(alloc, Shared::new(alloc, one)?)),
+        Err(_) => Err(Fail::from("there is a committee of one")),
+    }
+}
+
+#[test]
+fn replies_that_no_script_meets_have_their_words(rt: HostRuntime) -> Result<(), Fail> {
+    let alloc = rt.alloc();
+    let name = Name::new("a").ok_or("a letter is a name")?;
+    let desk = desk_of_one(alloc)?;
+    for (reply, prints) in WRITTEN {
+        let line = told(alloc, &desk, name, &Reply::Write(reply))?;
+        assert_eq!(rt; line.as_slice(), prints.as_bytes());
+    }
+    for (reply, prints) in CERTIFIED {
+        let line = told(alloc, &desk, name, &Reply::Certify(reply))?;
+        assert_eq!(rt; line.as_slice(), prints.as_bytes());
+    }
+    for (fault, prints) in REFUSED {
+        let line = line_of(alloc, &Answer::BadCert { name, fault })?;
+        assert_eq!(rt; line.as_slice(), prints.as_bytes());
+    }
+    Ok(())
+}
+
+/// Why a script is not played to its end, in words. Those of a bad line and of sessions that differ are printed.
+const FAULTS: [(PlayFault, &str); 6] = [
+    (PlayFault::Read, "the script can't be read"),
+    (PlayFault::Write, "the answers can't be written"),
+    (PlayFault::TooLong, "the script is too long"),
+    (PlayFault::BadLine { line: 7 }, "line 7 bad"),
+    (PlayFault::NoMemory, "out of memory"),
+    (PlayFault::Differs { session: 3 }, "differs 3 0"),
+];
+
+#[test]
+fn each_fault_of_a_play_has_its_words(rt: HostRuntime) -> Result<(), Fail> {
+    for (fault, words) in FAULTS {
+        let text = format!(in rt.alloc(); "{fault}")?;
+        assert_eq!(rt; text.as_str(), words);
+    }
+    Ok(())
+}

@@ -1,0 +1,219 @@
+//! Two stores that take the same calls: their tickets agree, and so do their views.
+ghost use Rattle.std.specs.Prelude.{◌≡◌, IsTrue};
+ghost use Rattle.nw_codec.specs.declared.block.Block.{Block};
+ghost use Rattle.nw_model.specs.View.{IsThere};
+ghost use Rattle.nw_store.specs.Journal.{origin_of};
+ghost use Rattle.nw_store.specs.Kept.{parts_of_a_ledger};
+
+use super::asking::Ask;
+use super::chains::Link;
+use super::late::{CERTIFIED, STORED};
+use super::scripts::{Row, opened_by};
+use super::tasks::Crew;
+use super::*;
+use nw_causal::agree;
+use nw_check::check_cert;
+use nw_codec::{Certificate, Seal};
+use nw_committee::Member;
+use nw_digest::{Round, Sequence};
+use nw_sig::{DemoSigner, Signer, vote_text};
+use nw_store::{Agreement, NoMemory, Opening, View};
+use std::marker::Brand;
+
+/// Three blocks of round 0 and one over them are written, then certified, and the last one is opened.
+const RUN: [Row; 9] = [
+    Row(0, 0, Ask::Write, STORED),
+    Row(0, 1, Ask::Write, STORED),
+    Row(0, 2, Ask::Write, STORED),
+    Row(0, 3, Ask::Write, STORED),
+    Row(0, 0, Ask::Certify, CERTIFIED),
+    Row(0, 1, Ask::Certify, CERTIFIED),
+    Row(0, 2, Ask::Certify, CERTIFIED),
+    Row(0, 3, Ask::Certify, CERTIFIED),
+    Row(0, 3, Ask::Open, "Ready"),
+];
+
+/// Four members of weight 1, which is said of each where they are weighted.
+fn four(alloc: Global, is_weighted: bool) -> Result<Shared<Committee>, Fail> {
+    let equal = committee(alloc, 4)?;
+    if !is_weighted {
+        return Ok(equal);
+    }
+    let mut members = Vec::new(alloc);
+    for number in 0..4 {
+        let key = *equal.get().key(number).ok_or("there are four members")?;
+        members.push(Member { key, weight: 1 })?;
+    }
+    Ok(Shared::new(alloc, Committee::weighted(members)?)?)
+}
+
+/// The certificate of the votes of members 0, 1 and 2.
+fn certificate_of(
+    alloc: Global,
+    under: &Shared<Committee>,
+    digest: Digest,
+    round: Round,
+    author: u16,
+) -> Result<CheckedCert<DemoScheme>, Fail> {
+    let text = vote_text(&digest, round, author);
+    let mut votes = Vec::new(alloc);
+    for signer in 0..3 {
+        let key = *under.get().key(signer).ok_or("there are four members")?;
+        let signature = DemoSigner::new(key).sign(&text);
+        votes.push(Seal { signer, signature })?;
+    }
+    let certificate = Certificate {
+        digest,
+        round,
+        author,
+        votes: Sequence::new(votes),
+    };
+    if !certificate.fits() {
+        return Err(Fail::from("the certificate breaks a limit"));
+    }
+    Ok(check_cert(alloc, under, certificate)?)
+}
+
+/// The author's block of the round over these parents.
+fn link_of(
+    alloc: Global,
+    under: &Shared<Committee>,
+    author: u16,
+    round: u64,
+    parents: &[Digest],
+) -> Result<Link, Fail> {
+    let block = block(alloc, under, author, round, parents)?;
+    let (digest, round) = (block.digest(), block.block().get().round);
+    Ok(Link {
+        block,
+        certificate: certificate_of(alloc, under, digest, round, author)?,
+    })
+}
+
+/// The four blocks.
+fn links_of(alloc: Global, under: &Shared<Committee>) -> Result<Vec<Link>, Fail> {
+    let mut links = Vec::new(alloc);
+    let mut parents = Vec::new(alloc);
+    for author in 0..3 {
+        let link = link_of(alloc, under, author, 0, &[])?;
+        parents.push(link.block.digest())?;
+        links.push(link)?;
+    }
+    links.push(link_of(alloc, under, 0, 1, &parents)?)?;
+    Ok(links)
+}
+
+/// The ticket that a new session of the store opens by the run.
+fn opened_of<L: Home, R: Wait>(
+    rt: &R,
+    alloc: Global,
+    store: &Store<DemoScheme, L>,
+    crew: &Crew,
+) -> Result<Ticket<DemoScheme>, Fail> {
+    let mut session = store.session(rt, alloc)?;
+    let opened = opened_by(rt, alloc, store, &mut session, crew, &RUN);
+    drop(session);
+    Ok(opened?.ok_or("a ticket is opened")?)
+}
+
+/// The same of a store that goes on with the book.
+fn opened_in<L: Home, R: Wait>(
+    rt: &R,
+    alloc: Global,
+    opening: Opening<DemoScheme>,
+    book: Book<DemoScheme>,
+    crew: &Crew,
+) -> Result<Ticket<DemoScheme>, Fail>
+    requires log { opening.log ≡ L.log }
+    requires ledger { (opening.ledger ≡ L.name) × (L.parts ≡ parts_of_a_ledger) }
+    requires origin { origin_of book ≡ L.origin }
+{
+    match Store::<DemoScheme, L>::over(opening, book) {
+        Ok(store) => {
+            let opened = opened_of(rt, alloc, &store, crew);
+            drop(store);
+            opened
+        }
+        Err(book) => {
+            drop(book);
+            Err(Fail::from("the book has events"))
+        }
+    }
+}
+
+/// The same of a store of its own.
+fn opened<R: Wait>(
+    rt: &R,
+    alloc: Global,
+    under: &Shared<Committee>,
+    crew: &Crew,
+) -> Result<Ticket<DemoScheme>, Fail> {
+    let opening = Opening::new(alloc)?;
+    let book = Book::new(alloc, under.try_clone()?, LIMITS)?;
+    opened_in::<Brand, R>(rt, alloc, opening, book, crew)
+}
+
+/// Whether the view has a block under the digest that is not below the view's floor.
+fn is_there(view: &View, digest: Digest) -> bool
+    ensures { IsTrue result → (b : Block) × IsThere view.now.frozen digest b }
+{
+    match view.get(&digest) {
+        Some(block) => view.floor() <= block.get().round,
+        None => false,
+    }
+}
+
+/// Whether the views of both tickets agree on the digest of the first.
+fn views_agree(
+    alloc: Global,
+    one: &Ticket<DemoScheme>,
+    other: &Ticket<DemoScheme>,
+) -> Result<bool, NoMemory> {
+    let (one, other, digest) = (one.view(), other.view(), one.digest());
+    if one.floor() == other.floor() && is_there(one, digest) && is_there(other, digest) {
+        Ok(matches!(agree(alloc, one, other, digest)?, Agreement::Same))
+    } else {
+        Ok(false)
+    }
+}
+
+/// Whether both tickets agree, which are for one digest.
+fn tickets_agree(
+    alloc: Global,
+    one: &Ticket<DemoScheme>,
+    other: &Ticket<DemoScheme>,
+) -> Result<bool, NoMemory> {
+    if one.digest() == other.digest() && one.view().floor() == other.view().floor() {
+        Ok(matches!(one.agree(alloc, other)?, Agreement::Same))
+    } else {
+        Ok(false)
+    }
+}
+
+/// Whether the tickets of two stores of the committee agree, and their views.
+fn both_agree<R: Wait>(
+    rt: &R,
+    alloc: Global,
+    under: &Shared<Committee>,
+) -> Result<[bool; 2], Fail> {
+    let crew = Crew::new(links_of(alloc, under)?, Vec::new(alloc), LIMITS);
+    let one = opened(rt, alloc, under, &crew)?;
+    let other = opened(rt, alloc, under, &crew)?;
+    let views = views_agree(alloc, &one, &other);
+    let tickets = tickets_agree(alloc, &one, &other);
+    drop(one);
+    drop(other);
+    drop(crew);
+    Ok([views?, tickets?])
+}
+
+#[test]
+fn two_stores_agree(rt: HostRuntime) -> Result<(), Fail> {
+    for is_weighted in [false, true] {
+        let under = four(rt.alloc(), is_weighted)?;
+        let agree = both_agree(&rt, rt.alloc(), &under);
+        drop(under);
+        assert_eq!(rt; agree?, [true; 2]);
+    }
+    Ok(())
+}
