@@ -1,0 +1,478 @@
+/* nw.h: the verified block store of a Narwhal validator, for C. Made by bindings/c/header from crates/nw_c; do not edit.
+
+   A handle is one pointer, and {0} if it is closed. A function that makes a value takes a closed handle and opens it if it returns
+   NW_DONE. A closed handle and a handle of another kind are codes, not faults. Never copy an open handle. Close each with nw_free.
+
+   Any thread may call any function, with one call at a time on one handle. Two threads may use two handles at once, even if these share
+   a committee, blocks or a history. Put a lock of your own around a book. Checks and walks need no lock.
+
+   Each session numbers its calls of a book from 1. A refused call changes nothing except what its comment names. The store is in memory
+   only. */
+#ifndef NW_H
+#define NW_H
+#include <stdbool.h>
+#include <stddef.h>
+#include <stdint.h>
+
+#ifdef __cplusplus
+extern "C" {
+#endif
+
+/* What the functions return. */
+enum {
+	/* Success. */
+	NW_DONE = 0,
+	/* Out of memory. Nothing changed. */
+	NW_NO_MEMORY = 1,
+	/* A handle is closed that must be open. */
+	NW_CLOSED = 2,
+	/* A handle is open that must be closed. */
+	NW_OPEN = 3,
+	/* A handle holds another kind of value. */
+	NW_OTHER_KIND = 4,
+	/* The members make no committee: not 1 to 100 members, a weight outside 1 to 1,000,000, or a repeated key. */
+	NW_BAD_COMMITTEE = 5,
+	/* A limit is outside its range. */
+	NW_BAD_LIMITS = 6,
+	/* The call's number is not the session's next number, or the session is not below the limit. */
+	NW_OUT_OF_TURN = 7,
+	/* The value was checked under another committee. */
+	NW_OTHER_COMMITTEE = 8,
+	/* The history has as many events as its limit. */
+	NW_HISTORY_FULL = 9,
+	/* A round is not below 2^48. */
+	NW_BAD_ROUND = 10,
+	/* The buffer is too small. The needed size was written, and nothing else. */
+	NW_SMALL = 11,
+	/* There is no value at the index, or none was found. */
+	NW_ABSENT = 12,
+	/* The block breaks a limit or an order of the format. */
+	NW_OVER_LIMIT = 13,
+	/* The author or signer is not a member of the committee. */
+	NW_NO_MEMBER = 14,
+	/* The vote is for another digest, round or author. */
+	NW_OTHER_BLOCK = 15,
+	/* A vote of the same signer was counted before. */
+	NW_REPEATED = 16,
+	/* The signature is not the signer's. */
+	NW_BAD_SIGNATURE = 17,
+	/* The counted votes do not reach a quorum. */
+	NW_FEW_VOTES = 18,
+	/* The two tickets have different digests or garbage rounds, so their lists cannot be compared. */
+	NW_APART = 19,
+};
+
+/* The kinds of checked texts. */
+enum {
+	/* A valid block. */
+	NW_BLOCK = 1,
+	/* A valid certificate. */
+	NW_CERTIFICATE = 2,
+	/* A vote. Its signature is checked when it is added to a gathering. */
+	NW_VOTE = 3,
+	/* The text ends too early. */
+	NW_TEXT_SHORT = 10,
+	/* Bytes follow the message. */
+	NW_TEXT_TRAILING = 11,
+	/* The first byte is no kind of message. */
+	NW_TEXT_TAG = 12,
+	/* The block has another version than 1. */
+	NW_TEXT_VERSION = 13,
+	/* The block has more than 100 parents. */
+	NW_TEXT_MANY_PARENTS = 14,
+	/* The parents' authors do not ascend strictly. */
+	NW_TEXT_PARENT_ORDER = 15,
+	/* The block has more than 1,024 transactions. */
+	NW_TEXT_MANY_TRANSACTIONS = 16,
+	/* A transaction has more than 65,536 bytes. */
+	NW_TEXT_LONG_TRANSACTION = 17,
+	/* The body has more bytes than the format allows. */
+	NW_TEXT_LONG_BODY = 18,
+	/* The certificate has more than 100 votes. */
+	NW_TEXT_MANY_VOTES = 19,
+	/* The signers do not ascend strictly. */
+	NW_TEXT_VOTE_ORDER = 20,
+	/* The block's author is not a member. */
+	NW_BLOCK_AUTHOR = 30,
+	/* A parent's author is not a member. */
+	NW_BLOCK_PARENT_AUTHOR = 31,
+	/* A block of round 0 has parents. */
+	NW_BLOCK_GENESIS_PARENTS = 32,
+	/* The parents' authors do not reach a quorum. */
+	NW_BLOCK_FEW_PARENTS = 33,
+	/* The block's signature is not its author's. */
+	NW_BLOCK_SIGNATURE = 34,
+	/* The certificate's author is not a member. */
+	NW_CERT_AUTHOR = 40,
+	/* A signer is not a member. */
+	NW_CERT_SIGNER = 41,
+	/* The signers do not reach a quorum. */
+	NW_CERT_FEW_VOTES = 42,
+	/* The signature of the member signer is not its own, and no earlier one is wrong. */
+	NW_CERT_SIGNATURE = 43,
+};
+
+/* The kinds of replies. */
+enum {
+	/* Write: the block is stored now, and is the first of its round and author. Vote for it. */
+	NW_STORED_VOTE = 1,
+	/* Write: the block is stored now, without a vote. */
+	NW_STORED = 2,
+	/* Write: the same block was stored before. */
+	NW_HELD = 3,
+	/* Write: another block is stored under the digest. */
+	NW_CLASH = 4,
+	/* Write: the author made another block in the round before, which digest names. */
+	NW_EQUIVOCATES = 5,
+	/* Certificate: it is stored now. */
+	NW_CERTIFIED = 6,
+	/* Certificate: the digest was certified before, for the same round and author. */
+	NW_ALREADY = 7,
+	/* Certificate: another digest is certified for the round and author, which digest names. */
+	NW_CONFLICT = 8,
+	/* Write or certificate: the round is below the garbage round, which is number. */
+	NW_COLLECTED = 9,
+	/* Write or certificate: the round is past the window. */
+	NW_TOO_FAR = 10,
+	/* Write or certificate: the certificate and the block of the digest differ in round or author. */
+	NW_MISFIT = 11,
+	/* Write or certificate: the book stores as many as its limit. */
+	NW_FULL = 12,
+	/* Read, or call for a certificate: it is stored. */
+	NW_FOUND = 13,
+	/* Read, causal read, or call for a certificate: it is not stored. */
+	NW_UNKNOWN = 14,
+	/* Causal read: the digest is not certified. */
+	NW_UNCERTIFIED = 15,
+	/* Causal read: an ancestor is missing or not certified. */
+	NW_INCOMPLETE = 16,
+	/* Causal read: the answer is a ticket, whose list can be walked. */
+	NW_READY = 17,
+	/* Collection: the garbage round was raised, and number blocks were dropped. */
+	NW_RAISED = 18,
+	/* Collection: the garbage round, which is number, was as high before. */
+	NW_NOT_HIGHER = 19,
+	/* Call for missing parents: number of them are listed. */
+	NW_MISSING = 20,
+	/* Call for the status. */
+	NW_STATUS = 21,
+};
+
+/* The kinds of calls. */
+enum {
+	/* A write of the block of digest. */
+	NW_CALL_WRITE = 1,
+	/* A certificate of digest that was handed in. */
+	NW_CALL_CERTIFY = 2,
+	/* A call for the certificate of digest. */
+	NW_CALL_CERTIFICATE = 3,
+	/* A read of digest. */
+	NW_CALL_READ = 4,
+	/* A causal read of digest. */
+	NW_CALL_CAUSAL = 5,
+	/* A collection of the rounds below number. */
+	NW_CALL_COLLECT = 6,
+	/* A call for the first number missing parents. */
+	NW_CALL_MISSING = 7,
+	/* A call for the status. */
+	NW_CALL_STATUS = 8,
+};
+
+/* A committee. */
+typedef struct {
+	void *at;
+} nw_committee;
+/* A checked text: a block, a certificate, a vote, or the rule that the text breaks. */
+typedef struct {
+	void *at;
+} nw_checked;
+/* Votes that are gathered for one block. */
+typedef struct {
+	void *at;
+} nw_gather;
+/* A book: the stored blocks and certificates, and the history of calls that explains them. */
+typedef struct {
+	void *at;
+} nw_book;
+/* Room for an answer, an answer, or a ticket, which answers a causal read whose list can be walked. */
+typedef struct {
+	void *at;
+} nw_answer;
+/* The list of blocks of a walk. */
+typedef struct {
+	void *at;
+} nw_list;
+/* A block. */
+typedef struct {
+	void *at;
+} nw_block;
+
+/* A digest: 32 bytes of SHA-256. */
+typedef struct {
+	uint8_t bytes[32];
+} nw_digest;
+
+/* An Ed25519 signature of 64 bytes. */
+typedef struct {
+	uint8_t bytes[64];
+} nw_signature;
+
+/* The digest of a block with the block's round and author. */
+typedef struct {
+	nw_digest digest;
+	uint64_t round;
+	uint16_t author;
+} nw_slot;
+
+/* What an answer or an event says: a kind, and the number or digest that the kind's comment names. Both are
+   0 otherwise. */
+typedef struct {
+	int32_t kind;
+	uint64_t number;
+	nw_digest digest;
+} nw_told;
+
+/* A member of a committee: an Ed25519 public key of 32 bytes and a weight from 1 to 1,000,000. */
+typedef struct {
+	uint8_t key[32];
+	uint32_t weight;
+} nw_member;
+
+/* The 36 bytes that the author of a block signs. */
+typedef struct {
+	uint8_t bytes[36];
+} nw_block_text;
+
+/* The 44 bytes that a member signs to vote for a block. */
+typedef struct {
+	uint8_t bytes[44];
+} nw_vote_text;
+
+/* A parent of a block: its author and its digest. */
+typedef struct {
+	uint16_t author;
+	nw_digest digest;
+} nw_parent;
+
+/* What a checked text is: its kind, the slot of a block, certificate or vote, and the signer of a vote or of
+   a wrong signature. What the kind does not have is 0. */
+typedef struct {
+	int32_t kind;
+	uint16_t signer;
+	nw_slot slot;
+} nw_message;
+
+/* The limits of a book: stored blocks and certificates, 1 to 65,536 of each; events of the history, 1 to
+   65,536; rounds from the garbage round on, 1 to 4,096; and sessions, 1 to 256. */
+typedef struct {
+	uint32_t blocks;
+	uint32_t events;
+	uint32_t window;
+	uint32_t sessions;
+} nw_limits;
+
+/* How much a book stores: the garbage round, the blocks, certificates and complete blocks, and the missing
+   parents. */
+typedef struct {
+	uint64_t floor;
+	uint64_t blocks;
+	uint64_t certificates;
+	uint64_t complete;
+	uint64_t wanted;
+} nw_status;
+
+/* An event of a history: a call of a session, which of the session's calls it was, from 1, and the reply. */
+typedef struct {
+	uint16_t session;
+	uint32_t number;
+	nw_told call;
+	nw_told reply;
+} nw_event;
+
+/* Makes a committee of 1 to 100 members. Members are numbered by their place in the list, from 0. Returns
+   NW_BAD_COMMITTEE if there are too few or too many, if a weight is out of range, or if a key is repeated. */
+int32_t nw_committee_new(const nw_member *members, size_t members_len, nw_committee *out);
+
+/* Opens a second handle of the committee, for another thread. The members are shared, not copied. */
+int32_t nw_committee_share(nw_committee *committee, nw_committee *out);
+
+/* Writes the number of members. */
+int32_t nw_committee_size(nw_committee *committee, size_t *out);
+
+/* Writes the member of this number. Returns NW_ABSENT if the committee has no such member. */
+int32_t nw_committee_member(nw_committee *committee, uint16_t number, nw_member *out);
+
+/* Writes the weight of a quorum: more than two thirds of the total weight. */
+int32_t nw_committee_quorum(nw_committee *committee, uint32_t *out);
+
+/* Writes the SHA-256 digest of the bytes. */
+void nw_digest_of(const uint8_t *bytes, size_t bytes_len, nw_digest *out);
+
+/* Writes the text that the author of the block of this digest signs. */
+void nw_text_of_block(const nw_digest *digest, nw_block_text *out);
+
+/* Writes the text that a member signs to vote for the block of this slot. Returns NW_BAD_ROUND if the round
+   is not below 2^48. */
+int32_t nw_text_of_vote(const nw_slot *slot, nw_vote_text *out);
+
+/* Writes the message of the signer's vote for the block of this slot. Its size goes to needed; NW_SMALL if
+   the buffer is smaller. Returns NW_BAD_ROUND if the round is not below 2^48. The signature is not checked. */
+int32_t nw_vote_message(const nw_slot *slot, uint16_t signer, const nw_signature *signature, uint8_t *buffer, size_t buffer_len, size_t *needed);
+
+/* Makes a block of this author and round. transactions is all transactions, one after another, and lengths
+   the size of each. Parents ascend strictly by author. Returns NW_BAD_ROUND if the round is not below 2^48,
+   and NW_OVER_LIMIT if a limit of the format is broken or the sizes do not add up. Nothing is checked under
+   a committee. */
+int32_t nw_block_new(uint16_t author, uint64_t round, const nw_parent *parents, size_t parents_len, const uint8_t *transactions, size_t transactions_len, const uint32_t *lengths, size_t lengths_len, nw_block *out);
+
+/* Writes the digest, round and author of the block. Returns NW_OVER_LIMIT if the block breaks a limit of the
+   format, which no checked block does. */
+int32_t nw_block_slot(nw_block *block, nw_slot *out);
+
+/* Writes how many parents and how many transactions the block has. */
+int32_t nw_block_counts(nw_block *block, size_t *parents, size_t *transactions);
+
+/* Writes the parent at the index, from 0; parents ascend by author. Returns NW_ABSENT past the last. */
+int32_t nw_block_parent(nw_block *block, size_t index, nw_parent *out);
+
+/* Copies the transaction at the index, from 0. Its size goes to needed; NW_SMALL if the buffer is smaller.
+   Returns NW_ABSENT past the last. */
+int32_t nw_block_transaction(nw_block *block, size_t index, uint8_t *buffer, size_t buffer_len, size_t *needed);
+
+/* Copies the body of the block, of which the digest is taken. Its size goes to needed; NW_SMALL if the
+   buffer is smaller. */
+int32_t nw_block_body(nw_block *block, uint8_t *buffer, size_t buffer_len, size_t *needed);
+
+/* Writes the message of the block with this signature, to be sent. Its size goes to needed; NW_SMALL if the
+   buffer is smaller. The signature is not checked. */
+int32_t nw_block_message(nw_block *block, const nw_signature *signature, uint8_t *buffer, size_t buffer_len, size_t *needed);
+
+/* Decodes the text and checks its message under the committee. A text that is no message, or whose block or
+   certificate breaks a rule, is also a success: nw_checked_told says which. */
+int32_t nw_check(nw_committee *committee, const uint8_t *text, size_t text_len, nw_checked *out);
+
+/* Writes what the checked text is: a block, a certificate, a vote, or the first rule that it breaks. */
+int32_t nw_checked_told(nw_checked *checked, nw_message *out);
+
+/* Opens a handle of the checked block. Returns NW_OTHER_KIND if the text is not a valid block. */
+int32_t nw_checked_block(nw_checked *checked, nw_block *out);
+
+/* Writes the message of the checked certificate or vote, to be sent. Its size goes to needed; NW_SMALL if
+   the buffer is smaller. Returns NW_OTHER_KIND of any other text. */
+int32_t nw_checked_message(nw_checked *checked, uint8_t *buffer, size_t buffer_len, size_t *needed);
+
+/* Starts to gather votes for the block of this slot. Returns NW_BAD_ROUND if the round is not below 2^48,
+   and NW_NO_MEMBER if the author is not a member. */
+int32_t nw_gather_new(nw_committee *committee, const nw_slot *slot, nw_gather *out);
+
+/* Checks the signature of the vote and counts it. quorum says whether the counted votes reach a quorum. A
+   vote is refused with NW_OTHER_BLOCK, NW_REPEATED, NW_NO_MEMBER or NW_BAD_SIGNATURE, whichever applies
+   first; nothing changes then. Returns NW_OTHER_KIND if the checked text is not a vote. */
+int32_t nw_gather_add(nw_gather *gather, nw_checked *vote, bool *quorum);
+
+/* Makes the certificate of the counted votes, as a checked text. Returns NW_FEW_VOTES if they do not reach a
+   quorum. The gathering may go on afterwards. */
+int32_t nw_gather_certificate(nw_gather *gather, nw_checked *out);
+
+/* Makes an empty book under the committee and the limits. Returns NW_BAD_LIMITS if a limit is out of range. */
+int32_t nw_book_new(nw_committee *committee, const nw_limits *limits, nw_book *out);
+
+/* Writes how many events the history has. */
+int32_t nw_book_events(nw_book *book, size_t *out);
+
+/* Rebuilds the tables that later tickets share, without what was collected. Nothing that a caller can
+   observe changes. */
+int32_t nw_book_compact(nw_book *book);
+
+/* Empties the history, and keeps the stored blocks, certificates and garbage round. Each session's next call
+   is number 1. Answers and tickets stay as they are. It takes as long as the history's writes and
+   certificates took, without their checks. */
+int32_t nw_book_restart(nw_book *book);
+
+/* Writes the checked block, or hands in the checked certificate, as the session's call of this number. The
+   checked value stays open, and may be handed to other books. Returns NW_OTHER_KIND if it is neither block
+   nor certificate. */
+int32_t nw_book_take(nw_book *book, uint16_t session, uint32_t number, nw_checked *checked, nw_answer *answer);
+
+/* Asks for the certificate of the digest, as the session's call of this number. */
+int32_t nw_book_certificate(nw_book *book, uint16_t session, uint32_t number, const nw_digest *digest, nw_answer *answer);
+
+/* Asks for the block of the digest, as the session's call of this number. */
+int32_t nw_book_read(nw_book *book, uint16_t session, uint32_t number, const nw_digest *digest, nw_answer *answer);
+
+/* Raises the garbage round to this one and drops everything of the rounds below it, as the session's call of
+   this number. Returns NW_BAD_ROUND if the round is not below 2^48. */
+int32_t nw_book_collect(nw_book *book, uint16_t session, uint32_t number, uint64_t round, nw_answer *answer);
+
+/* Asks for the first missing parents, at most so many, as the session's call of this number. They ascend by
+   round, author and digest. */
+int32_t nw_book_missing(nw_book *book, uint16_t session, uint32_t number, uint16_t most, nw_answer *answer);
+
+/* Asks how much is stored, as the session's call of this number. */
+int32_t nw_book_status(nw_book *book, uint16_t session, uint32_t number, nw_answer *answer);
+
+/* Opens a causal read of the digest, as the session's call of this number. The answer becomes a ticket if
+   the block and all its certified ancestors are stored, and otherwise an answer whose reply says why there
+   is none. */
+int32_t nw_book_open(nw_book *book, uint16_t session, uint32_t number, const nw_digest *digest, nw_answer *answer);
+
+/* Makes room for an answer. It is made before a call, so that no call that was taken lacks memory for its
+   answer. The room can be used again, and a new answer replaces the old one. */
+int32_t nw_answer_new(nw_answer *out);
+
+/* Opens a handle of the block that a read found. Returns NW_ABSENT if it found none, and NW_OTHER_KIND of
+   the answer to another call. */
+int32_t nw_answer_block(nw_answer *answer, nw_block *out);
+
+/* Writes the message of the certificate that was asked for. Its size goes to needed; NW_SMALL if the buffer
+   is smaller. Returns NW_ABSENT if there is none, and NW_OTHER_KIND of the answer to another call. */
+int32_t nw_answer_message(nw_answer *answer, uint8_t *buffer, size_t buffer_len, size_t *needed);
+
+/* Writes the missing parent at the index, from 0, of the answer to the call for missing parents. Returns
+   NW_ABSENT past the last, and NW_OTHER_KIND of the answer to another call. */
+int32_t nw_answer_missing(nw_answer *answer, size_t index, nw_slot *out);
+
+/* Writes how much the book stored, of the answer to the call for the status. Returns NW_OTHER_KIND of the
+   answer to another call. */
+int32_t nw_answer_status(nw_answer *answer, nw_status *out);
+
+/* Writes the reply of the answer. The reply of a ticket is NW_READY. */
+int32_t nw_answer_reply(nw_answer *answer, nw_told *out);
+
+/* Writes how many events the history of the answer or ticket has: all events up to and with its own call. */
+int32_t nw_answer_events(nw_answer *answer, size_t *out);
+
+/* Writes the event at the index, from 0, of the history of the answer or ticket. Returns NW_ABSENT past the
+   last. */
+int32_t nw_answer_event(nw_answer *answer, size_t index, nw_event *out);
+
+/* Writes whether the history of one answer or ticket begins the history of the other: same committee, limits
+   and start, and the other's first events are the one's. It takes time in proportion to the one's length. */
+int32_t nw_answer_begins(nw_answer *answer, nw_answer *other, bool *out);
+
+/* Writes the digest that the ticket is for, and the garbage round at the call that opened it. */
+int32_t nw_ticket_about(nw_answer *ticket, nw_digest *digest, uint64_t *floor);
+
+/* Walks both tickets, which are for one digest and one garbage round, and writes whether the lists are
+   equal. They may be tickets of two books. If they differ, two different blocks have one digest. Returns
+   NW_APART if the digests or garbage rounds differ. */
+int32_t nw_ticket_agree(nw_answer *ticket, nw_answer *other, bool *out);
+
+/* Walks the ticket and opens a list: the block and all its certified ancestors not below the garbage round,
+   as they were at the call that opened the ticket. They ascend by round and author. A ticket can be walked
+   at any time and as often as is liked; no lock is needed. */
+int32_t nw_ticket_walk(nw_answer *ticket, nw_list *out);
+
+/* Writes how many blocks the list has. */
+int32_t nw_list_len(nw_list *list, size_t *out);
+
+/* Opens a handle of the block at the index, from 0. Returns NW_ABSENT past the last. */
+int32_t nw_list_block(nw_list *list, size_t index, nw_block *out);
+
+/* Closes a handle and frees what only it holds. A closed handle stays closed. */
+void nw_free(void *handle);
+
+#ifdef __cplusplus
+}
+#endif
+#endif

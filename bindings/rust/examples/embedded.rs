@@ -1,0 +1,226 @@
+//! How long the calls of a store take, and how much of a validator's time goes into checks.
+//!
+//! ```text
+//! cargo run --release --example embedded               committees of 4, 10 and 100 members
+//! cargo run --release --example embedded -- 10 100     10 members, 100 rounds
+//! ```
+//!
+//! It needs python3 with the package `cryptography`: tests/corpus/make.py signs the messages into a temporary file. Each block has
+//! 16 transactions of 512 bytes, and each certificate the fewest votes that reach the quorum.
+//!
+//! One thread checks every message once. Then it plays the messages to new stores for a second or more. Each block is written,
+//! certified and read. One block of each round is read causally, and its ticket is walked. The garbage round follows 20 rounds
+//! behind.
+
+#[path = "../tests/corpus/records.rs"]
+mod file;
+
+use narwhal_store::{CheckError, Checked, CheckedBlock, CheckedCertificate, Committee};
+use narwhal_store::{Digest, Message, Store, TextFault};
+use std::error::Error;
+use std::path::Path;
+use std::process::Command;
+use std::time::{Duration, Instant};
+use std::{env, fs, hint};
+
+type Result<T> = std::result::Result<T, Box<dyn Error>>;
+
+/// Members and rounds.
+const LOADS: [[usize; 2]; 3] = [[4, 400], [10, 100], [100, 10]];
+const KEPT_ROUNDS: u64 = 20;
+const LONG_ENOUGH: Duration = Duration::from_secs(1);
+
+fn main() -> Result<()> {
+    let words = env::args().skip(1).map(|word| word.parse());
+    match words.collect::<std::result::Result<Vec<usize>, _>>()?[..] {
+        [] => LOADS.into_iter().try_for_each(measure),
+        [members, rounds] => measure([members, rounds]),
+        _ => Err("give no arguments, or members and rounds".into()),
+    }
+}
+
+fn measure([members, rounds]: [usize; 2]) -> Result<()> {
+    let load = Load::new(&messages(members, rounds)?)?;
+    let blocks = load.blocks.len();
+    let body = load.blocks[blocks - 1].block().body().len();
+    println!("\n{members} members, {rounds} rounds: {blocks} blocks, the last of {body} bytes");
+    let (mut calls, mut plays, start) = (Calls::default(), 0, Instant::now());
+    while start.elapsed() < LONG_ENOUGH {
+        load.play(&mut calls)?;
+        plays += 1;
+    }
+    println!(
+        "{:18} {:>9} {:>10} {:>9} {:>9} {:>9}",
+        "", "calls", "calls/s", "p50 us", "p99 us", "max us"
+    );
+    let (of_blocks, of_certificates) = (load.block_checks, load.certificate_checks);
+    let checks = of_blocks.print("check block") + of_certificates.print("check certificate");
+    let calls = calls.print() / plays;
+    let signatures = checks.saturating_sub(load.digests + load.decoding);
+    let share = |part: Duration| 100.0 * part.as_secs_f64() / (checks + calls).as_secs_f64();
+    println!(
+        "time: signatures {:.1} %, digests {:.1} %, decoding {:.1} %, calls of the store {:.1} %",
+        share(signatures),
+        share(load.digests),
+        share(load.decoding),
+        share(calls)
+    );
+    Ok(())
+}
+
+/// The signed messages, made by the script unless an earlier run left them.
+fn messages(members: usize, rounds: usize) -> Result<Vec<u8>> {
+    let file = env::temp_dir().join(format!("narwhal-load-{members}-{rounds}.bin"));
+    if !file.exists() {
+        let script = Path::new(env!("CARGO_MANIFEST_DIR")).join("tests/corpus/make.py");
+        let numbers = [members, rounds].map(|number| number.to_string());
+        let made = Command::new("python3")
+            .arg(script)
+            .arg("--load")
+            .args(numbers)
+            .arg(&file)
+            .status()?;
+        if !made.success() {
+            return Err("tests/corpus/make.py failed".into());
+        }
+    }
+    Ok(fs::read(file)?)
+}
+
+/// The messages of a committee with the times of their checks.
+struct Load {
+    committee: Committee,
+    blocks: Vec<CheckedBlock>,
+    certificates: Vec<CheckedCertificate>,
+    block_checks: Times,
+    certificate_checks: Times,
+    /// The time that the digests of all bodies take, and the decoding of all messages.
+    digests: Duration,
+    decoding: Duration,
+}
+
+impl Load {
+    fn new(file: &[u8]) -> Result<Load> {
+        let mut records = file::records(file);
+        let (_, keys) = records.next().ok_or("no committee")?;
+        let committee = file::committee(keys);
+        let (mut blocks, mut certificates) = (Vec::new(), Vec::new());
+        let (mut block_checks, mut certificate_checks) = (Times::default(), Times::default());
+        let (mut digests, mut decoding) = (Times::default(), Times::default());
+        for (kind, record) in records {
+            // The record of a block begins with its digest.
+            let (times, message) = match kind {
+                b'B' => (&mut block_checks, &record[32..]),
+                _ => (&mut certificate_checks, record),
+            };
+            match times.take(|| Message::check(&committee, message))? {
+                Checked::Block(block) => {
+                    let body = block.block().body();
+                    digests.take(|| hint::black_box(Digest::of(&body)));
+                    blocks.push(block);
+                }
+                Checked::Certificate(certificate) => certificates.push(certificate),
+                Checked::Vote(_) => return Err("a vote".into()),
+            }
+            // One byte too many is found after the last field. So this decodes the message, and checks nothing else.
+            let longer = [message, &[0]].concat();
+            let fault = decoding.take(|| Message::check(&committee, &longer));
+            assert!(matches!(fault, Err(CheckError::Text(TextFault::Trailing))));
+        }
+        Ok(Load {
+            committee,
+            blocks,
+            certificates,
+            block_checks,
+            certificate_checks,
+            digests: digests.sum(),
+            decoding: decoding.sum(),
+        })
+    }
+
+    /// Plays all messages to a new store.
+    fn play(&self, calls: &mut Calls) -> Result<()> {
+        let store = Store::builder(&self.committee)
+            .restart_when_full(true)
+            .open()?;
+        let session = store.session()?;
+        for (block, certificate) in self.blocks.iter().zip(&self.certificates) {
+            let slot = block.slot();
+            calls.write.take(|| session.write(block).map(drop))?;
+            calls
+                .certify
+                .take(|| session.certify(certificate).map(drop))?;
+            calls.read.take(|| session.read(&slot.digest).map(drop))?;
+            if slot.author == 0 {
+                let answer = calls.causal.take(|| session.causal(&slot.digest))?;
+                let ticket = answer.into_ticket()?;
+                calls.walk.take(|| ticket.walk().map(drop))?;
+                calls.collect.take(|| {
+                    session
+                        .collect(slot.round.saturating_sub(KEPT_ROUNDS))
+                        .map(drop)
+                })?;
+            }
+        }
+        Ok(())
+    }
+}
+
+#[derive(Default)]
+struct Calls {
+    write: Times,
+    certify: Times,
+    read: Times,
+    causal: Times,
+    walk: Times,
+    collect: Times,
+}
+
+impl Calls {
+    /// Prints a row for each kind of call, and returns the time of all of them.
+    fn print(self) -> Duration {
+        let rows = [
+            ("write", self.write),
+            ("certify", self.certify),
+            ("read", self.read),
+            ("causal", self.causal),
+            ("walk", self.walk),
+            ("collect", self.collect),
+        ];
+        rows.into_iter()
+            .map(|(name, times)| times.print(name))
+            .sum()
+    }
+}
+
+/// How long calls of one kind took.
+#[derive(Default)]
+struct Times(Vec<Duration>);
+
+impl Times {
+    fn take<R>(&mut self, call: impl FnOnce() -> R) -> R {
+        let start = Instant::now();
+        let answer = call();
+        self.0.push(start.elapsed());
+        answer
+    }
+
+    fn sum(&self) -> Duration {
+        self.0.iter().sum()
+    }
+
+    /// Prints a row, and returns the time of all calls.
+    fn print(mut self, name: &str) -> Duration {
+        self.0.sort_unstable();
+        let (calls, whole) = (self.0.len(), self.sum());
+        let at = |percent: usize| 1e6 * self.0[(calls - 1) * percent / 100].as_secs_f64();
+        let each_second = calls as f64 / whole.as_secs_f64();
+        println!(
+            "{name:18} {calls:>9} {each_second:>10.0} {:>9.2} {:>9.2} {:>9.2}",
+            at(50),
+            at(99),
+            at(100)
+        );
+        whole
+    }
+}

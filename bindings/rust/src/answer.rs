@@ -1,0 +1,128 @@
+//! Answers to calls.
+
+use crate::ffi::Handle;
+use crate::told::{reply, told};
+use crate::{CausalFault, History, Ticket};
+use std::cell::OnceCell;
+use std::fmt;
+
+/// The answer to a call: the reply, and the history that explains it.
+///
+/// The type is `Send` and not `Sync`.
+///
+/// ```compile_fail,E0277
+/// fn shared<T: Sync>() {}
+/// shared::<narwhal_store::Answer<narwhal_store::WriteReply>>();
+/// ```
+pub struct Answer<R> {
+    history: History,
+    reply: OnceCell<R>,
+    decode: Decode<R>,
+}
+
+/// Decodes the reply of an answer. If this is the last use of the answer, its handle may be taken.
+pub(crate) type Decode<R> = fn(&mut Handle, is_last: bool) -> R;
+
+impl<R> Answer<R> {
+    #[inline]
+    pub(crate) fn new(handle: Handle, decode: Decode<R>) -> Answer<R> {
+        Answer {
+            history: History::new(handle),
+            reply: OnceCell::new(),
+            decode,
+        }
+    }
+
+    /// Returns the reply. It is decoded when it is first asked for.
+    #[must_use]
+    pub fn reply(&self) -> &R {
+        let decode = || (self.decode)(&mut self.history.handle.borrow_mut(), false);
+        self.reply.get_or_init(decode)
+    }
+
+    /// Returns the reply, and gives the history up.
+    #[must_use]
+    pub fn into_reply(self) -> R {
+        let decode = || (self.decode)(&mut self.history.handle.into_inner(), true);
+        self.reply.into_inner().unwrap_or_else(decode)
+    }
+
+    /// Returns the history that explains the reply: all events up to and with this call.
+    #[must_use]
+    pub fn history(&self) -> &History {
+        &self.history
+    }
+}
+
+impl<R: fmt::Debug> fmt::Debug for Answer<R> {
+    fn fmt(&self, f: &mut fmt::Formatter<'_>) -> fmt::Result {
+        f.debug_struct("Answer")
+            .field("reply", self.reply())
+            .field("history", &self.history)
+            .finish()
+    }
+}
+
+/// The answer to a causal read.
+///
+/// ```
+/// # use narwhal_store::{Committee, Digest, Limits, PublicKey, Store};
+/// use narwhal_store::{Causal, CausalFault};
+///
+/// # let committee = Committee::equal(&[PublicKey([7; 32])])?;
+/// # let session = Store::new(&committee, Limits::default())?.session()?;
+/// # let digest = Digest::of(b"nothing");
+/// match session.causal(&digest)? {
+///     Causal::Ready(ticket) => println!("{} blocks", ticket.walk()?.len()),
+///     Causal::NotReady(answer) => assert_eq!(answer.reply(), &CausalFault::Unknown),
+/// }
+/// # Ok::<(), Box<dyn std::error::Error>>(())
+/// ```
+#[derive(Debug)]
+pub enum Causal {
+    /// The block is complete: the ticket lists it with its certified ancestors.
+    Ready(Ticket),
+    /// The block is not complete. The reply says why.
+    NotReady(Answer<CausalFault>),
+}
+
+impl Causal {
+    pub(crate) fn of(mut handle: Handle) -> Causal {
+        match told(&mut handle).kind {
+            reply::READY => Causal::Ready(Ticket::new(handle)),
+            _ => Causal::NotReady(Answer::new(handle, |answer, _| {
+                CausalFault::of(&told(answer))
+            })),
+        }
+    }
+
+    /// Returns the ticket.
+    ///
+    /// # Errors
+    ///
+    /// The [`CausalFault`] if the block is not complete.
+    pub fn into_ticket(self) -> Result<Ticket, CausalFault> {
+        match self {
+            Causal::Ready(ticket) => Ok(ticket),
+            Causal::NotReady(answer) => Err(answer.into_reply()),
+        }
+    }
+
+    /// Returns why there is no ticket, or `None` if there is one.
+    #[must_use]
+    pub fn fault(&self) -> Option<CausalFault> {
+        match self {
+            Causal::Ready(_) => None,
+            Causal::NotReady(answer) => Some(*answer.reply()),
+        }
+    }
+
+    /// Returns the history that explains the answer.
+    #[must_use]
+    pub fn history(&self) -> &History {
+        match self {
+            Causal::Ready(ticket) => ticket.history(),
+            Causal::NotReady(answer) => answer.history(),
+        }
+    }
+}

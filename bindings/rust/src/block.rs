@@ -1,0 +1,290 @@
+//! Blocks.
+
+use crate::body::Body;
+use crate::code::Code;
+use crate::error::error_texts;
+use crate::ffi::{self, Handle};
+use crate::told::{EventTold, ParentTold};
+use crate::{Digest, Signature, Slot, Transactions, text_of_block};
+use std::fmt;
+use std::sync::{Arc, Mutex, MutexGuard, OnceLock, PoisonError};
+
+/// A block: its author, its round, its references to blocks of the round before, and its
+/// transactions.
+///
+/// A clone is a second owner of the same block. The parts are decoded when they are first asked
+/// for, and kept from then on.
+///
+/// The digest of a block from a walk takes a SHA-256 of the whole body when it is first asked for.
+/// The round and the author are cheaper, and in one walk no two blocks share both.
+///
+/// A block made by [`Block::new`] keeps the limits of the format, but it is not checked under a
+/// committee. [`Message::check`](crate::Message::check) does that for a signed block.
+///
+/// ```
+/// use narwhal_store::{Block, Digest};
+///
+/// let parent = Digest::of(b"a body");
+/// let block = Block::new(0, 1, &[(3, parent)], &["pay 5 to b", "pay 7 to c"])?;
+/// assert_eq!((block.author(), block.round()), (0, 1));
+/// assert_eq!(block.parents(), [(3, parent)]);
+/// assert!(block.transactions().eq(["pay 5 to b".as_bytes(), b"pay 7 to c"]));
+/// assert_eq!(block.digest(), Digest::of(&block.body()));
+/// # Ok::<(), narwhal_store::BlockError>(())
+/// ```
+pub struct Block {
+    /// Where the block is until it is asked for.
+    source: Mutex<Option<Source>>,
+    inner: OnceLock<Arc<Inner>>,
+}
+
+/// Where a block is.
+pub(crate) enum Source {
+    /// In its own handle.
+    Own(Handle),
+    /// In the answer to a read.
+    Answer(Handle),
+    /// At this index of the list of a walk.
+    Listed(Arc<Mutex<Handle>>, usize),
+}
+
+/// What all owners of a block share.
+struct Inner {
+    handle: Mutex<Handle>,
+    digest: OnceLock<Digest>,
+    body: OnceLock<Body>,
+}
+
+impl Block {
+    /// Makes a block of this author and round.
+    ///
+    /// Each parent is the author and the digest of a block of the round before. The parents are in
+    /// ascending order of their authors.
+    ///
+    /// # Errors
+    ///
+    /// - [`BlockError::BadRound`] if the round is 2^48 or more.
+    /// - [`BlockError::OverLimit`] if there are more than 100 parents, if their authors are not
+    ///   strictly ascending, if there are more than 1,024 transactions, if a transaction has more
+    ///   than 65,536 bytes, or if the body has more than 1,048,576 bytes.
+    pub fn new(
+        author: u16,
+        round: u64,
+        parents: &[(u16, Digest)],
+        transactions: &[impl AsRef<[u8]>],
+    ) -> Result<Block, BlockError> {
+        let told = |&(author, digest)| ParentTold { author, digest };
+        let parents: Vec<_> = parents.iter().map(told).collect();
+        let mut lengths = Vec::with_capacity(transactions.len());
+        let mut together = Vec::new();
+        for transaction in transactions {
+            let transaction = transaction.as_ref();
+            lengths.push(u32::try_from(transaction.len()).map_err(|_| BlockError::OverLimit)?);
+            together.extend_from_slice(transaction);
+        }
+        let handle = ffi::block_new(author, round, &parents, &together, &lengths);
+        let handle = handle.map_err(BlockError::of)?;
+        Ok(Block::at(Source::Own(handle)))
+    }
+
+    /// The block that is there.
+    #[inline]
+    pub(crate) fn at(source: Source) -> Block {
+        Block {
+            source: Mutex::new(Some(source)),
+            inner: OnceLock::new(),
+        }
+    }
+
+    /// The block of a handle, whose digest is known.
+    pub(crate) fn known(handle: Handle, digest: Digest) -> Block {
+        Block::shared(Arc::new(Inner {
+            handle: Mutex::new(handle),
+            digest: OnceLock::from(digest),
+            body: OnceLock::new(),
+        }))
+    }
+
+    /// The block that a read found, where its answer is used further.
+    pub(crate) fn found(answer: &mut Handle) -> Block {
+        Block::shared(Arc::new(Inner::found(answer)))
+    }
+
+    fn shared(inner: Arc<Inner>) -> Block {
+        Block {
+            source: Mutex::new(None),
+            inner: OnceLock::from(inner),
+        }
+    }
+
+    fn inner(&self) -> &Arc<Inner> {
+        self.inner.get_or_init(|| {
+            let mut source = self.source.lock().unwrap_or_else(PoisonError::into_inner);
+            let source = source
+                .take()
+                .expect("a block has a source until it is asked for");
+            Arc::new(Inner::of(source))
+        })
+    }
+
+    fn decoded(&self) -> &Body {
+        let inner = self.inner();
+        inner.body.get_or_init(|| {
+            let bytes = ffi::block_body(&mut inner.lock());
+            Body::of(bytes.unwrap_or_else(|code| code.abort()))
+        })
+    }
+
+    /// Returns the SHA-256 digest of the body.
+    #[must_use]
+    pub fn digest(&self) -> Digest {
+        let inner = self.inner();
+        *inner.digest.get_or_init(|| {
+            let mut slot = Slot::EMPTY;
+            ffi::nw_block_slot(&mut inner.lock(), &mut slot).or_abort();
+            slot.digest
+        })
+    }
+
+    /// Returns the round, which is below 2^48.
+    #[must_use]
+    pub fn round(&self) -> u64 {
+        self.decoded().round
+    }
+
+    /// Returns the number of the member that made the block.
+    #[must_use]
+    pub fn author(&self) -> u16 {
+        self.decoded().author
+    }
+
+    /// Returns the digest with the round and the author.
+    #[must_use]
+    pub fn slot(&self) -> Slot {
+        Slot {
+            digest: self.digest(),
+            round: self.round(),
+            author: self.author(),
+        }
+    }
+
+    /// Returns the author and the digest of each parent, in ascending order of the authors.
+    #[must_use]
+    pub fn parents(&self) -> &[(u16, Digest)] {
+        &self.decoded().parents
+    }
+
+    /// Returns the transactions, in order.
+    #[must_use]
+    pub fn transactions(&self) -> Transactions<'_> {
+        self.decoded().transactions()
+    }
+
+    /// Returns the encoded body, at most 1,048,576 bytes. Its SHA-256 is the digest of the block.
+    #[must_use]
+    pub fn body(&self) -> Vec<u8> {
+        self.decoded().bytes.clone()
+    }
+
+    /// Returns the 36 bytes that the author signs.
+    #[must_use]
+    pub fn text_to_sign(&self) -> [u8; 36] {
+        text_of_block(&self.digest())
+    }
+
+    /// Returns the block's message: the body and the author's signature of
+    /// [`Block::text_to_sign`].
+    ///
+    /// Nothing is verified here.
+    #[must_use]
+    pub fn message(&self, signature: &Signature) -> Vec<u8> {
+        let message = ffi::block_message(&mut self.inner().lock(), signature);
+        message.unwrap_or_else(|code| code.abort())
+    }
+}
+
+impl Inner {
+    /// Takes a handle of the block alone. As with `Vec`, memory that runs out ends the process.
+    fn of(source: Source) -> Inner {
+        let handle = match source {
+            Source::Own(handle) => handle,
+            Source::Answer(mut answer) => return Inner::found(&mut answer),
+            Source::Listed(list, index) => {
+                let mut list = list.lock().unwrap_or_else(PoisonError::into_inner);
+                opened(|out| ffi::nw_list_block(&mut list, index, out))
+            }
+        };
+        Inner {
+            handle: Mutex::new(handle),
+            digest: OnceLock::new(),
+            body: OnceLock::new(),
+        }
+    }
+
+    /// The block that a read found. It has the digest that the read asked for.
+    fn found(answer: &mut Handle) -> Inner {
+        let (mut events, mut last) = (0, EventTold::EMPTY);
+        ffi::nw_answer_events(answer, &mut events).or_abort();
+        ffi::nw_answer_event(answer, events - 1, &mut last).or_abort();
+        Inner {
+            handle: Mutex::new(opened(|out| ffi::nw_answer_block(answer, out))),
+            digest: OnceLock::from(last.call.digest),
+            body: OnceLock::new(),
+        }
+    }
+
+    fn lock(&self) -> MutexGuard<'_, Handle> {
+        self.handle.lock().unwrap_or_else(PoisonError::into_inner)
+    }
+}
+
+/// The handle that the call opens. As with `Vec`, memory that runs out ends the process.
+pub(crate) fn opened(open: impl FnOnce(&mut Handle) -> Code) -> Handle {
+    Handle::opened(open).unwrap_or_else(|code| code.abort())
+}
+
+impl Clone for Block {
+    fn clone(&self) -> Block {
+        Block::shared(Arc::clone(self.inner()))
+    }
+}
+
+impl fmt::Debug for Block {
+    fn fmt(&self, f: &mut fmt::Formatter<'_>) -> fmt::Result {
+        // The digest is costly, so it is shown only if it is known.
+        f.debug_struct("Block")
+            .field("round", &self.round())
+            .field("author", &self.author())
+            .field("digest", &self.inner().digest.get())
+            .finish_non_exhaustive()
+    }
+}
+
+/// Why a block cannot be made.
+#[derive(Clone, Copy, Debug, PartialEq, Eq)]
+#[non_exhaustive]
+pub enum BlockError {
+    /// The round is 2^48 or more.
+    BadRound,
+    /// The block breaks a limit or the order of the format.
+    OverLimit,
+    /// The library could not allocate memory.
+    NoMemory,
+}
+
+error_texts!(BlockError {
+    BlockError::BadRound => "the round is not below 2^48",
+    BlockError::OverLimit => "the block breaks a limit or the order of the format",
+    BlockError::NoMemory => "out of memory",
+});
+
+impl BlockError {
+    fn of(code: Code) -> BlockError {
+        match code {
+            Code::BAD_ROUND => BlockError::BadRound,
+            Code::OVER_LIMIT => BlockError::OverLimit,
+            Code::NO_MEMORY => BlockError::NoMemory,
+            other => other.unexpected(),
+        }
+    }
+}

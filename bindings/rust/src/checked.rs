@@ -1,0 +1,142 @@
+//! Checked messages.
+
+use crate::block::opened;
+use crate::ffi::{self, Handle};
+use crate::told::MessageTold;
+use crate::{Block, Slot};
+use std::cell::RefCell;
+use std::fmt;
+
+/// A message that passed [`Message::check`](crate::Message::check).
+///
+/// The type is `Send`, so a checked message can be moved to the thread that takes it. It is not
+/// `Sync`.
+#[derive(Debug)]
+pub enum Checked {
+    /// A block that is well formed and signed by its author.
+    Block(CheckedBlock),
+    /// A valid certificate.
+    Certificate(CheckedCertificate),
+    /// A vote. Its signature is not verified yet.
+    Vote(CheckedVote),
+}
+
+/// A block that is well formed under its committee and signed by its author.
+///
+/// [`Session::write`](crate::Session::write) takes it. It can be written to several stores, and
+/// again to the same store.
+pub struct CheckedBlock {
+    pub(crate) handle: RefCell<Handle>,
+    pub(crate) slot: Slot,
+}
+
+impl CheckedBlock {
+    /// Returns the digest of the block, with its round and author.
+    #[must_use]
+    pub fn slot(&self) -> Slot {
+        self.slot
+    }
+
+    /// Returns the block.
+    #[must_use]
+    pub fn block(&self) -> Block {
+        let handle = opened(|out| ffi::nw_checked_block(&mut self.handle.borrow_mut(), out));
+        Block::known(handle, self.slot.digest)
+    }
+}
+
+impl fmt::Debug for CheckedBlock {
+    fn fmt(&self, f: &mut fmt::Formatter<'_>) -> fmt::Result {
+        f.debug_struct("CheckedBlock")
+            .field("slot", &self.slot)
+            .finish_non_exhaustive()
+    }
+}
+
+/// A certificate that is valid under its committee: members that reach the quorum signed votes for
+/// one slot.
+///
+/// [`Session::certify`](crate::Session::certify) takes it. It can be handed to several stores, and
+/// again to the same store.
+pub struct CheckedCertificate {
+    pub(crate) handle: RefCell<Handle>,
+    pub(crate) slot: Slot,
+}
+
+impl CheckedCertificate {
+    /// The certificate of a handle.
+    pub(crate) fn of(mut handle: Handle) -> CheckedCertificate {
+        let mut told = MessageTold::EMPTY;
+        ffi::nw_checked_told(&mut handle, &mut told).or_abort();
+        CheckedCertificate {
+            handle: RefCell::new(handle),
+            slot: told.slot,
+        }
+    }
+
+    /// Returns the slot that the votes are for.
+    #[must_use]
+    pub fn slot(&self) -> Slot {
+        self.slot
+    }
+
+    /// Returns the encoded certificate, to be sent to other validators.
+    #[must_use]
+    pub fn message(&self) -> Vec<u8> {
+        message_of(&self.handle)
+    }
+}
+
+impl fmt::Debug for CheckedCertificate {
+    fn fmt(&self, f: &mut fmt::Formatter<'_>) -> fmt::Result {
+        f.debug_struct("CheckedCertificate")
+            .field("slot", &self.slot)
+            .finish_non_exhaustive()
+    }
+}
+
+/// A vote: a member's signature for a slot.
+///
+/// The message is decoded, but the signature is not verified and the signer need not be a member.
+/// [`Gather::add`] checks both.
+///
+/// [`Gather::add`]: crate::Gather::add
+pub struct CheckedVote {
+    pub(crate) handle: RefCell<Handle>,
+    pub(crate) slot: Slot,
+    pub(crate) signer: u16,
+}
+
+impl CheckedVote {
+    /// Returns the slot that the vote is for.
+    #[must_use]
+    pub fn slot(&self) -> Slot {
+        self.slot
+    }
+
+    /// Returns the number of the member that the vote names as its signer.
+    #[must_use]
+    pub fn signer(&self) -> u16 {
+        self.signer
+    }
+
+    /// Returns the encoded vote of 107 bytes.
+    #[must_use]
+    pub fn message(&self) -> Vec<u8> {
+        message_of(&self.handle)
+    }
+}
+
+impl fmt::Debug for CheckedVote {
+    fn fmt(&self, f: &mut fmt::Formatter<'_>) -> fmt::Result {
+        f.debug_struct("CheckedVote")
+            .field("slot", &self.slot)
+            .field("signer", &self.signer)
+            .finish_non_exhaustive()
+    }
+}
+
+fn message_of(handle: &RefCell<Handle>) -> Vec<u8> {
+    let message = ffi::checked_message(&mut handle.borrow_mut());
+    message.unwrap_or_else(|code| code.abort())
+}

@@ -1,0 +1,80 @@
+//! The codes that the library answers.
+
+use crate::NoMemory;
+use std::alloc::{Layout, handle_alloc_error};
+
+/// What a function of the library answers.
+#[derive(Clone, Copy, Debug, PartialEq, Eq)]
+#[repr(transparent)]
+#[must_use]
+pub(crate) struct Code(i32);
+
+impl Code {
+    pub(crate) const DONE: Code = Code(0);
+    pub(crate) const NO_MEMORY: Code = Code(1);
+    pub(crate) const BAD_COMMITTEE: Code = Code(5);
+    pub(crate) const BAD_LIMITS: Code = Code(6);
+    pub(crate) const OTHER_COMMITTEE: Code = Code(8);
+    pub(crate) const HISTORY_FULL: Code = Code(9);
+    pub(crate) const BAD_ROUND: Code = Code(10);
+    pub(crate) const SMALL: Code = Code(11);
+    pub(crate) const ABSENT: Code = Code(12);
+    pub(crate) const OVER_LIMIT: Code = Code(13);
+    pub(crate) const NO_MEMBER: Code = Code(14);
+    pub(crate) const OTHER_BLOCK: Code = Code(15);
+    pub(crate) const REPEATED: Code = Code(16);
+    pub(crate) const BAD_SIGNATURE: Code = Code(17);
+    pub(crate) const FEW_VOTES: Code = Code(18);
+    pub(crate) const APART: Code = Code(19);
+
+    /// Whether the call is done, or which code refused it.
+    #[inline]
+    pub(crate) fn done(self) -> Result<(), Code> {
+        match self {
+            Code::DONE => Ok(()),
+            refused => Err(refused),
+        }
+    }
+
+    /// Ends a call that can be refused for one reason, which is memory.
+    #[inline]
+    pub(crate) fn or_no_memory(self) -> Result<(), NoMemory> {
+        self.done().map_err(Code::no_memory)
+    }
+
+    /// The only error of a call that can be refused for one reason.
+    #[cold]
+    pub(crate) fn no_memory(self) -> NoMemory {
+        match self {
+            Code::NO_MEMORY => NoMemory,
+            other => other.unexpected(),
+        }
+    }
+
+    /// Ends a call that has no error to report. As with `Vec`, memory that runs out ends the
+    /// process.
+    #[inline]
+    pub(crate) fn or_abort(self) {
+        if self != Code::DONE {
+            self.abort();
+        }
+    }
+
+    /// Ends the process as `Vec` does when memory runs out.
+    #[cold]
+    pub(crate) fn abort(self) -> ! {
+        match self {
+            Code::NO_MEMORY => handle_alloc_error(Layout::new::<usize>()),
+            other => other.unexpected(),
+        }
+    }
+
+    /// A code that the function does not have, by its contract.
+    #[cold]
+    pub(crate) fn unexpected(self) -> ! {
+        panic!(
+            "the linked library does not match narwhal-store: it answered code {}",
+            self.0
+        )
+    }
+}

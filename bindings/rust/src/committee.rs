@@ -1,0 +1,164 @@
+//! Committees.
+
+use crate::code::Code;
+use crate::error::error_texts;
+use crate::ffi::{self, Handle};
+use crate::{NoMemory, PublicKey};
+use std::fmt;
+use std::sync::{Arc, Mutex, PoisonError};
+
+/// A member of a committee.
+#[derive(Clone, Copy, Debug, PartialEq, Eq)]
+#[repr(C)]
+pub struct Member {
+    /// The key that the member signs with.
+    pub key: PublicKey,
+    /// The member's share of the votes, from 1 to 1,000,000.
+    pub weight: u32,
+}
+
+impl Member {
+    /// Room for a member that the library fills in.
+    const EMPTY: Member = Member {
+        key: PublicKey([0; 32]),
+        weight: 0,
+    };
+}
+
+/// The members that may author blocks and vote for them, with their keys and weights.
+///
+/// A member's number is its place in the list that the committee is made from. The committee never
+/// changes. A clone is a second owner of the same committee and costs one atomic increment.
+///
+/// ```
+/// use narwhal_store::{Committee, Member, PublicKey};
+///
+/// let keys = [1, 2, 3, 4].map(|byte| PublicKey([byte; 32]));
+/// let committee = Committee::equal(&keys)?;
+/// assert_eq!(committee.size(), 4);
+/// assert_eq!(committee.quorum(), 3);
+/// assert_eq!(committee.member(2), Some(Member { key: keys[2], weight: 1 }));
+/// # Ok::<(), narwhal_store::CommitteeError>(())
+/// ```
+#[derive(Clone)]
+pub struct Committee {
+    inner: Arc<Inner>,
+}
+
+struct Inner {
+    /// Locked only to make a second handle of the committee.
+    handle: Mutex<Handle>,
+    members: Box<[Member]>,
+    quorum: u32,
+}
+
+impl Committee {
+    /// Makes a committee of these members, in this order.
+    ///
+    /// # Errors
+    ///
+    /// [`CommitteeError::Invalid`] unless there are 1 to 100 members with distinct keys, each with
+    /// a weight from 1 to 1,000,000.
+    pub fn new(members: &[Member]) -> Result<Committee, CommitteeError> {
+        let handle = ffi::committee_new(members).map_err(CommitteeError::of)?;
+        Ok(Committee {
+            inner: Arc::new(Inner::of(handle)),
+        })
+    }
+
+    /// Makes a committee of members of weight 1.
+    ///
+    /// # Errors
+    ///
+    /// Those of [`Committee::new`].
+    pub fn equal(keys: &[PublicKey]) -> Result<Committee, CommitteeError> {
+        let weighted = |&key| Member { key, weight: 1 };
+        Committee::new(&keys.iter().map(weighted).collect::<Vec<_>>())
+    }
+
+    /// Returns the number of members.
+    #[must_use]
+    pub fn size(&self) -> usize {
+        self.inner.members.len()
+    }
+
+    /// Returns the weight of a quorum: two thirds of the sum of all weights, rounded down, plus 1.
+    ///
+    /// Of 3f + 1 members of weight 1, this is 2f + 1.
+    #[must_use]
+    pub fn quorum(&self) -> u32 {
+        self.inner.quorum
+    }
+
+    /// Returns the member with this number, or `None` if there is no such member.
+    #[must_use]
+    pub fn member(&self, author: u16) -> Option<Member> {
+        self.inner.members.get(usize::from(author)).copied()
+    }
+
+    /// A handle for calls that run without a lock.
+    pub(crate) fn share(&self) -> Result<Handle, Code> {
+        let lock = self.inner.handle.lock();
+        let mut handle = lock.unwrap_or_else(PoisonError::into_inner);
+        Handle::opened(|out| ffi::nw_committee_share(&mut handle, out))
+    }
+}
+
+impl Inner {
+    fn of(mut handle: Handle) -> Inner {
+        let (mut size, mut quorum) = (0, 0);
+        ffi::nw_committee_size(&mut handle, &mut size).or_abort();
+        ffi::nw_committee_quorum(&mut handle, &mut quorum).or_abort();
+        let mut member = |index| {
+            let mut member = Member::EMPTY;
+            ffi::nw_committee_member(&mut handle, index, &mut member).or_abort();
+            member
+        };
+        Inner {
+            members: (0..size as u16).map(&mut member).collect(),
+            handle: Mutex::new(handle),
+            quorum,
+        }
+    }
+}
+
+impl fmt::Debug for Committee {
+    fn fmt(&self, f: &mut fmt::Formatter<'_>) -> fmt::Result {
+        f.debug_struct("Committee")
+            .field("members", &self.inner.members)
+            .field("quorum", &self.inner.quorum)
+            .finish()
+    }
+}
+
+/// Why a committee cannot be made.
+#[derive(Clone, Copy, Debug, PartialEq, Eq)]
+#[non_exhaustive]
+pub enum CommitteeError {
+    /// There are no members or more than 100, a weight is not from 1 to 1,000,000, or two members
+    /// have the same key.
+    Invalid,
+    /// The library could not allocate memory.
+    NoMemory,
+}
+
+error_texts!(CommitteeError {
+    CommitteeError::Invalid =>
+        "a committee has 1 to 100 members with distinct keys, and weights from 1 to 1,000,000",
+    CommitteeError::NoMemory => "out of memory",
+});
+
+impl CommitteeError {
+    fn of(code: Code) -> CommitteeError {
+        match code {
+            Code::BAD_COMMITTEE => CommitteeError::Invalid,
+            other => other.no_memory().into(),
+        }
+    }
+}
+
+impl From<NoMemory> for CommitteeError {
+    fn from(NoMemory: NoMemory) -> CommitteeError {
+        CommitteeError::NoMemory
+    }
+}

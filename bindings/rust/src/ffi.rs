@@ -1,0 +1,283 @@
+//! The exports of the static library, and the allocator that it calls. All `unsafe` is here.
+//!
+//! The names, types and promises are those of `nw.h`, which is generated from the proved exports.
+#![allow(unsafe_code)]
+
+use crate::code::Code;
+use crate::told::{EventTold, MessageTold, ParentTold, Told};
+use crate::{Digest, Limits, Member, Signature, Slot, Status};
+use std::ffi::c_void;
+use std::mem::{self, MaybeUninit};
+use std::{ptr, slice};
+
+/// What the library keeps for the crate: one pointer, which is null while the handle is closed. It
+/// closes when it is dropped.
+///
+/// The library answers a code to a closed handle and to a handle of another kind, so one type
+/// serves all kinds.
+#[repr(transparent)]
+pub(crate) struct Handle(*mut c_void);
+
+// SAFETY: any thread may use and free a handle, as long as there is one call at a time on it. The
+// library proves that what each kind of handle holds is `Send`. Every function takes `&mut Handle`,
+// and `Handle` is not `Sync`, so calls on one handle never overlap.
+unsafe impl Send for Handle {}
+
+impl Handle {
+    /// A closed handle.
+    const CLOSED: Handle = Handle(ptr::null_mut());
+
+    /// The handle that the call opens, or its code if that is not `DONE`.
+    #[inline]
+    pub(crate) fn opened(open: impl FnOnce(&mut Handle) -> Code) -> Result<Handle, Code> {
+        let mut handle = Handle::CLOSED;
+        match open(&mut handle) {
+            Code::DONE => Ok(handle),
+            refused => Err(refused),
+        }
+    }
+
+    /// What the handle has. The handle is closed afterwards.
+    pub(crate) fn take(&mut self) -> Handle {
+        mem::replace(self, Handle::CLOSED)
+    }
+}
+
+impl Drop for Handle {
+    #[inline]
+    fn drop(&mut self) {
+        if !self.0.is_null() {
+            nw_free(self);
+        }
+    }
+}
+
+/// A handle, lent to a call.
+type At<'a> = &'a mut Handle;
+
+/// The exports that take references and numbers only, and answer a code.
+macro_rules! exports {
+    ($($export:ident($($argument:ident: $type:ty),+);)+) => {
+        // SAFETY: the names and types are those of nw.h. These functions are safe: the library
+        // answers a code to every value of the arguments, and keeps no reference after the call.
+        unsafe extern "C" {
+            $(pub(crate) safe fn $export($($argument: $type),+) -> Code;)+
+        }
+    };
+}
+
+exports! {
+    nw_committee_share(committee: At, out: At);
+    nw_committee_size(committee: At, out: &mut usize);
+    nw_committee_member(committee: At, index: u16, out: &mut Member);
+    nw_committee_quorum(committee: At, out: &mut u32);
+    nw_text_of_vote(slot: &Slot, out: &mut [u8; 44]);
+
+    nw_block_slot(block: At, out: &mut Slot);
+    nw_checked_told(checked: At, out: &mut MessageTold);
+    nw_checked_block(checked: At, out: At);
+
+    nw_gather_new(committee: At, slot: &Slot, out: At);
+    nw_gather_add(gather: At, vote: At, quorum: &mut bool);
+    nw_gather_certificate(gather: At, out: At);
+
+    nw_book_new(committee: At, limits: &Limits, out: At);
+    nw_book_events(book: At, out: &mut usize);
+    nw_book_compact(book: At);
+    nw_book_restart(book: At);
+    nw_book_take(book: At, session: u16, number: u32, checked: At, answer: At);
+    nw_book_certificate(book: At, session: u16, number: u32, digest: &Digest, answer: At);
+    nw_book_read(book: At, session: u16, number: u32, digest: &Digest, answer: At);
+    nw_book_open(book: At, session: u16, number: u32, digest: &Digest, answer: At);
+    nw_book_collect(book: At, session: u16, number: u32, round: u64, answer: At);
+    nw_book_missing(book: At, session: u16, number: u32, most: u16, answer: At);
+    nw_book_status(book: At, session: u16, number: u32, answer: At);
+
+    nw_answer_new(out: At);
+    nw_answer_reply(answer: At, out: &mut Told);
+    nw_answer_status(answer: At, out: &mut Status);
+    nw_answer_block(answer: At, out: At);
+    nw_answer_missing(answer: At, index: usize, out: &mut Slot);
+    nw_answer_events(answer: At, out: &mut usize);
+    nw_answer_event(answer: At, index: usize, out: &mut EventTold);
+    nw_answer_begins(answer: At, other: At, out: &mut bool);
+
+    nw_ticket_about(ticket: At, digest: &mut Digest, floor: &mut u64);
+    nw_ticket_walk(ticket: At, out: At);
+    nw_ticket_agree(ticket: At, other: At, same: &mut bool);
+    nw_list_len(list: At, out: &mut usize);
+    nw_list_block(list: At, index: usize, out: At);
+}
+
+// SAFETY: the names and types are those of nw.h. A `safe fn` takes references only. The others take
+// a pointer with a length.
+unsafe extern "C" {
+    pub(crate) safe fn nw_text_of_block(digest: &Digest, out: &mut [u8; 36]);
+    safe fn nw_free(handle: &mut Handle);
+    fn nw_committee_new(members: *const Member, members_len: usize, out: &mut Handle) -> Code;
+    fn nw_digest_of(bytes: *const u8, bytes_len: usize, out: &mut Digest);
+    fn nw_check(committee: &mut Handle, text: *const u8, text_len: usize, out: &mut Handle)
+    -> Code;
+    fn nw_block_new(
+        author: u16,
+        round: u64,
+        parents: *const ParentTold,
+        parents_len: usize,
+        transactions: *const u8,
+        transactions_len: usize,
+        lengths: *const u32,
+        lengths_len: usize,
+        out: &mut Handle,
+    ) -> Code;
+}
+
+/// The exports that write bytes into a room. `needed` gets the number of bytes.
+macro_rules! rooms {
+    ($($export:ident as $name:ident($($argument:ident: $type:ty),+);)+) => {
+        // SAFETY: as above. The room is a pointer with a length.
+        unsafe extern "C" {
+            $(fn $export(
+                $($argument: $type,)+ room: *mut u8, room_len: usize, needed: &mut usize,
+            ) -> Code;)+
+        }
+
+        $(pub(crate) fn $name($($argument: $type),+) -> Result<Vec<u8>, Code> {
+            // SAFETY: the pointer and the length are those of one room, which may be written to.
+            written(|room, len, needed| unsafe { $export($($argument,)+ room, len, needed) })
+        })+
+    };
+}
+
+rooms! {
+    nw_block_body as block_body(block: &mut Handle);
+    nw_block_message as block_message(block: &mut Handle, signature: &Signature);
+    nw_vote_message as vote_message(slot: &Slot, signer: u16, signature: &Signature);
+    nw_checked_message as checked_message(checked: &mut Handle);
+    nw_answer_message as answer_message(answer: &mut Handle);
+}
+
+/// The bytes that a call writes, at first into a room on the stack. If that is too small, the call
+/// is repeated with the room that it needs.
+fn written(mut call: impl FnMut(*mut u8, usize, &mut usize) -> Code) -> Result<Vec<u8>, Code> {
+    let (mut room, mut needed) = ([MaybeUninit::<u8>::uninit(); 4096], 0);
+    match call(room.as_mut_ptr().cast(), room.len(), &mut needed) {
+        Code::DONE => {
+            let bytes = room[..needed].as_ptr().cast();
+            // SAFETY: a call that is done wrote the first `needed` bytes, which are in the room.
+            return Ok(unsafe { slice::from_raw_parts(bytes, needed) }.to_vec());
+        }
+        Code::SMALL => {}
+        refused => return Err(refused),
+    }
+    let mut bytes = Vec::with_capacity(needed);
+    call(bytes.as_mut_ptr(), bytes.capacity(), &mut needed).done()?;
+    assert!(needed <= bytes.capacity());
+    // SAFETY: as before.
+    unsafe { bytes.set_len(needed) };
+    Ok(bytes)
+}
+
+/// Makes a committee.
+pub(crate) fn committee_new(members: &[Member]) -> Result<Handle, Code> {
+    // SAFETY: the pointer and the length are those of one slice. `Member` has the layout of
+    // `nw_member`.
+    Handle::opened(|out| unsafe { nw_committee_new(members.as_ptr(), members.len(), out) })
+}
+
+/// The SHA-256 digest of the bytes.
+pub(crate) fn digest_of(bytes: &[u8]) -> Digest {
+    let mut digest = Digest::ZERO;
+    // SAFETY: the pointer and the length are those of one slice.
+    unsafe { nw_digest_of(bytes.as_ptr(), bytes.len(), &mut digest) };
+    digest
+}
+
+/// Decodes and checks a text.
+pub(crate) fn check(committee: &mut Handle, text: &[u8]) -> Result<Handle, Code> {
+    // SAFETY: the pointer and the length are those of one slice.
+    Handle::opened(|out| unsafe { nw_check(committee, text.as_ptr(), text.len(), out) })
+}
+
+/// Makes a block. `transactions` has all of them one after another, and `lengths` the length of
+/// each.
+pub(crate) fn block_new(
+    author: u16,
+    round: u64,
+    parents: &[ParentTold],
+    transactions: &[u8],
+    lengths: &[u32],
+) -> Result<Handle, Code> {
+    // SAFETY: each pointer is followed by the length of its slice. `ParentTold` has the layout of
+    // `nw_parent`.
+    Handle::opened(|out| unsafe {
+        nw_block_new(
+            author,
+            round,
+            parents.as_ptr(),
+            parents.len(),
+            transactions.as_ptr(),
+            transactions.len(),
+            lengths.as_ptr(),
+            lengths.len(),
+            out,
+        )
+    })
+}
+
+/// What the library's allocator answers: whether there is room, and where.
+#[repr(C)]
+pub struct Allocated {
+    is_there: bool,
+    at: *mut c_void,
+}
+
+impl Allocated {
+    /// What the C library allocates for `n` bytes. It gets a size that is not 0, and the library of
+    /// the store gets a pointer that is not null.
+    fn by(allocate: impl FnOnce(usize) -> *mut c_void, n: usize, align: usize) -> Allocated {
+        #[cfg(test)]
+        let allocate = crate::refusals::refusing(allocate);
+        let at = allocate(if n == 0 { align } else { n });
+        let is_there = !at.is_null();
+        let at = if is_there { at } else { ptr::dangling_mut() };
+        Allocated { is_there, at }
+    }
+}
+
+// SAFETY: these are the functions of the C library, which std links.
+unsafe extern "C" {
+    fn malloc(n: usize) -> *mut c_void;
+    fn realloc(at: *mut c_void, n: usize) -> *mut c_void;
+    fn free(at: *mut c_void);
+}
+
+/// Allocates `n` bytes for the library, aligned to `align`, which divides 16. `n` may be 0.
+// SAFETY: the name is reserved for the library's allocator, and the package's `links` key allows
+// one such crate in a program.
+#[unsafe(no_mangle)]
+pub extern "C" fn rattle_alloc(n: usize, align: usize) -> Allocated {
+    // SAFETY: malloc takes any size, and aligns to 16.
+    Allocated::by(|size| unsafe { malloc(size) }, n, align)
+}
+
+/// Resizes what `rattle_alloc` gave to `n` bytes. The library calls it with a pointer that is not
+/// yet freed.
+// SAFETY: as for `rattle_alloc`.
+#[unsafe(no_mangle)]
+pub unsafe extern "C" fn rattle_realloc(
+    at: *mut c_void,
+    _kept: usize,
+    n: usize,
+    align: usize,
+) -> Allocated {
+    // SAFETY: `at` is from malloc or realloc. If there is no room it stays as it is.
+    Allocated::by(|size| unsafe { realloc(at, size) }, n, align)
+}
+
+/// Frees what `rattle_alloc` gave. The library calls it once for each pointer.
+// SAFETY: as for `rattle_alloc`.
+#[unsafe(no_mangle)]
+pub unsafe extern "C" fn rattle_dealloc(at: *mut c_void) {
+    // SAFETY: `at` is from malloc or realloc, and is not used afterwards.
+    unsafe { free(at) }
+}

@@ -1,0 +1,149 @@
+//! Gathering votes into certificates.
+
+use crate::code::Code;
+use crate::error::error_texts;
+use crate::ffi::{self, Handle};
+use crate::{CheckedCertificate, CheckedVote, Committee, Slot};
+use std::fmt;
+
+/// The votes for one slot, gathered until they make a certificate.
+///
+/// The author of a block gathers the votes of the other members, and sends the certificate to all
+/// of them.
+///
+/// ```
+/// # mod data { include!(concat!(env!("CARGO_MANIFEST_DIR"), "/examples/data/mod.rs")); }
+/// # use narwhal_store::{CheckedVote, GatherError, Slot};
+/// # let (keys, messages) = (data::keys(), data::values("vote"));
+/// use narwhal_store::{Checked, Committee, Gather, Message};
+///
+/// let committee = Committee::equal(&keys)?;
+/// let votes = messages.iter().map(|message| Message::check(&committee, message));
+/// # let votes: Result<Vec<_>, _> = votes.collect();
+/// # let votes = votes?.into_iter().map(|checked| match checked {
+/// #     Checked::Vote(vote) => vote,
+/// #     other => panic!("{other:?}"),
+/// # });
+/// # let votes: Vec<CheckedVote> = votes.collect();
+/// # let slot: Slot = votes[0].slot();
+/// // `votes` are three votes for `slot`, by three of the four members.
+/// let mut gather = Gather::new(&committee, &slot)?;
+/// assert!(!gather.add(&votes[0])?);
+/// assert_eq!(gather.add(&votes[0]), Err(GatherError::Repeated));
+/// assert!(!gather.add(&votes[1])?);
+/// assert!(gather.add(&votes[2])?);
+///
+/// let certificate = gather.certificate()?;
+/// let received = Message::check(&committee, &certificate.message())?;
+/// assert!(matches!(received, Checked::Certificate(received) if received.slot() == slot));
+/// # Ok::<(), Box<dyn std::error::Error>>(())
+/// ```
+pub struct Gather {
+    handle: Handle,
+    slot: Slot,
+}
+
+impl Gather {
+    /// Starts to gather votes for the slot.
+    ///
+    /// # Errors
+    ///
+    /// - [`GatherError::BadRound`] if the slot's round is 2^48 or more.
+    /// - [`GatherError::NoMember`] if the slot's author is not a member of the committee.
+    pub fn new(committee: &Committee, slot: &Slot) -> Result<Gather, GatherError> {
+        let mut committee = committee.share().map_err(GatherError::of)?;
+        let handle = Handle::opened(|out| ffi::nw_gather_new(&mut committee, slot, out));
+        let handle = handle.map_err(GatherError::of)?;
+        Ok(Gather {
+            handle,
+            slot: *slot,
+        })
+    }
+
+    /// Returns the slot that the votes are for.
+    #[must_use]
+    pub fn slot(&self) -> Slot {
+        self.slot
+    }
+
+    /// Verifies a vote and counts it. Returns whether the votes now reach the quorum.
+    ///
+    /// # Errors
+    ///
+    /// A vote that is refused is not counted. The error is the first that applies:
+    ///
+    /// - [`GatherError::OtherBlock`] if the vote is for another slot.
+    /// - [`GatherError::Repeated`] if a vote of its signer is counted already.
+    /// - [`GatherError::NoMember`] if its signer is not a member.
+    /// - [`GatherError::BadSignature`] if its signature does not verify.
+    /// - [`GatherError::NoMemory`] if the library could not allocate memory.
+    pub fn add(&mut self, vote: &CheckedVote) -> Result<bool, GatherError> {
+        let mut quorum = false;
+        let code = ffi::nw_gather_add(&mut self.handle, &mut vote.handle.borrow_mut(), &mut quorum);
+        code.done().map_err(GatherError::of)?;
+        Ok(quorum)
+    }
+
+    /// Returns the certificate of the votes that are counted. More votes can be added afterwards.
+    ///
+    /// # Errors
+    ///
+    /// [`GatherError::FewVotes`] if the votes do not reach the quorum.
+    pub fn certificate(&mut self) -> Result<CheckedCertificate, GatherError> {
+        let handle = Handle::opened(|out| ffi::nw_gather_certificate(&mut self.handle, out));
+        handle.map(CheckedCertificate::of).map_err(GatherError::of)
+    }
+}
+
+impl fmt::Debug for Gather {
+    fn fmt(&self, f: &mut fmt::Formatter<'_>) -> fmt::Result {
+        f.debug_struct("Gather")
+            .field("slot", &self.slot)
+            .finish_non_exhaustive()
+    }
+}
+
+/// Why a vote is not counted, or why there is no certificate.
+#[derive(Clone, Copy, Debug, PartialEq, Eq)]
+#[non_exhaustive]
+pub enum GatherError {
+    /// The author of the slot, or the signer of the vote, is not a member.
+    NoMember,
+    /// The round of the slot is 2^48 or more.
+    BadRound,
+    /// The vote is for another slot.
+    OtherBlock,
+    /// A vote of this signer is counted already.
+    Repeated,
+    /// The signature of the vote does not verify.
+    BadSignature,
+    /// The votes do not reach the quorum.
+    FewVotes,
+    /// The library could not allocate memory.
+    NoMemory,
+}
+
+error_texts!(GatherError {
+    GatherError::NoMember => "the author of the block or the signer of the vote is not a member",
+    GatherError::BadRound => "the round is not below 2^48",
+    GatherError::OtherBlock => "the vote is for another block",
+    GatherError::Repeated => "a vote of this signer is counted already",
+    GatherError::BadSignature => "the vote's signature does not verify",
+    GatherError::FewVotes => "the votes do not reach the quorum",
+    GatherError::NoMemory => "out of memory",
+});
+
+impl GatherError {
+    fn of(code: Code) -> GatherError {
+        match code {
+            Code::NO_MEMBER => GatherError::NoMember,
+            Code::BAD_ROUND => GatherError::BadRound,
+            Code::OTHER_BLOCK => GatherError::OtherBlock,
+            Code::REPEATED => GatherError::Repeated,
+            Code::BAD_SIGNATURE => GatherError::BadSignature,
+            Code::FEW_VOTES => GatherError::FewVotes,
+            Code::NO_MEMORY => GatherError::NoMemory,
+            other => other.unexpected(),
+        }
+    }
+}

@@ -1,0 +1,162 @@
+//! The histories that explain answers.
+
+use crate::Event;
+use crate::code::Code;
+use crate::ffi::{self, Handle};
+use crate::told::EventTold;
+use std::cell::RefCell;
+use std::fmt;
+use std::iter::FusedIterator;
+use std::ptr;
+
+/// The history that explains an answer: the events of the store up to and with the call that was
+/// answered.
+///
+/// The proof says that the answer is what the step table of docs/MODEL.md gives after these events,
+/// in this order, whatever other threads did. The last event is the call itself.
+///
+/// The history is a view of the answer and never changes. Events are decoded when they are asked
+/// for. The type is `Send` and not `Sync`.
+///
+/// ```
+/// # use narwhal_store::{Committee, Digest, Limits, PublicKey, Store};
+/// use narwhal_store::{Call, Event, Reply};
+///
+/// # let committee = Committee::equal(&[PublicKey([7; 32])])?;
+/// # let session = Store::new(&committee, Limits::default())?.session()?;
+/// let digest = Digest::of(b"nothing");
+/// let first = session.read(&digest)?;
+/// let second = session.collect(4)?;
+///
+/// let calls: Vec<Call> = second.history().events().map(|event| event.call).collect();
+/// assert_eq!(calls, [Call::Read(digest), Call::Collect(4)]);
+/// let last = Event { session: 0, number: 2, call: calls[1], reply: Reply::Raised { dropped: 0 } };
+/// assert_eq!(second.history().event(1), Some(last));
+/// assert!(first.history().begins(second.history()));
+/// assert!(!second.history().begins(first.history()));
+/// # Ok::<(), Box<dyn std::error::Error>>(())
+/// ```
+pub struct History {
+    pub(crate) handle: RefCell<Handle>,
+}
+
+impl History {
+    pub(crate) fn new(handle: Handle) -> History {
+        History {
+            handle: RefCell::new(handle),
+        }
+    }
+
+    /// Returns the number of events, which is at least 1.
+    #[must_use]
+    pub fn len(&self) -> usize {
+        let mut events = 0;
+        ffi::nw_answer_events(&mut self.handle.borrow_mut(), &mut events).or_abort();
+        events
+    }
+
+    /// Returns whether there are no events. This is always `false`.
+    #[must_use]
+    pub fn is_empty(&self) -> bool {
+        self.len() == 0
+    }
+
+    /// Returns the event at the index, from 0, or `None` past the last one.
+    #[must_use]
+    pub fn event(&self, index: usize) -> Option<Event> {
+        let mut told = EventTold::EMPTY;
+        match ffi::nw_answer_event(&mut self.handle.borrow_mut(), index, &mut told) {
+            Code::DONE => Some(Event::of(&told)),
+            Code::ABSENT => None,
+            refused => refused.abort(),
+        }
+    }
+
+    /// Returns an iterator over the events, from the first.
+    #[must_use]
+    pub fn events(&self) -> Events<'_> {
+        Events {
+            history: self,
+            next: 0,
+            len: self.len(),
+        }
+    }
+
+    /// Returns whether the events of the other history begin with those of this one, and both began
+    /// from the same state.
+    ///
+    /// Of any two answers of a store, the history of one begins that of the other, unless the store
+    /// was restarted between them.
+    #[must_use]
+    pub fn begins(&self, other: &History) -> bool {
+        if ptr::eq(self, other) {
+            return true;
+        }
+        let (mut this, mut other) = (self.handle.borrow_mut(), other.handle.borrow_mut());
+        let mut begins = false;
+        ffi::nw_answer_begins(&mut this, &mut other, &mut begins).or_abort();
+        begins
+    }
+}
+
+impl fmt::Debug for History {
+    fn fmt(&self, f: &mut fmt::Formatter<'_>) -> fmt::Result {
+        f.debug_struct("History")
+            .field("len", &self.len())
+            .finish_non_exhaustive()
+    }
+}
+
+impl<'a> IntoIterator for &'a History {
+    type Item = Event;
+    type IntoIter = Events<'a>;
+
+    fn into_iter(self) -> Events<'a> {
+        self.events()
+    }
+}
+
+/// The events of a history. [`History::events`] returns it.
+#[derive(Clone, Debug)]
+pub struct Events<'a> {
+    history: &'a History,
+    next: usize,
+    len: usize,
+}
+
+impl Iterator for Events<'_> {
+    type Item = Event;
+
+    fn next(&mut self) -> Option<Event> {
+        if self.next == self.len {
+            return None;
+        }
+        let event = self.history.event(self.next)?;
+        self.next += 1;
+        Some(event)
+    }
+
+    fn size_hint(&self) -> (usize, Option<usize>) {
+        let left = self.len - self.next;
+        (left, Some(left))
+    }
+
+    fn nth(&mut self, skipped: usize) -> Option<Event> {
+        self.next = self.next.saturating_add(skipped).min(self.len);
+        self.next()
+    }
+}
+
+impl ExactSizeIterator for Events<'_> {}
+
+impl DoubleEndedIterator for Events<'_> {
+    fn next_back(&mut self) -> Option<Event> {
+        if self.next == self.len {
+            return None;
+        }
+        self.len -= 1;
+        self.history.event(self.len)
+    }
+}
+
+impl FusedIterator for Events<'_> {}

@@ -1,0 +1,138 @@
+//! The block store of a Narwhal mempool, as formally verified software.
+//!
+//! The store keeps blocks of transactions and their certificates in memory. It votes for the first
+//! block of each round and author, and reads a block with all its certified ancestors, while other
+//! threads write and old rounds are collected. The code of the store is proved to meet its
+//! contracts; this crate is a thin safe layer over its static library.
+//!
+//! # Use
+//!
+//! 1. Make a [`Committee`] from the members' Ed25519 keys, and a [`Store`] under it.
+//! 2. Check what comes from the network with [`Message::check`] or [`check_all`]. A check takes no
+//!    lock.
+//! 3. Hand checked messages to a [`Session`] of the store: [`Session::write`] and
+//!    [`Session::certify`].
+//! 4. Sign a vote when a write answers `Stored { vote: true }`, and collect the votes for your own
+//!    blocks with [`Gather`].
+//! 5. Open a causal read of a leader with [`Session::causal`], and walk its [`Ticket`].
+//! 6. Raise the garbage round with [`Session::collect`].
+//!
+//! ```
+//! # mod data { include!(concat!(env!("CARGO_MANIFEST_DIR"), "/examples/data/mod.rs")); }
+//! # let (keys, messages) = (data::keys(), data::values("message"));
+//! use narwhal_store::{Checked, Committee, Digest, Limits, Message, Store};
+//!
+//! let committee = Committee::equal(&keys)?;
+//! let store = Store::new(&committee, Limits::default())?;
+//! let session = store.session()?;
+//! let mut last = Digest([0; 32]);
+//! for message in &messages {
+//!     match Message::check(&committee, message)? {
+//!         Checked::Block(block) => {
+//!             session.write(&block)?;
+//!         }
+//!         Checked::Certificate(certificate) => {
+//!             session.certify(&certificate)?;
+//!             last = certificate.slot().digest;
+//!         }
+//!         Checked::Vote(_) => {}
+//!     }
+//! }
+//! for block in session.causal(&last)?.into_ticket()?.walk()? {
+//!     println!("round {} author {}", block.round(), block.author());
+//! }
+//! # Ok::<(), Box<dyn std::error::Error>>(())
+//! ```
+//!
+//! # Guarantees
+//!
+//! The proofs cover the static library: every function is memory-safe and returns, and
+//!
+//! - each answer is the reply of the sequential store after the [`History`] that the answer
+//!   carries;
+//! - a walk lists exactly the certified ancestors at the step that opened its ticket;
+//! - at most one write per round and author answers `Stored { vote: true }`, also across restarts
+//!   of the history.
+//!
+//! The proofs do not cover this crate, its lock, the Rust and C libraries, the compilers and the
+//! code of SHA-256. Nor do they show that signatures cannot be forged, or that no two blocks have
+//! one digest.
+//!
+//! The store is in memory only, and it forgets its votes when the process ends.
+//!
+//! # Panics
+//!
+//! No function panics, unless the linked library is not the one that this version of the crate is
+//! made for.
+#![deny(missing_docs, unsafe_code, unsafe_op_in_unsafe_fn)]
+
+#[cfg(test)]
+extern crate self as narwhal_store;
+
+mod answer;
+mod block;
+mod body;
+mod bytes;
+mod checked;
+mod code;
+mod committee;
+mod error;
+mod event;
+mod fault;
+mod ffi;
+mod gather;
+mod history;
+mod intake;
+mod limits;
+mod message;
+#[cfg(test)]
+mod refusals;
+mod reply;
+mod session;
+mod slot;
+mod store;
+mod ticket;
+mod told;
+
+pub use answer::{Answer, Causal};
+pub use block::{Block, BlockError};
+pub use body::Transactions;
+pub use bytes::{Digest, HexError, PublicKey, Signature};
+pub use checked::{Checked, CheckedBlock, CheckedCertificate, CheckedVote};
+pub use committee::{Committee, CommitteeError, Member};
+pub use error::{BadRound, NoMemory, OpenError, StepError};
+pub use event::{Call, Event, Reply};
+pub use fault::{BlockFault, CertificateFault, CheckError, TextFault};
+pub use gather::{Gather, GatherError};
+pub use history::{Events, History};
+pub use intake::check_all;
+pub use limits::Limits;
+pub use message::Message;
+pub use reply::{CausalFault, CertifyReply, CollectReply, Status, WriteReply};
+pub use session::Session;
+pub use slot::{Slot, text_of_block, text_of_vote, vote_message};
+pub use store::{Store, StoreBuilder};
+pub use ticket::{AgreeError, Ticket};
+
+/// The path of the static library that this crate was linked with.
+pub const ARCHIVE: &str = env!("NW_ARCHIVE");
+
+/// What may cross to another thread, and what may be shared.
+const _: () = {
+    const fn send<T: Send>() {}
+    const fn sync<T: Sync>() {}
+    send::<Committee>();
+    sync::<Committee>();
+    send::<Store>();
+    sync::<Store>();
+    send::<Session>();
+    sync::<Session>();
+    send::<Block>();
+    sync::<Block>();
+    send::<Checked>();
+    send::<Gather>();
+    send::<Answer<WriteReply>>();
+    send::<Causal>();
+    send::<History>();
+    send::<Ticket>();
+};

@@ -1,0 +1,50 @@
+//! The limits of a store.
+
+/// How much a store holds.
+///
+/// A store never holds more than its limits allow. A call that would need more answers `Full` or
+/// `TooFar`, or fails with [`StepError::HistoryFull`](crate::StepError::HistoryFull).
+///
+/// ```
+/// use narwhal_store::Limits;
+///
+/// let limits = Limits { window: 64, ..Limits::default() };
+/// assert_eq!(limits.blocks, 65_536);
+/// ```
+#[derive(Clone, Copy, Debug, PartialEq, Eq)]
+#[repr(C)]
+pub struct Limits {
+    /// The most blocks that the store holds, and the most certificates: 1 to 65,536.
+    pub blocks: u32,
+    /// The most events that a history has: 1 to 65,536. Each call is one event.
+    pub events: u32,
+    /// How many rounds the store takes, counted from the garbage round: 1 to 4,096.
+    pub window: u32,
+    /// The most sessions: 1 to 256.
+    pub sessions: u32,
+}
+
+impl Limits {
+    /// The upper end of each limit's range.
+    pub const MAX: Limits = Limits {
+        blocks: 65_536,
+        events: 65_536,
+        window: 4_096,
+        sessions: 256,
+    };
+}
+
+impl Default for Limits {
+    /// Returns 65,536 blocks, 65,536 events, a window of 512 rounds and 16 sessions.
+    ///
+    /// Each member can fill one block per round of the window without any votes. With 512 rounds,
+    /// the 100 members of the largest committee fill 51,200 blocks, so nobody can use up the store
+    /// this way.
+    fn default() -> Limits {
+        Limits {
+            window: 512,
+            sessions: 16,
+            ..Limits::MAX
+        }
+    }
+}

@@ -1,0 +1,77 @@
+//! Messages, and what they are once they are checked.
+
+use crate::code::Code;
+use crate::ffi::{self, Handle};
+use crate::told::{MessageTold, message};
+use crate::{CheckError, Checked, CheckedBlock, CheckedCertificate, CheckedVote, Committee};
+use std::cell::RefCell;
+
+/// What validators send one another: signed blocks, certificates and votes.
+///
+/// This type has no values. It names the check of a message's bytes, [`Message::check`].
+#[derive(Clone, Copy, Debug)]
+pub enum Message {}
+
+impl Message {
+    /// Decodes a message and checks it under the committee.
+    ///
+    /// A block that passes is well formed: its author and the authors of its parents are members,
+    /// its parents reach the quorum unless its round is 0, and its author signed it. A certificate
+    /// that passes is valid: its signers are members and reach the quorum, and every signature
+    /// verifies. The signature of a vote is not verified here: [`Gather::add`] does that.
+    ///
+    /// Several threads can check messages at once, under one committee. A check takes no lock of a
+    /// store.
+    ///
+    /// # Errors
+    ///
+    /// - [`CheckError::Text`] if the bytes are not a message. The error names the first fault in
+    ///   reading order.
+    /// - [`CheckError::Block`] or [`CheckError::Certificate`] if the message breaks a rule. The
+    ///   error names the first rule.
+    /// - [`CheckError::NoMemory`] if the library could not allocate memory.
+    ///
+    /// ```
+    /// # mod data { include!(concat!(env!("CARGO_MANIFEST_DIR"), "/examples/data/mod.rs")); }
+    /// # let (keys, mut bytes) = (data::keys(), data::values("message").remove(0));
+    /// use narwhal_store::{BlockFault, CheckError, Checked, Committee, Message};
+    ///
+    /// let committee = Committee::equal(&keys)?;
+    /// let Checked::Block(block) = Message::check(&committee, &bytes)? else {
+    ///     panic!("the first message is a block");
+    /// };
+    /// assert_eq!(block.slot(), block.block().slot());
+    ///
+    /// // The message ends with the signature. With another last byte it does not verify.
+    /// *bytes.last_mut().unwrap() ^= 1;
+    /// let refused = Message::check(&committee, &bytes).unwrap_err();
+    /// assert_eq!(refused, CheckError::Block(BlockFault::Signature));
+    /// # Ok::<(), Box<dyn std::error::Error>>(())
+    /// ```
+    ///
+    /// [`Gather::add`]: crate::Gather::add
+    pub fn check(committee: &Committee, message: &[u8]) -> Result<Checked, CheckError> {
+        match committee.share() {
+            Ok(mut committee) => check_with(&mut committee, message),
+            Err(refused) => Err(refused.no_memory().into()),
+        }
+    }
+}
+
+/// Checks a message under the committee of the handle.
+pub(crate) fn check_with(committee: &mut Handle, message: &[u8]) -> Result<Checked, CheckError> {
+    let mut handle = ffi::check(committee, message).map_err(Code::no_memory)?;
+    let mut told = MessageTold::EMPTY;
+    ffi::nw_checked_told(&mut handle, &mut told).or_abort();
+    let (handle, slot) = (RefCell::new(handle), told.slot);
+    match told.kind {
+        message::BLOCK => Ok(Checked::Block(CheckedBlock { handle, slot })),
+        message::CERTIFICATE => Ok(Checked::Certificate(CheckedCertificate { handle, slot })),
+        message::VOTE => Ok(Checked::Vote(CheckedVote {
+            handle,
+            slot,
+            signer: told.signer,
+        })),
+        _ => Err(CheckError::of(&told)),
+    }
+}

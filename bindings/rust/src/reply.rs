@@ -1,0 +1,187 @@
+//! Replies to calls.
+
+use crate::Digest;
+use crate::error::error_texts;
+use crate::told::{Told, reply, unexpected_kind};
+
+/// The reply to [`Session::write`](crate::Session::write): the first that applies, in this order
+/// but for `Stored`, which is the last.
+#[derive(Clone, Copy, Debug, PartialEq, Eq)]
+pub enum WriteReply {
+    /// The block is stored from now on.
+    Stored {
+        /// Whether the block is the first of its round and author. If so, sign a vote for it: the
+        /// store never answers `true` for another block of the same round and author.
+        vote: bool,
+    },
+    /// The block's round is below the garbage round. Drop the block.
+    Collected {
+        /// The garbage round.
+        garbage_round: u64,
+    },
+    /// The block's round is not below the garbage round plus the window. Keep the block, and write
+    /// it again after the garbage round is raised.
+    TooFar,
+    /// The block was stored already.
+    Held,
+    /// Another block with the same digest is stored. SHA-256 is broken.
+    Clash,
+    /// The block's digest is certified for another round or author. A quorum signed something
+    /// false.
+    Misfit,
+    /// The author made another block for the round, and this is its digest. Keep the block, and
+    /// write it again after its certificate is taken: a certified block is stored in any case.
+    Equivocates(Digest),
+    /// The store holds as many blocks as its limit. Keep the block, and write it again after the
+    /// garbage round is raised.
+    Full,
+}
+
+/// The reply to [`Session::certify`](crate::Session::certify): the first that applies, in this
+/// order but for `Certified`, which is the last.
+#[derive(Clone, Copy, Debug, PartialEq, Eq)]
+pub enum CertifyReply {
+    /// The certificate is kept from now on.
+    Certified,
+    /// The certificate's round is below the garbage round. Drop the certificate.
+    Collected {
+        /// The garbage round.
+        garbage_round: u64,
+    },
+    /// The certificate's round is not below the garbage round plus the window. Keep the certificate
+    /// for later.
+    TooFar,
+    /// The digest was certified already.
+    Already,
+    /// The digest is certified for another round or author, or its block has another. A quorum
+    /// signed something false.
+    Misfit,
+    /// Another block of the round and author is certified, and this is its digest. More members are
+    /// faulty than the committee tolerates.
+    Conflict(Digest),
+    /// The store holds as many certificates as its limit. Keep the certificate for later.
+    Full,
+}
+
+/// The reply to [`Session::collect`](crate::Session::collect).
+#[derive(Clone, Copy, Debug, PartialEq, Eq)]
+pub enum CollectReply {
+    /// The garbage round is raised.
+    Raised {
+        /// How many blocks were dropped.
+        dropped: u64,
+    },
+    /// The round is not above the garbage round. Nothing changed.
+    NotHigher {
+        /// The garbage round.
+        garbage_round: u64,
+    },
+}
+
+/// Why a block cannot be read with its causal history. It is the reply to
+/// [`Session::causal`](crate::Session::causal) when there is no ticket.
+#[derive(Clone, Copy, Debug, PartialEq, Eq)]
+pub enum CausalFault {
+    /// The block is not stored.
+    Unknown,
+    /// The block is stored and has no certificate.
+    Uncertified,
+    /// The block is certified, and an ancestor above the garbage round refers to a block that is
+    /// not stored or not certified. [`Session::missing`](crate::Session::missing) lists such
+    /// blocks.
+    Incomplete,
+}
+
+error_texts!(CausalFault {
+    CausalFault::Unknown => "the block is not stored",
+    CausalFault::Uncertified => "the block is not certified",
+    CausalFault::Incomplete => "an ancestor of the block is missing",
+});
+
+/// What a store holds. It is the reply to [`Session::status`](crate::Session::status).
+#[derive(Clone, Copy, Debug, PartialEq, Eq)]
+#[repr(C)]
+pub struct Status {
+    /// The garbage round.
+    pub garbage_round: u64,
+    /// The number of blocks.
+    pub blocks: u64,
+    /// The number of certificates.
+    pub certificates: u64,
+    /// The number of blocks that can be read with their causal history.
+    pub complete: u64,
+    /// The number of missing parents.
+    pub wanted: u64,
+}
+
+impl Status {
+    /// Room that the library fills in.
+    pub(crate) const EMPTY: Status = Status {
+        garbage_round: 0,
+        blocks: 0,
+        certificates: 0,
+        complete: 0,
+        wanted: 0,
+    };
+}
+
+impl WriteReply {
+    #[inline]
+    pub(crate) fn of(told: &Told) -> WriteReply {
+        let garbage_round = told.number;
+        match told.kind {
+            reply::STORED_VOTE => WriteReply::Stored { vote: true },
+            reply::STORED => WriteReply::Stored { vote: false },
+            reply::HELD => WriteReply::Held,
+            reply::CLASH => WriteReply::Clash,
+            reply::MISFIT => WriteReply::Misfit,
+            reply::EQUIVOCATES => WriteReply::Equivocates(told.digest),
+            reply::COLLECTED => WriteReply::Collected { garbage_round },
+            reply::TOO_FAR => WriteReply::TooFar,
+            reply::FULL => WriteReply::Full,
+            other => unexpected_kind(other),
+        }
+    }
+}
+
+impl CertifyReply {
+    #[inline]
+    pub(crate) fn of(told: &Told) -> CertifyReply {
+        let garbage_round = told.number;
+        match told.kind {
+            reply::CERTIFIED => CertifyReply::Certified,
+            reply::ALREADY => CertifyReply::Already,
+            reply::MISFIT => CertifyReply::Misfit,
+            reply::CONFLICT => CertifyReply::Conflict(told.digest),
+            reply::COLLECTED => CertifyReply::Collected { garbage_round },
+            reply::TOO_FAR => CertifyReply::TooFar,
+            reply::FULL => CertifyReply::Full,
+            other => unexpected_kind(other),
+        }
+    }
+}
+
+impl CollectReply {
+    pub(crate) fn of(told: &Told) -> CollectReply {
+        match told.kind {
+            reply::RAISED => CollectReply::Raised {
+                dropped: told.number,
+            },
+            reply::NOT_HIGHER => CollectReply::NotHigher {
+                garbage_round: told.number,
+            },
+            other => unexpected_kind(other),
+        }
+    }
+}
+
+impl CausalFault {
+    pub(crate) fn of(told: &Told) -> CausalFault {
+        match told.kind {
+            reply::UNKNOWN => CausalFault::Unknown,
+            reply::UNCERTIFIED => CausalFault::Uncertified,
+            reply::INCOMPLETE => CausalFault::Incomplete,
+            other => unexpected_kind(other),
+        }
+    }
+}

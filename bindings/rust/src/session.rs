@@ -1,0 +1,270 @@
+//! Sessions: the calls of a store.
+
+use crate::answer::Answer;
+use crate::block::Source;
+use crate::code::Code;
+use crate::ffi::{self, Handle};
+use crate::store::Inner;
+use crate::told::{reply, told};
+use crate::{Block, Causal, CertifyReply, CheckedBlock, CheckedCertificate, CollectReply, Digest};
+use crate::{Slot, Status, StepError, WriteReply};
+use std::fmt;
+use std::sync::Arc;
+
+/// One caller of a store. [`Store::session`](crate::Store::session) makes it.
+///
+/// Each call is one step under the store's lock, and one event of its history. The calls of a
+/// session are numbered 1, 2, 3, .. in the history. Threads can share a session or have one each: a
+/// history names the session of each event.
+///
+/// Every call can fail with these errors of [`StepError`], and then it changed nothing:
+///
+/// - [`HistoryFull`](StepError::HistoryFull) if the history has as many events as its limit, unless
+///   the store restarts by itself.
+/// - [`NoMemory`](StepError::NoMemory) if the library could not allocate memory. The call can be
+///   repeated.
+pub struct Session {
+    store: Arc<Inner>,
+    id: u16,
+}
+
+impl Session {
+    pub(crate) fn new(store: Arc<Inner>, id: u16) -> Session {
+        Session { store, id }
+    }
+
+    /// Returns the number of the session, from 0. Events of the history have it.
+    #[must_use]
+    pub fn id(&self) -> u16 {
+        self.id
+    }
+
+    /// Writes a block. It is stored if the reply is [`WriteReply::Stored`] or [`WriteReply::Held`].
+    ///
+    /// # Errors
+    ///
+    /// [`StepError::OtherCommittee`] if the block was checked under another committee.
+    ///
+    /// ```
+    /// # mod data { include!(concat!(env!("CARGO_MANIFEST_DIR"), "/examples/data/mod.rs")); }
+    /// # use narwhal_store::{Limits, Store};
+    /// # let (keys, messages) = (data::keys(), data::values("message"));
+    /// # let committee = narwhal_store::Committee::equal(&keys)?;
+    /// # let session = Store::new(&committee, Limits::default())?.session()?;
+    /// # let message = &messages[0];
+    /// use narwhal_store::{Checked, Message, WriteReply, text_of_vote};
+    ///
+    /// if let Checked::Block(block) = Message::check(&committee, message)? {
+    ///     match session.write(&block)?.reply() {
+    ///         WriteReply::Stored { vote: true } => {
+    ///             // Sign this text, and send the vote to the author.
+    ///             let _text = text_of_vote(&block.slot())?;
+    ///         }
+    ///         WriteReply::Stored { vote: false } | WriteReply::Held => {}
+    ///         refused => println!("not stored: {refused:?}"),
+    ///     }
+    /// }
+    /// # Ok::<(), Box<dyn std::error::Error>>(())
+    /// ```
+    pub fn write(&self, block: &CheckedBlock) -> Result<Answer<WriteReply>, StepError> {
+        let answer = self.hand_in(&mut block.handle.borrow_mut())?;
+        Ok(Answer::new(answer, |answer, _| {
+            WriteReply::of(&told(answer))
+        }))
+    }
+
+    /// Hands in a certificate. It is kept if the reply is [`CertifyReply::Certified`] or
+    /// [`CertifyReply::Already`].
+    ///
+    /// The block and its certificate can come in any order.
+    ///
+    /// # Errors
+    ///
+    /// [`StepError::OtherCommittee`] if the certificate was checked under another committee.
+    pub fn certify(
+        &self,
+        certificate: &CheckedCertificate,
+    ) -> Result<Answer<CertifyReply>, StepError> {
+        let answer = self.hand_in(&mut certificate.handle.borrow_mut())?;
+        Ok(Answer::new(answer, |answer, _| {
+            CertifyReply::of(&told(answer))
+        }))
+    }
+
+    /// Looks up the certificate of a digest. The reply is its message, or `None` if there is no
+    /// certificate.
+    ///
+    /// # Errors
+    ///
+    /// Those that every call can have.
+    pub fn certificate(&self, digest: &Digest) -> Result<Answer<Option<Vec<u8>>>, StepError> {
+        let answer = self.step(|book, session, number, answer| {
+            ffi::nw_book_certificate(book, session, number, digest, answer)
+        })?;
+        Ok(Answer::new(answer, |answer, _| certificate_of(answer)))
+    }
+
+    /// Looks up the block of a digest. The reply is the block, or `None` if it is not stored.
+    ///
+    /// # Errors
+    ///
+    /// Those that every call can have.
+    pub fn read(&self, digest: &Digest) -> Result<Answer<Option<Block>>, StepError> {
+        let answer = self.step(|book, session, number, answer| {
+            ffi::nw_book_read(book, session, number, digest, answer)
+        })?;
+        Ok(Answer::new(answer, block_of))
+    }
+
+    /// Opens a causal read of a digest: the block with all its certified ancestors down to the
+    /// garbage round.
+    ///
+    /// If the block is complete, the result is a [`Ticket`](crate::Ticket), which is walked later
+    /// without a lock. Otherwise it is an answer that says why not.
+    ///
+    /// # Errors
+    ///
+    /// Those that every call can have.
+    ///
+    /// ```
+    /// # mod data { include!(concat!(env!("CARGO_MANIFEST_DIR"), "/examples/data/mod.rs")); }
+    /// # use narwhal_store::{Checked, Committee, Limits, Message, Store};
+    /// # let committee = Committee::equal(&data::keys())?;
+    /// # let session = Store::new(&committee, Limits::default())?.session()?;
+    /// # let mut last = narwhal_store::Digest([0; 32]);
+    /// # for message in data::values("message") {
+    /// #     match Message::check(&committee, &message)? {
+    /// #         Checked::Block(block) => drop(session.write(&block)?),
+    /// #         Checked::Certificate(certificate) => {
+    /// #             session.certify(&certificate)?;
+    /// #             last = certificate.slot().digest;
+    /// #         }
+    /// #         Checked::Vote(_) => {}
+    /// #     }
+    /// # }
+    /// use narwhal_store::{Causal, CausalFault, Digest};
+    ///
+    /// // `last` is the digest of the block that was certified last.
+    /// match session.causal(&last)? {
+    ///     Causal::Ready(ticket) => assert_eq!(ticket.walk()?.last().unwrap().digest(), last),
+    ///     Causal::NotReady(answer) => panic!("{}", answer.reply()),
+    /// }
+    /// let unknown = session.causal(&Digest::of(b"nothing"))?.into_ticket();
+    /// assert_eq!(unknown.unwrap_err(), CausalFault::Unknown);
+    /// # Ok::<(), Box<dyn std::error::Error>>(())
+    /// ```
+    pub fn causal(&self, digest: &Digest) -> Result<Causal, StepError> {
+        let answer = self.step(|book, session, number, answer| {
+            ffi::nw_book_open(book, session, number, digest, answer)
+        })?;
+        Ok(Causal::of(answer))
+    }
+
+    /// Raises the garbage round, and drops all blocks, certificates and votes of rounds below it.
+    ///
+    /// Tickets that are open keep what they list.
+    ///
+    /// # Errors
+    ///
+    /// [`StepError::BadRound`] if the round is 2^48 or more.
+    pub fn collect(&self, round: u64) -> Result<Answer<CollectReply>, StepError> {
+        let answer = self.step(|book, session, number, answer| {
+            ffi::nw_book_collect(book, session, number, round, answer)
+        })?;
+        Ok(Answer::new(answer, |answer, _| {
+            CollectReply::of(&told(answer))
+        }))
+    }
+
+    /// Lists missing parents: those that a stored block above the garbage round refers to, and that
+    /// are not stored or not certified. The reply is the first `most` of them, ascending by round,
+    /// author and digest.
+    ///
+    /// Ask other validators for these blocks and certificates.
+    ///
+    /// # Errors
+    ///
+    /// Those that every call can have.
+    pub fn missing(&self, most: u16) -> Result<Answer<Vec<Slot>>, StepError> {
+        let answer = self.step(|book, session, number, answer| {
+            ffi::nw_book_missing(book, session, number, most, answer)
+        })?;
+        Ok(Answer::new(answer, |answer, _| slots_of(answer)))
+    }
+
+    /// Counts what the store holds.
+    ///
+    /// # Errors
+    ///
+    /// Those that every call can have.
+    pub fn status(&self) -> Result<Answer<Status>, StepError> {
+        let answer = self.step(|book, session, number, answer| {
+            ffi::nw_book_status(book, session, number, answer)
+        })?;
+        Ok(Answer::new(answer, |answer, _| status_of(answer)))
+    }
+
+    /// Writes a block, or hands in a certificate.
+    fn hand_in(&self, checked: &mut Handle) -> Result<Handle, StepError> {
+        self.step(|book, session, number, answer| {
+            ffi::nw_book_take(book, session, number, checked, answer)
+        })
+    }
+
+    /// Takes a step as this session's next call, and returns its answer. The answer's room is made
+    /// before the step, so that no event is recorded whose answer is lost.
+    #[inline]
+    fn step(
+        &self,
+        mut call: impl FnMut(&mut Handle, u16, u32, &mut Handle) -> Code,
+    ) -> Result<Handle, StepError> {
+        let mut answer = Handle::opened(|out| ffi::nw_answer_new(out)).map_err(StepError::of)?;
+        let id = self.id;
+        self.store
+            .step(id, |book, number| call(book, id, number, &mut answer))?;
+        Ok(answer)
+    }
+}
+
+/// The message of the certificate that was found.
+fn certificate_of(answer: &mut Handle) -> Option<Vec<u8>> {
+    match ffi::answer_message(answer) {
+        Ok(message) => Some(message),
+        Err(Code::ABSENT) => None,
+        Err(refused) => refused.abort(),
+    }
+}
+
+/// The block that was found. If this is the answer's last use, the block takes the answer.
+fn block_of(answer: &mut Handle, is_last: bool) -> Option<Block> {
+    let is_found = told(answer).kind == reply::FOUND;
+    is_found.then(|| match is_last {
+        true => Block::at(Source::Answer(answer.take())),
+        false => Block::found(answer),
+    })
+}
+
+/// The missing parents that are listed.
+fn slots_of(answer: &mut Handle) -> Vec<Slot> {
+    let listed = told(answer).number as usize;
+    let slot = |index| {
+        let mut slot = Slot::EMPTY;
+        ffi::nw_answer_missing(answer, index, &mut slot).or_abort();
+        slot
+    };
+    (0..listed).map(slot).collect()
+}
+
+fn status_of(answer: &mut Handle) -> Status {
+    let mut status = Status::EMPTY;
+    ffi::nw_answer_status(answer, &mut status).or_abort();
+    status
+}
+
+impl fmt::Debug for Session {
+    fn fmt(&self, f: &mut fmt::Formatter<'_>) -> fmt::Result {
+        f.debug_struct("Session")
+            .field("id", &self.id)
+            .finish_non_exhaustive()
+    }
+}

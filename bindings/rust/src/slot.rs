@@ -1,0 +1,70 @@
+//! Slots, and the texts that authors and voters sign.
+
+use crate::code::Code;
+use crate::ffi;
+use crate::{BadRound, Digest, Signature};
+
+/// A block's digest, with the block's round and author.
+///
+/// Each vote is for a slot, and a certificate proves that a quorum voted for one.
+#[derive(Clone, Copy, Debug, PartialEq, Eq, Hash)]
+#[repr(C)]
+pub struct Slot {
+    /// The digest of the block.
+    pub digest: Digest,
+    /// The round of the block, below 2^48.
+    pub round: u64,
+    /// The number of the member that made the block.
+    pub author: u16,
+}
+
+impl Slot {
+    /// Room for a slot that the library fills in.
+    pub(crate) const EMPTY: Slot = Slot {
+        digest: Digest::ZERO,
+        round: 0,
+        author: 0,
+    };
+}
+
+/// Returns the 36 bytes that the author of a block signs: `NWBK` and the digest.
+#[must_use]
+pub fn text_of_block(digest: &Digest) -> [u8; 36] {
+    let mut text = [0; 36];
+    ffi::nw_text_of_block(digest, &mut text);
+    text
+}
+
+/// Returns the 44 bytes that a voter for a slot signs: `NWVT`, the digest, the round and the
+/// author.
+///
+/// Sign this text only when the store answered the block's write with `Stored { vote: true }`.
+///
+/// # Errors
+///
+/// [`BadRound`] if the round is 2^48 or more.
+pub fn text_of_vote(slot: &Slot) -> Result<[u8; 44], BadRound> {
+    let mut text = [0; 44];
+    match ffi::nw_text_of_vote(slot, &mut text) {
+        Code::DONE => Ok(text),
+        Code::BAD_ROUND => Err(BadRound),
+        other => other.unexpected(),
+    }
+}
+
+/// Returns the message of a vote: the slot, the number of the member that signed it, and the
+/// signature of [`text_of_vote`].
+///
+/// The message has 107 bytes. Nothing is verified here: [`Gather::add`](crate::Gather::add) does
+/// that.
+///
+/// # Errors
+///
+/// [`BadRound`] if the round is 2^48 or more.
+pub fn vote_message(slot: &Slot, signer: u16, signature: &Signature) -> Result<Vec<u8>, BadRound> {
+    let message = ffi::vote_message(slot, signer, signature);
+    message.map_err(|code| match code {
+        Code::BAD_ROUND => BadRound,
+        other => other.abort(),
+    })
+}

@@ -1,0 +1,165 @@
+//! Tickets of causal reads.
+
+use crate::block::Source;
+use crate::code::Code;
+use crate::error::error_texts;
+use crate::ffi::{self, Handle};
+use crate::{Block, Digest, History, NoMemory};
+use std::fmt;
+use std::ptr;
+use std::sync::{Arc, Mutex};
+
+/// A causal read that is ready to be walked: a snapshot of a block with all its certified
+/// ancestors.
+///
+/// [`Session::causal`](crate::Session::causal) opens it. A walk takes no lock, and other calls go
+/// on meanwhile. The list is that of the moment when the ticket was opened, also when rounds were
+/// collected since. A ticket outlives its store.
+///
+/// A ticket keeps the blocks of its list in memory. Drop it after its use.
+///
+/// The type is `Send`, so another thread can walk it, and it is not `Sync`.
+///
+/// ```compile_fail,E0277
+/// fn shared<T: Sync>() {}
+/// shared::<narwhal_store::Ticket>();
+/// ```
+pub struct Ticket {
+    history: History,
+}
+
+impl Ticket {
+    pub(crate) fn new(handle: Handle) -> Ticket {
+        Ticket {
+            history: History::new(handle),
+        }
+    }
+
+    /// Returns the digest of the block that is read.
+    #[must_use]
+    pub fn digest(&self) -> Digest {
+        self.about().0
+    }
+
+    /// Returns the garbage round when the ticket was opened. The list has no blocks of rounds below
+    /// it.
+    #[must_use]
+    pub fn floor(&self) -> u64 {
+        self.about().1
+    }
+
+    fn about(&self) -> (Digest, u64) {
+        let (mut digest, mut floor) = (Digest::ZERO, 0);
+        let handle = &mut self.history.handle.borrow_mut();
+        ffi::nw_ticket_about(handle, &mut digest, &mut floor).or_abort();
+        (digest, floor)
+    }
+
+    /// Lists the block and its certified ancestors, down to the garbage round, in ascending order
+    /// of round and author.
+    ///
+    /// Every walk of a ticket returns the same list. So do walks of all tickets for the same digest
+    /// with the same [`floor`](Ticket::floor), of any store.
+    ///
+    /// The blocks share the list in memory. Each leaves it when one of its parts is asked for.
+    ///
+    /// # Errors
+    ///
+    /// [`NoMemory`] if the library could not allocate memory.
+    ///
+    /// ```
+    /// # mod data { include!(concat!(env!("CARGO_MANIFEST_DIR"), "/examples/data/mod.rs")); }
+    /// # use narwhal_store::{Checked, Committee, Limits, Message, Store};
+    /// # let committee = Committee::equal(&data::keys())?;
+    /// # let session = Store::new(&committee, Limits::default())?.session()?;
+    /// # let mut last = narwhal_store::Digest([0; 32]);
+    /// # for message in data::values("message") {
+    /// #     match Message::check(&committee, &message)? {
+    /// #         Checked::Block(block) => drop(session.write(&block)?),
+    /// #         Checked::Certificate(certificate) => {
+    /// #             session.certify(&certificate)?;
+    /// #             last = certificate.slot().digest;
+    /// #         }
+    /// #         Checked::Vote(_) => {}
+    /// #     }
+    /// # }
+    /// let ticket = session.causal(&last)?.into_ticket()?;
+    /// session.collect(1)?; // It drops the blocks of round 0, but not from the ticket.
+    /// let walker = std::thread::spawn(move || ticket.walk());
+    /// let blocks = walker.join().unwrap()?;
+    /// assert_eq!(blocks[0].round(), 0);
+    /// assert_eq!(blocks.last().unwrap().digest(), last);
+    /// # Ok::<(), Box<dyn std::error::Error>>(())
+    /// ```
+    pub fn walk(&self) -> Result<Vec<Block>, NoMemory> {
+        let ticket = &mut self.history.handle.borrow_mut();
+        let mut list =
+            Handle::opened(|out| ffi::nw_ticket_walk(ticket, out)).map_err(Code::no_memory)?;
+        let mut len = 0;
+        ffi::nw_list_len(&mut list, &mut len).or_no_memory()?;
+        let list = Arc::new(Mutex::new(list));
+        let listed = |index| Block::at(Source::Listed(Arc::clone(&list), index));
+        Ok((0..len).map(listed).collect())
+    }
+
+    /// Compares the lists of two tickets for the same digest with the same
+    /// [`floor`](Ticket::floor), which may be of two stores. Returns whether they are the same.
+    ///
+    /// They always are, unless two different blocks have one digest.
+    ///
+    /// # Errors
+    ///
+    /// - [`AgreeError::Apart`] if the tickets are for two digests, or have two garbage rounds.
+    /// - [`AgreeError::NoMemory`] if the library could not allocate memory.
+    pub fn agrees(&self, other: &Ticket) -> Result<bool, AgreeError> {
+        if ptr::eq(self, other) {
+            return Ok(true);
+        }
+        let this = &mut self.history.handle.borrow_mut();
+        let other = &mut other.history.handle.borrow_mut();
+        let mut same = false;
+        match ffi::nw_ticket_agree(this, other, &mut same) {
+            Code::DONE => Ok(same),
+            Code::APART => Err(AgreeError::Apart),
+            other => Err(other.no_memory().into()),
+        }
+    }
+
+    /// Returns the history that explains the ticket. Its last event is the call that opened the
+    /// ticket.
+    #[must_use]
+    pub fn history(&self) -> &History {
+        &self.history
+    }
+}
+
+impl fmt::Debug for Ticket {
+    fn fmt(&self, f: &mut fmt::Formatter<'_>) -> fmt::Result {
+        let (digest, floor) = self.about();
+        f.debug_struct("Ticket")
+            .field("digest", &digest)
+            .field("floor", &floor)
+            .finish_non_exhaustive()
+    }
+}
+
+/// Why two tickets are not compared.
+#[derive(Clone, Copy, Debug, PartialEq, Eq)]
+#[non_exhaustive]
+pub enum AgreeError {
+    /// The tickets are for two digests, or have two garbage rounds.
+    Apart,
+    /// The library could not allocate memory.
+    NoMemory,
+}
+
+error_texts!(AgreeError {
+    AgreeError::Apart => "the tickets are for two digests or have two garbage rounds",
+    AgreeError::NoMemory => "out of memory",
+});
+
+impl From<NoMemory> for AgreeError {
+    fn from(NoMemory: NoMemory) -> AgreeError {
+        AgreeError::NoMemory
+    }
+}

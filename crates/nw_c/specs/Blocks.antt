@@ -1,0 +1,59 @@
+-- Blocks that C makes and reads.
+use Rattle.std.specs.Prelude.{◌≡◌, ℕ, List, Some, length, map, slice_get}
+use Rattle.std.specs.List.{flat_map}
+use Rattle.nw_codec.specs.Fits.{Fits}
+use Rattle.nw_codec.specs.Grammar.{body}
+use Rattle.nw_codec.specs.Spelled.{Spells}
+use Rattle.nw_codec.specs.declared.block.Ref.{Ref}
+use Rattle.nw_codec.specs.declared.message.Message.TheVariants as messages
+use Rattle.nw_model.specs.Checks.{digest_of}
+use Rattle.nw_c.specs.Plain.{digest_in, slot_of}
+use Rattle.nw_c.specs.declared.plain.CSlot.{CSlot}
+use Rattle.nw_c.specs.declared.plain.CSignature.{CSignature}
+use Rattle.nw_c.specs.declared.blocks.CParent.{CParent}
+use Rattle.nw_c.specs.declared.content.Content.{Content}
+use Rattle.nw_c.specs.declared.content.Content.TheVariants as kind
+
+-- the parent that C lists
+abbrev pub parent_in : CParent → Ref
+parent_in p = record { author = p.author; digest = digest_in p.digest }
+
+-- the transactions have these lengths, and are the bytes one after another
+abbrev pub AreCutFrom : List ℕ → List ℕ → List (List ℕ) → Type 0
+AreCutFrom bytes lengths transactions = (map length transactions ≡ lengths) × (flat_map (λ t. t) transactions ≡ bytes)
+
+-- it is a block with these parts, which fits the format
+abbrev pub IsMadeBlock : ℕ → ℕ → List CParent → List ℕ → List ℕ → Content → Type 0
+IsMadeBlock author round parents bytes lengths (kind.Block b) =
+    (b.author ≡ author) × (b.round ≡ round) × (b.parents ≡ map parent_in parents) × AreCutFrom bytes lengths b.transactions × Fits b
+IsMadeBlock author round parents bytes lengths other = ⊥
+
+-- it is a block with this slot
+abbrev pub HasSlot : Content → CSlot → Type 0
+HasSlot (kind.Block b) s = s ≡ slot_of (digest_of b) b.round b.author
+HasSlot other s = ⊥
+
+-- it is a block with so many parents and so many transactions
+abbrev pub HasCounts : Content → ℕ → ℕ → Type 0
+HasCounts (kind.Block b) parents transactions = (parents ≡ length b.parents) × (transactions ≡ length b.transactions)
+HasCounts other parents transactions = ⊥
+
+-- it is a block whose parent at the index is p
+abbrev pub HasParent : Content → ℕ → CParent → Type 0
+HasParent (kind.Block b) index p = slice_get b.parents index ≡ Some (parent_in p)
+HasParent other index p = ⊥
+
+-- it is a block whose transaction at the index has these bytes
+abbrev pub HasTransaction : Content → ℕ → List ℕ → Type 0
+HasTransaction (kind.Block b) index bytes = slice_get b.transactions index ≡ Some bytes
+HasTransaction other index bytes = ⊥
+
+-- it is a block with this body
+abbrev pub HasBody : Content → List ℕ → Type 0
+HasBody (kind.Block b) text = text ≡ body b
+HasBody other text = ⊥
+
+-- the text is the message of the block with this signature
+abbrev pub HasMessage : Content → CSignature → List ℕ → Type 0
+HasMessage (kind.Block b) s text = Spells text (messages.Block b (record { 0 = s.bytes }))
+HasMessage other s text = ⊥

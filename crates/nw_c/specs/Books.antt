@@ -1,0 +1,55 @@
+-- Steps of books.
+use Rattle.std.specs.Prelude.{◌≡◌, ℕ, [], List, Option, length}
+use Rattle.nw_committee.specs.declared.member.Member.{Member}
+use Rattle.nw_sig.specs.Signed.{Meaning}
+use Rattle.nw_digest.specs.declared.digest.Digest.{Digest}
+use Rattle.nw_model.specs.declared.call.Call.{Call}
+use Rattle.nw_model.specs.declared.call.Call.TheVariants as call
+use Rattle.nw_model.specs.declared.reply.CausalReply.{CausalReply}
+use Rattle.nw_model.specs.declared.reply.Reply.TheVariants as reply
+use Rattle.nw_history.specs.Limits.{AreInRange}
+use Rattle.nw_history.specs.Story.{first_origin, reopened, story_of}
+use Rattle.nw_history.specs.declared.limits.Limits.{Limits}
+use Rattle.nw_book.specs.Answer.{Takes}
+use Rattle.nw_book.specs.Turn.{IsRefusal}
+use Rattle.nw_book.specs.declared.error.NoStep.{NoStep}
+use Rattle.nw_c.specs.declared.books.CLimits.{CLimits}
+use Rattle.nw_c.specs.declared.content.Content.{Content}
+use Rattle.nw_c.specs.declared.content.Content.TheVariants as kind
+
+-- the limits that C gives
+abbrev pub limits_in : CLimits → Limits
+limits_in l = record { blocks = l.blocks; events = l.events; window = l.window; sessions = l.sessions }
+
+-- it is a new book of the committee, under these limits, with an empty history
+abbrev pub IsEmptyBook : Content → CLimits → Content → Type 0
+IsEmptyBook (kind.Committee members) limits (kind.Book s) = AreInRange (limits_in limits) × (s ≡ story_of (first_origin members (limits_in limits)) [])
+IsEmptyBook committee limits other = ⊥
+
+-- it is a book whose history has so many events
+abbrev pub HasEvents : Content → ℕ → Type 0
+HasEvents (kind.Book s) n = n ≡ length s.events
+HasEvents other n = ⊥
+
+-- the book takes the session's call of this number, and the answer is the step's
+abbrev pub IsTaken : Meaning → ℕ → ℕ → Call → Content → Content → Content → Type 0
+IsTaken accepts session number asked (kind.Book old) (kind.Book new) (kind.Answer told) = Takes accepts old new session number asked told.event.reply told.front
+IsTaken accepts session number asked old new answer = ⊥
+
+-- the book takes the session's causal read of this number: the answer is a ticket for the digest, or says why there is none
+abbrev pub IsOpened : Meaning → ℕ → ℕ → Digest → Content → Content → Content → Type 0
+IsOpened accepts session number d (kind.Book old) (kind.Book new) (kind.Ticket given) =
+    Takes accepts old new session number (call.Causal d) reply.Ready given.front × (given.digest ≡ d)
+IsOpened accepts session number d (kind.Book old) (kind.Book new) (kind.Answer told) =
+    Takes accepts old new session number (call.Causal d) told.event.reply told.front × ((why : CausalReply) × (told.event.reply ≡ reply.Causal why))
+IsOpened accepts session number d old new answer = ⊥
+
+-- the book refuses the session's call of this number for this reason, where the committee is that of a value that is handed in
+abbrev pub IsRefusedBy : Content → ℕ → ℕ → Option (List Member) → NoStep → Type 0
+IsRefusedBy (kind.Book s) session number under why = IsRefusal s session number under why
+IsRefusedBy other session number under why = ⊥
+
+-- the new book has the same state, and an empty history that starts from it
+abbrev pub IsRestarted : Content → Content → Type 0
+IsRestarted (kind.Book old) (kind.Book new) = new ≡ reopened old
+IsRestarted old new = ⊥

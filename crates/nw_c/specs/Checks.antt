@@ -1,0 +1,32 @@
+-- Checked texts.
+use Rattle.std.specs.Prelude.{◌≡◌, ℕ, List}
+use Rattle.nw_sig.specs.Signed.{Meaning}
+use Rattle.nw_codec.specs.Spelled.{Spells}
+use Rattle.nw_codec.specs.declared.message.Message.TheVariants as messages
+use Rattle.nw_check.specs.Message.{IsChecked}
+use Rattle.nw_check.specs.declared.message.Checked.TheVariants as checked
+use Rattle.nw_c.specs.Messages.{IsMessageOf}
+use Rattle.nw_c.specs.declared.messages.CMessage.{CMessage}
+use Rattle.nw_c.specs.declared.content.Content.{Content}
+use Rattle.nw_c.specs.declared.content.Content.TheVariants as kind
+
+-- it is the result of checking this text under the committee
+abbrev pub IsCheckOf : Meaning → Content → List ℕ → Content → Type 0
+IsCheckOf accepts (kind.Committee members) text (kind.Checked c) = IsChecked accepts members text c
+IsCheckOf accepts committee text other = ⊥
+
+-- m is what the checked text is
+abbrev pub IsToldOf : Content → CMessage → Type 0
+IsToldOf (kind.Checked c) m = IsMessageOf c m
+IsToldOf other m = ⊥
+
+-- it is the checked block
+abbrev pub IsBlockOf : Content → Content → Type 0
+IsBlockOf (kind.Checked (checked.Block c)) (kind.Block b) = c.block ≡ b
+IsBlockOf one other = ⊥
+
+-- the text is the message of the checked certificate or vote
+abbrev pub IsSpelledBy : Content → List ℕ → Type 0
+IsSpelledBy (kind.Checked (checked.Cert c)) text = Spells text (messages.Certificate c.certificate)
+IsSpelledBy (kind.Checked (checked.Vote v)) text = Spells text (messages.Vote v)
+IsSpelledBy other text = ⊥

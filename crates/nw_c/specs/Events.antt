@@ -1,0 +1,55 @@
+-- The histories that explain answers, as C is told them.
+use Rattle.std.specs.Prelude.{◌≡◌, ◌↔◌, ℕ, Bool, IsTrue, Option, Some, None, length, slice_get}
+use Rattle.nw_model.specs.declared.call.Call.{Call}
+use Rattle.nw_model.specs.declared.call.Call.TheVariants as call
+use Rattle.nw_model.specs.declared.event.Event.{Event}
+use Rattle.nw_history.specs.Prefix.{IsPrefixOf}
+use Rattle.nw_history.specs.Story.{Story}
+use Rattle.nw_c.specs.Plain.{digest_in}
+use Rattle.nw_c.specs.Replies.{IsToldAs}
+use Rattle.nw_c.specs.declared.plain.CTold.{CTold}
+use Rattle.nw_c.specs.declared.events.CEvent.{CEvent}
+use Rattle.nw_c.specs.declared.events.TheConstants.{CALL_WRITE, CALL_CERTIFY, CALL_CERTIFICATE, CALL_READ, CALL_CAUSAL, CALL_COLLECT, CALL_MISSING, CALL_STATUS}
+use Rattle.nw_c.specs.declared.content.Content.{Content}
+use Rattle.nw_c.specs.declared.content.Content.TheVariants as kind
+
+-- the kind that is told is that of the call, and so are its digest or number
+abbrev pub IsCallTold : Call → CTold → Type 0
+IsCallTold (call.Write d b) t = (t.kind ≡ CALL_WRITE) × (digest_in t.digest ≡ d)
+IsCallTold (call.Certify c) t = (t.kind ≡ CALL_CERTIFY) × (digest_in t.digest ≡ c.digest)
+IsCallTold (call.Certificate d) t = (t.kind ≡ CALL_CERTIFICATE) × (digest_in t.digest ≡ d)
+IsCallTold (call.Read d) t = (t.kind ≡ CALL_READ) × (digest_in t.digest ≡ d)
+IsCallTold (call.Causal d) t = (t.kind ≡ CALL_CAUSAL) × (digest_in t.digest ≡ d)
+IsCallTold (call.Collect round) t = (t.kind ≡ CALL_COLLECT) × (t.number ≡ round)
+IsCallTold (call.Missing most) t = (t.kind ≡ CALL_MISSING) × (t.number ≡ most)
+IsCallTold call.Status t = t.kind ≡ CALL_STATUS
+
+-- an event is told
+abbrev pub IsEventTold : Event → CEvent → Type 0
+IsEventTold e t = (t.session ≡ e.session) × (t.number ≡ e.number) × IsCallTold e.call t.call × IsToldAs e.reply t.reply
+
+-- the history of an answer or a ticket
+abbrev pub front_in : Content → Option Story
+front_in (kind.Answer told) = Some told.front
+front_in (kind.Ticket given) = Some given.front
+front_in other = None
+
+-- there is a history, and it has so many events
+abbrev pub HasLength : Option Story → ℕ → Type 0
+HasLength (Some s) n = n ≡ length s.events
+HasLength None n = ⊥
+
+-- there is an event, and it is told
+abbrev pub IsSomeTold : Option Event → CEvent → Type 0
+IsSomeTold (Some e) t = IsEventTold e t
+IsSomeTold None t = ⊥
+
+-- there is a history, and its event at the index is told
+abbrev pub HasEventAt : Option Story → ℕ → CEvent → Type 0
+HasEventAt (Some s) index t = IsSomeTold (slice_get s.events index) t
+HasEventAt None index t = ⊥
+
+-- there are two histories, and b says whether the first begins the second
+abbrev pub Begins : Option Story → Option Story → Bool → Type 0
+Begins (Some one) (Some other) b = IsTrue b ↔ IsPrefixOf one other
+Begins one other b = ⊥

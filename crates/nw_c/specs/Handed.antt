@@ -1,0 +1,30 @@
+-- What is handed to a book.
+use Rattle.std.specs.Prelude.{◌≡◌, ℕ, List, Option, Some, None}
+use Rattle.nw_committee.specs.declared.member.Member.{Member}
+use Rattle.nw_sig.specs.Signed.{Meaning}
+use Rattle.nw_model.specs.Checks.{digest_of}
+use Rattle.nw_model.specs.declared.call.Call.TheVariants as call
+use Rattle.nw_check.specs.declared.message.Checked.TheVariants as checked
+use Rattle.nw_book.specs.declared.command.Command.{Command}
+use Rattle.nw_book.specs.declared.command.Command.TheVariants as command
+use Rattle.nw_c.specs.declared.content.Content.{Content}
+use Rattle.nw_c.specs.declared.content.Content.TheVariants as kind
+use Rattle.nw_c.specs.Books.{IsTaken}
+
+-- the command hands in the checked block or certificate
+abbrev pub IsCommandOf : {S : Type 0} → Content → Command S → Type 0
+IsCommandOf (kind.Checked (checked.Block b)) (command.Write c) = b ≡ c
+IsCommandOf (kind.Checked (checked.Cert b)) (command.Certify c) = b ≡ c
+IsCommandOf content other = ⊥
+
+-- the committee under which the block or certificate was checked
+abbrev pub committee_of : Content → Option (List Member)
+committee_of (kind.Checked (checked.Block b)) = Some b.committee
+committee_of (kind.Checked (checked.Cert c)) = Some c.committee
+committee_of other = None
+
+-- the book takes the write of the checked block, or the checked certificate, and the answer is the step's
+abbrev pub IsHandedIn : Meaning → ℕ → ℕ → Content → Content → Content → Content → Type 0
+IsHandedIn accepts session number (kind.Checked (checked.Block b)) old new answer = IsTaken accepts session number (call.Write (digest_of b.block) b.block) old new answer
+IsHandedIn accepts session number (kind.Checked (checked.Cert c)) old new answer = IsTaken accepts session number (call.Certify c.certificate) old new answer
+IsHandedIn accepts session number other old new answer = ⊥

@@ -1,0 +1,16 @@
+pub mod Held
+pub mod Lent
+pub mod Codes
+pub mod Plain
+pub mod Committees
+pub mod Messages
+pub mod Votes
+pub mod Checks
+pub mod Gathers
+pub mod Blocks
+pub mod Books
+pub mod Handed
+pub mod Replies
+pub mod Events
+pub mod Answers
+pub mod Tickets

@@ -1,0 +1,55 @@
+-- Tickets and the lists of their walks.
+use Rattle.std.specs.Prelude.{◌≡◌, ◌↔◌, ℕ, ℤ, pos, Bool, IsTrue, Some, length, slice_get}
+use Rattle.nw_model.specs.Step.{IsReply}
+use Rattle.nw_model.specs.declared.call.Call.TheVariants as call
+use Rattle.nw_model.specs.declared.reply.Reply.TheVariants as reply
+use Rattle.nw_history.specs.Story.{bounds_of, state_of}
+use Rattle.nw_book.specs.Ticket.{Given, HaveOneList}
+use Rattle.nw_c.specs.Plain.{digest_in}
+use Rattle.nw_c.specs.declared.plain.CDigest.{CDigest}
+use Rattle.nw_c.specs.declared.codes.TheConstants.{APART}
+use Rattle.nw_c.specs.declared.content.Content.{Content}
+use Rattle.nw_c.specs.declared.content.Content.TheVariants as kind
+
+-- the garbage round at the call that opened the ticket
+abbrev pub floor_of : Given → ℕ
+floor_of given = (state_of given.front).floor
+
+-- it is a ticket for this digest, with this garbage round
+abbrev pub IsAbout : Content → CDigest → ℕ → Type 0
+IsAbout (kind.Ticket given) d floor = (digest_in d ≡ given.digest) × (floor ≡ floor_of given)
+IsAbout other d floor = ⊥
+
+-- both are tickets, and b says whether one list is the reply to both reads
+abbrev pub Agrees : Content → Content → Bool → Type 0
+Agrees (kind.Ticket one) (kind.Ticket other) b = IsTrue b ↔ HaveOneList one other
+Agrees one other b = ⊥
+
+-- the tickets are for two digests or have two garbage rounds
+abbrev pub DifferInScope : Given → Given → Type 0
+DifferInScope one other = one.digest ≡ other.digest → floor_of one ≡ floor_of other → ⊥
+
+-- the code is not that of success, and is APART only of tickets that differ so
+pub record IsWhyApart (one other : Given) (code : ℤ) : Type 0 where
+  pub not_done : code ≡ pos 0 → ⊥
+  pub apart : code ≡ APART → DifferInScope one other
+
+-- both are tickets, for two digests or with two garbage rounds
+abbrev pub AreApart : Content → Content → Type 0
+AreApart (kind.Ticket one) (kind.Ticket other) = DifferInScope one other
+AreApart one other = ⊥
+
+-- it is the list of the reply to the causal read of the ticket
+abbrev pub IsWalkOf : Content → Content → Type 0
+IsWalkOf (kind.Ticket given) (kind.List blocks) = IsReply (bounds_of given.front.limits) (state_of given.front) (call.Causal given.digest) (reply.List blocks)
+IsWalkOf ticket list = ⊥
+
+-- it is a list of so many blocks
+abbrev pub HasBlocks : Content → ℕ → Type 0
+HasBlocks (kind.List blocks) n = n ≡ length blocks
+HasBlocks other n = ⊥
+
+-- it is the block at the index of the list
+abbrev pub IsBlockAt : Content → ℕ → Content → Type 0
+IsBlockAt (kind.List blocks) index (kind.Block b) = slice_get blocks index ≡ Some b
+IsBlockAt list index other = ⊥

@@ -1,0 +1,145 @@
+//! What answers carry.
+ghost use Rattle.std.specs.Prelude.{◌≡◌, pos, take};
+ghost use Rattle.nw_c.specs.Answers.{IsCertificateTold, IsFound, IsMissingAt, IsStatusTold};
+
+use crate::codes::{ABSENT, CLOSED, DONE, NO_MEMORY, OPEN, OTHER_KIND};
+use crate::content::Content;
+use crate::handle::{AnswerHandle, BlockHandle, put};
+use crate::plain::{CSlot, slot};
+use crate::texts::{certificate_text, hand_out_encoded};
+use nw_model::Reply;
+use std::alloc::Global;
+
+/// How much a book stores: the garbage round, the blocks, certificates and complete blocks, and the missing parents.
+#[repr(C)]
+#[derive(Clone, Copy)]
+pub struct CStatus {
+    pub floor: u64,
+    pub blocks: u64,
+    pub certificates: u64,
+    pub complete: u64,
+    pub wanted: u64,
+}
+
+/// Makes room for an answer. It is made before a call, so that no call that was taken lacks memory for its answer. The room can be used
+/// again, and a new answer replaces the old one.
+#[unsafe(no_mangle)]
+pub extern "C" fn nw_answer_new(alloc: Global, out: &mut AnswerHandle) -> i32
+    ensures held { (result ≡ pos 0 → ⊥) → out.new.held ≡ out.old.held }
+{
+    if out.is_open() {
+        return OPEN;
+    }
+    put(alloc, out, Content::Room)
+}
+
+/// Opens a handle of the block that a read found. Returns `NW_ABSENT` if it found none, and `NW_OTHER_KIND` of the answer to another call.
+#[unsafe(no_mangle)]
+pub extern "C" fn nw_answer_block(
+    alloc: Global,
+    answer: &mut AnswerHandle,
+    out: &mut BlockHandle,
+) -> i32
+    ensures found { result ≡ pos 0 → IsFound answer.old.value out.new.value }
+    ensures same { answer.new.value ≡ answer.old.value }
+    ensures held { (result ≡ pos 0 → ⊥) → out.new.held ≡ out.old.held }
+{
+    if !answer.is_open() {
+        return CLOSED;
+    }
+    if out.is_open() {
+        return OPEN;
+    }
+    match answer.lend() {
+        Content::Answer(done) => match done.reply() {
+            Reply::Read(Some(block)) => match block.try_clone() {
+                Ok(block) => put(alloc, out, Content::Block(block)),
+                Err(_) => NO_MEMORY,
+            },
+            Reply::Read(None) => ABSENT,
+            _ => OTHER_KIND,
+        },
+        _ => OTHER_KIND,
+    }
+}
+
+/// Writes the message of the certificate that was asked for. Its size goes to `needed`; `NW_SMALL` if the buffer is smaller. Returns
+/// `NW_ABSENT` if there is none, and `NW_OTHER_KIND` of the answer to another call.
+#[unsafe(no_mangle)]
+pub extern "C" fn nw_answer_message(
+    alloc: Global,
+    answer: &mut AnswerHandle,
+    buffer: &mut [u8],
+    needed: &mut usize,
+) -> i32
+    ensures certificate { result ≡ pos 0
+        → IsCertificateTold answer.old.value (take needed.new buffer.new) }
+    ensures same { answer.new.value ≡ answer.old.value }
+{
+    if !answer.is_open() {
+        return CLOSED;
+    }
+    match answer.lend() {
+        Content::Answer(done) => match done.reply() {
+            Reply::Certificate(Some(certificate)) => {
+                let text = certificate_text(alloc, certificate.get());
+                hand_out_encoded(text, buffer, needed)
+            }
+            Reply::Certificate(None) => ABSENT,
+            _ => OTHER_KIND,
+        },
+        _ => OTHER_KIND,
+    }
+}
+
+/// Writes the missing parent at the index, from 0, of the answer to the call for missing parents. Returns `NW_ABSENT` past the last, and
+/// `NW_OTHER_KIND` of the answer to another call.
+#[unsafe(no_mangle)]
+pub extern "C" fn nw_answer_missing(answer: &mut AnswerHandle, index: usize, out: &mut CSlot) -> i32
+    ensures missing { result ≡ pos 0 → IsMissingAt answer.old.value index out.new }
+    ensures same { answer.new.value ≡ answer.old.value }
+{
+    if !answer.is_open() {
+        return CLOSED;
+    }
+    match answer.lend() {
+        Content::Answer(done) => match done.reply() {
+            Reply::Missing(wanted) => match wanted.as_slice().get(index) {
+                Some(wanted) => {
+                    *out = slot(wanted.digest, wanted.round, wanted.author);
+                    DONE
+                }
+                None => ABSENT,
+            },
+            _ => OTHER_KIND,
+        },
+        _ => OTHER_KIND,
+    }
+}
+
+/// Writes how much the book stored, of the answer to the call for the status. Returns `NW_OTHER_KIND` of the answer to another call.
+#[unsafe(no_mangle)]
+pub extern "C" fn nw_answer_status(answer: &mut AnswerHandle, out: &mut CStatus) -> i32
+    ensures status { result ≡ pos 0 → IsStatusTold answer.old.value out.new }
+    ensures same { answer.new.value ≡ answer.old.value }
+{
+    if !answer.is_open() {
+        return CLOSED;
+    }
+    match answer.lend() {
+        Content::Answer(done) => match done.reply() {
+            Reply::Status(counts) => {
+                *out = CStatus {
+                    floor: counts.floor.get(),
+                    blocks: counts.blocks,
+                    certificates: counts.certificates,
+                    complete: counts.complete,
+                    wanted: counts.wanted,
+                };
+                DONE
+            }
+            _ => OTHER_KIND,
+        },
+        _ => OTHER_KIND,
+    }
+}

@@ -1,0 +1,176 @@
+//! Blocks.
+ghost use Rattle.std.specs.Prelude.{◌≡◌, pos, take, slice_get};
+ghost use Rattle.std.specs.Option.{option_copied};
+ghost use Rattle.nw_c.specs.Blocks.{HasBody, HasCounts, HasMessage, HasParent, HasSlot, HasTransaction};
+
+use crate::codes::{ABSENT, CLOSED, DONE, OTHER_KIND, OVER_LIMIT};
+use crate::content::Content;
+use crate::handle::BlockHandle;
+use crate::plain::{CDigest, CSignature, CSlot, slot};
+use crate::texts::{hand_out, hand_out_encoded};
+use nw_codec::{Signature, Transactions, block_digest, encode_block, encode_body};
+use std::alloc::Global;
+
+mod making;
+
+/// A parent of a block: its author and its digest.
+#[repr(C)]
+#[derive(Clone, Copy)]
+pub struct CParent {
+    pub author: u16,
+    pub digest: CDigest,
+}
+
+/// Writes the digest, round and author of the block. Returns `NW_OVER_LIMIT` if the block breaks a limit of the format, which no checked
+/// block does.
+#[unsafe(no_mangle)]
+pub extern "C" fn nw_block_slot(block: &mut BlockHandle, out: &mut CSlot) -> i32
+    ensures slot { result ≡ pos 0 → HasSlot block.old.value out.new }
+    ensures same { block.new.value ≡ block.old.value }
+{
+    if !block.is_open() {
+        return CLOSED;
+    }
+    let Content::Block(held) = block.lend() else {
+        return OTHER_KIND;
+    };
+    let held = held.get();
+    if !held.fits() {
+        return OVER_LIMIT;
+    }
+    *out = slot(block_digest(held), held.round, held.author);
+    DONE
+}
+
+/// Writes how many parents and how many transactions the block has.
+#[unsafe(no_mangle)]
+pub extern "C" fn nw_block_counts(
+    block: &mut BlockHandle,
+    parents: &mut usize,
+    transactions: &mut usize,
+) -> i32
+    ensures counts { result ≡ pos 0 → HasCounts block.old.value parents.new transactions.new }
+    ensures same { block.new.value ≡ block.old.value }
+{
+    if !block.is_open() {
+        return CLOSED;
+    }
+    match block.lend() {
+        Content::Block(held) => {
+            *parents = held.get().parents.as_slice().len();
+            *transactions = held.get().transactions.len();
+            DONE
+        }
+        _ => OTHER_KIND,
+    }
+}
+
+/// Writes the parent at the index, from 0; parents ascend by author. Returns `NW_ABSENT` past the last.
+#[unsafe(no_mangle)]
+pub extern "C" fn nw_block_parent(block: &mut BlockHandle, index: usize, out: &mut CParent) -> i32
+    ensures parent { result ≡ pos 0 → HasParent block.old.value index out.new }
+    ensures same { block.new.value ≡ block.old.value }
+{
+    if !block.is_open() {
+        return CLOSED;
+    }
+    let Content::Block(held) = block.lend() else {
+        return OTHER_KIND;
+    };
+    match held.get().parents.as_slice().get(index) {
+        Some(parent) => {
+            *out = CParent {
+                author: parent.author,
+                digest: CDigest::of(&parent.digest),
+            };
+            DONE
+        }
+        None => ABSENT,
+    }
+}
+
+/// The transaction at the index.
+fn transaction_at(transactions: &Transactions, index: usize) -> Option<&[u8]>
+    ensures { option_copied result ≡ slice_get transactions.now index }
+{
+    let mut left = index;
+    for transaction in transactions.iter() {
+        if left == 0 {
+            return Some(transaction);
+        }
+        left -= 1;
+    }
+    None
+}
+
+/// Copies the transaction at the index, from 0. Its size goes to `needed`; `NW_SMALL` if the buffer is smaller. Returns `NW_ABSENT` past
+/// the last.
+#[unsafe(no_mangle)]
+pub extern "C" fn nw_block_transaction(
+    block: &mut BlockHandle,
+    index: usize,
+    buffer: &mut [u8],
+    needed: &mut usize,
+) -> i32
+    ensures transaction { result ≡ pos 0 → HasTransaction block.old.value index (take needed.new buffer.new) }
+    ensures same { block.new.value ≡ block.old.value }
+{
+    if !block.is_open() {
+        return CLOSED;
+    }
+    let Content::Block(held) = block.lend() else {
+        return OTHER_KIND;
+    };
+    match transaction_at(&held.get().transactions, index) {
+        Some(transaction) => hand_out(transaction, buffer, needed),
+        None => ABSENT,
+    }
+}
+
+/// Copies the body of the block, of which the digest is taken. Its size goes to `needed`; `NW_SMALL` if the buffer is smaller.
+#[unsafe(no_mangle)]
+pub extern "C" fn nw_block_body(
+    alloc: Global,
+    block: &mut BlockHandle,
+    buffer: &mut [u8],
+    needed: &mut usize,
+) -> i32
+    ensures body { result ≡ pos 0 → HasBody block.old.value (take needed.new buffer.new) }
+    ensures same { block.new.value ≡ block.old.value }
+{
+    if !block.is_open() {
+        return CLOSED;
+    }
+    match block.lend() {
+        Content::Block(held) => {
+            let text = encode_body(alloc, held.get());
+            hand_out_encoded(text, buffer, needed)
+        }
+        _ => OTHER_KIND,
+    }
+}
+
+/// Writes the message of the block with this signature, to be sent. Its size goes to `needed`; `NW_SMALL` if the buffer is smaller. The
+/// signature is not checked.
+#[unsafe(no_mangle)]
+pub extern "C" fn nw_block_message(
+    alloc: Global,
+    block: &mut BlockHandle,
+    signature: &CSignature,
+    buffer: &mut [u8],
+    needed: &mut usize,
+) -> i32
+    ensures message { result ≡ pos 0 → HasMessage block.old.value signature.now (take needed.new buffer.new) }
+    ensures same { block.new.value ≡ block.old.value }
+{
+    if !block.is_open() {
+        return CLOSED;
+    }
+    match block.lend() {
+        Content::Block(held) => {
+            let text = encode_block(alloc, held.get(), &Signature(signature.bytes));
+            hand_out_encoded(text, buffer, needed)
+        }
+        _ => OTHER_KIND,
+    }
+}

@@ -1,0 +1,91 @@
+//! Blocks that are made from their parts.
+ghost use Rattle.std.specs.Prelude.{◌≡◌, pos, map, IfOk, IfErr};
+ghost use Rattle.nw_c.specs.Blocks.{AreCutFrom, IsMadeBlock, parent_in};
+
+use super::CParent;
+use crate::codes::{BAD_ROUND, NO_MEMORY, OPEN, OVER_LIMIT, code_of_text};
+use crate::content::Content;
+use crate::handle::{BlockHandle, put};
+use nw_codec::{Block, Ref, Transactions};
+use nw_digest::{Digest, NoMemory, Round, Sequence, Shared};
+use std::alloc::Global;
+
+/// The parents that C lists.
+fn parents_of(alloc: Global, listed: &[CParent]) -> Result<Vec<Ref>, NoMemory>
+    ensures { IfOk result (λ parents. parents.items ≡ map parent_in listed.now) }
+{
+    Ok(listed
+        .iter()
+        .map(|parent| Ref {
+            author: parent.author,
+            digest: Digest(parent.digest.bytes),
+        })
+        .collect(alloc)?)
+}
+
+/// The transactions of these lengths, which the bytes are in order, or the code of the refusal.
+fn transactions_of(alloc: Global, bytes: &[u8], lengths: &[u32]) -> Result<Transactions, i32>
+    ensures made { IfOk result (AreCutFrom bytes.now lengths.now) }
+    ensures refused { IfErr result (λ why. why ≡ pos 0 → ⊥) }
+{
+    let mut transactions = Transactions::new(alloc);
+    let mut left = bytes;
+    for length in lengths {
+        let Some((transaction, rest)) = left.split_at_checked(*length as usize) else {
+            return Err(OVER_LIMIT);
+        };
+        if let Err(why) = transactions.push(transaction) {
+            return Err(code_of_text(why));
+        }
+        left = rest;
+    }
+    if !left.is_empty() {
+        return Err(OVER_LIMIT);
+    }
+    Ok(transactions)
+}
+
+/// Makes a block of this author and round. `transactions` is all transactions, one after another, and `lengths` the size of each. Parents
+/// ascend strictly by author. Returns `NW_BAD_ROUND` if the round is not below 2^48, and `NW_OVER_LIMIT` if a limit of the format is
+/// broken or the sizes do not add up. Nothing is checked under a committee.
+#[unsafe(no_mangle)]
+pub extern "C" fn nw_block_new(
+    alloc: Global,
+    author: u16,
+    round: u64,
+    parents: &[CParent],
+    transactions: &[u8],
+    lengths: &[u32],
+    out: &mut BlockHandle,
+) -> i32
+    ensures made { result ≡ pos 0
+        → IsMadeBlock author round parents.now transactions.now lengths.now out.new.value }
+    ensures held { (result ≡ pos 0 → ⊥) → out.new.held ≡ out.old.held }
+{
+    if out.is_open() {
+        return OPEN;
+    }
+    let Some(round) = Round::new(round) else {
+        return BAD_ROUND;
+    };
+    let transactions = match transactions_of(alloc, transactions, lengths) {
+        Ok(transactions) => transactions,
+        Err(why) => return why,
+    };
+    let Ok(parents) = parents_of(alloc, parents) else {
+        return NO_MEMORY;
+    };
+    let block = Block {
+        author,
+        round,
+        parents: Sequence::new(parents),
+        transactions,
+    };
+    if !block.fits() {
+        return OVER_LIMIT;
+    }
+    match Shared::new(alloc, block) {
+        Ok(block) => put(alloc, out, Content::Block(block)),
+        Err(_) => NO_MEMORY,
+    }
+}

@@ -1,0 +1,168 @@
+//! Books: histories that grow by steps.
+ghost use Rattle.std.specs.Prelude.{◌≡◌, pos, IfErr};
+ghost use Rattle.nw_ed25519.specs.Accepts.{accepts};
+ghost use Rattle.nw_book.specs.Command.{call_of, committee_of};
+ghost use Rattle.nw_book.specs.declared.error.NoStep.{NoStep as Refusal};
+ghost use Rattle.nw_c.specs.Books.{HasEvents, IsEmptyBook, IsRefusedBy, IsRestarted, IsTaken, limits_in};
+ghost use Rattle.nw_c.specs.Codes.{step_code};
+
+use crate::codes::{BAD_LIMITS, CLOSED, DONE, NO_MEMORY, OPEN, OTHER_KIND, code_of_step};
+use crate::content::Content;
+use crate::handle::{BookHandle, CommitteeHandle, Handle, put};
+use nw_book::{Book, BookError, Command, Limits};
+use nw_ed25519::Ed25519;
+use std::alloc::Global;
+
+mod calls;
+
+/// The limits of a book: stored blocks and certificates, 1 to 65,536 of each; events of the history, 1 to 65,536; rounds from the garbage
+/// round on, 1 to 4,096; and sessions, 1 to 256.
+#[repr(C)]
+#[derive(Clone, Copy)]
+pub struct CLimits {
+    pub blocks: u32,
+    pub events: u32,
+    pub window: u32,
+    pub sessions: u32,
+}
+
+impl CLimits {
+    /// The limits.
+    pub fn get(&self) -> Limits
+        ensures { result ≡ limits_in self.now }
+    {
+        Limits {
+            blocks: self.blocks,
+            events: self.events,
+            window: self.window,
+            sessions: self.sessions,
+        }
+    }
+}
+
+/// Makes an empty book under the committee and the limits. Returns `NW_BAD_LIMITS` if a limit is out of range.
+#[unsafe(no_mangle)]
+pub extern "C" fn nw_book_new(
+    alloc: Global,
+    committee: &mut CommitteeHandle,
+    limits: &CLimits,
+    out: &mut BookHandle,
+) -> i32
+    ensures made { result ≡ pos 0 → IsEmptyBook committee.old.value limits.now out.new.value }
+    ensures same { committee.new.value ≡ committee.old.value }
+    ensures held { (result ≡ pos 0 → ⊥) → out.new.held ≡ out.old.held }
+{
+    if !committee.is_open() {
+        return CLOSED;
+    }
+    if out.is_open() {
+        return OPEN;
+    }
+    let Content::Committee(members) = committee.lend() else {
+        return OTHER_KIND;
+    };
+    let Ok(members) = members.try_clone() else {
+        return NO_MEMORY;
+    };
+    match Book::<Ed25519>::new(alloc, members, limits.get()) {
+        Ok(book) => put(alloc, out, Content::Book(book)),
+        Err(BookError::BadLimits) => BAD_LIMITS,
+        Err(BookError::NoMemory) => NO_MEMORY,
+    }
+}
+
+/// Writes how many events the history has.
+#[unsafe(no_mangle)]
+pub extern "C" fn nw_book_events(book: &mut BookHandle, out: &mut usize) -> i32
+    ensures events { result ≡ pos 0 → HasEvents book.old.value out.new }
+    ensures same { book.new.value ≡ book.old.value }
+{
+    if !book.is_open() {
+        return CLOSED;
+    }
+    match book.lend() {
+        Content::Book(held) => {
+            *out = held.history().len();
+            DONE
+        }
+        _ => OTHER_KIND,
+    }
+}
+
+/// Whether an answer can be put in the place of this content.
+pub(crate) fn is_room(content: &Content) -> bool {
+    matches!(
+        content,
+        Content::Room | Content::Answer(_) | Content::Ticket(_)
+    )
+}
+
+/// Takes the step of the command, and puts the answer into its room.
+pub(crate) fn take(
+    alloc: Global,
+    book: &mut Handle,
+    answer: &mut Handle,
+    session: u16,
+    number: u32,
+    command: &Command<Ed25519>,
+) -> i32
+    ensures taken { result ≡ pos 0 → IsTaken accepts session number (call_of command.now)
+        book.old.value book.new.value answer.new.value }
+    ensures refused { (why : Refusal) → result ≡ step_code why
+        → IsRefusedBy book.old.value session number (committee_of command.now) why }
+    ensures unchanged { (result ≡ pos 0 → ⊥) → book.new.value ≡ book.old.value }
+    ensures answer { (result ≡ pos 0 → ⊥) → answer.new.value ≡ answer.old.value }
+{
+    if !book.is_open() || !answer.is_open() {
+        return CLOSED;
+    }
+    if !is_room(answer.lend()) {
+        return OTHER_KIND;
+    }
+    match book.lend() {
+        Content::Book(held) => match held.step(alloc, session, number, command) {
+            Ok(done) => {
+                *answer.lend() = Content::Answer(done);
+                DONE
+            }
+            Err(why) => code_of_step(why),
+        },
+        _ => OTHER_KIND,
+    }
+}
+
+/// Rebuilds the tables that later tickets share, without what was collected. Nothing that a caller can observe changes.
+#[unsafe(no_mangle)]
+pub extern "C" fn nw_book_compact(alloc: Global, book: &mut BookHandle) -> i32
+    ensures { book.new.value ≡ book.old.value }
+{
+    if !book.is_open() {
+        return CLOSED;
+    }
+    match book.lend() {
+        Content::Book(held) => match held.compact(alloc) {
+            Ok(()) => DONE,
+            Err(_) => NO_MEMORY,
+        },
+        _ => OTHER_KIND,
+    }
+}
+
+/// Empties the history, and keeps the stored blocks, certificates and garbage round. Each session's next call is number 1. Answers and
+/// tickets stay as they are. It takes as long as the history's writes and certificates took, without their checks.
+#[unsafe(no_mangle)]
+pub extern "C" fn nw_book_restart(alloc: Global, book: &mut BookHandle) -> i32
+    ensures restarted { result ≡ pos 0 → IsRestarted book.old.value book.new.value }
+    ensures unchanged { (result ≡ pos 0 → ⊥) → book.new.value ≡ book.old.value }
+{
+    if !book.is_open() {
+        return CLOSED;
+    }
+    match book.lend() {
+        Content::Book(held) => match held.restart(alloc) {
+            Ok(()) => DONE,
+            Err(_) => NO_MEMORY,
+        },
+        _ => OTHER_KIND,
+    }
+}

@@ -1,0 +1,164 @@
+//! The calls of a book that hand nothing in.
+ghost use Rattle.std.specs.Prelude.{◌≡◌, pos, None};
+ghost use Rattle.nw_ed25519.specs.Accepts.{accepts};
+ghost use Rattle.nw_model.specs.declared.call.Call.TheVariants as Call;
+ghost use Rattle.nw_book.specs.declared.error.NoStep.{NoStep as Refusal};
+ghost use Rattle.nw_c.specs.Books.{IsOpened, IsRefusedBy, IsTaken};
+ghost use Rattle.nw_c.specs.Codes.{step_code};
+ghost use Rattle.nw_c.specs.Plain.{digest_in};
+
+use super::{is_room, take};
+use crate::codes::{BAD_ROUND, CLOSED, DONE, OTHER_KIND, code_of_step};
+use crate::content::Content;
+use crate::handle::{AnswerHandle, BookHandle};
+use crate::plain::CDigest;
+use nw_book::Command;
+use nw_digest::Round;
+use std::alloc::Global;
+
+/// Asks for the certificate of the digest, as the session's call of this number.
+#[unsafe(no_mangle)]
+pub extern "C" fn nw_book_certificate(
+    alloc: Global,
+    book: &mut BookHandle,
+    session: u16,
+    number: u32,
+    digest: &CDigest,
+    answer: &mut AnswerHandle,
+) -> i32
+    ensures taken { result ≡ pos 0 → IsTaken accepts session number (Call.Certificate (digest_in digest.now))
+        book.old.value book.new.value answer.new.value }
+    ensures refused { (why : Refusal) → result ≡ step_code why
+        → IsRefusedBy book.old.value session number None why }
+    ensures unchanged { (result ≡ pos 0 → ⊥) → book.new.value ≡ book.old.value }
+    ensures answer { (result ≡ pos 0 → ⊥) → answer.new.value ≡ answer.old.value }
+{
+    let command = Command::Certificate(digest.get());
+    take(alloc, book, answer, session, number, &command)
+}
+
+/// Asks for the block of the digest, as the session's call of this number.
+#[unsafe(no_mangle)]
+pub extern "C" fn nw_book_read(
+    alloc: Global,
+    book: &mut BookHandle,
+    session: u16,
+    number: u32,
+    digest: &CDigest,
+    answer: &mut AnswerHandle,
+) -> i32
+    ensures taken { result ≡ pos 0 → IsTaken accepts session number (Call.Read (digest_in digest.now))
+        book.old.value book.new.value answer.new.value }
+    ensures refused { (why : Refusal) → result ≡ step_code why
+        → IsRefusedBy book.old.value session number None why }
+    ensures unchanged { (result ≡ pos 0 → ⊥) → book.new.value ≡ book.old.value }
+    ensures answer { (result ≡ pos 0 → ⊥) → answer.new.value ≡ answer.old.value }
+{
+    let command = Command::Read(digest.get());
+    take(alloc, book, answer, session, number, &command)
+}
+
+/// Raises the garbage round to this one and drops everything of the rounds below it, as the session's call of this number. Returns
+/// `NW_BAD_ROUND` if the round is not below 2^48.
+#[unsafe(no_mangle)]
+pub extern "C" fn nw_book_collect(
+    alloc: Global,
+    book: &mut BookHandle,
+    session: u16,
+    number: u32,
+    round: u64,
+    answer: &mut AnswerHandle,
+) -> i32
+    ensures taken { result ≡ pos 0 → IsTaken accepts session number (Call.Collect round)
+        book.old.value book.new.value answer.new.value }
+    ensures refused { (why : Refusal) → result ≡ step_code why
+        → IsRefusedBy book.old.value session number None why }
+    ensures unchanged { (result ≡ pos 0 → ⊥) → book.new.value ≡ book.old.value }
+    ensures answer { (result ≡ pos 0 → ⊥) → answer.new.value ≡ answer.old.value }
+{
+    let Some(round) = Round::new(round) else {
+        return BAD_ROUND;
+    };
+    let command = Command::Collect(round);
+    take(alloc, book, answer, session, number, &command)
+}
+
+/// Asks for the first missing parents, at most so many, as the session's call of this number. They ascend by round, author and digest.
+#[unsafe(no_mangle)]
+pub extern "C" fn nw_book_missing(
+    alloc: Global,
+    book: &mut BookHandle,
+    session: u16,
+    number: u32,
+    most: u16,
+    answer: &mut AnswerHandle,
+) -> i32
+    ensures taken { result ≡ pos 0 → IsTaken accepts session number (Call.Missing most)
+        book.old.value book.new.value answer.new.value }
+    ensures refused { (why : Refusal) → result ≡ step_code why
+        → IsRefusedBy book.old.value session number None why }
+    ensures unchanged { (result ≡ pos 0 → ⊥) → book.new.value ≡ book.old.value }
+    ensures answer { (result ≡ pos 0 → ⊥) → answer.new.value ≡ answer.old.value }
+{
+    let command = Command::Missing(most);
+    take(alloc, book, answer, session, number, &command)
+}
+
+/// Asks how much is stored, as the session's call of this number.
+#[unsafe(no_mangle)]
+pub extern "C" fn nw_book_status(
+    alloc: Global,
+    book: &mut BookHandle,
+    session: u16,
+    number: u32,
+    answer: &mut AnswerHandle,
+) -> i32
+    ensures taken { result ≡ pos 0 → IsTaken accepts session number Call.Status
+        book.old.value book.new.value answer.new.value }
+    ensures refused { (why : Refusal) → result ≡ step_code why
+        → IsRefusedBy book.old.value session number None why }
+    ensures unchanged { (result ≡ pos 0 → ⊥) → book.new.value ≡ book.old.value }
+    ensures answer { (result ≡ pos 0 → ⊥) → answer.new.value ≡ answer.old.value }
+{
+    take(alloc, book, answer, session, number, &Command::Status)
+}
+
+/// Opens a causal read of the digest, as the session's call of this number. The answer becomes a ticket if the block and all its certified
+/// ancestors are stored, and otherwise an answer whose reply says why there is none.
+#[unsafe(no_mangle)]
+pub extern "C" fn nw_book_open(
+    alloc: Global,
+    book: &mut BookHandle,
+    session: u16,
+    number: u32,
+    digest: &CDigest,
+    answer: &mut AnswerHandle,
+) -> i32
+    ensures taken { result ≡ pos 0 → IsOpened accepts session number (digest_in digest.now)
+        book.old.value book.new.value answer.new.value }
+    ensures refused { (why : Refusal) → result ≡ step_code why
+        → IsRefusedBy book.old.value session number None why }
+    ensures unchanged { (result ≡ pos 0 → ⊥) → book.new.value ≡ book.old.value }
+    ensures answer { (result ≡ pos 0 → ⊥) → answer.new.value ≡ answer.old.value }
+{
+    if !book.is_open() || !answer.is_open() {
+        return CLOSED;
+    }
+    if !is_room(answer.lend()) {
+        return OTHER_KIND;
+    }
+    let Content::Book(held) = book.lend() else {
+        return OTHER_KIND;
+    };
+    match held.open(alloc, session, number, digest.get()) {
+        Ok(Ok(ticket)) => {
+            *answer.lend() = Content::Ticket(ticket);
+            DONE
+        }
+        Ok(Err(done)) => {
+            *answer.lend() = Content::Answer(done);
+            DONE
+        }
+        Err(why) => code_of_step(why),
+    }
+}

@@ -1,0 +1,114 @@
+//! Texts that are decoded and checked.
+ghost use Rattle.std.specs.Prelude.{◌≡◌, pos, take};
+ghost use Rattle.nw_ed25519.specs.Accepts.{accepts};
+ghost use Rattle.nw_c.specs.Checks.{IsBlockOf, IsCheckOf, IsSpelledBy, IsToldOf};
+
+use crate::codes::{CLOSED, DONE, NO_MEMORY, OPEN, OTHER_KIND};
+use crate::content::Content;
+use crate::handle::{BlockHandle, CheckedHandle, CommitteeHandle, put};
+use crate::messages::{CMessage, message_of};
+use crate::texts::{certificate_text, hand_out_encoded};
+use nw_check::{Checked, check_message};
+use nw_codec::{Message, encode_message};
+use nw_ed25519::Ed25519;
+use std::alloc::Global;
+
+/// Decodes the text and checks its message under the committee. A text that is no message, or whose block or certificate breaks a rule,
+/// is also a success: `nw_checked_told` says which.
+#[unsafe(no_mangle)]
+pub extern "C" fn nw_check(
+    alloc: Global,
+    committee: &mut CommitteeHandle,
+    text: &[u8],
+    out: &mut CheckedHandle,
+) -> i32
+    ensures checked { result ≡ pos 0 → IsCheckOf accepts committee.old.value text.now out.new.value }
+    ensures same { committee.new.value ≡ committee.old.value }
+    ensures held { (result ≡ pos 0 → ⊥) → out.new.held ≡ out.old.held }
+{
+    if !committee.is_open() {
+        return CLOSED;
+    }
+    if out.is_open() {
+        return OPEN;
+    }
+    match committee.lend() {
+        Content::Committee(members) => match check_message::<Ed25519>(alloc, members, text) {
+            Ok(checked) => put(alloc, out, Content::Checked(checked)),
+            Err(_) => NO_MEMORY,
+        },
+        _ => OTHER_KIND,
+    }
+}
+
+/// Writes what the checked text is: a block, a certificate, a vote, or the first rule that it breaks.
+#[unsafe(no_mangle)]
+pub extern "C" fn nw_checked_told(checked: &mut CheckedHandle, out: &mut CMessage) -> i32
+    ensures told { result ≡ pos 0 → IsToldOf checked.old.value out.new }
+    ensures same { checked.new.value ≡ checked.old.value }
+{
+    if !checked.is_open() {
+        return CLOSED;
+    }
+    match checked.lend() {
+        Content::Checked(checked) => {
+            *out = message_of(checked);
+            DONE
+        }
+        _ => OTHER_KIND,
+    }
+}
+
+/// Opens a handle of the checked block. Returns `NW_OTHER_KIND` if the text is not a valid block.
+#[unsafe(no_mangle)]
+pub extern "C" fn nw_checked_block(
+    alloc: Global,
+    checked: &mut CheckedHandle,
+    out: &mut BlockHandle,
+) -> i32
+    ensures block { result ≡ pos 0 → IsBlockOf checked.old.value out.new.value }
+    ensures same { checked.new.value ≡ checked.old.value }
+    ensures held { (result ≡ pos 0 → ⊥) → out.new.held ≡ out.old.held }
+{
+    if !checked.is_open() {
+        return CLOSED;
+    }
+    if out.is_open() {
+        return OPEN;
+    }
+    match checked.lend() {
+        Content::Checked(Checked::Block(checked)) => match checked.block().try_clone() {
+            Ok(block) => put(alloc, out, Content::Block(block)),
+            Err(_) => NO_MEMORY,
+        },
+        _ => OTHER_KIND,
+    }
+}
+
+/// Writes the message of the checked certificate or vote, to be sent. Its size goes to `needed`; `NW_SMALL` if the buffer is smaller.
+/// Returns `NW_OTHER_KIND` of any other text.
+#[unsafe(no_mangle)]
+pub extern "C" fn nw_checked_message(
+    alloc: Global,
+    checked: &mut CheckedHandle,
+    buffer: &mut [u8],
+    needed: &mut usize,
+) -> i32
+    ensures message { result ≡ pos 0 → IsSpelledBy checked.old.value (take needed.new buffer.new) }
+    ensures same { checked.new.value ≡ checked.old.value }
+{
+    if !checked.is_open() {
+        return CLOSED;
+    }
+    match checked.lend() {
+        Content::Checked(Checked::Cert(checked)) => {
+            let text = certificate_text(alloc, checked.certificate().get());
+            hand_out_encoded(text, buffer, needed)
+        }
+        Content::Checked(Checked::Vote(vote)) => {
+            let text = encode_message(alloc, &Message::Vote(*vote));
+            hand_out_encoded(text, buffer, needed)
+        }
+        _ => OTHER_KIND,
+    }
+}

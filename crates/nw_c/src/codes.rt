@@ -1,0 +1,83 @@
+//! The codes that the functions return.
+ghost use Rattle.std.specs.Prelude.{◌≡◌, pos};
+ghost use Rattle.nw_c.specs.Codes.{gather_code, step_code, text_code};
+
+use nw_book::NoStep;
+use nw_check::GatherFault;
+use nw_codec::EncodeError;
+
+/// Success.
+pub(crate) const DONE: i32 = 0;
+/// Out of memory. Nothing changed.
+pub(crate) const NO_MEMORY: i32 = 1;
+/// A handle is closed that must be open.
+pub(crate) const CLOSED: i32 = 2;
+/// A handle is open that must be closed.
+pub(crate) const OPEN: i32 = 3;
+/// A handle holds another kind of value.
+pub(crate) const OTHER_KIND: i32 = 4;
+/// The members make no committee: not 1 to 100 members, a weight outside 1 to 1,000,000, or a repeated key.
+pub(crate) const BAD_COMMITTEE: i32 = 5;
+/// A limit is outside its range.
+pub(crate) const BAD_LIMITS: i32 = 6;
+/// The call's number is not the session's next number, or the session is not below the limit.
+pub(crate) const OUT_OF_TURN: i32 = 7;
+/// The value was checked under another committee.
+pub(crate) const OTHER_COMMITTEE: i32 = 8;
+/// The history has as many events as its limit.
+pub(crate) const HISTORY_FULL: i32 = 9;
+/// A round is not below 2^48.
+pub(crate) const BAD_ROUND: i32 = 10;
+/// The buffer is too small. The needed size was written, and nothing else.
+pub(crate) const SMALL: i32 = 11;
+/// There is no value at the index, or none was found.
+pub(crate) const ABSENT: i32 = 12;
+/// The block breaks a limit or an order of the format.
+pub(crate) const OVER_LIMIT: i32 = 13;
+/// The author or signer is not a member of the committee.
+pub(crate) const NO_MEMBER: i32 = 14;
+/// The vote is for another digest, round or author.
+pub(crate) const OTHER_BLOCK: i32 = 15;
+/// A vote of the same signer was counted before.
+pub(crate) const REPEATED: i32 = 16;
+/// The signature is not the signer's.
+pub(crate) const BAD_SIGNATURE: i32 = 17;
+/// The counted votes do not reach a quorum.
+pub(crate) const FEW_VOTES: i32 = 18;
+/// The two tickets have different digests or garbage rounds, so their lists cannot be compared.
+pub(crate) const APART: i32 = 19;
+
+/// The code of a refused step.
+pub(crate) fn code_of_step(why: NoStep) -> i32
+    ensures { result ≡ step_code why }
+{
+    match why {
+        NoStep::OutOfTurn => OUT_OF_TURN,
+        NoStep::OtherCommittee => OTHER_COMMITTEE,
+        NoStep::HistoryFull => HISTORY_FULL,
+        NoStep::NoMemory => NO_MEMORY,
+    }
+}
+
+/// The code of a vote that is not counted.
+pub(crate) fn code_of_vote(why: GatherFault) -> i32
+    ensures { result ≡ gather_code why }
+{
+    match why {
+        GatherFault::OtherBlock => OTHER_BLOCK,
+        GatherFault::Repeated => REPEATED,
+        GatherFault::Signer => NO_MEMBER,
+        GatherFault::Signature => BAD_SIGNATURE,
+        GatherFault::NoMemory => NO_MEMORY,
+    }
+}
+
+/// The code of a value that cannot be encoded.
+pub(crate) fn code_of_text(why: EncodeError) -> i32
+    ensures { result ≡ text_code why }
+{
+    match why {
+        EncodeError::OverLimit => OVER_LIMIT,
+        EncodeError::NoMemory => NO_MEMORY,
+    }
+}

@@ -1,0 +1,155 @@
+//! Committees.
+ghost use Rattle.std.specs.Prelude.{◌≡◌, pos, map, IfOk, IfErr};
+ghost use Rattle.nw_c.specs.Committees.{AreOneCommittee, HasMember, HasQuorum, HasSize, IsCommitteeOf, member_in};
+
+use crate::codes::{ABSENT, BAD_COMMITTEE, CLOSED, DONE, NO_MEMORY, OPEN, OTHER_KIND};
+use crate::content::Content;
+use crate::handle::{CommitteeHandle, put};
+use nw_committee::{Committee, Key, Member};
+use nw_digest::{NoMemory, Shared};
+use std::alloc::Global;
+
+/// A member of a committee: an Ed25519 public key of 32 bytes and a weight from 1 to 1,000,000.
+#[repr(C)]
+#[derive(Clone, Copy)]
+pub struct CMember {
+    pub key: [u8; 32],
+    pub weight: u32,
+}
+
+/// The members that C lists.
+fn members_of(alloc: Global, listed: &[CMember]) -> Result<Vec<Member>, NoMemory>
+    ensures { IfOk result (λ members. members.items ≡ map member_in listed.now) }
+{
+    Ok(listed
+        .iter()
+        .map(|member| Member {
+            key: Key(member.key),
+            weight: member.weight,
+        })
+        .collect(alloc)?)
+}
+
+/// The committee of these members, or the code of the refusal.
+fn committee_of(alloc: Global, listed: &[CMember]) -> Result<Shared<Committee>, i32>
+    ensures made { IfOk result (λ committee. committee ≡ map member_in listed.now) }
+    ensures refused { IfErr result (λ why. why ≡ pos 0 → ⊥) }
+{
+    let Ok(members) = members_of(alloc, listed) else {
+        return Err(NO_MEMORY);
+    };
+    let Ok(committee) = Committee::weighted(members) else {
+        return Err(BAD_COMMITTEE);
+    };
+    match Shared::new(alloc, committee) {
+        Ok(committee) => Ok(committee),
+        Err(_) => Err(NO_MEMORY),
+    }
+}
+
+/// Makes a committee of 1 to 100 members. Members are numbered by their place in the list, from 0. Returns `NW_BAD_COMMITTEE` if there
+/// are too few or too many, if a weight is out of range, or if a key is repeated.
+#[unsafe(no_mangle)]
+pub extern "C" fn nw_committee_new(
+    alloc: Global,
+    members: &[CMember],
+    out: &mut CommitteeHandle,
+) -> i32
+    ensures made { result ≡ pos 0 → IsCommitteeOf members.now out.new.value }
+    ensures held { (result ≡ pos 0 → ⊥) → out.new.held ≡ out.old.held }
+{
+    if out.is_open() {
+        return OPEN;
+    }
+    match committee_of(alloc, members) {
+        Ok(committee) => put(alloc, out, Content::Committee(committee)),
+        Err(why) => why,
+    }
+}
+
+/// Opens a second handle of the committee, for another thread. The members are shared, not copied.
+#[unsafe(no_mangle)]
+pub extern "C" fn nw_committee_share(
+    alloc: Global,
+    committee: &mut CommitteeHandle,
+    out: &mut CommitteeHandle,
+) -> i32
+    ensures shared { result ≡ pos 0 → AreOneCommittee committee.old.value out.new.value }
+    ensures same { committee.new.value ≡ committee.old.value }
+    ensures held { (result ≡ pos 0 → ⊥) → out.new.held ≡ out.old.held }
+{
+    if !committee.is_open() {
+        return CLOSED;
+    }
+    if out.is_open() {
+        return OPEN;
+    }
+    match committee.lend() {
+        Content::Committee(members) => match members.try_clone() {
+            Ok(members) => put(alloc, out, Content::Committee(members)),
+            Err(_) => NO_MEMORY,
+        },
+        _ => OTHER_KIND,
+    }
+}
+
+/// Writes the number of members.
+#[unsafe(no_mangle)]
+pub extern "C" fn nw_committee_size(committee: &mut CommitteeHandle, out: &mut usize) -> i32
+    ensures size { result ≡ pos 0 → HasSize committee.old.value out.new }
+    ensures same { committee.new.value ≡ committee.old.value }
+{
+    if !committee.is_open() {
+        return CLOSED;
+    }
+    match committee.lend() {
+        Content::Committee(members) => {
+            *out = members.get().size();
+            DONE
+        }
+        _ => OTHER_KIND,
+    }
+}
+
+/// Writes the member of this number. Returns `NW_ABSENT` if the committee has no such member.
+#[unsafe(no_mangle)]
+pub extern "C" fn nw_committee_member(
+    committee: &mut CommitteeHandle,
+    number: u16,
+    out: &mut CMember,
+) -> i32
+    ensures member { result ≡ pos 0 → HasMember committee.old.value number out.new }
+    ensures same { committee.new.value ≡ committee.old.value }
+{
+    if !committee.is_open() {
+        return CLOSED;
+    }
+    let Content::Committee(members) = committee.lend() else {
+        return OTHER_KIND;
+    };
+    match (members.get().key(number), members.get().weight(number)) {
+        (Some(key), Some(weight)) => {
+            *out = CMember { key: key.0, weight };
+            DONE
+        }
+        _ => ABSENT,
+    }
+}
+
+/// Writes the weight of a quorum: more than two thirds of the total weight.
+#[unsafe(no_mangle)]
+pub extern "C" fn nw_committee_quorum(committee: &mut CommitteeHandle, out: &mut u32) -> i32
+    ensures quorum { result ≡ pos 0 → HasQuorum committee.old.value out.new }
+    ensures same { committee.new.value ≡ committee.old.value }
+{
+    if !committee.is_open() {
+        return CLOSED;
+    }
+    match committee.lend() {
+        Content::Committee(members) => {
+            *out = members.get().quorum();
+            DONE
+        }
+        _ => OTHER_KIND,
+    }
+}

@@ -1,0 +1,142 @@
+//! The events of the histories that explain answers.
+ghost use Rattle.std.specs.Prelude.{◌≡◌, pos};
+ghost use Rattle.std.specs.Option.{option_copied};
+ghost use Rattle.nw_c.specs.Events.{Begins, HasEventAt, HasLength, IsCallTold, IsEventTold, front_in};
+
+use crate::codes::{ABSENT, CLOSED, DONE, OTHER_KIND};
+use crate::content::Content;
+use crate::handle::AnswerHandle;
+use crate::plain::{CTold, named, numbered, plain};
+use crate::replies::reply_told;
+use nw_ed25519::Ed25519;
+use nw_history::Front;
+use nw_model::{Call, Event};
+
+/// A write of the block of `digest`.
+pub(crate) const CALL_WRITE: i32 = 1;
+/// A certificate of `digest` that was handed in.
+pub(crate) const CALL_CERTIFY: i32 = 2;
+/// A call for the certificate of `digest`.
+pub(crate) const CALL_CERTIFICATE: i32 = 3;
+/// A read of `digest`.
+pub(crate) const CALL_READ: i32 = 4;
+/// A causal read of `digest`.
+pub(crate) const CALL_CAUSAL: i32 = 5;
+/// A collection of the rounds below `number`.
+pub(crate) const CALL_COLLECT: i32 = 6;
+/// A call for the first `number` missing parents.
+pub(crate) const CALL_MISSING: i32 = 7;
+/// A call for the status.
+pub(crate) const CALL_STATUS: i32 = 8;
+
+/// An event of a history: a call of a session, which of the session's calls it was, from 1, and the reply.
+#[repr(C)]
+#[derive(Clone, Copy)]
+pub struct CEvent {
+    pub session: u16,
+    pub number: u32,
+    pub call: CTold,
+    pub reply: CTold,
+}
+
+/// A call.
+fn call_told(call: &Call) -> CTold
+    ensures { IsCallTold call.now result }
+{
+    match call {
+        Call::Write(digest, _) => named(CALL_WRITE, digest),
+        Call::Certify(certificate) => named(CALL_CERTIFY, &certificate.get().digest),
+        Call::Certificate(digest) => named(CALL_CERTIFICATE, digest),
+        Call::Read(digest) => named(CALL_READ, digest),
+        Call::Causal(digest) => named(CALL_CAUSAL, digest),
+        Call::Collect(round) => numbered(CALL_COLLECT, round.get()),
+        Call::Missing(most) => numbered(CALL_MISSING, u64::from(*most)),
+        Call::Status => plain(CALL_STATUS),
+    }
+}
+
+/// An event.
+fn event_told(event: &Event) -> CEvent
+    ensures { IsEventTold event.now result }
+{
+    CEvent {
+        session: event.session,
+        number: event.number,
+        call: call_told(&event.call),
+        reply: reply_told(&event.reply),
+    }
+}
+
+/// The history of an answer or a ticket, or `None` of anything else.
+fn front_of(content: &Content) -> Option<&Front<Ed25519>>
+    ensures { option_copied result ≡ front_in content.now }
+{
+    match content {
+        Content::Answer(done) => Some(done.front()),
+        Content::Ticket(ticket) => Some(ticket.front()),
+        _ => None,
+    }
+}
+
+/// Writes how many events the history of the answer or ticket has: all events up to and with its own call.
+#[unsafe(no_mangle)]
+pub extern "C" fn nw_answer_events(answer: &mut AnswerHandle, out: &mut usize) -> i32
+    ensures events { result ≡ pos 0 → HasLength (front_in answer.old.value) out.new }
+    ensures same { answer.new.value ≡ answer.old.value }
+{
+    if !answer.is_open() {
+        return CLOSED;
+    }
+    match front_of(answer.lend()) {
+        Some(front) => {
+            *out = front.len();
+            DONE
+        }
+        None => OTHER_KIND,
+    }
+}
+
+/// Writes the event at the index, from 0, of the history of the answer or ticket. Returns `NW_ABSENT` past the last.
+#[unsafe(no_mangle)]
+pub extern "C" fn nw_answer_event(answer: &mut AnswerHandle, index: usize, out: &mut CEvent) -> i32
+    ensures event { result ≡ pos 0 → HasEventAt (front_in answer.old.value) index out.new }
+    ensures same { answer.new.value ≡ answer.old.value }
+{
+    if !answer.is_open() {
+        return CLOSED;
+    }
+    let Some(front) = front_of(answer.lend()) else {
+        return OTHER_KIND;
+    };
+    match front.event(index) {
+        Some(event) => {
+            *out = event_told(event);
+            DONE
+        }
+        None => ABSENT,
+    }
+}
+
+/// Writes whether the history of one answer or ticket begins the history of the other: same committee, limits and start, and the other's
+/// first events are the one's. It takes time in proportion to the one's length.
+#[unsafe(no_mangle)]
+pub extern "C" fn nw_answer_begins(
+    answer: &mut AnswerHandle,
+    other: &mut AnswerHandle,
+    out: &mut bool,
+) -> i32
+    ensures begins { result ≡ pos 0 → Begins (front_in answer.old.value) (front_in other.old.value) out.new }
+    ensures same { answer.new.value ≡ answer.old.value }
+    ensures other { other.new.value ≡ other.old.value }
+{
+    if !answer.is_open() || !other.is_open() {
+        return CLOSED;
+    }
+    match (front_of(answer.lend()), front_of(other.lend())) {
+        (Some(front), Some(other)) => {
+            *out = front.is_prefix_of(other);
+            DONE
+        }
+        _ => OTHER_KIND,
+    }
+}

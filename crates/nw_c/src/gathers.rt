@@ -1,0 +1,110 @@
+//! Votes that are gathered into a certificate.
+ghost use Rattle.std.specs.Prelude.{◌≡◌, pos};
+ghost use Rattle.nw_ed25519.specs.Accepts.{accepts};
+ghost use Rattle.nw_check.specs.declared.fault.GatherFault.{GatherFault as Fault};
+ghost use Rattle.nw_c.specs.Codes.{gather_code};
+ghost use Rattle.nw_c.specs.Gathers.{IsCertificateOf, IsCountedIn, IsNewGather, IsNotCounted};
+
+use crate::codes::{
+    BAD_ROUND, CLOSED, DONE, FEW_VOTES, NO_MEMBER, NO_MEMORY, OPEN, OTHER_KIND, code_of_vote,
+};
+use crate::content::Content;
+use crate::handle::{CheckedHandle, CommitteeHandle, GatherHandle, put};
+use crate::plain::CSlot;
+use nw_check::{Checked, Counted, FinishFault, Gather, StartFault};
+use nw_digest::Round;
+use nw_ed25519::Ed25519;
+use std::alloc::Global;
+
+/// Starts to gather votes for the block of this slot. Returns `NW_BAD_ROUND` if the round is not below 2^48, and `NW_NO_MEMBER` if the
+/// author is not a member.
+#[unsafe(no_mangle)]
+pub extern "C" fn nw_gather_new(
+    alloc: Global,
+    committee: &mut CommitteeHandle,
+    slot: &CSlot,
+    out: &mut GatherHandle,
+) -> i32
+    ensures new { result ≡ pos 0 → IsNewGather committee.old.value slot.now out.new.value }
+    ensures same { committee.new.value ≡ committee.old.value }
+    ensures held { (result ≡ pos 0 → ⊥) → out.new.held ≡ out.old.held }
+{
+    if !committee.is_open() {
+        return CLOSED;
+    }
+    if out.is_open() {
+        return OPEN;
+    }
+    let Some(round) = Round::new(slot.round) else {
+        return BAD_ROUND;
+    };
+    let Content::Committee(members) = committee.lend() else {
+        return OTHER_KIND;
+    };
+    match Gather::<Ed25519>::new(alloc, members, slot.digest.get(), round, slot.author) {
+        Ok(gather) => put(alloc, out, Content::Gather(gather)),
+        Err(StartFault::Author) => NO_MEMBER,
+        Err(StartFault::NoMemory) => NO_MEMORY,
+    }
+}
+
+/// Checks the signature of the vote and counts it. `quorum` says whether the counted votes reach a quorum. A vote is refused with
+/// `NW_OTHER_BLOCK`, `NW_REPEATED`, `NW_NO_MEMBER` or `NW_BAD_SIGNATURE`, whichever applies first; nothing changes then. Returns
+/// `NW_OTHER_KIND` if the checked text is not a vote.
+#[unsafe(no_mangle)]
+pub extern "C" fn nw_gather_add(
+    gather: &mut GatherHandle,
+    vote: &mut CheckedHandle,
+    quorum: &mut bool,
+) -> i32
+    ensures counted { result ≡ pos 0 → IsCountedIn accepts gather.old.value vote.old.value
+        gather.new.value quorum.new }
+    ensures refused { (why : Fault) → result ≡ gather_code why
+        → IsNotCounted accepts gather.old.value vote.old.value why }
+    ensures unchanged { (result ≡ pos 0 → ⊥) → gather.new.value ≡ gather.old.value }
+    ensures same { vote.new.value ≡ vote.old.value }
+{
+    if !gather.is_open() || !vote.is_open() {
+        return CLOSED;
+    }
+    match (gather.lend(), vote.lend()) {
+        (Content::Gather(gather), Content::Checked(Checked::Vote(vote))) => {
+            match gather.add(vote) {
+                Ok(counted) => {
+                    *quorum = counted == Counted::Quorum;
+                    DONE
+                }
+                Err(why) => code_of_vote(why),
+            }
+        }
+        _ => OTHER_KIND,
+    }
+}
+
+/// Makes the certificate of the counted votes, as a checked text. Returns `NW_FEW_VOTES` if they do not reach a quorum. The gathering may
+/// go on afterwards.
+#[unsafe(no_mangle)]
+pub extern "C" fn nw_gather_certificate(
+    alloc: Global,
+    gather: &mut GatherHandle,
+    out: &mut CheckedHandle,
+) -> i32
+    ensures certificate { result ≡ pos 0 → IsCertificateOf gather.old.value out.new.value }
+    ensures same { gather.new.value ≡ gather.old.value }
+    ensures held { (result ≡ pos 0 → ⊥) → out.new.held ≡ out.old.held }
+{
+    if !gather.is_open() {
+        return CLOSED;
+    }
+    if out.is_open() {
+        return OPEN;
+    }
+    match gather.lend() {
+        Content::Gather(gather) => match gather.finish(alloc) {
+            Ok(certificate) => put(alloc, out, Content::Checked(Checked::Cert(certificate))),
+            Err(FinishFault::FewVotes) => FEW_VOTES,
+            Err(FinishFault::NoMemory) => NO_MEMORY,
+        },
+        _ => OTHER_KIND,
+    }
+}

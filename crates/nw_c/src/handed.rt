@@ -1,0 +1,77 @@
+//! Blocks and certificates that are handed to a book.
+ghost use Rattle.std.specs.Prelude.{◌≡◌, pos, IfOk, IfErr};
+ghost use Rattle.nw_ed25519.specs.Accepts.{accepts};
+ghost use Rattle.nw_book.specs.declared.error.NoStep.{NoStep as Refusal};
+ghost use Rattle.nw_c.specs.declared.content.Content.{Content as Held};
+ghost use Rattle.nw_c.specs.Books.{IsRefusedBy};
+ghost use Rattle.nw_c.specs.Codes.{step_code};
+ghost use Rattle.nw_c.specs.Handed.{IsCommandOf, IsHandedIn, committee_of};
+
+use crate::books::take;
+use crate::codes::{CLOSED, OTHER_KIND};
+use crate::content::Content;
+use crate::handle::{AnswerHandle, BookHandle, CheckedHandle};
+use nw_book::Command;
+use nw_check::Checked;
+use nw_ed25519::Ed25519;
+use std::alloc::Global;
+use std::mem;
+
+/// The command that hands in the checked block or certificate. Any other content comes back.
+fn command_of(content: Content) -> Result<Command<Ed25519>, Content>
+    ensures command { IfOk result (IsCommandOf content) }
+    ensures back { IfErr result (λ back. back ≡ content) }
+{
+    match content {
+        Content::Checked(Checked::Block(block)) => Ok(Command::Write(block)),
+        Content::Checked(Checked::Cert(certificate)) => Ok(Command::Certify(certificate)),
+        other => Err(other),
+    }
+}
+
+/// The checked block or certificate that the command hands in.
+fn content_of(command: Command<Ed25519>) -> Content
+    ensures { (content : Held) → IsCommandOf content command → result ≡ content }
+{
+    match command {
+        Command::Write(block) => Content::Checked(Checked::Block(block)),
+        Command::Certify(certificate) => Content::Checked(Checked::Cert(certificate)),
+        Command::Certificate(_) | Command::Read(_) | Command::Collect(_) => Content::Room,
+        Command::Missing(_) | Command::Status => Content::Room,
+    }
+}
+
+/// Writes the checked block, or hands in the checked certificate, as the session's call of this number. The checked value stays open, and
+/// may be handed to other books. Returns `NW_OTHER_KIND` if it is neither block nor certificate.
+#[unsafe(no_mangle)]
+pub extern "C" fn nw_book_take(
+    alloc: Global,
+    book: &mut BookHandle,
+    session: u16,
+    number: u32,
+    checked: &mut CheckedHandle,
+    answer: &mut AnswerHandle,
+) -> i32
+    ensures taken { result ≡ pos 0 → IsHandedIn accepts session number checked.old.value
+        book.old.value book.new.value answer.new.value }
+    ensures refused { (why : Refusal) → result ≡ step_code why
+        → IsRefusedBy book.old.value session number (committee_of checked.old.value) why }
+    ensures unchanged { (result ≡ pos 0 → ⊥) → book.new.value ≡ book.old.value }
+    ensures answer { (result ≡ pos 0 → ⊥) → answer.new.value ≡ answer.old.value }
+    ensures same { checked.new.value ≡ checked.old.value }
+{
+    if !checked.is_open() {
+        return CLOSED;
+    }
+    match command_of(mem::replace(checked.lend(), Content::Room)) {
+        Ok(command) => {
+            let code = take(alloc, book, answer, session, number, &command);
+            *checked.lend() = content_of(command);
+            code
+        }
+        Err(other) => {
+            *checked.lend() = other;
+            OTHER_KIND
+        }
+    }
+}

@@ -1,0 +1,44 @@
+//! Handles: contents behind a pointer that C keeps.
+ghost use Rattle.std.specs.Prelude.{Bool};
+ghost use Rattle.nw_c.specs.declared.content.Content.{Content};
+ghost use Rattle.nw_c.specs.Held.{content_coded};
+
+use std::alloc::Global;
+use std::marker::Model;
+
+mod calls;
+mod put;
+
+pub(crate) use put::put;
+
+/// What C keeps: one pointer, which is null while the handle is closed.
+#[repr(C)]
+#[derive(Drop)]
+pub struct Handle {
+    at: *mut u8,
+    alloc: Global,
+    pub ghost held: { Bool },
+    pub ghost value: { Content } by { content_coded },
+}
+
+impl Model for Handle {
+    ghost use Rattle.std.specs.Prelude.{Bool};
+    ghost use Rattle.nw_c.specs.Held.{holds};
+
+    ghost also_owns = { λ h. holds h.alloc h.at h.held h.value };
+}
+
+/// A committee.
+pub type CommitteeHandle = Handle;
+/// A checked text: a block, a certificate, a vote, or the rule that the text breaks.
+pub type CheckedHandle = Handle;
+/// Votes that are gathered for one block.
+pub type GatherHandle = Handle;
+/// A book: the stored blocks and certificates, and the history of calls that explains them.
+pub type BookHandle = Handle;
+/// Room for an answer, an answer, or a ticket, which answers a causal read whose list can be walked.
+pub type AnswerHandle = Handle;
+/// The list of blocks of a walk.
+pub type ListHandle = Handle;
+/// A block.
+pub type BlockHandle = Handle;

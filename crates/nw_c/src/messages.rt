@@ -1,0 +1,161 @@
+//! The kinds of checked texts.
+ghost use Rattle.std.specs.Prelude.{◌≡◌, pos};
+ghost use Rattle.nw_c.specs.Messages.{IsMessageOf, block_kind, cert_kind, text_kind};
+
+use crate::plain::{CDigest, CSlot, slot};
+use nw_check::{BlockFault, CertFault, Checked};
+use nw_codec::DecodeError;
+use nw_ed25519::Ed25519;
+
+/// A valid block.
+pub(crate) const BLOCK: i32 = 1;
+/// A valid certificate.
+pub(crate) const CERTIFICATE: i32 = 2;
+/// A vote. Its signature is checked when it is added to a gathering.
+pub(crate) const VOTE: i32 = 3;
+/// The text ends too early.
+pub(crate) const TEXT_SHORT: i32 = 10;
+/// Bytes follow the message.
+pub(crate) const TEXT_TRAILING: i32 = 11;
+/// The first byte is no kind of message.
+pub(crate) const TEXT_TAG: i32 = 12;
+/// The block has another version than 1.
+pub(crate) const TEXT_VERSION: i32 = 13;
+/// The block has more than 100 parents.
+pub(crate) const TEXT_MANY_PARENTS: i32 = 14;
+/// The parents' authors do not ascend strictly.
+pub(crate) const TEXT_PARENT_ORDER: i32 = 15;
+/// The block has more than 1,024 transactions.
+pub(crate) const TEXT_MANY_TRANSACTIONS: i32 = 16;
+/// A transaction has more than 65,536 bytes.
+pub(crate) const TEXT_LONG_TRANSACTION: i32 = 17;
+/// The body has more bytes than the format allows.
+pub(crate) const TEXT_LONG_BODY: i32 = 18;
+/// The certificate has more than 100 votes.
+pub(crate) const TEXT_MANY_VOTES: i32 = 19;
+/// The signers do not ascend strictly.
+pub(crate) const TEXT_VOTE_ORDER: i32 = 20;
+/// The block's author is not a member.
+pub(crate) const BLOCK_AUTHOR: i32 = 30;
+/// A parent's author is not a member.
+pub(crate) const BLOCK_PARENT_AUTHOR: i32 = 31;
+/// A block of round 0 has parents.
+pub(crate) const BLOCK_GENESIS_PARENTS: i32 = 32;
+/// The parents' authors do not reach a quorum.
+pub(crate) const BLOCK_FEW_PARENTS: i32 = 33;
+/// The block's signature is not its author's.
+pub(crate) const BLOCK_SIGNATURE: i32 = 34;
+/// The certificate's author is not a member.
+pub(crate) const CERT_AUTHOR: i32 = 40;
+/// A signer is not a member.
+pub(crate) const CERT_SIGNER: i32 = 41;
+/// The signers do not reach a quorum.
+pub(crate) const CERT_FEW_VOTES: i32 = 42;
+/// The signature of the member `signer` is not its own, and no earlier one is wrong.
+pub(crate) const CERT_SIGNATURE: i32 = 43;
+
+/// What a checked text is: its kind, the slot of a block, certificate or vote, and the signer of a vote or of a wrong signature. What the
+/// kind does not have is 0.
+#[repr(C)]
+#[derive(Clone, Copy)]
+pub struct CMessage {
+    pub kind: i32,
+    pub signer: u16,
+    pub slot: CSlot,
+}
+
+/// The kind of a text that is no message. A checked text never has the fault `NoMemory`.
+fn kind_of_text(fault: DecodeError) -> i32
+    ensures { result ≡ text_kind fault }
+{
+    match fault {
+        DecodeError::Short => TEXT_SHORT,
+        DecodeError::Trailing => TEXT_TRAILING,
+        DecodeError::Tag => TEXT_TAG,
+        DecodeError::Version => TEXT_VERSION,
+        DecodeError::TooManyParents => TEXT_MANY_PARENTS,
+        DecodeError::ParentOrder => TEXT_PARENT_ORDER,
+        DecodeError::TooManyTransactions => TEXT_MANY_TRANSACTIONS,
+        DecodeError::TransactionTooLong => TEXT_LONG_TRANSACTION,
+        DecodeError::BodyTooLong => TEXT_LONG_BODY,
+        DecodeError::TooManyVotes => TEXT_MANY_VOTES,
+        DecodeError::VoteOrder => TEXT_VOTE_ORDER,
+        DecodeError::NoMemory => 0,
+    }
+}
+
+/// The kind of a block that breaks a rule. A checked block never has the fault `NoMemory`.
+fn kind_of_block(fault: BlockFault) -> i32
+    ensures { result ≡ block_kind fault }
+{
+    match fault {
+        BlockFault::Author => BLOCK_AUTHOR,
+        BlockFault::ParentAuthor => BLOCK_PARENT_AUTHOR,
+        BlockFault::GenesisParents => BLOCK_GENESIS_PARENTS,
+        BlockFault::FewParents => BLOCK_FEW_PARENTS,
+        BlockFault::Signature => BLOCK_SIGNATURE,
+        BlockFault::NoMemory => 0,
+    }
+}
+
+/// The kind of a certificate that breaks a rule. A checked certificate never has the fault `NoMemory`.
+fn kind_of_cert(fault: &CertFault) -> i32
+    ensures { result ≡ cert_kind fault.now }
+{
+    match fault {
+        CertFault::Author => CERT_AUTHOR,
+        CertFault::Signer => CERT_SIGNER,
+        CertFault::FewVotes => CERT_FEW_VOTES,
+        CertFault::Signature { .. } => CERT_SIGNATURE,
+        CertFault::NoMemory => 0,
+    }
+}
+
+/// A message of this kind, with neither slot nor signer.
+fn faulty(kind: i32, signer: u16) -> CMessage
+    ensures kind { result.kind ≡ kind }
+    ensures signer { result.signer ≡ signer }
+{
+    CMessage {
+        kind,
+        signer,
+        slot: CSlot {
+            digest: CDigest { bytes: [0; 32] },
+            round: 0,
+            author: 0,
+        },
+    }
+}
+
+/// What the checked text is.
+pub(crate) fn message_of(checked: &Checked<Ed25519>) -> CMessage
+    ensures { IsMessageOf checked.now result }
+{
+    match checked {
+        Checked::Block(checked) => {
+            let block = checked.block().get();
+            CMessage {
+                kind: BLOCK,
+                signer: 0,
+                slot: slot(checked.digest(), block.round, block.author),
+            }
+        }
+        Checked::Cert(checked) => {
+            let certificate = checked.certificate().get();
+            CMessage {
+                kind: CERTIFICATE,
+                signer: 0,
+                slot: slot(certificate.digest, certificate.round, certificate.author),
+            }
+        }
+        Checked::Vote(vote) => CMessage {
+            kind: VOTE,
+            signer: vote.signer,
+            slot: slot(vote.digest, vote.round, vote.author),
+        },
+        Checked::BadText(fault) => faulty(kind_of_text(*fault), 0),
+        Checked::BadBlock(fault) => faulty(kind_of_block(*fault), 0),
+        Checked::BadCert(CertFault::Signature { signer }) => faulty(CERT_SIGNATURE, *signer),
+        Checked::BadCert(fault) => faulty(kind_of_cert(fault), 0),
+    }
+}

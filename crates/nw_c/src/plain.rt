@@ -1,0 +1,96 @@
+//! Plain values that cross between C and the store.
+ghost use Rattle.std.specs.Prelude.{◌≡◌};
+ghost use Rattle.nw_c.specs.Plain.{digest_in, slot_of};
+
+use nw_digest::{Digest, Round};
+
+/// A digest: 32 bytes of SHA-256.
+#[repr(C)]
+#[derive(Clone, Copy)]
+pub struct CDigest {
+    pub bytes: [u8; 32],
+}
+
+/// An Ed25519 signature of 64 bytes.
+#[repr(C)]
+#[derive(Clone, Copy)]
+pub struct CSignature {
+    pub bytes: [u8; 64],
+}
+
+/// The digest of a block with the block's round and author.
+#[repr(C)]
+#[derive(Clone, Copy)]
+pub struct CSlot {
+    pub digest: CDigest,
+    pub round: u64,
+    pub author: u16,
+}
+
+/// What an answer or an event says: a kind, and the number or digest that the kind's comment names. Both are 0 otherwise.
+#[repr(C)]
+#[derive(Clone, Copy)]
+pub struct CTold {
+    pub kind: i32,
+    pub number: u64,
+    pub digest: CDigest,
+}
+
+impl CDigest {
+    /// What C sees of the digest.
+    pub fn of(digest: &Digest) -> CDigest
+        ensures { digest_in result ≡ digest.now }
+    {
+        let bytes = digest.0;
+        CDigest { bytes }
+    }
+
+    /// The digest.
+    pub fn get(&self) -> Digest
+        ensures { result ≡ digest_in self.now }
+    {
+        Digest(self.bytes)
+    }
+}
+
+/// The slot of this digest, round and author.
+pub(crate) fn slot(digest: Digest, round: Round, author: u16) -> CSlot
+    ensures { result ≡ slot_of digest round author }
+{
+    CSlot {
+        digest: CDigest::of(&digest),
+        round: round.get(),
+        author,
+    }
+}
+
+/// What has this kind alone.
+pub(crate) fn plain(kind: i32) -> CTold
+    ensures { result.kind ≡ kind }
+{
+    numbered(kind, 0)
+}
+
+/// What has this kind and a number.
+pub(crate) fn numbered(kind: i32, number: u64) -> CTold
+    ensures kind { result.kind ≡ kind }
+    ensures number { result.number ≡ number }
+{
+    CTold {
+        kind,
+        number,
+        digest: CDigest { bytes: [0; 32] },
+    }
+}
+
+/// What has this kind and a digest.
+pub(crate) fn named(kind: i32, digest: &Digest) -> CTold
+    ensures kind { result.kind ≡ kind }
+    ensures digest { digest_in result.digest ≡ digest.now }
+{
+    CTold {
+        kind,
+        number: 0,
+        digest: CDigest::of(digest),
+    }
+}

@@ -1,0 +1,127 @@
+//! Replies, as C is told them.
+ghost use Rattle.std.specs.Prelude.{◌≡◌, pos};
+ghost use Rattle.nw_model.specs.declared.reply.Reply.TheVariants as Reply;
+ghost use Rattle.nw_c.specs.Replies.{IsReplyTold, IsToldAs};
+
+use crate::codes::{CLOSED, DONE, OTHER_KIND};
+use crate::content::Content;
+use crate::handle::AnswerHandle;
+use crate::plain::{CTold, named, numbered, plain};
+use nw_model::{CausalReply, CertifyReply, CollectReply, Reply, WriteReply};
+
+/// Write: the block is stored now, and is the first of its round and author. Vote for it.
+pub(crate) const STORED_VOTE: i32 = 1;
+/// Write: the block is stored now, without a vote.
+pub(crate) const STORED: i32 = 2;
+/// Write: the same block was stored before.
+pub(crate) const HELD: i32 = 3;
+/// Write: another block is stored under the digest.
+pub(crate) const CLASH: i32 = 4;
+/// Write: the author made another block in the round before, which `digest` names.
+pub(crate) const EQUIVOCATES: i32 = 5;
+/// Certificate: it is stored now.
+pub(crate) const CERTIFIED: i32 = 6;
+/// Certificate: the digest was certified before, for the same round and author.
+pub(crate) const ALREADY: i32 = 7;
+/// Certificate: another digest is certified for the round and author, which `digest` names.
+pub(crate) const CONFLICT: i32 = 8;
+/// Write or certificate: the round is below the garbage round, which is `number`.
+pub(crate) const COLLECTED: i32 = 9;
+/// Write or certificate: the round is past the window.
+pub(crate) const TOO_FAR: i32 = 10;
+/// Write or certificate: the certificate and the block of the digest differ in round or author.
+pub(crate) const MISFIT: i32 = 11;
+/// Write or certificate: the book stores as many as its limit.
+pub(crate) const FULL: i32 = 12;
+/// Read, or call for a certificate: it is stored.
+pub(crate) const FOUND: i32 = 13;
+/// Read, causal read, or call for a certificate: it is not stored.
+pub(crate) const UNKNOWN: i32 = 14;
+/// Causal read: the digest is not certified.
+pub(crate) const UNCERTIFIED: i32 = 15;
+/// Causal read: an ancestor is missing or not certified.
+pub(crate) const INCOMPLETE: i32 = 16;
+/// Causal read: the answer is a ticket, whose list can be walked.
+pub(crate) const READY: i32 = 17;
+/// Collection: the garbage round was raised, and `number` blocks were dropped.
+pub(crate) const RAISED: i32 = 18;
+/// Collection: the garbage round, which is `number`, was as high before.
+pub(crate) const NOT_HIGHER: i32 = 19;
+/// Call for missing parents: `number` of them are listed.
+pub(crate) const MISSING: i32 = 20;
+/// Call for the status.
+pub(crate) const STATUS: i32 = 21;
+
+/// The reply to a write.
+fn write_told(reply: WriteReply) -> CTold
+    ensures { IsToldAs (Reply.Write reply) result }
+{
+    match reply {
+        WriteReply::Collected(round) => numbered(COLLECTED, round.get()),
+        WriteReply::TooFar => plain(TOO_FAR),
+        WriteReply::Held => plain(HELD),
+        WriteReply::Clash => plain(CLASH),
+        WriteReply::Misfit => plain(MISFIT),
+        WriteReply::Equivocates(first) => named(EQUIVOCATES, &first),
+        WriteReply::Full => plain(FULL),
+        WriteReply::Stored { vote: true } => plain(STORED_VOTE),
+        WriteReply::Stored { vote: false } => plain(STORED),
+    }
+}
+
+/// The reply to a certificate.
+fn certify_told(reply: CertifyReply) -> CTold
+    ensures { IsToldAs (Reply.Certify reply) result }
+{
+    match reply {
+        CertifyReply::Collected(round) => numbered(COLLECTED, round.get()),
+        CertifyReply::TooFar => plain(TOO_FAR),
+        CertifyReply::Already => plain(ALREADY),
+        CertifyReply::Misfit => plain(MISFIT),
+        CertifyReply::Conflict(other) => named(CONFLICT, &other),
+        CertifyReply::Full => plain(FULL),
+        CertifyReply::Certified => plain(CERTIFIED),
+    }
+}
+
+/// Any reply.
+pub(crate) fn reply_told(reply: &Reply) -> CTold
+    ensures { IsToldAs reply.now result }
+{
+    match reply {
+        Reply::Write(reply) => write_told(*reply),
+        Reply::Certify(reply) => certify_told(*reply),
+        Reply::Certificate(Some(_)) | Reply::Read(Some(_)) => plain(FOUND),
+        Reply::Certificate(None) | Reply::Read(None) => plain(UNKNOWN),
+        Reply::Causal(CausalReply::Unknown) => plain(UNKNOWN),
+        Reply::Causal(CausalReply::Uncertified) => plain(UNCERTIFIED),
+        Reply::Causal(CausalReply::Incomplete) => plain(INCOMPLETE),
+        Reply::Ready | Reply::List(_) => plain(READY),
+        Reply::Collect(CollectReply::NotHigher(round)) => numbered(NOT_HIGHER, round.get()),
+        Reply::Collect(CollectReply::Raised { dropped }) => numbered(RAISED, *dropped),
+        Reply::Missing(wanted) => numbered(MISSING, wanted.as_slice().len() as u64),
+        Reply::Status(_) => plain(STATUS),
+    }
+}
+
+/// Writes the reply of the answer. The reply of a ticket is `NW_READY`.
+#[unsafe(no_mangle)]
+pub extern "C" fn nw_answer_reply(answer: &mut AnswerHandle, out: &mut CTold) -> i32
+    ensures reply { result ≡ pos 0 → IsReplyTold answer.old.value out.new }
+    ensures same { answer.new.value ≡ answer.old.value }
+{
+    if !answer.is_open() {
+        return CLOSED;
+    }
+    match answer.lend() {
+        Content::Answer(done) => {
+            *out = reply_told(done.reply());
+            DONE
+        }
+        Content::Ticket(_) => {
+            *out = plain(READY);
+            DONE
+        }
+        _ => OTHER_KIND,
+    }
+}

@@ -1,0 +1,90 @@
+//! Digests, and the texts that members sign.
+ghost use Rattle.std.specs.Prelude.{◌≡◌, pos, take};
+ghost use Rattle.sha2.specs.Sha256.{sha256};
+ghost use Rattle.nw_codec.specs.Spelled.{Spells};
+ghost use Rattle.nw_sig.specs.Signed.{block_text, vote_text};
+ghost use Rattle.nw_c.specs.Plain.{digest_in};
+ghost use Rattle.nw_c.specs.Votes.{vote_of};
+
+use crate::codes::{BAD_ROUND, DONE};
+use crate::plain::{CDigest, CSignature, CSlot};
+use crate::texts::hand_out_encoded;
+use nw_codec::{Message, Signature, Vote, encode_message};
+use nw_digest::{Round, digest_of};
+use nw_sig::{block_text, vote_text};
+use std::alloc::Global;
+
+/// The 36 bytes that the author of a block signs.
+#[repr(C)]
+#[derive(Clone, Copy)]
+pub struct CBlockText {
+    pub bytes: [u8; 36],
+}
+
+/// The 44 bytes that a member signs to vote for a block.
+#[repr(C)]
+#[derive(Clone, Copy)]
+pub struct CVoteText {
+    pub bytes: [u8; 44],
+}
+
+/// Writes the SHA-256 digest of the bytes.
+#[unsafe(no_mangle)]
+pub extern "C" fn nw_digest_of(bytes: &[u8], out: &mut CDigest)
+    ensures { out.new.bytes ≡ sha256 bytes.now }
+{
+    *out = CDigest::of(&digest_of(bytes));
+}
+
+/// Writes the text that the author of the block of this digest signs.
+#[unsafe(no_mangle)]
+pub extern "C" fn nw_text_of_block(digest: &CDigest, out: &mut CBlockText)
+    ensures { out.new.bytes ≡ block_text (digest_in digest.now) }
+{
+    *out = CBlockText {
+        bytes: block_text(&digest.get()),
+    };
+}
+
+/// Writes the text that a member signs to vote for the block of this slot. Returns `NW_BAD_ROUND` if the round is not below 2^48.
+#[unsafe(no_mangle)]
+pub extern "C" fn nw_text_of_vote(slot: &CSlot, out: &mut CVoteText) -> i32
+    ensures { result ≡ pos 0 → out.new.bytes
+        ≡ vote_text (digest_in slot.now.digest) slot.now.round slot.now.author }
+{
+    let Some(round) = Round::new(slot.round) else {
+        return BAD_ROUND;
+    };
+    *out = CVoteText {
+        bytes: vote_text(&slot.digest.get(), round, slot.author),
+    };
+    DONE
+}
+
+/// Writes the message of the signer's vote for the block of this slot. Its size goes to `needed`; `NW_SMALL` if the buffer is smaller.
+/// Returns `NW_BAD_ROUND` if the round is not below 2^48. The signature is not checked.
+#[unsafe(no_mangle)]
+pub extern "C" fn nw_vote_message(
+    alloc: Global,
+    slot: &CSlot,
+    signer: u16,
+    signature: &CSignature,
+    buffer: &mut [u8],
+    needed: &mut usize,
+) -> i32
+    ensures { result ≡ pos 0 → Spells (take needed.new buffer.new)
+        (vote_of slot.now signer signature.now) }
+{
+    let Some(round) = Round::new(slot.round) else {
+        return BAD_ROUND;
+    };
+    let vote = Vote {
+        digest: slot.digest.get(),
+        round,
+        author: slot.author,
+        signer,
+        signature: Signature(signature.bytes),
+    };
+    let text = encode_message(alloc, &Message::Vote(vote));
+    hand_out_encoded(text, buffer, needed)
+}

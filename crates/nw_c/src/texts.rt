@@ -1,0 +1,53 @@
+//! Texts that are copied into a buffer of the caller's.
+ghost use Rattle.std.specs.Prelude.{◌≡◌, pos, take, length, IfOk, MatchResult};
+ghost use Rattle.nw_codec.specs.Spelled.{Spells};
+ghost use Rattle.nw_codec.specs.declared.message.Message.TheVariants as Message;
+
+use crate::codes::{DONE, SMALL, code_of_text};
+use nw_codec::{Certificate, EncodeError, Message, encode_message};
+use nw_digest::Sequence;
+use std::alloc::Global;
+
+/// Writes the size of the text to `needed`, and copies the text to the start of the buffer if it fits.
+pub(crate) fn hand_out(text: &[u8], buffer: &mut [u8], needed: &mut usize) -> i32
+    ensures copied { result ≡ pos 0 → take needed.new buffer.new ≡ text.now }
+    ensures unchanged { (result ≡ pos 0 → ⊥) → buffer.new ≡ buffer.old }
+{
+    let size = text.len();
+    *needed = size;
+    if size > buffer.len() {
+        return SMALL;
+    }
+    buffer[..size].copy_from_slice(text);
+    DONE
+}
+
+/// The same for a text that was encoded, or the code of what it was not encoded for.
+pub(crate) fn hand_out_encoded(
+    text: Result<Vec<u8>, EncodeError>,
+    buffer: &mut [u8],
+    needed: &mut usize,
+) -> i32
+    ensures { result ≡ pos 0 → MatchResult text (λ v. take needed.new buffer.new ≡ v.items) (λ _. ⊥) }
+{
+    match text {
+        Ok(text) => hand_out(&text, buffer, needed),
+        Err(why) => code_of_text(why),
+    }
+}
+
+/// The text of the certificate's message.
+pub(crate) fn certificate_text(
+    alloc: Global,
+    certificate: &Certificate,
+) -> Result<Vec<u8>, EncodeError>
+    ensures { IfOk result (λ v. Spells v.items (Message.Certificate certificate.now)) }
+{
+    let copy = Certificate {
+        digest: certificate.digest,
+        round: certificate.round,
+        author: certificate.author,
+        votes: Sequence::new(certificate.votes.as_slice().to_vec(alloc)?),
+    };
+    encode_message(alloc, &Message::Certificate(copy))
+}

@@ -1,0 +1,158 @@
+//! Tickets of causal reads, and the lists of their walks.
+ghost use Rattle.std.specs.Prelude.{◌≡◌, ◌↔◌, pos, IfOk, IfErr, IsTrue};
+ghost use Rattle.nw_book.specs.Ticket.{HaveOneList};
+ghost use Rattle.nw_c.specs.Tickets.{Agrees, AreApart, HasBlocks, IsAbout, IsBlockAt, IsWalkOf};
+ghost use Rattle.nw_c.specs.Tickets.{IsWhyApart};
+ghost use Rattle.nw_c.specs.declared.codes.TheConstants.{APART};
+
+use crate::codes::{ABSENT, APART, CLOSED, DONE, NO_MEMORY, OPEN, OTHER_KIND};
+use crate::content::Content;
+use crate::handle::{AnswerHandle, BlockHandle, ListHandle, put};
+use crate::plain::CDigest;
+use nw_book::Ticket;
+use nw_causal::Agreement;
+use nw_digest::Sequence;
+use nw_ed25519::Ed25519;
+use std::alloc::Global;
+
+/// Writes the digest that the ticket is for, and the garbage round at the call that opened it.
+#[unsafe(no_mangle)]
+pub extern "C" fn nw_ticket_about(
+    ticket: &mut AnswerHandle,
+    digest: &mut CDigest,
+    floor: &mut u64,
+) -> i32
+    ensures about { result ≡ pos 0 → IsAbout ticket.old.value digest.new floor.new }
+    ensures same { ticket.new.value ≡ ticket.old.value }
+{
+    if !ticket.is_open() {
+        return CLOSED;
+    }
+    match ticket.lend() {
+        Content::Ticket(ticket) => {
+            *digest = CDigest::of(&ticket.digest());
+            *floor = ticket.view().floor().get();
+            DONE
+        }
+        _ => OTHER_KIND,
+    }
+}
+
+/// Whether the lists of both tickets are equal, or the code of why that is not known.
+fn agree(alloc: Global, one: &Ticket<Ed25519>, other: &Ticket<Ed25519>) -> Result<bool, i32>
+    ensures agrees { IfOk result (λ same. IsTrue same ↔ HaveOneList one.now other.now) }
+    ensures apart { IfErr result (IsWhyApart one.now other.now) }
+{
+    if one.digest() != other.digest() || one.view().floor() != other.view().floor() {
+        return Err(APART);
+    }
+    match one.agree(alloc, other) {
+        Ok(Agreement::Same) => Ok(true),
+        Ok(Agreement::Collision { .. }) => Ok(false),
+        Err(_) => Err(NO_MEMORY),
+    }
+}
+
+/// Walks both tickets, which are for one digest and one garbage round, and writes whether the lists are equal. They may be tickets of two
+/// books. If they differ, two different blocks have one digest. Returns `NW_APART` if the digests or garbage rounds differ.
+#[unsafe(no_mangle)]
+pub extern "C" fn nw_ticket_agree(
+    alloc: Global,
+    ticket: &mut AnswerHandle,
+    other: &mut AnswerHandle,
+    out: &mut bool,
+) -> i32
+    ensures agrees { result ≡ pos 0 → Agrees ticket.old.value other.old.value out.new }
+    ensures apart { result ≡ APART → AreApart ticket.old.value other.old.value }
+    ensures same { ticket.new.value ≡ ticket.old.value }
+    ensures other { other.new.value ≡ other.old.value }
+{
+    if !ticket.is_open() || !other.is_open() {
+        return CLOSED;
+    }
+    match (ticket.lend(), other.lend()) {
+        (Content::Ticket(ticket), Content::Ticket(other)) => match agree(alloc, ticket, other) {
+            Ok(same) => {
+                *out = same;
+                DONE
+            }
+            Err(why) => why,
+        },
+        _ => OTHER_KIND,
+    }
+}
+
+/// Walks the ticket and opens a list: the block and all its certified ancestors not below the garbage round, as they were at the call that
+/// opened the ticket. They ascend by round and author. A ticket can be walked at any time and as often as is liked; no lock is needed.
+#[unsafe(no_mangle)]
+pub extern "C" fn nw_ticket_walk(
+    alloc: Global,
+    ticket: &mut AnswerHandle,
+    out: &mut ListHandle,
+) -> i32
+    ensures list { result ≡ pos 0 → IsWalkOf ticket.old.value out.new.value }
+    ensures same { ticket.new.value ≡ ticket.old.value }
+    ensures held { (result ≡ pos 0 → ⊥) → out.new.held ≡ out.old.held }
+{
+    if !ticket.is_open() {
+        return CLOSED;
+    }
+    if out.is_open() {
+        return OPEN;
+    }
+    match ticket.lend() {
+        Content::Ticket(ticket) => match ticket.walk(alloc) {
+            Ok(blocks) => put(alloc, out, Content::List(Sequence::new(blocks))),
+            Err(_) => NO_MEMORY,
+        },
+        _ => OTHER_KIND,
+    }
+}
+
+/// Writes how many blocks the list has.
+#[unsafe(no_mangle)]
+pub extern "C" fn nw_list_len(list: &mut ListHandle, out: &mut usize) -> i32
+    ensures len { result ≡ pos 0 → HasBlocks list.old.value out.new }
+    ensures same { list.new.value ≡ list.old.value }
+{
+    if !list.is_open() {
+        return CLOSED;
+    }
+    match list.lend() {
+        Content::List(blocks) => {
+            *out = blocks.as_slice().len();
+            DONE
+        }
+        _ => OTHER_KIND,
+    }
+}
+
+/// Opens a handle of the block at the index, from 0. Returns `NW_ABSENT` past the last.
+#[unsafe(no_mangle)]
+pub extern "C" fn nw_list_block(
+    alloc: Global,
+    list: &mut ListHandle,
+    index: usize,
+    out: &mut BlockHandle,
+) -> i32
+    ensures block { result ≡ pos 0 → IsBlockAt list.old.value index out.new.value }
+    ensures same { list.new.value ≡ list.old.value }
+    ensures held { (result ≡ pos 0 → ⊥) → out.new.held ≡ out.old.held }
+{
+    if !list.is_open() {
+        return CLOSED;
+    }
+    if out.is_open() {
+        return OPEN;
+    }
+    match list.lend() {
+        Content::List(blocks) => match blocks.as_slice().get(index) {
+            Some(block) => match block.try_clone() {
+                Ok(block) => put(alloc, out, Content::Block(block)),
+                Err(_) => NO_MEMORY,
+            },
+            None => ABSENT,
+        },
+        _ => OTHER_KIND,
+    }
+}
