@@ -48,6 +48,20 @@ def tried(folder):
     return ran.returncode, ran.stdout
 
 
+def uses():
+    """For each crate, the crates and the kit's libraries that crates.txt names for it."""
+    return {crate: rest.split() for crate, rest in re.findall(r"^(\w+)[^:\n]*:(.*)$", content("crates.txt"), re.M)}
+
+
+def below(crate):
+    """The crates of the repository that this one stands on, each after those that it uses."""
+    found, used = [], uses()
+    for name in used[crate]:
+        if name in used:
+            found += [it for it in (*below(name), name) if it not in found]
+    return found
+
+
 def program(crate):
     """The program that `rt run` or `rt ci` made of the crate."""
     return f"{ROOT}/crates/{crate}/out/{crate}"
