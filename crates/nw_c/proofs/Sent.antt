@@ -14,12 +14,37 @@ Message = checked.the_type ed25519.the_row ghosts
 
 -- a checked text
 checked_send : IsSend (Enum (shape Message))
-checked_send = enum_send (shape Message)
-    ((search (sendable, crosses) depth 30, tt), ((search (sendable, crosses) depth 30, tt), ((search (sendable, crosses) depth 30, tt),
-    ((search (sendable, crosses) depth 30, tt), ((search (sendable, crosses) depth 30, tt), ((search (sendable, crosses) depth 30, tt), tt))))))
+checked_send = enum_send (shape Message) (
+  (search (sendable, crosses) depth 30, tt),
+  (
+    (search (sendable, crosses) depth 30, tt),
+    (
+      (search (sendable, crosses) depth 30, tt),
+      ((search (sendable, crosses) depth 30, tt), ((search (sendable, crosses) depth 30, tt), ((search (sendable, crosses) depth 30, tt), tt))),
+    ),
+  ),
+)
 
 pub content_send : IsSend content.the_row
-content_send = recorded_send (Enum (shape content.the_type)) (content.the_type).D (content.the_type).to (content.the_type).to_one (enum_send (shape content.the_type)
-    (tt, ((search (sendable, crosses) depth 30, tt), ((checked_send, tt), ((search (sendable, crosses) depth 30, tt),
-    ((search (sendable, crosses, book_send) depth 30, tt), ((search (sendable, crosses, done_send) depth 30, tt), ((search (sendable, crosses, ticket_send) depth 30, tt),
-    ((search (sendable, crosses) depth 30, tt), ((search (sendable, crosses) depth 30, tt), tt))))))))))
+content_send = recorded_send (Enum (shape content.the_type)) (content.the_type).D (content.the_type).to (content.the_type).to_one (enum_send (shape content.the_type) (
+  tt,
+  (
+    (search (sendable, crosses) depth 30, tt),
+    (
+      (checked_send, tt),
+      (
+        (search (sendable, crosses) depth 30, tt),
+        (
+          (search (sendable, crosses, book_send) depth 30, tt),
+          (
+            (search (sendable, crosses, done_send) depth 30, tt),
+            (
+              (search (sendable, crosses, ticket_send) depth 30, tt),
+              ((search (sendable, crosses) depth 30, tt), ((search (sendable, crosses) depth 30, tt), tt)),
+            ),
+          ),
+        ),
+      ),
+    ),
+  ),
+))

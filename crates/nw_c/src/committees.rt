@@ -21,13 +21,15 @@ pub struct CMember {
 fn members_of(alloc: Global, listed: &[CMember]) -> Result<Vec<Member>, NoMemory>
     ensures { IfOk result (λ members. members.items ≡ map member_in listed.now) }
 {
-    Ok(listed
-        .iter()
-        .map(|member| Member {
-            key: Key(member.key),
-            weight: member.weight,
-        })
-        .collect(alloc)?)
+    Ok(
+        listed
+            .iter()
+            .map(|member| Member {
+                key: Key(member.key),
+                weight: member.weight,
+            })
+            .collect(alloc)?,
+    )
 }
 
 /// The committee of these members, or the code of the refusal.

@@ -14,13 +14,15 @@ use std::alloc::Global;
 fn parents_of(alloc: Global, listed: &[CParent]) -> Result<Vec<Ref>, NoMemory>
     ensures { IfOk result (λ parents. parents.items ≡ map parent_in listed.now) }
 {
-    Ok(listed
-        .iter()
-        .map(|parent| Ref {
-            author: parent.author,
-            digest: Digest(parent.digest.bytes),
-        })
-        .collect(alloc)?)
+    Ok(
+        listed
+            .iter()
+            .map(|parent| Ref {
+                author: parent.author,
+                digest: Digest(parent.digest.bytes),
+            })
+            .collect(alloc)?,
+    )
 }
 
 /// The transactions of these lengths, which the bytes are in order, or the code of the refusal.
