@@ -1,5 +1,6 @@
 /* The allocation functions that libnw_c.a calls, over those of the C library. Link it with the archive, or write others with these
-   signatures: a block of n bytes, aligned to `align`, which divides 16. n may be 0. */
+   signatures: a block of n bytes, aligned to `align`, which divides 16. n may be 0. The pointer that is returned is never null, even if
+   there is no room. A failed rattle_realloc keeps the old block. Any thread may call them. */
 #include <stdbool.h>
 #include <stddef.h>
 #include <stdlib.h>

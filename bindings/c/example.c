@@ -1,6 +1,7 @@
 /* A validator of a committee of four takes a block and its certificate, and reads the block with its causal history.
 
-       cc -std=c99 bindings/c/example.c bindings/c/alloc.c crates/nw_c/out/libnw_c.a -o example && ./example
+       cc -std=c99 -I bindings/c bindings/c/example.c bindings/c/alloc.c bindings/prebuilt/x86_64-linux/libnw.a -o /tmp/example
+       /tmp/example
 
    The messages were signed by OpenSSL. Each line shows what was answered; the status is 1 if memory ran out. */
 #include "nw.h"

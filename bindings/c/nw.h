@@ -1,13 +1,17 @@
 /* nw.h: the verified block store of a Narwhal validator, for C. Made by bindings/c/header from crates/nw_c; do not edit.
 
    A handle is one pointer, and {0} if it is closed. A function that makes a value takes a closed handle and opens it if it returns
-   NW_DONE. A closed handle and a handle of another kind are codes, not faults. Never copy an open handle. Close each with nw_free.
+   NW_DONE. A closed handle and a handle of another kind are codes, not faults. Never copy an open handle. Close each with nw_free, which
+   takes the handle's address.
+
+   Every pointer must be valid; only an array of length 0 may be NULL. All other values are checked. A function that writes bytes into a
+   buffer first writes how many bytes are needed, so a buffer of length 0 asks for the size.
 
    Any thread may call any function, with one call at a time on one handle. Two threads may use two handles at once, even if these share
    a committee, blocks or a history. Put a lock of your own around a book. Checks and walks need no lock.
 
-   Each session numbers its calls of a book from 1. A refused call changes nothing except what its comment names. The store is in memory
-   only. */
+   Each session numbers its calls of a book from 1, and again from 1 after a restart. A refused call uses no number, and changes nothing
+   except what its comment names. The store is in memory only: docs/EMBEDDING.md says what a validator logs. */
 #ifndef NW_H
 #define NW_H
 #include <stdbool.h>
@@ -24,9 +28,9 @@ enum {
 	NW_DONE = 0,
 	/* Out of memory. Nothing changed. */
 	NW_NO_MEMORY = 1,
-	/* A handle is closed that must be open. */
+	/* A handle that must be open is closed. */
 	NW_CLOSED = 2,
-	/* A handle is open that must be closed. */
+	/* A handle that must be closed is open. */
 	NW_OPEN = 3,
 	/* A handle holds another kind of value. */
 	NW_OTHER_KIND = 4,
@@ -42,7 +46,7 @@ enum {
 	NW_HISTORY_FULL = 9,
 	/* A round is not below 2^48. */
 	NW_BAD_ROUND = 10,
-	/* The buffer is too small. The needed size was written, and nothing else. */
+	/* The buffer is too small. Only the needed size was written. */
 	NW_SMALL = 11,
 	/* There is no value at the index, or none was found. */
 	NW_ABSENT = 12,
@@ -86,7 +90,7 @@ enum {
 	NW_TEXT_MANY_TRANSACTIONS = 16,
 	/* A transaction has more than 65,536 bytes. */
 	NW_TEXT_LONG_TRANSACTION = 17,
-	/* The body has more bytes than the format allows. */
+	/* The body has more than 1,048,576 bytes. */
 	NW_TEXT_LONG_BODY = 18,
 	/* The certificate has more than 100 votes. */
 	NW_TEXT_MANY_VOTES = 19,
@@ -116,13 +120,14 @@ enum {
 enum {
 	/* Write: the block is stored now, and is the first of its round and author. Vote for it. */
 	NW_STORED_VOTE = 1,
-	/* Write: the block is stored now, without a vote. */
+	/* Write: the block is stored now, without a vote: another block of its round and author came first, and this
+	   one is certified. */
 	NW_STORED = 2,
 	/* Write: the same block was stored before. */
 	NW_HELD = 3,
 	/* Write: another block is stored under the digest. */
 	NW_CLASH = 4,
-	/* Write: the author made another block in the round before, which digest names. */
+	/* Write: another block of this author and round came first, which digest names. */
 	NW_EQUIVOCATES = 5,
 	/* Certificate: it is stored now. */
 	NW_CERTIFIED = 6,
@@ -132,11 +137,11 @@ enum {
 	NW_CONFLICT = 8,
 	/* Write or certificate: the round is below the garbage round, which is number. */
 	NW_COLLECTED = 9,
-	/* Write or certificate: the round is past the window. */
+	/* Write or certificate: the round is not below the garbage round plus the window. Hand it in again later. */
 	NW_TOO_FAR = 10,
 	/* Write or certificate: the certificate and the block of the digest differ in round or author. */
 	NW_MISFIT = 11,
-	/* Write or certificate: the book stores as many as its limit. */
+	/* Write or certificate: the book stores as many as its limit. Hand it in again after a collection. */
 	NW_FULL = 12,
 	/* Read, or call for a certificate: it is stored. */
 	NW_FOUND = 13,
@@ -262,8 +267,9 @@ typedef struct {
 	nw_slot slot;
 } nw_message;
 
-/* The limits of a book: stored blocks and certificates, 1 to 65,536 of each; events of the history, 1 to
-   65,536; rounds from the garbage round on, 1 to 4,096; and sessions, 1 to 256. */
+/* The limits of a book. blocks: stored blocks, and as many certificates, 1 to 65,536. events: events of a
+   history, 1 to 65,536. window: accepted rounds, counted from the garbage round, 1 to 4,096. sessions: 1 to
+   256, numbered from 0. */
 typedef struct {
 	uint32_t blocks;
 	uint32_t events;
@@ -315,14 +321,16 @@ void nw_text_of_block(const nw_digest *digest, nw_block_text *out);
    is not below 2^48. */
 int32_t nw_text_of_vote(const nw_slot *slot, nw_vote_text *out);
 
-/* Writes the message of the signer's vote for the block of this slot. Its size goes to needed; NW_SMALL if
-   the buffer is smaller. Returns NW_BAD_ROUND if the round is not below 2^48. The signature is not checked. */
+/* Writes the message of the signer's vote for the block of this slot: 107 bytes. Its size goes to needed;
+   NW_SMALL if the buffer is smaller. Returns NW_BAD_ROUND if the round is not below 2^48. The signature is
+   not checked. */
 int32_t nw_vote_message(const nw_slot *slot, uint16_t signer, const nw_signature *signature, uint8_t *buffer, size_t buffer_len, size_t *needed);
 
 /* Makes a block of this author and round. transactions is all transactions, one after another, and lengths
-   the size of each. Parents ascend strictly by author. Returns NW_BAD_ROUND if the round is not below 2^48,
-   and NW_OVER_LIMIT if a limit of the format is broken or the sizes do not add up. Nothing is checked under
-   a committee. */
+   the size of each. Parents ascend strictly by author. A block has at most 100 parents, 1,024 transactions
+   of at most 65,536 bytes each, and a body of 1,048,576 bytes. Returns NW_BAD_ROUND if the round is not
+   below 2^48, and NW_OVER_LIMIT if one of these limits is broken or the sizes do not add up. Nothing is
+   checked under a committee. */
 int32_t nw_block_new(uint16_t author, uint64_t round, const nw_parent *parents, size_t parents_len, const uint8_t *transactions, size_t transactions_len, const uint32_t *lengths, size_t lengths_len, nw_block *out);
 
 /* Writes the digest, round and author of the block. Returns NW_OVER_LIMIT if the block breaks a limit of the
@@ -371,7 +379,7 @@ int32_t nw_gather_new(nw_committee *committee, const nw_slot *slot, nw_gather *o
 int32_t nw_gather_add(nw_gather *gather, nw_checked *vote, bool *quorum);
 
 /* Makes the certificate of the counted votes, as a checked text. Returns NW_FEW_VOTES if they do not reach a
-   quorum. The gathering may go on afterwards. */
+   quorum. More votes can be added afterwards. */
 int32_t nw_gather_certificate(nw_gather *gather, nw_checked *out);
 
 /* Makes an empty book under the committee and the limits. Returns NW_BAD_LIMITS if a limit is out of range. */
@@ -417,7 +425,7 @@ int32_t nw_book_status(nw_book *book, uint16_t session, uint32_t number, nw_answ
 int32_t nw_book_open(nw_book *book, uint16_t session, uint32_t number, const nw_digest *digest, nw_answer *answer);
 
 /* Makes room for an answer. It is made before a call, so that no call that was taken lacks memory for its
-   answer. The room can be used again, and a new answer replaces the old one. */
+   answer. The room can be used again: a new answer replaces the old one, and a refused call keeps it. */
 int32_t nw_answer_new(nw_answer *out);
 
 /* Opens a handle of the block that a read found. Returns NW_ABSENT if it found none, and NW_OTHER_KIND of
@@ -460,7 +468,7 @@ int32_t nw_ticket_agree(nw_answer *ticket, nw_answer *other, bool *out);
 
 /* Walks the ticket and opens a list: the block and all its certified ancestors not below the garbage round,
    as they were at the call that opened the ticket. They ascend by round and author. A ticket can be walked
-   at any time and as often as is liked; no lock is needed. */
+   at any time and any number of times, without a lock. */
 int32_t nw_ticket_walk(nw_answer *ticket, nw_list *out);
 
 /* Writes how many blocks the list has. */

@@ -22,7 +22,7 @@ pub struct CStatus {
 }
 
 /// Makes room for an answer. It is made before a call, so that no call that was taken lacks memory for its answer. The room can be used
-/// again, and a new answer replaces the old one.
+/// again: a new answer replaces the old one, and a refused call keeps it.
 #[unsafe(no_mangle)]
 pub extern "C" fn nw_answer_new(alloc: Global, out: &mut AnswerHandle) -> i32
     ensures held { (result ≡ pos 0 → ⊥) → out.new.held ≡ out.old.held }

@@ -15,8 +15,8 @@ use std::alloc::Global;
 
 mod calls;
 
-/// The limits of a book: stored blocks and certificates, 1 to 65,536 of each; events of the history, 1 to 65,536; rounds from the garbage
-/// round on, 1 to 4,096; and sessions, 1 to 256.
+/// The limits of a book. `blocks`: stored blocks, and as many certificates, 1 to 65,536. `events`: events of a history, 1 to 65,536.
+/// `window`: accepted rounds, counted from the garbage round, 1 to 4,096. `sessions`: 1 to 256, numbered from 0.
 #[repr(C)]
 #[derive(Clone, Copy)]
 pub struct CLimits {

@@ -10,9 +10,9 @@ use nw_codec::EncodeError;
 pub(crate) const DONE: i32 = 0;
 /// Out of memory. Nothing changed.
 pub(crate) const NO_MEMORY: i32 = 1;
-/// A handle is closed that must be open.
+/// A handle that must be open is closed.
 pub(crate) const CLOSED: i32 = 2;
-/// A handle is open that must be closed.
+/// A handle that must be closed is open.
 pub(crate) const OPEN: i32 = 3;
 /// A handle holds another kind of value.
 pub(crate) const OTHER_KIND: i32 = 4;
@@ -28,7 +28,7 @@ pub(crate) const OTHER_COMMITTEE: i32 = 8;
 pub(crate) const HISTORY_FULL: i32 = 9;
 /// A round is not below 2^48.
 pub(crate) const BAD_ROUND: i32 = 10;
-/// The buffer is too small. The needed size was written, and nothing else.
+/// The buffer is too small. Only the needed size was written.
 pub(crate) const SMALL: i32 = 11;
 /// There is no value at the index, or none was found.
 pub(crate) const ABSENT: i32 = 12;

@@ -81,8 +81,8 @@ pub extern "C" fn nw_gather_add(
     }
 }
 
-/// Makes the certificate of the counted votes, as a checked text. Returns `NW_FEW_VOTES` if they do not reach a quorum. The gathering may
-/// go on afterwards.
+/// Makes the certificate of the counted votes, as a checked text. Returns `NW_FEW_VOTES` if they do not reach a quorum. More votes can
+/// be added afterwards.
 #[unsafe(no_mangle)]
 pub extern "C" fn nw_gather_certificate(
     alloc: Global,

@@ -29,7 +29,7 @@ pub(crate) const TEXT_PARENT_ORDER: i32 = 15;
 pub(crate) const TEXT_MANY_TRANSACTIONS: i32 = 16;
 /// A transaction has more than 65,536 bytes.
 pub(crate) const TEXT_LONG_TRANSACTION: i32 = 17;
-/// The body has more bytes than the format allows.
+/// The body has more than 1,048,576 bytes.
 pub(crate) const TEXT_LONG_BODY: i32 = 18;
 /// The certificate has more than 100 votes.
 pub(crate) const TEXT_MANY_VOTES: i32 = 19;

@@ -11,13 +11,13 @@ use nw_model::{CausalReply, CertifyReply, CollectReply, Reply, WriteReply};
 
 /// Write: the block is stored now, and is the first of its round and author. Vote for it.
 pub(crate) const STORED_VOTE: i32 = 1;
-/// Write: the block is stored now, without a vote.
+/// Write: the block is stored now, without a vote: another block of its round and author came first, and this one is certified.
 pub(crate) const STORED: i32 = 2;
 /// Write: the same block was stored before.
 pub(crate) const HELD: i32 = 3;
 /// Write: another block is stored under the digest.
 pub(crate) const CLASH: i32 = 4;
-/// Write: the author made another block in the round before, which `digest` names.
+/// Write: another block of this author and round came first, which `digest` names.
 pub(crate) const EQUIVOCATES: i32 = 5;
 /// Certificate: it is stored now.
 pub(crate) const CERTIFIED: i32 = 6;
@@ -27,11 +27,11 @@ pub(crate) const ALREADY: i32 = 7;
 pub(crate) const CONFLICT: i32 = 8;
 /// Write or certificate: the round is below the garbage round, which is `number`.
 pub(crate) const COLLECTED: i32 = 9;
-/// Write or certificate: the round is past the window.
+/// Write or certificate: the round is not below the garbage round plus the window. Hand it in again later.
 pub(crate) const TOO_FAR: i32 = 10;
 /// Write or certificate: the certificate and the block of the digest differ in round or author.
 pub(crate) const MISFIT: i32 = 11;
-/// Write or certificate: the book stores as many as its limit.
+/// Write or certificate: the book stores as many as its limit. Hand it in again after a collection.
 pub(crate) const FULL: i32 = 12;
 /// Read, or call for a certificate: it is stored.
 pub(crate) const FOUND: i32 = 13;

@@ -61,8 +61,8 @@ pub extern "C" fn nw_text_of_vote(slot: &CSlot, out: &mut CVoteText) -> i32
     DONE
 }
 
-/// Writes the message of the signer's vote for the block of this slot. Its size goes to `needed`; `NW_SMALL` if the buffer is smaller.
-/// Returns `NW_BAD_ROUND` if the round is not below 2^48. The signature is not checked.
+/// Writes the message of the signer's vote for the block of this slot: 107 bytes. Its size goes to `needed`; `NW_SMALL` if the buffer is
+/// smaller. Returns `NW_BAD_ROUND` if the round is not below 2^48. The signature is not checked.
 #[unsafe(no_mangle)]
 pub extern "C" fn nw_vote_message(
     alloc: Global,

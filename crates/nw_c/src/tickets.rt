@@ -83,7 +83,7 @@ pub extern "C" fn nw_ticket_agree(
 }
 
 /// Walks the ticket and opens a list: the block and all its certified ancestors not below the garbage round, as they were at the call that
-/// opened the ticket. They ascend by round and author. A ticket can be walked at any time and as often as is liked; no lock is needed.
+/// opened the ticket. They ascend by round and author. A ticket can be walked at any time and any number of times, without a lock.
 #[unsafe(no_mangle)]
 pub extern "C" fn nw_ticket_walk(
     alloc: Global,

@@ -48,8 +48,9 @@ fn transactions_of(alloc: Global, bytes: &[u8], lengths: &[u32]) -> Result<Trans
 }
 
 /// Makes a block of this author and round. `transactions` is all transactions, one after another, and `lengths` the size of each. Parents
-/// ascend strictly by author. Returns `NW_BAD_ROUND` if the round is not below 2^48, and `NW_OVER_LIMIT` if a limit of the format is
-/// broken or the sizes do not add up. Nothing is checked under a committee.
+/// ascend strictly by author. A block has at most 100 parents, 1,024 transactions of at most 65,536 bytes each, and a body of 1,048,576
+/// bytes. Returns `NW_BAD_ROUND` if the round is not below 2^48, and `NW_OVER_LIMIT` if one of these limits is broken or the sizes do not
+/// add up. Nothing is checked under a committee.
 #[unsafe(no_mangle)]
 pub extern "C" fn nw_block_new(
     alloc: Global,
