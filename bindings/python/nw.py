@@ -2,24 +2,31 @@
 
 It is a thin layer of ctypes over the C interface (bindings/c/nw.h). For a validator use the Rust crate or C. Make the shared object first:
 
-    bindings/python/make            # writes bindings/out/libnw.so
-    cd bindings/python && python3
-    >>> from nw import Committee, Store
-    >>> committee = Committee([(key, 1) for key in keys])          # 32 bytes each
-    >>> store = Store(committee)
-    >>> store.take(committee.check(message))                       # a block or a certificate, as bytes
-    'STORED_VOTE'
-    >>> [block.slot for block in store.causal(digest)]
+    bindings/python/make && cd bindings/python && python3           # make writes bindings/out/libnw.so
+    >>> from nw import Committee, Store, HERE
+    >>> lines = [line.split() for line in open(f"{HERE}/../rust/examples/data/corpus.txt")]
+    >>> block, certificate = [value for kind, value in lines if kind == "message"][:2]
+    >>> committee = Committee([(value, 1) for kind, value in lines if kind == "key"])
+    >>> store, checked = Store(committee), committee.check(block)
+    >>> store.take(checked), store.take(committee.check(certificate))
+    ('STORED_VOTE', 'CERTIFIED')
+    >>> [block.slot == checked.slot for block in store.causal(checked.slot[2])]
+    [True]
 
-Calls raise NwError with the name of the code, as nw.h lists it. One Store is one session, and is used by one thread.
+Keys, digests and messages are bytes-like objects or strings of hex digits; a slot has its digest in hex. A wrong length or a number out of
+range raises ValueError. Calls raise NwError with the name of the code, as nw.h lists it. One Store is one session: use it in one thread.
 """
 import ctypes
 import os
 import re
-from ctypes import POINTER, Structure, byref, c_int32, c_size_t, c_uint8, c_uint16, c_uint32, c_uint64, c_void_p
+from ctypes import Structure, byref, c_int32, c_size_t, c_uint8, c_uint16, c_uint32, c_uint64, c_void_p
 
 HERE = os.path.dirname(os.path.abspath(__file__))
-LIBRARY = ctypes.CDLL(os.environ.get("NW_LIBRARY", f"{HERE}/../out/libnw.so"))
+PATH = os.environ.get("NW_LIBRARY", os.path.normpath(f"{HERE}/../out/libnw.so"))
+try:
+    LIBRARY = ctypes.CDLL(PATH)
+except OSError as why:
+    raise ImportError(f"{PATH} cannot be loaded: run bindings/python/make, or set NW_LIBRARY to its path") from why
 
 
 def names(what):
@@ -57,27 +64,34 @@ def call(name, *arguments):
 
 
 def text(name, *arguments):
-    """The bytes that a function writes into a buffer."""
-    needed, room = c_size_t(), 1 << 16
-    while True:
-        buffer = (c_uint8 * room)()
-        code = getattr(LIBRARY, f"nw_{name}")(*arguments, buffer, c_size_t(room), byref(needed))
-        if not code:
-            return bytes(buffer[: needed.value])
-        if CODES[code] != "SMALL":
-            raise NwError(CODES[code])
-        room = needed.value
+    """The bytes that a function writes into a buffer. The first call asks for the size."""
+    needed = c_size_t()
+    getattr(LIBRARY, f"nw_{name}")(*arguments, None, c_size_t(0), byref(needed))
+    buffer = (c_uint8 * needed.value)()
+    call(name, *arguments, buffer, needed, byref(needed))
+    return bytes(buffer)
+
+
+def octets(value, length=None):
+    """The bytes of a bytes-like object or of a string of hex digits, as an array of ctypes."""
+    given = bytes.fromhex(value) if isinstance(value, str) else bytes(memoryview(value))
+    if length not in (None, len(given)):
+        raise ValueError(f"{len(given)} bytes were given: {length} are needed")
+    return (c_uint8 * len(given))(*given)
+
+
+def number(value, kind):
+    """The number as an unsigned integer of ctypes."""
+    if not 0 <= value < 1 << 8 * ctypes.sizeof(kind):
+        raise ValueError(f"{value} is outside the range of {kind.__name__[2:]}")
+    return kind(value)
 
 
 class Handle:
     def __init__(self, *made_by):
-        self.at = c_void_p()
+        self.ref = byref(c_void_p())
         if made_by:
-            call(*made_by, byref(self.at))
-
-    @property
-    def ref(self):
-        return byref(self.at)
+            call(*made_by, self.ref)
 
     def read(self, name, kind, *arguments):
         out = kind()
@@ -85,7 +99,8 @@ class Handle:
         return out
 
     def __del__(self):
-        LIBRARY.nw_free(byref(self.at))
+        if hasattr(self, "ref"):
+            LIBRARY.nw_free(self.ref)
 
 
 def place(slot):
@@ -94,43 +109,35 @@ def place(slot):
 
 
 class Committee(Handle):
-    """Members as pairs of a key of 32 bytes and a weight."""
+    """Members as pairs of a key and a weight."""
 
     def __init__(self, members):
-        listed = (Member * len(members))(*(Member((c_uint8 * 32)(*key), weight) for key, weight in members))
-        super().__init__("committee_new", listed, c_size_t(len(members)))
+        members = [Member(octets(key, 32), number(weight, c_uint32)) for key, weight in members]
+        super().__init__("committee_new", (Member * len(members))(*members), c_size_t(len(members)))
 
     def check(self, message):
+        message = octets(message)
         return Checked("check", self.ref, message, c_size_t(len(message)))
 
 
 class Checked(Handle):
     """A checked text. `kind` is BLOCK, CERTIFICATE, VOTE, or the rule that the text breaks."""
 
-    @property
-    def kind(self):
-        return KINDS[self.read("checked_told", Message).kind]
-
-    @property
-    def slot(self):
-        return place(self.read("checked_told", Message).slot)
+    kind = property(lambda self: KINDS[self.read("checked_told", Message).kind])
+    slot = property(lambda self: place(self.read("checked_told", Message).slot))
 
 
 class Block(Handle):
-    @property
-    def slot(self):
-        return place(self.read("block_slot", Slot))
-
-    @property
-    def body(self):
-        return text("block_body", self.ref)
+    slot = property(lambda self: place(self.read("block_slot", Slot)))
+    body = property(lambda self: text("block_body", self.ref))
 
 
 class Store(Handle):
     """A book of one session. Each call returns the name of its reply, or what the reply holds."""
 
     def __init__(self, committee, blocks=65_536, events=65_536, window=4_096):
-        super().__init__("book_new", committee.ref, byref(Limits(blocks, events, window, 1)))
+        limits = (number(limit, c_uint32) for limit in (blocks, events, window, 1))
+        super().__init__("book_new", committee.ref, byref(Limits(*limits)))
         self.answer, self.number = Handle("answer_new"), 0
 
     def make(self, name, *arguments):
@@ -143,22 +150,22 @@ class Store(Handle):
         return self.make("book_take", checked.ref)
 
     def read_block(self, digest):
-        found = self.make("book_read", byref(Digest((c_uint8 * 32)(*digest)))) == "FOUND"
+        found = self.make("book_read", byref(Digest(octets(digest, 32)))) == "FOUND"
         return Block("answer_block", self.answer.ref) if found else None
 
     def causal(self, digest):
         """The block and its certified ancestors in order, or the name of the reply that says why there is no list."""
-        reply = self.make("book_open", byref(Digest((c_uint8 * 32)(*digest))))
+        reply = self.make("book_open", byref(Digest(octets(digest, 32))))
         if reply != "READY":
             return reply
         walk = Handle("ticket_walk", self.answer.ref)
         return [Block("list_block", walk.ref, c_size_t(index)) for index in range(walk.read("list_len", c_size_t).value)]
 
     def collect(self, round):
-        return self.make("book_collect", c_uint64(round))
+        return self.make("book_collect", number(round, c_uint64))
 
     def missing(self, most=1_024):
-        self.make("book_missing", c_uint16(most))
+        self.make("book_missing", number(most, c_uint16))
         count = self.answer.read("answer_reply", Told).number
         return [place(self.answer.read("answer_missing", Slot, c_size_t(index))) for index in range(count)]
 

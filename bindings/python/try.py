@@ -1,30 +1,41 @@
 """Tries nw.py with the messages of bindings/c/example.c, and ends with status 1 if an answer is another."""
+import doctest
 import re
 
+import nw
 from nw import Committee, NwError, Store, HERE
 
 with open(f"{HERE}/../c/example.c") as file:
     KEYS, BLOCK, CERTIFICATE = (bytes.fromhex("".join(re.findall(r'"(\w+)"', part))) for part in re.findall(r"static const char \w+\[\] =(.*?);", file.read(), re.S))
 
 
+def refusal(kind, function, argument):
+    """The text of the error that the function raises."""
+    try:
+        function(argument)
+    except kind as why:
+        return str(why)
+    raise AssertionError(f"no {kind.__name__}")
+
+
 def main():
     committee = Committee([(KEYS[at : at + 32], 1) for at in range(0, len(KEYS), 32)])
     store = Store(committee)
     block, certificate, broken = committee.check(BLOCK), committee.check(CERTIFICATE), committee.check(BLOCK[:-1])
-    digest = bytes.fromhex(block.slot[2])
+    digest = block.slot[2]
     assert (block.kind, certificate.kind, broken.kind) == ("BLOCK", "CERTIFICATE", "TEXT_SHORT")
     assert store.take(block) == "STORED_VOTE" and store.take(block) == "HELD"
     assert store.causal(digest) == "UNCERTIFIED"
     assert store.take(certificate) == "CERTIFIED"
-    assert [each.slot for each in store.causal(digest)] == [block.slot] == [(0, 0, digest.hex())]
-    assert store.read_block(digest).body == BLOCK[1:-64]
+    assert [each.slot for each in store.causal(digest)] == [block.slot] == [(0, 0, digest)]
+    assert store.read_block(digest).body == store.read_block(bytearray.fromhex(digest)).body == BLOCK[1:-64]
     assert store.missing() == [] and store.status()["complete"] == 1
     assert store.collect(1) == "RAISED" and store.read_block(digest) is None
-    assert store.history()[-1] == (0, 10, "CALL_READ", "UNKNOWN")
-    try:
-        store.take(broken)
-    except NwError as why:
-        assert str(why) == "OTHER_KIND"
+    assert store.history()[-1] == (0, 11, "CALL_READ", "UNKNOWN")
+    assert refusal(NwError, store.take, broken) == "OTHER_KIND"
+    for function, argument in ((store.causal, digest[2:]), (store.causal, b""), (store.collect, -1), (store.missing, 65_536), (Committee, [(KEYS, 1)]), (Committee, [(KEYS[:32], 1 << 32)])):
+        refusal(ValueError, function, argument)
+    assert doctest.testmod(nw).failed == 0
     print("nw.py: all answers are as they should be")
 
 

@@ -1,11 +1,11 @@
 //! Finds the static library of the store and links it.
 //!
-//! It takes the first of these that exists: the library in `NW_LIB_DIR`, the one that a proof of
-//! this repository left in `crates/nw_c/out`, and the one that the repository ships in
-//! `bindings/prebuilt`.
+//! If `NW_LIB_DIR` is set, the library must be in that folder. Otherwise this takes the library that
+//! a proof of this repository left in `crates/nw_c/out`, or else the one in `bindings/prebuilt`.
 
 use std::env;
 use std::path::{Path, PathBuf};
+use std::process;
 
 /// Where a proof of the repository leaves the library, from the folder of this package.
 const PROVED: &str = "../../crates/nw_c/out";
@@ -27,17 +27,29 @@ fn main() {
     println!("cargo::rerun-if-env-changed=NW_LIB_DIR");
     match find() {
         Ok(archive) => link(&archive),
-        Err(what_to_do) => panic!("{what_to_do}"),
+        Err(what_to_do) => {
+            eprintln!("{what_to_do}");
+            process::exit(1);
+        }
     }
 }
 
 /// The library to link, or what to do to get one.
-fn find() -> Result<PathBuf, &'static str> {
+fn find() -> Result<PathBuf, String> {
     if let Some(folder) = env::var_os("NW_LIB_DIR") {
-        return in_folder(Path::new(&folder)).ok_or(MISSING);
+        let [proved, shipped] = NAMES;
+        let folder = Path::new(&folder);
+        let name = folder.display();
+        return match folder.is_absolute() {
+            true => in_folder(folder)
+                .ok_or_else(|| format!("NW_LIB_DIR is {name}, which has no {proved} or {shipped}")),
+            false => Err(format!(
+                "NW_LIB_DIR is {name}, which is not an absolute path"
+            )),
+        };
     }
     if env::var("TARGET").is_ok_and(|target| target != TARGET) {
-        return Err(OTHER_TARGET);
+        return Err(OTHER_TARGET.into());
     }
     let package = PathBuf::from(env::var_os("CARGO_MANIFEST_DIR").unwrap_or_default());
     let proved = package.join(PROVED);
@@ -45,7 +57,7 @@ fn find() -> Result<PathBuf, &'static str> {
         return Ok(archive);
     }
     watch_for(&proved);
-    in_folder(&package.join(SHIPPED)).ok_or(MISSING)
+    in_folder(&package.join(SHIPPED)).ok_or_else(|| MISSING.into())
 }
 
 fn in_folder(folder: &Path) -> Option<PathBuf> {

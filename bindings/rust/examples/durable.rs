@@ -1,23 +1,27 @@
-//! A validator that never votes twice for a slot, however often it is killed.
+//! A validator that never votes twice for a round and author, however often it is killed.
 //!
 //! ```text
 //! cargo run --release --example durable              kills a validator 50 times and compares its votes
-//! cargo run --release --example durable -- forget    deletes the log after each kill: slots get two votes
+//! cargo run --release --example durable -- forget    deletes the log after each kill: some get two votes
 //! ```
 //!
-//! The store is in memory only. So the validator appends each accepted message to a log and syncs the log *before* it sends its
-//! vote. After a crash it opens an empty store and repeats the calls of the log, in their order.
+//! The store is in memory only. So the validator logs each call that changes the store: a write that answers `Stored`, a certificate
+//! that answers `Certified`, and a collection that answers `Raised`. It syncs the log *before* it sends a vote. After a crash it opens
+//! a store with the same committee and limits. Before anything else, it repeats the calls of the log in their order.
 //!
 //! Why this is enough: the reply to a call and the state after it depend only on the calls before it (the step table of
-//! docs/MODEL.md), and only the replies `Stored`, `Certified` and `Raised` change the state. So the calls of the log lead to the same
-//! first block of each slot. A vote that was sent has its block in the log. If a crash kept a block out of the log, nobody saw a
-//! vote for it. The example kills the process only. A power failure can also lose a new file: sync its folder once.
+//! docs/MODEL.md), and no other reply changes the state. So the replay gives each round and author the same first block. If a crash
+//! keeps a block out of the log, its vote was not sent.
+//!
+//! If several threads call, hold one lock around each call and its append, so that the log has the order of the store's steps. After
+//! a logged collection to round g, the log may be cut to `collect(g)` followed by the logged messages of rounds >= g in their order.
+//! The example kills the process only. A power failure can also lose a new file: sync its folder once.
 
 #[path = "../tests/corpus/records.rs"]
 mod file;
 
-use narwhal_store::{CertifyReply, Checked, CollectReply, Committee, Message, WriteReply};
-use narwhal_store::{Session, Slot, Store};
+use narwhal_store::{CertifyReply, Checked, CollectReply, Committee, Limits, Message};
+use narwhal_store::{Session, Slot, Store, WriteReply};
 use std::fs::{self, File};
 use std::hash::{BuildHasher, RandomState};
 use std::io::{BufRead, BufReader, Write};
@@ -26,7 +30,7 @@ use std::{collections::BTreeMap, env, error::Error, process, thread, time::Durat
 
 type Result<T> = std::result::Result<T, Box<dyn Error>>;
 
-/// Messages that OpenSSL signed, with two blocks for some slots.
+/// Messages that OpenSSL signed, with two blocks for some rounds and authors. Their rounds are 0 to 39.
 const CORPUS: &[u8] = include_bytes!("../tests/corpus/corpus.bin");
 
 fn main() -> Result<()> {
@@ -40,8 +44,7 @@ fn main() -> Result<()> {
 /// Runs the validator again and again, kills it at a random moment, and compares the votes that it sent.
 fn supervise(forget: bool) -> Result<()> {
     let log = env::temp_dir().join(format!("narwhal-durable-{}.log", process::id()));
-    let mut votes: BTreeMap<String, String> = BTreeMap::new();
-    let (mut sent, mut differing) = (0, 0);
+    let (mut votes, mut sent, mut differing) = (BTreeMap::<String, String>::new(), 0, 0);
     for run in 0..50 {
         let mut command = Command::new(env::current_exe()?);
         command.arg("validator").arg(&log).stdout(Stdio::piped());
@@ -61,63 +64,61 @@ fn supervise(forget: bool) -> Result<()> {
             sent += 1;
         }
         assert!(matches!(validator.wait()?.code(), None | Some(0)));
-        if forget {
-            fs::remove_file(&log)?;
-        }
+        forget.then(|| fs::remove_file(&log)).transpose()?;
     }
     fs::remove_file(&log).ok();
     println!("{sent} votes sent for {} slots", votes.len());
     println!("{differing} differ from the first vote for their slot");
-    let no_difference = (differing == 0).then_some(());
-    no_difference.ok_or("a slot got two votes".into())
+    let is_same = (differing == 0).then_some(());
+    is_same.ok_or("a slot got two votes".into())
 }
 
 /// Takes the log, and then the messages in an order of this run. A line that it prints stands for a vote.
 fn validator(path: &str) -> Result<()> {
     let (committee, mut messages) = file::honest_messages(CORPUS);
-    let store = Store::builder(&committee).restart_when_full(true).open()?;
-    let session = store.session()?;
+    let mut limits = Limits::MAX;
+    limits.window = 32; // A replay without the collections is refused as `TooFar`.
+    let session = Store::new(&committee, limits)?.session()?;
     let mut log = replay(path, &committee, &session)?;
-    // Messages are late, so the two blocks of a slot come in any order.
+    // Messages are late, so two blocks of one round and author come in any order.
     let mut times = 0..;
     messages.sort_by_cached_key(|_| times.next().map(|time| time + random() % 60));
-    for message in messages {
-        let (changed, vote) = take(&session, &Message::check(&committee, message)?)?;
+    let mut make = |record: &[u8]| -> Result<Option<Slot>> {
+        let (changed, vote) = call(&committee, &session, record)?;
         if changed {
-            append(&mut log, message)?;
+            let length = u32::try_from(record.len())?.to_be_bytes();
+            log.write_all(&[&length, record].concat())?;
+            log.sync_data()?; // The disk has the call before the vote is sent.
         }
-        if let Some(slot) = vote {
+        Ok(vote)
+    };
+    for message in messages {
+        if let Some(slot) = make(message)? {
             send(&slot);
-            // A collection changes the store too, so it is logged too.
-            let garbage_round = slot.round.saturating_sub(15);
-            if let CollectReply::Raised { .. } = session.collect(garbage_round)?.reply() {
-                append(&mut log, &garbage_round.to_be_bytes())?;
-            }
+            let garbage_round = (slot.round / 5 * 5).saturating_sub(15);
+            make(&garbage_round.to_be_bytes())?;
         }
     }
     Ok(())
 }
 
-/// Hands a message to the store. Returns whether that changed the store, and the slot to vote for.
-fn take(session: &Session, message: &Checked) -> Result<(bool, Option<Slot>)> {
-    Ok(match message {
-        Checked::Block(block) => match *session.write(block)?.reply() {
+/// Makes the call of a record: a message, or a round to collect. Returns whether the store changed, and the slot to vote for.
+fn call(committee: &Committee, session: &Session, record: &[u8]) -> Result<(bool, Option<Slot>)> {
+    if let Ok(round) = record.try_into() {
+        let answer = session.collect(u64::from_be_bytes(round))?;
+        return Ok((matches!(answer.reply(), CollectReply::Raised { .. }), None));
+    }
+    Ok(match Message::check(committee, record)? {
+        Checked::Block(block) => match *session.write(&block)?.reply() {
             WriteReply::Stored { vote } => (true, vote.then(|| block.slot())),
             _ => (false, None),
         },
         Checked::Certificate(certificate) => {
-            let answer = session.certify(certificate)?;
+            let answer = session.certify(&certificate)?;
             (*answer.reply() == CertifyReply::Certified, None)
         }
         Checked::Vote(_) => (false, None),
     })
-}
-
-/// Appends a record, and returns once the disk has it.
-fn append(log: &mut File, record: &[u8]) -> Result<()> {
-    let length = u32::try_from(record.len())?.to_be_bytes();
-    log.write_all(&[&length, record].concat())?;
-    Ok(log.sync_data()?)
 }
 
 /// Opens the log and repeats its calls.
@@ -129,11 +130,10 @@ fn replay(path: &str, committee: &Committee, session: &Session) -> Result<File> 
         let Some(record) = rest.get(..length) else {
             break; // A crash cut the last record short. Nobody saw a vote for it.
         };
-        if let Ok(garbage_round) = record.try_into() {
-            session.collect(u64::from_be_bytes(garbage_round))?;
-        } else if let (_, Some(slot)) = take(session, &Message::check(committee, record)?)? {
-            send(&slot); // Perhaps it was not sent before the crash. Sending it twice does no harm.
-        }
+        let (true, vote) = call(committee, session, record)? else {
+            return Err("a call of the log got another reply".into());
+        };
+        vote.iter().for_each(send); // A second time does no harm, if it was sent before the crash.
         whole += 4 + length;
     }
     log.set_len(whole as u64)?;

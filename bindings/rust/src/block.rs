@@ -16,7 +16,8 @@ use std::sync::{Arc, Mutex, MutexGuard, OnceLock, PoisonError};
 /// for, and kept from then on.
 ///
 /// The digest of a block from a walk takes a SHA-256 of the whole body when it is first asked for.
-/// The round and the author are cheaper, and in one walk no two blocks share both.
+/// The first use of any other part copies the whole body once, also for the round and the author.
+/// That is cheaper than the digest, and in one walk no two blocks share both.
 ///
 /// A block made by [`Block::new`] keeps the limits of the format, but it is not checked under a
 /// committee. [`Message::check`](crate::Message::check) does that for a signed block.
@@ -146,13 +147,14 @@ impl Block {
         })
     }
 
-    /// Returns the round, which is below 2^48.
+    /// Returns the round, which is below 2^48. The first use of a part copies the whole body.
     #[must_use]
     pub fn round(&self) -> u64 {
         self.decoded().round
     }
 
-    /// Returns the number of the member that made the block.
+    /// Returns the number of the member that made the block. The first use of a part copies the
+    /// whole body.
     #[must_use]
     pub fn author(&self) -> u16 {
         self.decoded().author

@@ -87,6 +87,8 @@ impl History {
     ///
     /// Of any two answers of a store, the history of one begins that of the other, unless the store
     /// was restarted between them.
+    ///
+    /// This takes time in proportion to the events, and to the state that the history started from.
     #[must_use]
     pub fn begins(&self, other: &History) -> bool {
         if ptr::eq(self, other) {

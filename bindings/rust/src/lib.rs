@@ -1,9 +1,10 @@
 //! The block store of a Narwhal mempool, as formally verified software.
 //!
-//! The store keeps blocks of transactions and their certificates in memory. It votes for the first
-//! block of each round and author, and reads a block with all its certified ancestors, while other
-//! threads write and old rounds are collected. The code of the store is proved to meet its
-//! contracts; this crate is a thin safe layer over its static library.
+//! The store keeps blocks of transactions and their certificates in memory. It tells which block of
+//! each round and author comes first, so that the validator votes for it. It reads a block with its
+//! certified ancestors of rounds not below the garbage round. Meanwhile other threads write, and old
+//! rounds are collected. The code of the store is proved to meet its contracts. This crate is a thin
+//! safe layer over its static library.
 //!
 //! # Use
 //!
@@ -12,10 +13,12 @@
 //!    lock.
 //! 3. Hand checked messages to a [`Session`] of the store: [`Session::write`] and
 //!    [`Session::certify`].
-//! 4. Sign a vote when a write answers `Stored { vote: true }`, and collect the votes for your own
-//!    blocks with [`Gather`].
-//! 5. Open a causal read of a leader with [`Session::causal`], and walk its [`Ticket`].
-//! 6. Raise the garbage round with [`Session::collect`].
+//! 4. When a write answers `Stored { vote: true }`, log the block and sign a vote.
+//! 5. Make your own blocks with [`Block::new`], sign [`Block::text_to_sign`], and pass
+//!    [`Block::message`] to [`Message::check`] before you write and send it. Make a vote with
+//!    [`vote_message`], and pass the checked votes to [`Gather::add`], which verifies them.
+//! 6. Open a causal read of a leader with [`Session::causal`], and walk its [`Ticket`].
+//! 7. Raise the garbage round with [`Session::collect`].
 //!
 //! ```
 //! # mod data { include!(concat!(env!("CARGO_MANIFEST_DIR"), "/examples/data/mod.rs")); }
@@ -50,7 +53,8 @@
 //!
 //! - each answer is the reply of the sequential store after the [`History`] that the answer
 //!   carries;
-//! - a walk lists exactly the certified ancestors at the step that opened its ticket;
+//! - a walk lists exactly the certified ancestors of rounds not below the garbage round, as of the
+//!   call that opened the ticket;
 //! - at most one write per round and author answers `Stored { vote: true }`, also across restarts
 //!   of the history.
 //!
@@ -58,7 +62,21 @@
 //! code of SHA-256. Nor do they show that signatures cannot be forged, or that no two blocks have
 //! one digest.
 //!
-//! The store is in memory only, and it forgets its votes when the process ends.
+//! # After a crash
+//!
+//! The store is in memory only, and it forgets its votes when the process ends. A validator that
+//! forgets its votes can vote twice. So it keeps a log of the calls that changed its store:
+//!
+//! 1. Append each message whose write answered `Stored` or whose certificate answered `Certified`,
+//!    and each collection that answered `Raised`. The log must have the order of the store's steps.
+//!    If several threads call, hold one lock around each call and its append.
+//! 2. Sync the log before you send a vote.
+//! 3. After a crash, open a store with the same committee and limits. Repeat the calls of the log in
+//!    their order, before anything else.
+//!
+//! After a collection to round g is logged, the log may be cut. It then has `collect(g)`, followed
+//! by the logged messages of rounds >= g in their order. The example `durable` shows the log without
+//! the cut.
 //!
 //! # Panics
 //!

@@ -17,10 +17,12 @@ pub struct Limits {
     /// The most blocks that the store holds, and the most certificates: 1 to 65,536.
     pub blocks: u32,
     /// The most events that a history has: 1 to 65,536. Each call is one event.
+    ///
+    /// The history holds each block that was written, so a lower limit bounds its memory.
     pub events: u32,
     /// How many rounds the store takes, counted from the garbage round: 1 to 4,096.
     pub window: u32,
-    /// The most sessions: 1 to 256.
+    /// The most sessions that the store makes, dropped ones included: 1 to 256.
     pub sessions: u32,
 }
 

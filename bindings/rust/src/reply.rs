@@ -4,14 +4,19 @@ use crate::Digest;
 use crate::error::error_texts;
 use crate::told::{Told, reply, unexpected_kind};
 
-/// The reply to [`Session::write`](crate::Session::write): the first that applies, in this order
-/// but for `Stored`, which is the last.
+/// The reply to [`Session::write`](crate::Session::write).
+///
+/// The variants are tested in the order of docs/MODEL.md, which is the order here except that
+/// `Stored` is the last. Only `Stored` changes the store.
 #[derive(Clone, Copy, Debug, PartialEq, Eq)]
 pub enum WriteReply {
-    /// The block is stored from now on.
+    /// The block is stored from now on. Log it.
     Stored {
-        /// Whether the block is the first of its round and author. If so, sign a vote for it: the
-        /// store never answers `true` for another block of the same round and author.
+        /// Whether the block is the first of its round and author.
+        ///
+        /// If `true`, sign a vote for it once the log is synced. The store never answers `true` for
+        /// another block of the same round and author. If `false`, send no vote: the block is
+        /// certified, and another block of its round and author came first.
         vote: bool,
     },
     /// The block's round is below the garbage round. Drop the block.
@@ -19,39 +24,42 @@ pub enum WriteReply {
         /// The garbage round.
         garbage_round: u64,
     },
-    /// The block's round is not below the garbage round plus the window. Keep the block, and write
-    /// it again after the garbage round is raised.
+    /// The block's round is not below the garbage round plus the window. It is not stored. Keep the
+    /// block, and write it again after the garbage round is raised.
     TooFar,
-    /// The block was stored already.
+    /// The block was stored already. There is nothing to do.
     Held,
     /// Another block with the same digest is stored. SHA-256 is broken.
     Clash,
     /// The block's digest is certified for another round or author. A quorum signed something
     /// false.
     Misfit,
-    /// The author made another block for the round, and this is its digest. Keep the block, and
-    /// write it again after its certificate is taken: a certified block is stored in any case.
+    /// The author made another block for the round, which came first, and this is its digest. The
+    /// block is not stored. Keep it, and write it again after its certificate answers `Certified`:
+    /// it is then stored without a vote.
     Equivocates(Digest),
-    /// The store holds as many blocks as its limit. Keep the block, and write it again after the
-    /// garbage round is raised.
+    /// The store holds as many blocks as its limit. The block is not stored. Keep it, and write it
+    /// again after the garbage round is raised.
     Full,
 }
 
-/// The reply to [`Session::certify`](crate::Session::certify): the first that applies, in this
-/// order but for `Certified`, which is the last.
+/// The reply to [`Session::certify`](crate::Session::certify).
+///
+/// The variants are tested in the order of docs/MODEL.md, which is the order here except that
+/// `Certified` is the last. Only `Certified` changes the store.
 #[derive(Clone, Copy, Debug, PartialEq, Eq)]
 pub enum CertifyReply {
-    /// The certificate is kept from now on.
+    /// The certificate is kept from now on. Log it.
     Certified,
     /// The certificate's round is below the garbage round. Drop the certificate.
     Collected {
         /// The garbage round.
         garbage_round: u64,
     },
-    /// The certificate's round is not below the garbage round plus the window. Keep the certificate
-    /// for later.
+    /// The certificate's round is not below the garbage round plus the window. Keep the certificate,
+    /// and hand it in again after the garbage round is raised.
     TooFar,
-    /// The digest was certified already.
+    /// The digest was certified already. There is nothing to do.
     Already,
     /// The digest is certified for another round or author, or its block has another. A quorum
     /// signed something false.
@@ -59,16 +67,17 @@ pub enum CertifyReply {
     /// Another block of the round and author is certified, and this is its digest. More members are
     /// faulty than the committee tolerates.
     Conflict(Digest),
-    /// The store holds as many certificates as its limit. Keep the certificate for later.
+    /// The store holds as many certificates as its limit. Keep the certificate, and hand it in again
+    /// after the garbage round is raised.
     Full,
 }
 
 /// The reply to [`Session::collect`](crate::Session::collect).
 #[derive(Clone, Copy, Debug, PartialEq, Eq)]
 pub enum CollectReply {
-    /// The garbage round is raised.
+    /// The garbage round is raised. Log the collection.
     Raised {
-        /// How many blocks were dropped.
+        /// How many blocks were removed.
         dropped: u64,
     },
     /// The round is not above the garbage round. Nothing changed.

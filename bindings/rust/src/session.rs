@@ -17,12 +17,13 @@ use std::sync::Arc;
 /// session are numbered 1, 2, 3, .. in the history. Threads can share a session or have one each: a
 /// history names the session of each event.
 ///
-/// Every call can fail with these errors of [`StepError`], and then it changed nothing:
+/// Every call can fail with these errors of [`StepError`]. It then changed no block, certificate or
+/// vote, and no event was added:
 ///
 /// - [`HistoryFull`](StepError::HistoryFull) if the history has as many events as its limit, unless
 ///   the store restarts by itself.
 /// - [`NoMemory`](StepError::NoMemory) if the library could not allocate memory. The call can be
-///   repeated.
+///   repeated. If the store restarts by itself, the history may be empty already.
 pub struct Session {
     store: Arc<Inner>,
     id: u16,
@@ -39,7 +40,16 @@ impl Session {
         self.id
     }
 
-    /// Writes a block. It is stored if the reply is [`WriteReply::Stored`] or [`WriteReply::Held`].
+    /// Writes a block. What a validator does next depends on the reply:
+    ///
+    /// - `Stored { vote: true }`: log the block, and vote for it.
+    /// - `Stored { vote: false }`: log the block. Send no vote: the block is certified, and another
+    ///   block of its round and author came first.
+    /// - `Held`: the block was stored before. There is nothing to do.
+    /// - `Equivocates`, `TooFar`, `Full`: the block is not stored. Write it again later:
+    ///   [`WriteReply`] says when.
+    /// - `Collected`: drop the block.
+    /// - `Clash`, `Misfit`: the block is not stored. Report it: an assumption of the store is broken.
     ///
     /// # Errors
     ///
@@ -73,10 +83,11 @@ impl Session {
         }))
     }
 
-    /// Hands in a certificate. It is kept if the reply is [`CertifyReply::Certified`] or
-    /// [`CertifyReply::Already`].
+    /// Hands in a certificate. It is kept if the reply is [`CertifyReply::Certified`], which is to be
+    /// logged, or [`CertifyReply::Already`].
     ///
-    /// The block and its certificate can come in any order.
+    /// The block and its certificate can come in any order. After `Certified`, write the block again
+    /// if its write answered [`WriteReply::Equivocates`].
     ///
     /// # Errors
     ///
@@ -116,8 +127,8 @@ impl Session {
         Ok(Answer::new(answer, block_of))
     }
 
-    /// Opens a causal read of a digest: the block with all its certified ancestors down to the
-    /// garbage round.
+    /// Opens a causal read of a digest: the block with its certified ancestors of rounds not below
+    /// the garbage round.
     ///
     /// If the block is complete, the result is a [`Ticket`](crate::Ticket), which is walked later
     /// without a lock. Otherwise it is an answer that says why not.
@@ -160,9 +171,13 @@ impl Session {
         Ok(Causal::of(answer))
     }
 
-    /// Raises the garbage round, and drops all blocks, certificates and votes of rounds below it.
+    /// Raises the garbage round, and removes blocks, certificates and votes of rounds below it from
+    /// the tables. Log a collection that answers [`CollectReply::Raised`]. Open tickets keep their
+    /// lists.
     ///
-    /// Tickets that are open keep what they list.
+    /// The memory of the blocks is freed after a restart of the history and once no answer or ticket
+    /// holds them. Lower [`Limits::events`](crate::Limits::events), or call
+    /// [`Store::restart`](crate::Store::restart), if blocks are large.
     ///
     /// # Errors
     ///

@@ -12,8 +12,13 @@ use std::sync::{Arc, Mutex, MutexGuard, PoisonError};
 /// Every call is one step under the store's lock, so all calls are linearizable. The step table is
 /// in docs/MODEL.md of the repository.
 ///
-/// A clone is a second owner of the same store and costs one atomic increment. Nothing is written
-/// to disk.
+/// A clone is a second owner of the same store and costs one atomic increment.
+///
+/// Nothing is written to disk. [After a crash](crate#after-a-crash) says what a validator must log.
+///
+/// Collection removes blocks from the tables. Their memory is freed after a restart of the history
+/// and once no answer or ticket holds them. Lower [`Limits::events`], or call [`Store::restart`], if
+/// blocks are large.
 ///
 /// ```
 /// # mod data { include!(concat!(env!("CARGO_MANIFEST_DIR"), "/examples/data/mod.rs")); }
@@ -91,7 +96,7 @@ impl Store {
     }
 
     /// Makes a session, for one more caller. At most `sessions` of the [`Limits`] can be made. The
-    /// number of a session that was dropped is not used again.
+    /// number of a dropped session is never used again.
     ///
     /// # Errors
     ///
@@ -107,7 +112,9 @@ impl Store {
         Ok(Session::new(Arc::clone(&self.inner), id as u16))
     }
 
-    /// Rebuilds the table of blocks that causal reads share, without what was collected.
+    /// Rebuilds the table of blocks that causal reads share, without the collected blocks.
+    ///
+    /// Call it after collections, if tickets are opened often and memory matters.
     ///
     /// Tickets that are opened later share the new table. No answer changes, and this is not a call
     /// of a session.
@@ -123,6 +130,8 @@ impl Store {
     ///
     /// All blocks, certificates and votes stay. The calls of every session are numbered from 1
     /// again. Answers and tickets of the old history stay as they are.
+    ///
+    /// A restart runs under the store's lock: some 50 ms for 65,536 events.
     ///
     /// # Errors
     ///
@@ -223,6 +232,12 @@ impl StoreBuilder {
     /// A store that restarts runs for any length of time, and no call fails with
     /// [`StepError::HistoryFull`]. An answer then has the events since the last restart in its
     /// history. The default is `false`.
+    ///
+    /// - The restart runs inside one call under the store's lock: some 50 ms for 65,536 events.
+    /// - It comes after a number of events, not of bytes. If blocks are large, lower
+    ///   [`Limits::events`] or call [`Store::restart`].
+    /// - If the call fails with [`StepError::NoMemory`] after the restart, the history is empty
+    ///   already. No block, certificate or vote is lost, and the call can be repeated.
     pub fn restart_when_full(mut self, restart: bool) -> StoreBuilder {
         self.restart_when_full = restart;
         self

@@ -9,8 +9,8 @@ use std::fmt;
 use std::ptr;
 use std::sync::{Arc, Mutex};
 
-/// A causal read that is ready to be walked: a snapshot of a block with all its certified
-/// ancestors.
+/// A causal read that is ready to be walked: a snapshot of a block with its certified ancestors of
+/// rounds not below the garbage round, as of the call that opened the ticket.
 ///
 /// [`Session::causal`](crate::Session::causal) opens it. A walk takes no lock, and other calls go
 /// on meanwhile. The list is that of the moment when the ticket was opened, also when rounds were
@@ -55,8 +55,8 @@ impl Ticket {
         (digest, floor)
     }
 
-    /// Lists the block and its certified ancestors, down to the garbage round, in ascending order
-    /// of round and author.
+    /// Lists the block and its certified ancestors of rounds not below the garbage round, as of the
+    /// call that opened the ticket. The order is ascending by round and author.
     ///
     /// Every walk of a ticket returns the same list. So do walks of all tickets for the same digest
     /// with the same [`floor`](Ticket::floor), of any store.
