@@ -1,6 +1,6 @@
 //! Answers to calls.
 
-use crate::ffi::Handle;
+use crate::room::Room;
 use crate::told::{reply, told};
 use crate::{CausalFault, History, Ticket};
 use std::cell::OnceCell;
@@ -21,13 +21,13 @@ pub struct Answer<R> {
 }
 
 /// Decodes the reply of an answer. If this is the last use of the answer, its handle may be taken.
-pub(crate) type Decode<R> = fn(&mut Handle, is_last: bool) -> R;
+pub(crate) type Decode<R> = fn(&mut Room, is_last: bool) -> R;
 
 impl<R> Answer<R> {
     #[inline]
-    pub(crate) fn new(handle: Handle, decode: Decode<R>) -> Answer<R> {
+    pub(crate) fn new(room: Room, decode: Decode<R>) -> Answer<R> {
         Answer {
-            history: History::new(handle),
+            history: History::new(room),
             reply: OnceCell::new(),
             decode,
         }
@@ -36,14 +36,14 @@ impl<R> Answer<R> {
     /// Returns the reply. It is decoded when it is first asked for.
     #[must_use]
     pub fn reply(&self) -> &R {
-        let decode = || (self.decode)(&mut self.history.handle.borrow_mut(), false);
+        let decode = || (self.decode)(&mut self.history.room.borrow_mut(), false);
         self.reply.get_or_init(decode)
     }
 
     /// Returns the reply, and gives the history up.
     #[must_use]
     pub fn into_reply(self) -> R {
-        let decode = || (self.decode)(&mut self.history.handle.into_inner(), true);
+        let decode = || (self.decode)(&mut self.history.room.into_inner(), true);
         self.reply.into_inner().unwrap_or_else(decode)
     }
 
@@ -87,10 +87,10 @@ pub enum Causal {
 }
 
 impl Causal {
-    pub(crate) fn of(mut handle: Handle) -> Causal {
-        match told(&mut handle).kind {
-            reply::READY => Causal::Ready(Ticket::new(handle)),
-            _ => Causal::NotReady(Answer::new(handle, |answer, _| {
+    pub(crate) fn of(mut room: Room) -> Causal {
+        match told(&mut room).kind {
+            reply::READY => Causal::Ready(Ticket::new(room)),
+            _ => Causal::NotReady(Answer::new(room, |answer, _| {
                 CausalFault::of(&told(answer))
             })),
         }

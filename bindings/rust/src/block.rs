@@ -4,6 +4,7 @@ use crate::body::Body;
 use crate::code::Code;
 use crate::error::error_texts;
 use crate::ffi::{self, Handle};
+use crate::room::Room;
 use crate::told::{EventTold, ParentTold};
 use crate::{Digest, Signature, Slot, Transactions, text_of_block};
 use std::fmt;
@@ -44,7 +45,7 @@ pub(crate) enum Source {
     /// In its own handle.
     Own(Handle),
     /// In the answer to a read.
-    Answer(Handle),
+    Answer(Room),
     /// At this index of the list of a walk.
     Listed(Arc<Mutex<Handle>>, usize),
 }

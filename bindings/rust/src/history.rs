@@ -2,7 +2,8 @@
 
 use crate::Event;
 use crate::code::Code;
-use crate::ffi::{self, Handle};
+use crate::ffi;
+use crate::room::Room;
 use crate::told::EventTold;
 use std::cell::RefCell;
 use std::fmt;
@@ -37,13 +38,13 @@ use std::ptr;
 /// # Ok::<(), Box<dyn std::error::Error>>(())
 /// ```
 pub struct History {
-    pub(crate) handle: RefCell<Handle>,
+    pub(crate) room: RefCell<Room>,
 }
 
 impl History {
-    pub(crate) fn new(handle: Handle) -> History {
+    pub(crate) fn new(room: Room) -> History {
         History {
-            handle: RefCell::new(handle),
+            room: RefCell::new(room),
         }
     }
 
@@ -51,7 +52,7 @@ impl History {
     #[must_use]
     pub fn len(&self) -> usize {
         let mut events = 0;
-        ffi::nw_answer_events(&mut self.handle.borrow_mut(), &mut events).or_abort();
+        ffi::nw_answer_events(&mut self.room.borrow_mut(), &mut events).or_abort();
         events
     }
 
@@ -65,7 +66,7 @@ impl History {
     #[must_use]
     pub fn event(&self, index: usize) -> Option<Event> {
         let mut told = EventTold::EMPTY;
-        match ffi::nw_answer_event(&mut self.handle.borrow_mut(), index, &mut told) {
+        match ffi::nw_answer_event(&mut self.room.borrow_mut(), index, &mut told) {
             Code::DONE => Some(Event::of(&told)),
             Code::ABSENT => None,
             refused => refused.abort(),
@@ -94,7 +95,7 @@ impl History {
         if ptr::eq(self, other) {
             return true;
         }
-        let (mut this, mut other) = (self.handle.borrow_mut(), other.handle.borrow_mut());
+        let (mut this, mut other) = (self.room.borrow_mut(), other.room.borrow_mut());
         let mut begins = false;
         ffi::nw_answer_begins(&mut this, &mut other, &mut begins).or_abort();
         begins

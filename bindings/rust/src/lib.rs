@@ -106,6 +106,7 @@ mod message;
 #[cfg(test)]
 mod refusals;
 mod reply;
+mod room;
 mod session;
 mod slot;
 mod store;

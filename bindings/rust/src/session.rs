@@ -4,6 +4,7 @@ use crate::answer::Answer;
 use crate::block::Source;
 use crate::code::Code;
 use crate::ffi::{self, Handle};
+use crate::room::Room;
 use crate::store::Inner;
 use crate::told::{reply, told};
 use crate::{Block, Causal, CertifyReply, CheckedBlock, CheckedCertificate, CollectReply, Digest};
@@ -220,7 +221,7 @@ impl Session {
     }
 
     /// Writes a block, or hands in a certificate.
-    fn hand_in(&self, checked: &mut Handle) -> Result<Handle, StepError> {
+    fn hand_in(&self, checked: &mut Handle) -> Result<Room, StepError> {
         self.step(|book, session, number, answer| {
             ffi::nw_book_take(book, session, number, checked, answer)
         })
@@ -232,12 +233,12 @@ impl Session {
     fn step(
         &self,
         mut call: impl FnMut(&mut Handle, u16, u32, &mut Handle) -> Code,
-    ) -> Result<Handle, StepError> {
-        let mut answer = Handle::opened(|out| ffi::nw_answer_new(out)).map_err(StepError::of)?;
+    ) -> Result<Room, StepError> {
+        let mut room = self.store.room().map_err(StepError::of)?;
         let id = self.id;
         self.store
-            .step(id, |book, number| call(book, id, number, &mut answer))?;
-        Ok(answer)
+            .step(id, |book, number| call(book, id, number, &mut room))?;
+        Ok(room)
     }
 }
 
@@ -251,7 +252,7 @@ fn certificate_of(answer: &mut Handle) -> Option<Vec<u8>> {
 }
 
 /// The block that was found. If this is the answer's last use, the block takes the answer.
-fn block_of(answer: &mut Handle, is_last: bool) -> Option<Block> {
+fn block_of(answer: &mut Room, is_last: bool) -> Option<Block> {
     let is_found = told(answer).kind == reply::FOUND;
     is_found.then(|| match is_last {
         true => Block::at(Source::Answer(answer.take())),

@@ -1,7 +1,8 @@
 //! The store.
 
 use crate::code::Code;
-use crate::ffi::{self, Handle};
+use crate::ffi::{self, Handle, Spare};
+use crate::room::Room;
 use crate::{Committee, Limits, NoMemory, OpenError, Session, StepError};
 use std::fmt;
 use std::sync::{Arc, Mutex, MutexGuard, PoisonError};
@@ -46,6 +47,8 @@ pub struct Store {
 /// What the owners of a store share.
 pub(crate) struct Inner {
     book: Mutex<Book>,
+    /// The room of an answer that was dropped.
+    spare: Arc<Spare>,
     committee: Committee,
     limits: Limits,
     restart_when_full: bool,
@@ -137,6 +140,7 @@ impl Store {
     ///
     /// [`NoMemory`] if the library could not allocate memory.
     pub fn restart(&self) -> Result<(), NoMemory> {
+        drop(self.inner.spare.take());
         self.inner.lock().restart()
     }
 
@@ -167,6 +171,12 @@ impl Inner {
         self.book.lock().unwrap_or_else(PoisonError::into_inner)
     }
 
+    /// Room for an answer.
+    #[inline]
+    pub(crate) fn room(&self) -> Result<Room, Code> {
+        Room::new(&self.spare)
+    }
+
     /// Takes a step as the session's next call, for an answer that has room already.
     #[inline]
     pub(crate) fn step(
@@ -177,6 +187,7 @@ impl Inner {
         let mut book = self.lock();
         let mut code = book.step(session, &mut call);
         if code == Code::HISTORY_FULL && self.restart_when_full {
+            drop(self.spare.take());
             book.restart()?;
             code = book.step(session, &mut call);
         }
@@ -256,6 +267,7 @@ impl StoreBuilder {
         Ok(Store {
             inner: Arc::new(Inner {
                 book: Mutex::new(Book { handle, next }),
+                spare: Arc::new(Spare::new()),
                 committee: self.committee,
                 limits: self.limits,
                 restart_when_full: self.restart_when_full,

@@ -4,6 +4,7 @@ use crate::block::Source;
 use crate::code::Code;
 use crate::error::error_texts;
 use crate::ffi::{self, Handle};
+use crate::room::Room;
 use crate::{Block, Digest, History, NoMemory};
 use std::fmt;
 use std::ptr;
@@ -29,9 +30,9 @@ pub struct Ticket {
 }
 
 impl Ticket {
-    pub(crate) fn new(handle: Handle) -> Ticket {
+    pub(crate) fn new(room: Room) -> Ticket {
         Ticket {
-            history: History::new(handle),
+            history: History::new(room),
         }
     }
 
@@ -50,7 +51,7 @@ impl Ticket {
 
     fn about(&self) -> (Digest, u64) {
         let (mut digest, mut floor) = (Digest::ZERO, 0);
-        let handle = &mut self.history.handle.borrow_mut();
+        let handle = &mut self.history.room.borrow_mut();
         ffi::nw_ticket_about(handle, &mut digest, &mut floor).or_abort();
         (digest, floor)
     }
@@ -92,7 +93,7 @@ impl Ticket {
     /// # Ok::<(), Box<dyn std::error::Error>>(())
     /// ```
     pub fn walk(&self) -> Result<Vec<Block>, NoMemory> {
-        let ticket = &mut self.history.handle.borrow_mut();
+        let ticket = &mut self.history.room.borrow_mut();
         let mut list =
             Handle::opened(|out| ffi::nw_ticket_walk(ticket, out)).map_err(Code::no_memory)?;
         let mut len = 0;
@@ -115,8 +116,8 @@ impl Ticket {
         if ptr::eq(self, other) {
             return Ok(true);
         }
-        let this = &mut self.history.handle.borrow_mut();
-        let other = &mut other.history.handle.borrow_mut();
+        let this = &mut self.history.room.borrow_mut();
+        let other = &mut other.history.room.borrow_mut();
         let mut same = false;
         match ffi::nw_ticket_agree(this, other, &mut same) {
             Code::DONE => Ok(same),
