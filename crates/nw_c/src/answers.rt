@@ -1,5 +1,5 @@
 //! What answers carry.
-ghost use Rattle.std.specs.Prelude.{◌≡◌, pos, take};
+ghost use Rattle.std.specs.Prelude.{◌≡◌, pos, take, true};
 ghost use Rattle.nw_c.specs.Answers.{IsCertificateTold, IsFound, IsMissingAt, IsStatusTold};
 
 use crate::codes::{ABSENT, CLOSED, DONE, NO_MEMORY, OPEN, OTHER_KIND};
@@ -26,6 +26,7 @@ pub struct CStatus {
 #[unsafe(no_mangle)]
 pub extern "C" fn nw_answer_new(alloc: Global, out: &mut AnswerHandle) -> i32
     ensures held { (result ≡ pos 0 → ⊥) → out.new.held ≡ out.old.held }
+    ensures opened { result ≡ pos 0 → out.new.held ≡ true }
 {
     if out.is_open() {
         return OPEN;
@@ -43,6 +44,8 @@ pub extern "C" fn nw_answer_block(
     ensures found { result ≡ pos 0 → IsFound answer.old.value out.new.value }
     ensures same { answer.new.value ≡ answer.old.value }
     ensures held { (result ≡ pos 0 → ⊥) → out.new.held ≡ out.old.held }
+    ensures opened { result ≡ pos 0 → out.new.held ≡ true }
+    ensures stays { answer.new.held ≡ answer.old.held }
 {
     if !answer.is_open() {
         return CLOSED;
@@ -75,6 +78,7 @@ pub extern "C" fn nw_answer_message(
     ensures certificate { result ≡ pos 0
         → IsCertificateTold answer.old.value (take needed.new buffer.new) }
     ensures same { answer.new.value ≡ answer.old.value }
+    ensures stays { answer.new.held ≡ answer.old.held }
 {
     if !answer.is_open() {
         return CLOSED;
@@ -98,6 +102,7 @@ pub extern "C" fn nw_answer_message(
 pub extern "C" fn nw_answer_missing(answer: &mut AnswerHandle, index: usize, out: &mut CSlot) -> i32
     ensures missing { result ≡ pos 0 → IsMissingAt answer.old.value index out.new }
     ensures same { answer.new.value ≡ answer.old.value }
+    ensures stays { answer.new.held ≡ answer.old.held }
 {
     if !answer.is_open() {
         return CLOSED;
@@ -122,6 +127,7 @@ pub extern "C" fn nw_answer_missing(answer: &mut AnswerHandle, index: usize, out
 pub extern "C" fn nw_answer_status(answer: &mut AnswerHandle, out: &mut CStatus) -> i32
     ensures status { result ≡ pos 0 → IsStatusTold answer.old.value out.new }
     ensures same { answer.new.value ≡ answer.old.value }
+    ensures stays { answer.new.held ≡ answer.old.held }
 {
     if !answer.is_open() {
         return CLOSED;

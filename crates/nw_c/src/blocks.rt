@@ -27,6 +27,7 @@ pub struct CParent {
 pub extern "C" fn nw_block_slot(block: &mut BlockHandle, out: &mut CSlot) -> i32
     ensures slot { result ≡ pos 0 → HasSlot block.old.value out.new }
     ensures same { block.new.value ≡ block.old.value }
+    ensures stays { block.new.held ≡ block.old.held }
 {
     if !block.is_open() {
         return CLOSED;
@@ -51,6 +52,7 @@ pub extern "C" fn nw_block_counts(
 ) -> i32
     ensures counts { result ≡ pos 0 → HasCounts block.old.value parents.new transactions.new }
     ensures same { block.new.value ≡ block.old.value }
+    ensures stays { block.new.held ≡ block.old.held }
 {
     if !block.is_open() {
         return CLOSED;
@@ -70,6 +72,7 @@ pub extern "C" fn nw_block_counts(
 pub extern "C" fn nw_block_parent(block: &mut BlockHandle, index: usize, out: &mut CParent) -> i32
     ensures parent { result ≡ pos 0 → HasParent block.old.value index out.new }
     ensures same { block.new.value ≡ block.old.value }
+    ensures stays { block.new.held ≡ block.old.held }
 {
     if !block.is_open() {
         return CLOSED;
@@ -114,6 +117,7 @@ pub extern "C" fn nw_block_transaction(
 ) -> i32
     ensures transaction { result ≡ pos 0 → HasTransaction block.old.value index (take needed.new buffer.new) }
     ensures same { block.new.value ≡ block.old.value }
+    ensures stays { block.new.held ≡ block.old.held }
 {
     if !block.is_open() {
         return CLOSED;
@@ -137,6 +141,7 @@ pub extern "C" fn nw_block_body(
 ) -> i32
     ensures body { result ≡ pos 0 → HasBody block.old.value (take needed.new buffer.new) }
     ensures same { block.new.value ≡ block.old.value }
+    ensures stays { block.new.held ≡ block.old.held }
 {
     if !block.is_open() {
         return CLOSED;
@@ -162,6 +167,7 @@ pub extern "C" fn nw_block_message(
 ) -> i32
     ensures message { result ≡ pos 0 → HasMessage block.old.value signature.now (take needed.new buffer.new) }
     ensures same { block.new.value ≡ block.old.value }
+    ensures stays { block.new.held ≡ block.old.held }
 {
     if !block.is_open() {
         return CLOSED;

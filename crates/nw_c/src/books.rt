@@ -1,5 +1,5 @@
 //! Books: histories that grow by steps.
-ghost use Rattle.std.specs.Prelude.{◌≡◌, pos, IfErr};
+ghost use Rattle.std.specs.Prelude.{◌≡◌, pos, IfErr, true};
 ghost use Rattle.nw_ed25519.specs.Accepts.{accepts};
 ghost use Rattle.nw_book.specs.Command.{call_of, committee_of};
 ghost use Rattle.nw_book.specs.declared.error.NoStep.{NoStep as Refusal};
@@ -51,6 +51,8 @@ pub extern "C" fn nw_book_new(
     ensures made { result ≡ pos 0 → IsEmptyBook committee.old.value limits.now out.new.value }
     ensures same { committee.new.value ≡ committee.old.value }
     ensures held { (result ≡ pos 0 → ⊥) → out.new.held ≡ out.old.held }
+    ensures opened { result ≡ pos 0 → out.new.held ≡ true }
+    ensures stays { committee.new.held ≡ committee.old.held }
 {
     if !committee.is_open() {
         return CLOSED;
@@ -76,6 +78,7 @@ pub extern "C" fn nw_book_new(
 pub extern "C" fn nw_book_events(book: &mut BookHandle, out: &mut usize) -> i32
     ensures events { result ≡ pos 0 → HasEvents book.old.value out.new }
     ensures same { book.new.value ≡ book.old.value }
+    ensures stays { book.new.held ≡ book.old.held }
 {
     if !book.is_open() {
         return CLOSED;
@@ -112,6 +115,8 @@ pub(crate) fn take(
         → IsRefusedBy book.old.value session number (committee_of command.now) why }
     ensures unchanged { (result ≡ pos 0 → ⊥) → book.new.value ≡ book.old.value }
     ensures answer { (result ≡ pos 0 → ⊥) → answer.new.value ≡ answer.old.value }
+    ensures stays { book.new.held ≡ book.old.held }
+    ensures answer_stays { answer.new.held ≡ answer.old.held }
 {
     if !book.is_open() || !answer.is_open() {
         return CLOSED;
@@ -134,7 +139,8 @@ pub(crate) fn take(
 /// Rebuilds the tables that later tickets share, without what was collected. Nothing that a caller can observe changes.
 #[unsafe(no_mangle)]
 pub extern "C" fn nw_book_compact(alloc: Global, book: &mut BookHandle) -> i32
-    ensures { book.new.value ≡ book.old.value }
+    ensures same { book.new.value ≡ book.old.value }
+    ensures stays { book.new.held ≡ book.old.held }
 {
     if !book.is_open() {
         return CLOSED;
@@ -154,6 +160,7 @@ pub extern "C" fn nw_book_compact(alloc: Global, book: &mut BookHandle) -> i32
 pub extern "C" fn nw_book_restart(alloc: Global, book: &mut BookHandle) -> i32
     ensures restarted { result ≡ pos 0 → IsRestarted book.old.value book.new.value }
     ensures unchanged { (result ≡ pos 0 → ⊥) → book.new.value ≡ book.old.value }
+    ensures stays { book.new.held ≡ book.old.held }
 {
     if !book.is_open() {
         return CLOSED;

@@ -1,5 +1,5 @@
 //! Texts that are decoded and checked.
-ghost use Rattle.std.specs.Prelude.{◌≡◌, pos, take};
+ghost use Rattle.std.specs.Prelude.{◌≡◌, pos, take, true};
 ghost use Rattle.nw_ed25519.specs.Accepts.{accepts};
 ghost use Rattle.nw_c.specs.Checks.{IsBlockOf, IsCheckOf, IsSpelledBy, IsToldOf};
 
@@ -25,6 +25,8 @@ pub extern "C" fn nw_check(
     ensures checked { result ≡ pos 0 → IsCheckOf accepts committee.old.value text.now out.new.value }
     ensures same { committee.new.value ≡ committee.old.value }
     ensures held { (result ≡ pos 0 → ⊥) → out.new.held ≡ out.old.held }
+    ensures opened { result ≡ pos 0 → out.new.held ≡ true }
+    ensures stays { committee.new.held ≡ committee.old.held }
 {
     if !committee.is_open() {
         return CLOSED;
@@ -46,6 +48,7 @@ pub extern "C" fn nw_check(
 pub extern "C" fn nw_checked_told(checked: &mut CheckedHandle, out: &mut CMessage) -> i32
     ensures told { result ≡ pos 0 → IsToldOf checked.old.value out.new }
     ensures same { checked.new.value ≡ checked.old.value }
+    ensures stays { checked.new.held ≡ checked.old.held }
 {
     if !checked.is_open() {
         return CLOSED;
@@ -69,6 +72,8 @@ pub extern "C" fn nw_checked_block(
     ensures block { result ≡ pos 0 → IsBlockOf checked.old.value out.new.value }
     ensures same { checked.new.value ≡ checked.old.value }
     ensures held { (result ≡ pos 0 → ⊥) → out.new.held ≡ out.old.held }
+    ensures opened { result ≡ pos 0 → out.new.held ≡ true }
+    ensures stays { checked.new.held ≡ checked.old.held }
 {
     if !checked.is_open() {
         return CLOSED;
@@ -96,6 +101,7 @@ pub extern "C" fn nw_checked_message(
 ) -> i32
     ensures message { result ≡ pos 0 → IsSpelledBy checked.old.value (take needed.new buffer.new) }
     ensures same { checked.new.value ≡ checked.old.value }
+    ensures stays { checked.new.held ≡ checked.old.held }
 {
     if !checked.is_open() {
         return CLOSED;

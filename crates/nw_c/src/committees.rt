@@ -1,5 +1,5 @@
 //! Committees.
-ghost use Rattle.std.specs.Prelude.{◌≡◌, pos, map, IfOk, IfErr};
+ghost use Rattle.std.specs.Prelude.{◌≡◌, pos, map, IfOk, IfErr, true};
 ghost use Rattle.nw_c.specs.Committees.{AreOneCommittee, HasMember, HasQuorum, HasSize, IsCommitteeOf, member_in};
 
 use crate::codes::{ABSENT, BAD_COMMITTEE, CLOSED, DONE, NO_MEMORY, OPEN, OTHER_KIND};
@@ -59,6 +59,7 @@ pub extern "C" fn nw_committee_new(
 ) -> i32
     ensures made { result ≡ pos 0 → IsCommitteeOf members.now out.new.value }
     ensures held { (result ≡ pos 0 → ⊥) → out.new.held ≡ out.old.held }
+    ensures opened { result ≡ pos 0 → out.new.held ≡ true }
 {
     if out.is_open() {
         return OPEN;
@@ -79,6 +80,8 @@ pub extern "C" fn nw_committee_share(
     ensures shared { result ≡ pos 0 → AreOneCommittee committee.old.value out.new.value }
     ensures same { committee.new.value ≡ committee.old.value }
     ensures held { (result ≡ pos 0 → ⊥) → out.new.held ≡ out.old.held }
+    ensures opened { result ≡ pos 0 → out.new.held ≡ true }
+    ensures stays { committee.new.held ≡ committee.old.held }
 {
     if !committee.is_open() {
         return CLOSED;
@@ -100,6 +103,7 @@ pub extern "C" fn nw_committee_share(
 pub extern "C" fn nw_committee_size(committee: &mut CommitteeHandle, out: &mut usize) -> i32
     ensures size { result ≡ pos 0 → HasSize committee.old.value out.new }
     ensures same { committee.new.value ≡ committee.old.value }
+    ensures stays { committee.new.held ≡ committee.old.held }
 {
     if !committee.is_open() {
         return CLOSED;
@@ -122,6 +126,7 @@ pub extern "C" fn nw_committee_member(
 ) -> i32
     ensures member { result ≡ pos 0 → HasMember committee.old.value number out.new }
     ensures same { committee.new.value ≡ committee.old.value }
+    ensures stays { committee.new.held ≡ committee.old.held }
 {
     if !committee.is_open() {
         return CLOSED;
@@ -143,6 +148,7 @@ pub extern "C" fn nw_committee_member(
 pub extern "C" fn nw_committee_quorum(committee: &mut CommitteeHandle, out: &mut u32) -> i32
     ensures quorum { result ≡ pos 0 → HasQuorum committee.old.value out.new }
     ensures same { committee.new.value ≡ committee.old.value }
+    ensures stays { committee.new.held ≡ committee.old.held }
 {
     if !committee.is_open() {
         return CLOSED;

@@ -83,6 +83,7 @@ fn front_of(content: &Content) -> Option<&Front<Ed25519>>
 pub extern "C" fn nw_answer_events(answer: &mut AnswerHandle, out: &mut usize) -> i32
     ensures events { result ≡ pos 0 → HasLength (front_in answer.old.value) out.new }
     ensures same { answer.new.value ≡ answer.old.value }
+    ensures stays { answer.new.held ≡ answer.old.held }
 {
     if !answer.is_open() {
         return CLOSED;
@@ -101,6 +102,7 @@ pub extern "C" fn nw_answer_events(answer: &mut AnswerHandle, out: &mut usize) -
 pub extern "C" fn nw_answer_event(answer: &mut AnswerHandle, index: usize, out: &mut CEvent) -> i32
     ensures event { result ≡ pos 0 → HasEventAt (front_in answer.old.value) index out.new }
     ensures same { answer.new.value ≡ answer.old.value }
+    ensures stays { answer.new.held ≡ answer.old.held }
 {
     if !answer.is_open() {
         return CLOSED;
@@ -128,6 +130,8 @@ pub extern "C" fn nw_answer_begins(
     ensures begins { result ≡ pos 0 → Begins (front_in answer.old.value) (front_in other.old.value) out.new }
     ensures same { answer.new.value ≡ answer.old.value }
     ensures other { other.new.value ≡ other.old.value }
+    ensures stays { answer.new.held ≡ answer.old.held }
+    ensures other_stays { other.new.held ≡ other.old.held }
 {
     if !answer.is_open() || !other.is_open() {
         return CLOSED;

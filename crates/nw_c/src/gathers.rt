@@ -1,5 +1,5 @@
 //! Votes that are gathered into a certificate.
-ghost use Rattle.std.specs.Prelude.{◌≡◌, pos};
+ghost use Rattle.std.specs.Prelude.{◌≡◌, pos, true};
 ghost use Rattle.nw_ed25519.specs.Accepts.{accepts};
 ghost use Rattle.nw_check.specs.declared.fault.GatherFault.{GatherFault as Fault};
 ghost use Rattle.nw_c.specs.Codes.{gather_code};
@@ -28,6 +28,8 @@ pub extern "C" fn nw_gather_new(
     ensures new { result ≡ pos 0 → IsNewGather committee.old.value slot.now out.new.value }
     ensures same { committee.new.value ≡ committee.old.value }
     ensures held { (result ≡ pos 0 → ⊥) → out.new.held ≡ out.old.held }
+    ensures opened { result ≡ pos 0 → out.new.held ≡ true }
+    ensures stays { committee.new.held ≡ committee.old.held }
 {
     if !committee.is_open() {
         return CLOSED;
@@ -63,6 +65,8 @@ pub extern "C" fn nw_gather_add(
         → IsNotCounted accepts gather.old.value vote.old.value why }
     ensures unchanged { (result ≡ pos 0 → ⊥) → gather.new.value ≡ gather.old.value }
     ensures same { vote.new.value ≡ vote.old.value }
+    ensures stays { gather.new.held ≡ gather.old.held }
+    ensures vote_stays { vote.new.held ≡ vote.old.held }
 {
     if !gather.is_open() || !vote.is_open() {
         return CLOSED;
@@ -92,6 +96,8 @@ pub extern "C" fn nw_gather_certificate(
     ensures certificate { result ≡ pos 0 → IsCertificateOf gather.old.value out.new.value }
     ensures same { gather.new.value ≡ gather.old.value }
     ensures held { (result ≡ pos 0 → ⊥) → out.new.held ≡ out.old.held }
+    ensures opened { result ≡ pos 0 → out.new.held ≡ true }
+    ensures stays { gather.new.held ≡ gather.old.held }
 {
     if !gather.is_open() {
         return CLOSED;

@@ -59,6 +59,9 @@ pub extern "C" fn nw_book_take(
     ensures unchanged { (result ≡ pos 0 → ⊥) → book.new.value ≡ book.old.value }
     ensures answer { (result ≡ pos 0 → ⊥) → answer.new.value ≡ answer.old.value }
     ensures same { checked.new.value ≡ checked.old.value }
+    ensures stays { book.new.held ≡ book.old.held }
+    ensures checked_stays { checked.new.held ≡ checked.old.held }
+    ensures answer_stays { answer.new.held ≡ answer.old.held }
 {
     if !checked.is_open() {
         return CLOSED;

@@ -109,6 +109,7 @@ pub(crate) fn reply_told(reply: &Reply) -> CTold
 pub extern "C" fn nw_answer_reply(answer: &mut AnswerHandle, out: &mut CTold) -> i32
     ensures reply { result ≡ pos 0 → IsReplyTold answer.old.value out.new }
     ensures same { answer.new.value ≡ answer.old.value }
+    ensures stays { answer.new.held ≡ answer.old.held }
 {
     if !answer.is_open() {
         return CLOSED;

@@ -1,5 +1,5 @@
 //! Tickets of causal reads, and the lists of their walks.
-ghost use Rattle.std.specs.Prelude.{◌≡◌, ◌↔◌, pos, IfOk, IfErr, IsTrue};
+ghost use Rattle.std.specs.Prelude.{◌≡◌, ◌↔◌, pos, IfOk, IfErr, IsTrue, true};
 ghost use Rattle.nw_book.specs.Ticket.{HaveOneList};
 ghost use Rattle.nw_c.specs.Tickets.{Agrees, AreApart, HasBlocks, IsAbout, IsBlockAt, IsWalkOf};
 ghost use Rattle.nw_c.specs.Tickets.{IsWhyApart};
@@ -24,6 +24,7 @@ pub extern "C" fn nw_ticket_about(
 ) -> i32
     ensures about { result ≡ pos 0 → IsAbout ticket.old.value digest.new floor.new }
     ensures same { ticket.new.value ≡ ticket.old.value }
+    ensures stays { ticket.new.held ≡ ticket.old.held }
 {
     if !ticket.is_open() {
         return CLOSED;
@@ -66,6 +67,8 @@ pub extern "C" fn nw_ticket_agree(
     ensures apart { result ≡ APART → AreApart ticket.old.value other.old.value }
     ensures same { ticket.new.value ≡ ticket.old.value }
     ensures other { other.new.value ≡ other.old.value }
+    ensures stays { ticket.new.held ≡ ticket.old.held }
+    ensures other_stays { other.new.held ≡ other.old.held }
 {
     if !ticket.is_open() || !other.is_open() {
         return CLOSED;
@@ -93,6 +96,8 @@ pub extern "C" fn nw_ticket_walk(
     ensures list { result ≡ pos 0 → IsWalkOf ticket.old.value out.new.value }
     ensures same { ticket.new.value ≡ ticket.old.value }
     ensures held { (result ≡ pos 0 → ⊥) → out.new.held ≡ out.old.held }
+    ensures opened { result ≡ pos 0 → out.new.held ≡ true }
+    ensures stays { ticket.new.held ≡ ticket.old.held }
 {
     if !ticket.is_open() {
         return CLOSED;
@@ -114,6 +119,7 @@ pub extern "C" fn nw_ticket_walk(
 pub extern "C" fn nw_list_len(list: &mut ListHandle, out: &mut usize) -> i32
     ensures len { result ≡ pos 0 → HasBlocks list.old.value out.new }
     ensures same { list.new.value ≡ list.old.value }
+    ensures stays { list.new.held ≡ list.old.held }
 {
     if !list.is_open() {
         return CLOSED;
@@ -138,6 +144,8 @@ pub extern "C" fn nw_list_block(
     ensures block { result ≡ pos 0 → IsBlockAt list.old.value index out.new.value }
     ensures same { list.new.value ≡ list.old.value }
     ensures held { (result ≡ pos 0 → ⊥) → out.new.held ≡ out.old.held }
+    ensures opened { result ≡ pos 0 → out.new.held ≡ true }
+    ensures stays { list.new.held ≡ list.old.held }
 {
     if !list.is_open() {
         return CLOSED;

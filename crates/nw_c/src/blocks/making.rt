@@ -1,5 +1,5 @@
 //! Blocks that are made from their parts.
-ghost use Rattle.std.specs.Prelude.{◌≡◌, pos, map, IfOk, IfErr};
+ghost use Rattle.std.specs.Prelude.{◌≡◌, pos, map, IfOk, IfErr, true};
 ghost use Rattle.nw_c.specs.Blocks.{AreCutFrom, IsMadeBlock, parent_in};
 
 use super::CParent;
@@ -64,6 +64,7 @@ pub extern "C" fn nw_block_new(
     ensures made { result ≡ pos 0
         → IsMadeBlock author round parents.now transactions.now lengths.now out.new.value }
     ensures held { (result ≡ pos 0 → ⊥) → out.new.held ≡ out.old.held }
+    ensures opened { result ≡ pos 0 → out.new.held ≡ true }
 {
     if out.is_open() {
         return OPEN;

@@ -32,6 +32,8 @@ pub extern "C" fn nw_book_certificate(
         → IsRefusedBy book.old.value session number None why }
     ensures unchanged { (result ≡ pos 0 → ⊥) → book.new.value ≡ book.old.value }
     ensures answer { (result ≡ pos 0 → ⊥) → answer.new.value ≡ answer.old.value }
+    ensures stays { book.new.held ≡ book.old.held }
+    ensures answer_stays { answer.new.held ≡ answer.old.held }
 {
     let command = Command::Certificate(digest.get());
     take(alloc, book, answer, session, number, &command)
@@ -53,6 +55,8 @@ pub extern "C" fn nw_book_read(
         → IsRefusedBy book.old.value session number None why }
     ensures unchanged { (result ≡ pos 0 → ⊥) → book.new.value ≡ book.old.value }
     ensures answer { (result ≡ pos 0 → ⊥) → answer.new.value ≡ answer.old.value }
+    ensures stays { book.new.held ≡ book.old.held }
+    ensures answer_stays { answer.new.held ≡ answer.old.held }
 {
     let command = Command::Read(digest.get());
     take(alloc, book, answer, session, number, &command)
@@ -75,6 +79,8 @@ pub extern "C" fn nw_book_collect(
         → IsRefusedBy book.old.value session number None why }
     ensures unchanged { (result ≡ pos 0 → ⊥) → book.new.value ≡ book.old.value }
     ensures answer { (result ≡ pos 0 → ⊥) → answer.new.value ≡ answer.old.value }
+    ensures stays { book.new.held ≡ book.old.held }
+    ensures answer_stays { answer.new.held ≡ answer.old.held }
 {
     let Some(round) = Round::new(round) else {
         return BAD_ROUND;
@@ -99,6 +105,8 @@ pub extern "C" fn nw_book_missing(
         → IsRefusedBy book.old.value session number None why }
     ensures unchanged { (result ≡ pos 0 → ⊥) → book.new.value ≡ book.old.value }
     ensures answer { (result ≡ pos 0 → ⊥) → answer.new.value ≡ answer.old.value }
+    ensures stays { book.new.held ≡ book.old.held }
+    ensures answer_stays { answer.new.held ≡ answer.old.held }
 {
     let command = Command::Missing(most);
     take(alloc, book, answer, session, number, &command)
@@ -119,6 +127,8 @@ pub extern "C" fn nw_book_status(
         → IsRefusedBy book.old.value session number None why }
     ensures unchanged { (result ≡ pos 0 → ⊥) → book.new.value ≡ book.old.value }
     ensures answer { (result ≡ pos 0 → ⊥) → answer.new.value ≡ answer.old.value }
+    ensures stays { book.new.held ≡ book.old.held }
+    ensures answer_stays { answer.new.held ≡ answer.old.held }
 {
     take(alloc, book, answer, session, number, &Command::Status)
 }
@@ -140,6 +150,8 @@ pub extern "C" fn nw_book_open(
         → IsRefusedBy book.old.value session number None why }
     ensures unchanged { (result ≡ pos 0 → ⊥) → book.new.value ≡ book.old.value }
     ensures answer { (result ≡ pos 0 → ⊥) → answer.new.value ≡ answer.old.value }
+    ensures stays { book.new.held ≡ book.old.held }
+    ensures answer_stays { answer.new.held ≡ answer.old.held }
 {
     if !book.is_open() || !answer.is_open() {
         return CLOSED;
