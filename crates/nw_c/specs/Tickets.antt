@@ -7,7 +7,7 @@ use Rattle.nw_history.specs.Story.{bounds_of, state_of}
 use Rattle.nw_book.specs.Ticket.{Given, HaveOneList}
 use Rattle.nw_c.specs.Plain.{digest_in}
 use Rattle.nw_c.specs.declared.plain.CDigest.{CDigest}
-use Rattle.nw_c.specs.declared.codes.TheConstants.{APART}
+use Rattle.nw_c.specs.declared.codes.TheConstants.{APART, CLOSED}
 use Rattle.nw_c.specs.declared.content.Content.{Content}
 use Rattle.nw_c.specs.declared.content.Content.TheVariants as kind
 
@@ -29,9 +29,10 @@ Agrees one other b = ⊥
 abbrev pub DifferInScope : Given → Given → Type 0
 DifferInScope one other = one.digest ≡ other.digest → floor_of one ≡ floor_of other → ⊥
 
--- the code is not that of success, and is APART only of tickets that differ so
+-- the code is that of a refusal, and is APART only of tickets that differ so
 pub record IsWhyApart (one other : Given) (code : ℤ) : Type 0 where
   pub not_done : code ≡ pos 0 → ⊥
+  pub not_closed : code ≡ CLOSED → ⊥
   pub apart : code ≡ APART → DifferInScope one other
 
 -- both are tickets, for two digests or with two garbage rounds

@@ -1,6 +1,7 @@
 //! What answers carry.
 ghost use Rattle.std.specs.Prelude.{◌≡◌, pos, take, true};
 ghost use Rattle.nw_c.specs.Answers.{IsCertificateTold, IsFound, IsMissingAt, IsStatusTold};
+ghost use Rattle.nw_c.specs.declared.codes.TheConstants.{CLOSED, OPEN};
 
 use crate::codes::{ABSENT, CLOSED, DONE, NO_MEMORY, OPEN, OTHER_KIND};
 use crate::content::Content;
@@ -27,6 +28,7 @@ pub struct CStatus {
 pub extern "C" fn nw_answer_new(alloc: Global, out: &mut AnswerHandle) -> i32
     ensures held { (result ≡ pos 0 → ⊥) → out.new.held ≡ out.old.held }
     ensures opened { result ≡ pos 0 → out.new.held ≡ true }
+    ensures occupied { result ≡ OPEN → out.old.held ≡ true }
 {
     if out.is_open() {
         return OPEN;
@@ -46,6 +48,8 @@ pub extern "C" fn nw_answer_block(
     ensures held { (result ≡ pos 0 → ⊥) → out.new.held ≡ out.old.held }
     ensures opened { result ≡ pos 0 → out.new.held ≡ true }
     ensures stays { answer.new.held ≡ answer.old.held }
+    ensures occupied { result ≡ OPEN → out.old.held ≡ true }
+    ensures closed { result ≡ CLOSED → answer.old.held ≡ true → ⊥ }
 {
     if !answer.is_open() {
         return CLOSED;
@@ -79,6 +83,7 @@ pub extern "C" fn nw_answer_message(
         → IsCertificateTold answer.old.value (take needed.new buffer.new) }
     ensures same { answer.new.value ≡ answer.old.value }
     ensures stays { answer.new.held ≡ answer.old.held }
+    ensures closed { result ≡ CLOSED → answer.old.held ≡ true → ⊥ }
 {
     if !answer.is_open() {
         return CLOSED;
@@ -103,6 +108,7 @@ pub extern "C" fn nw_answer_missing(answer: &mut AnswerHandle, index: usize, out
     ensures missing { result ≡ pos 0 → IsMissingAt answer.old.value index out.new }
     ensures same { answer.new.value ≡ answer.old.value }
     ensures stays { answer.new.held ≡ answer.old.held }
+    ensures closed { result ≡ CLOSED → answer.old.held ≡ true → ⊥ }
 {
     if !answer.is_open() {
         return CLOSED;
@@ -128,6 +134,7 @@ pub extern "C" fn nw_answer_status(answer: &mut AnswerHandle, out: &mut CStatus)
     ensures status { result ≡ pos 0 → IsStatusTold answer.old.value out.new }
     ensures same { answer.new.value ≡ answer.old.value }
     ensures stays { answer.new.held ≡ answer.old.held }
+    ensures closed { result ≡ CLOSED → answer.old.held ≡ true → ⊥ }
 {
     if !answer.is_open() {
         return CLOSED;

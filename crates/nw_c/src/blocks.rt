@@ -1,7 +1,8 @@
 //! Blocks.
-ghost use Rattle.std.specs.Prelude.{◌≡◌, pos, take, slice_get};
+ghost use Rattle.std.specs.Prelude.{◌≡◌, pos, take, slice_get, true};
 ghost use Rattle.std.specs.Option.{option_copied};
 ghost use Rattle.nw_c.specs.Blocks.{HasBody, HasCounts, HasMessage, HasParent, HasSlot, HasTransaction};
+ghost use Rattle.nw_c.specs.declared.codes.TheConstants.{CLOSED};
 
 use crate::codes::{ABSENT, CLOSED, DONE, OTHER_KIND, OVER_LIMIT};
 use crate::content::Content;
@@ -28,6 +29,7 @@ pub extern "C" fn nw_block_slot(block: &mut BlockHandle, out: &mut CSlot) -> i32
     ensures slot { result ≡ pos 0 → HasSlot block.old.value out.new }
     ensures same { block.new.value ≡ block.old.value }
     ensures stays { block.new.held ≡ block.old.held }
+    ensures closed { result ≡ CLOSED → block.old.held ≡ true → ⊥ }
 {
     if !block.is_open() {
         return CLOSED;
@@ -53,6 +55,7 @@ pub extern "C" fn nw_block_counts(
     ensures counts { result ≡ pos 0 → HasCounts block.old.value parents.new transactions.new }
     ensures same { block.new.value ≡ block.old.value }
     ensures stays { block.new.held ≡ block.old.held }
+    ensures closed { result ≡ CLOSED → block.old.held ≡ true → ⊥ }
 {
     if !block.is_open() {
         return CLOSED;
@@ -73,6 +76,7 @@ pub extern "C" fn nw_block_parent(block: &mut BlockHandle, index: usize, out: &m
     ensures parent { result ≡ pos 0 → HasParent block.old.value index out.new }
     ensures same { block.new.value ≡ block.old.value }
     ensures stays { block.new.held ≡ block.old.held }
+    ensures closed { result ≡ CLOSED → block.old.held ≡ true → ⊥ }
 {
     if !block.is_open() {
         return CLOSED;
@@ -118,6 +122,7 @@ pub extern "C" fn nw_block_transaction(
     ensures transaction { result ≡ pos 0 → HasTransaction block.old.value index (take needed.new buffer.new) }
     ensures same { block.new.value ≡ block.old.value }
     ensures stays { block.new.held ≡ block.old.held }
+    ensures closed { result ≡ CLOSED → block.old.held ≡ true → ⊥ }
 {
     if !block.is_open() {
         return CLOSED;
@@ -142,6 +147,7 @@ pub extern "C" fn nw_block_body(
     ensures body { result ≡ pos 0 → HasBody block.old.value (take needed.new buffer.new) }
     ensures same { block.new.value ≡ block.old.value }
     ensures stays { block.new.held ≡ block.old.held }
+    ensures closed { result ≡ CLOSED → block.old.held ≡ true → ⊥ }
 {
     if !block.is_open() {
         return CLOSED;
@@ -168,6 +174,7 @@ pub extern "C" fn nw_block_message(
     ensures message { result ≡ pos 0 → HasMessage block.old.value signature.now (take needed.new buffer.new) }
     ensures same { block.new.value ≡ block.old.value }
     ensures stays { block.new.held ≡ block.old.held }
+    ensures closed { result ≡ CLOSED → block.old.held ≡ true → ⊥ }
 {
     if !block.is_open() {
         return CLOSED;

@@ -5,6 +5,7 @@ ghost use Rattle.nw_book.specs.Command.{call_of, committee_of};
 ghost use Rattle.nw_book.specs.declared.error.NoStep.{NoStep as Refusal};
 ghost use Rattle.nw_c.specs.Books.{HasEvents, IsEmptyBook, IsRefusedBy, IsRestarted, IsTaken, limits_in};
 ghost use Rattle.nw_c.specs.Codes.{step_code};
+ghost use Rattle.nw_c.specs.declared.codes.TheConstants.{CLOSED, OPEN};
 
 use crate::codes::{BAD_LIMITS, CLOSED, DONE, NO_MEMORY, OPEN, OTHER_KIND, code_of_step};
 use crate::content::Content;
@@ -53,6 +54,8 @@ pub extern "C" fn nw_book_new(
     ensures held { (result ≡ pos 0 → ⊥) → out.new.held ≡ out.old.held }
     ensures opened { result ≡ pos 0 → out.new.held ≡ true }
     ensures stays { committee.new.held ≡ committee.old.held }
+    ensures occupied { result ≡ OPEN → out.old.held ≡ true }
+    ensures closed { result ≡ CLOSED → committee.old.held ≡ true → ⊥ }
 {
     if !committee.is_open() {
         return CLOSED;
@@ -79,6 +82,7 @@ pub extern "C" fn nw_book_events(book: &mut BookHandle, out: &mut usize) -> i32
     ensures events { result ≡ pos 0 → HasEvents book.old.value out.new }
     ensures same { book.new.value ≡ book.old.value }
     ensures stays { book.new.held ≡ book.old.held }
+    ensures closed { result ≡ CLOSED → book.old.held ≡ true → ⊥ }
 {
     if !book.is_open() {
         return CLOSED;
@@ -117,6 +121,7 @@ pub(crate) fn take(
     ensures answer { (result ≡ pos 0 → ⊥) → answer.new.value ≡ answer.old.value }
     ensures stays { book.new.held ≡ book.old.held }
     ensures answer_stays { answer.new.held ≡ answer.old.held }
+    ensures closed { result ≡ CLOSED → book.old.held ≡ true → answer.old.held ≡ true → ⊥ }
 {
     if !book.is_open() || !answer.is_open() {
         return CLOSED;
@@ -141,6 +146,7 @@ pub(crate) fn take(
 pub extern "C" fn nw_book_compact(alloc: Global, book: &mut BookHandle) -> i32
     ensures same { book.new.value ≡ book.old.value }
     ensures stays { book.new.held ≡ book.old.held }
+    ensures closed { result ≡ CLOSED → book.old.held ≡ true → ⊥ }
 {
     if !book.is_open() {
         return CLOSED;
@@ -161,6 +167,7 @@ pub extern "C" fn nw_book_restart(alloc: Global, book: &mut BookHandle) -> i32
     ensures restarted { result ≡ pos 0 → IsRestarted book.old.value book.new.value }
     ensures unchanged { (result ≡ pos 0 → ⊥) → book.new.value ≡ book.old.value }
     ensures stays { book.new.held ≡ book.old.held }
+    ensures closed { result ≡ CLOSED → book.old.held ≡ true → ⊥ }
 {
     if !book.is_open() {
         return CLOSED;

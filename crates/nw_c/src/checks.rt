@@ -2,6 +2,7 @@
 ghost use Rattle.std.specs.Prelude.{◌≡◌, pos, take, true};
 ghost use Rattle.nw_ed25519.specs.Accepts.{accepts};
 ghost use Rattle.nw_c.specs.Checks.{IsBlockOf, IsCheckOf, IsSpelledBy, IsToldOf};
+ghost use Rattle.nw_c.specs.declared.codes.TheConstants.{CLOSED, OPEN};
 
 use crate::codes::{CLOSED, DONE, NO_MEMORY, OPEN, OTHER_KIND};
 use crate::content::Content;
@@ -27,6 +28,8 @@ pub extern "C" fn nw_check(
     ensures held { (result ≡ pos 0 → ⊥) → out.new.held ≡ out.old.held }
     ensures opened { result ≡ pos 0 → out.new.held ≡ true }
     ensures stays { committee.new.held ≡ committee.old.held }
+    ensures occupied { result ≡ OPEN → out.old.held ≡ true }
+    ensures closed { result ≡ CLOSED → committee.old.held ≡ true → ⊥ }
 {
     if !committee.is_open() {
         return CLOSED;
@@ -49,6 +52,7 @@ pub extern "C" fn nw_checked_told(checked: &mut CheckedHandle, out: &mut CMessag
     ensures told { result ≡ pos 0 → IsToldOf checked.old.value out.new }
     ensures same { checked.new.value ≡ checked.old.value }
     ensures stays { checked.new.held ≡ checked.old.held }
+    ensures closed { result ≡ CLOSED → checked.old.held ≡ true → ⊥ }
 {
     if !checked.is_open() {
         return CLOSED;
@@ -74,6 +78,8 @@ pub extern "C" fn nw_checked_block(
     ensures held { (result ≡ pos 0 → ⊥) → out.new.held ≡ out.old.held }
     ensures opened { result ≡ pos 0 → out.new.held ≡ true }
     ensures stays { checked.new.held ≡ checked.old.held }
+    ensures occupied { result ≡ OPEN → out.old.held ≡ true }
+    ensures closed { result ≡ CLOSED → checked.old.held ≡ true → ⊥ }
 {
     if !checked.is_open() {
         return CLOSED;
@@ -102,6 +108,7 @@ pub extern "C" fn nw_checked_message(
     ensures message { result ≡ pos 0 → IsSpelledBy checked.old.value (take needed.new buffer.new) }
     ensures same { checked.new.value ≡ checked.old.value }
     ensures stays { checked.new.held ≡ checked.old.held }
+    ensures closed { result ≡ CLOSED → checked.old.held ≡ true → ⊥ }
 {
     if !checked.is_open() {
         return CLOSED;

@@ -1,6 +1,7 @@
 //! Committees.
 ghost use Rattle.std.specs.Prelude.{◌≡◌, pos, map, IfOk, IfErr, true};
 ghost use Rattle.nw_c.specs.Committees.{AreOneCommittee, HasMember, HasQuorum, HasSize, IsCommitteeOf, member_in};
+ghost use Rattle.nw_c.specs.declared.codes.TheConstants.{CLOSED, OPEN};
 
 use crate::codes::{ABSENT, BAD_COMMITTEE, CLOSED, DONE, NO_MEMORY, OPEN, OTHER_KIND};
 use crate::content::Content;
@@ -35,7 +36,7 @@ fn members_of(alloc: Global, listed: &[CMember]) -> Result<Vec<Member>, NoMemory
 /// The committee of these members, or the code of the refusal.
 fn committee_of(alloc: Global, listed: &[CMember]) -> Result<Shared<Committee>, i32>
     ensures made { IfOk result (λ committee. committee ≡ map member_in listed.now) }
-    ensures refused { IfErr result (λ why. why ≡ pos 0 → ⊥) }
+    ensures refused { IfErr result (λ why. (why ≡ pos 0 → ⊥) × (why ≡ OPEN → ⊥)) }
 {
     let Ok(members) = members_of(alloc, listed) else {
         return Err(NO_MEMORY);
@@ -60,6 +61,7 @@ pub extern "C" fn nw_committee_new(
     ensures made { result ≡ pos 0 → IsCommitteeOf members.now out.new.value }
     ensures held { (result ≡ pos 0 → ⊥) → out.new.held ≡ out.old.held }
     ensures opened { result ≡ pos 0 → out.new.held ≡ true }
+    ensures occupied { result ≡ OPEN → out.old.held ≡ true }
 {
     if out.is_open() {
         return OPEN;
@@ -82,6 +84,8 @@ pub extern "C" fn nw_committee_share(
     ensures held { (result ≡ pos 0 → ⊥) → out.new.held ≡ out.old.held }
     ensures opened { result ≡ pos 0 → out.new.held ≡ true }
     ensures stays { committee.new.held ≡ committee.old.held }
+    ensures occupied { result ≡ OPEN → out.old.held ≡ true }
+    ensures closed { result ≡ CLOSED → committee.old.held ≡ true → ⊥ }
 {
     if !committee.is_open() {
         return CLOSED;
@@ -104,6 +108,7 @@ pub extern "C" fn nw_committee_size(committee: &mut CommitteeHandle, out: &mut u
     ensures size { result ≡ pos 0 → HasSize committee.old.value out.new }
     ensures same { committee.new.value ≡ committee.old.value }
     ensures stays { committee.new.held ≡ committee.old.held }
+    ensures closed { result ≡ CLOSED → committee.old.held ≡ true → ⊥ }
 {
     if !committee.is_open() {
         return CLOSED;
@@ -127,6 +132,7 @@ pub extern "C" fn nw_committee_member(
     ensures member { result ≡ pos 0 → HasMember committee.old.value number out.new }
     ensures same { committee.new.value ≡ committee.old.value }
     ensures stays { committee.new.held ≡ committee.old.held }
+    ensures closed { result ≡ CLOSED → committee.old.held ≡ true → ⊥ }
 {
     if !committee.is_open() {
         return CLOSED;
@@ -149,6 +155,7 @@ pub extern "C" fn nw_committee_quorum(committee: &mut CommitteeHandle, out: &mut
     ensures quorum { result ≡ pos 0 → HasQuorum committee.old.value out.new }
     ensures same { committee.new.value ≡ committee.old.value }
     ensures stays { committee.new.held ≡ committee.old.held }
+    ensures closed { result ≡ CLOSED → committee.old.held ≡ true → ⊥ }
 {
     if !committee.is_open() {
         return CLOSED;

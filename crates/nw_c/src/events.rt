@@ -1,7 +1,8 @@
 //! The events of the histories that explain answers.
-ghost use Rattle.std.specs.Prelude.{◌≡◌, pos};
+ghost use Rattle.std.specs.Prelude.{◌≡◌, pos, true};
 ghost use Rattle.std.specs.Option.{option_copied};
 ghost use Rattle.nw_c.specs.Events.{Begins, HasEventAt, HasLength, IsCallTold, IsEventTold, front_in};
+ghost use Rattle.nw_c.specs.declared.codes.TheConstants.{CLOSED};
 
 use crate::codes::{ABSENT, CLOSED, DONE, OTHER_KIND};
 use crate::content::Content;
@@ -84,6 +85,7 @@ pub extern "C" fn nw_answer_events(answer: &mut AnswerHandle, out: &mut usize) -
     ensures events { result ≡ pos 0 → HasLength (front_in answer.old.value) out.new }
     ensures same { answer.new.value ≡ answer.old.value }
     ensures stays { answer.new.held ≡ answer.old.held }
+    ensures closed { result ≡ CLOSED → answer.old.held ≡ true → ⊥ }
 {
     if !answer.is_open() {
         return CLOSED;
@@ -103,6 +105,7 @@ pub extern "C" fn nw_answer_event(answer: &mut AnswerHandle, index: usize, out: 
     ensures event { result ≡ pos 0 → HasEventAt (front_in answer.old.value) index out.new }
     ensures same { answer.new.value ≡ answer.old.value }
     ensures stays { answer.new.held ≡ answer.old.held }
+    ensures closed { result ≡ CLOSED → answer.old.held ≡ true → ⊥ }
 {
     if !answer.is_open() {
         return CLOSED;
@@ -132,6 +135,7 @@ pub extern "C" fn nw_answer_begins(
     ensures other { other.new.value ≡ other.old.value }
     ensures stays { answer.new.held ≡ answer.old.held }
     ensures other_stays { other.new.held ≡ other.old.held }
+    ensures closed { result ≡ CLOSED → answer.old.held ≡ true → other.old.held ≡ true → ⊥ }
 {
     if !answer.is_open() || !other.is_open() {
         return CLOSED;

@@ -4,6 +4,7 @@ ghost use Rattle.nw_ed25519.specs.Accepts.{accepts};
 ghost use Rattle.nw_check.specs.declared.fault.GatherFault.{GatherFault as Fault};
 ghost use Rattle.nw_c.specs.Codes.{gather_code};
 ghost use Rattle.nw_c.specs.Gathers.{IsCertificateOf, IsCountedIn, IsNewGather, IsNotCounted};
+ghost use Rattle.nw_c.specs.declared.codes.TheConstants.{CLOSED, OPEN};
 
 use crate::codes::{
     BAD_ROUND, CLOSED, DONE, FEW_VOTES, NO_MEMBER, NO_MEMORY, OPEN, OTHER_KIND, code_of_vote,
@@ -30,6 +31,8 @@ pub extern "C" fn nw_gather_new(
     ensures held { (result ≡ pos 0 → ⊥) → out.new.held ≡ out.old.held }
     ensures opened { result ≡ pos 0 → out.new.held ≡ true }
     ensures stays { committee.new.held ≡ committee.old.held }
+    ensures occupied { result ≡ OPEN → out.old.held ≡ true }
+    ensures closed { result ≡ CLOSED → committee.old.held ≡ true → ⊥ }
 {
     if !committee.is_open() {
         return CLOSED;
@@ -67,6 +70,7 @@ pub extern "C" fn nw_gather_add(
     ensures same { vote.new.value ≡ vote.old.value }
     ensures stays { gather.new.held ≡ gather.old.held }
     ensures vote_stays { vote.new.held ≡ vote.old.held }
+    ensures closed { result ≡ CLOSED → gather.old.held ≡ true → vote.old.held ≡ true → ⊥ }
 {
     if !gather.is_open() || !vote.is_open() {
         return CLOSED;
@@ -98,6 +102,8 @@ pub extern "C" fn nw_gather_certificate(
     ensures held { (result ≡ pos 0 → ⊥) → out.new.held ≡ out.old.held }
     ensures opened { result ≡ pos 0 → out.new.held ≡ true }
     ensures stays { gather.new.held ≡ gather.old.held }
+    ensures occupied { result ≡ OPEN → out.old.held ≡ true }
+    ensures closed { result ≡ CLOSED → gather.old.held ≡ true → ⊥ }
 {
     if !gather.is_open() {
         return CLOSED;

@@ -1,11 +1,12 @@
 //! Blocks and certificates that are handed to a book.
-ghost use Rattle.std.specs.Prelude.{◌≡◌, pos, IfOk, IfErr};
+ghost use Rattle.std.specs.Prelude.{◌≡◌, pos, IfOk, IfErr, true};
 ghost use Rattle.nw_ed25519.specs.Accepts.{accepts};
 ghost use Rattle.nw_book.specs.declared.error.NoStep.{NoStep as Refusal};
 ghost use Rattle.nw_c.specs.declared.content.Content.{Content as Held};
 ghost use Rattle.nw_c.specs.Books.{IsRefusedBy};
 ghost use Rattle.nw_c.specs.Codes.{step_code};
 ghost use Rattle.nw_c.specs.Handed.{IsCommandOf, IsHandedIn, committee_of};
+ghost use Rattle.nw_c.specs.declared.codes.TheConstants.{CLOSED};
 
 use crate::books::take;
 use crate::codes::{CLOSED, OTHER_KIND};
@@ -62,6 +63,7 @@ pub extern "C" fn nw_book_take(
     ensures stays { book.new.held ≡ book.old.held }
     ensures checked_stays { checked.new.held ≡ checked.old.held }
     ensures answer_stays { answer.new.held ≡ answer.old.held }
+    ensures closed { result ≡ CLOSED → book.old.held ≡ true → checked.old.held ≡ true → answer.old.held ≡ true → ⊥ }
 {
     if !checked.is_open() {
         return CLOSED;

@@ -1,7 +1,8 @@
 //! Replies, as C is told them.
-ghost use Rattle.std.specs.Prelude.{◌≡◌, pos};
+ghost use Rattle.std.specs.Prelude.{◌≡◌, pos, true};
 ghost use Rattle.nw_model.specs.declared.reply.Reply.TheVariants as Reply;
 ghost use Rattle.nw_c.specs.Replies.{IsReplyTold, IsToldAs};
+ghost use Rattle.nw_c.specs.declared.codes.TheConstants.{CLOSED};
 
 use crate::codes::{CLOSED, DONE, OTHER_KIND};
 use crate::content::Content;
@@ -110,6 +111,7 @@ pub extern "C" fn nw_answer_reply(answer: &mut AnswerHandle, out: &mut CTold) ->
     ensures reply { result ≡ pos 0 → IsReplyTold answer.old.value out.new }
     ensures same { answer.new.value ≡ answer.old.value }
     ensures stays { answer.new.held ≡ answer.old.held }
+    ensures closed { result ≡ CLOSED → answer.old.held ≡ true → ⊥ }
 {
     if !answer.is_open() {
         return CLOSED;

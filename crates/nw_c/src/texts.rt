@@ -2,6 +2,7 @@
 ghost use Rattle.std.specs.Prelude.{◌≡◌, pos, take, length, IfOk, MatchResult};
 ghost use Rattle.nw_codec.specs.Spelled.{Spells};
 ghost use Rattle.nw_codec.specs.declared.message.Message.TheVariants as Message;
+ghost use Rattle.nw_c.specs.declared.codes.TheConstants.{CLOSED, SMALL};
 
 use crate::codes::{DONE, SMALL, code_of_text};
 use nw_codec::{Certificate, EncodeError, Message, encode_message};
@@ -12,6 +13,7 @@ use std::alloc::Global;
 pub(crate) fn hand_out(text: &[u8], buffer: &mut [u8], needed: &mut usize) -> i32
     ensures copied { result ≡ pos 0 → take needed.new buffer.new ≡ text.now }
     ensures unchanged { (result ≡ pos 0 → ⊥) → buffer.new ≡ buffer.old }
+    ensures refused { (result ≡ pos 0 → ⊥) → result ≡ SMALL }
 {
     let size = text.len();
     *needed = size;
@@ -28,7 +30,8 @@ pub(crate) fn hand_out_encoded(
     buffer: &mut [u8],
     needed: &mut usize,
 ) -> i32
-    ensures { result ≡ pos 0 → MatchResult text (λ v. take needed.new buffer.new ≡ v.items) (λ _. ⊥) }
+    ensures copied { result ≡ pos 0 → MatchResult text (λ v. take needed.new buffer.new ≡ v.items) (λ _. ⊥) }
+    ensures not_closed { result ≡ CLOSED → ⊥ }
 {
     match text {
         Ok(text) => hand_out(&text, buffer, needed),

@@ -3,7 +3,7 @@ ghost use Rattle.std.specs.Prelude.{◌≡◌, ◌↔◌, pos, IfOk, IfErr, IsTr
 ghost use Rattle.nw_book.specs.Ticket.{HaveOneList};
 ghost use Rattle.nw_c.specs.Tickets.{Agrees, AreApart, HasBlocks, IsAbout, IsBlockAt, IsWalkOf};
 ghost use Rattle.nw_c.specs.Tickets.{IsWhyApart};
-ghost use Rattle.nw_c.specs.declared.codes.TheConstants.{APART};
+ghost use Rattle.nw_c.specs.declared.codes.TheConstants.{APART, CLOSED, OPEN};
 
 use crate::codes::{ABSENT, APART, CLOSED, DONE, NO_MEMORY, OPEN, OTHER_KIND};
 use crate::content::Content;
@@ -25,6 +25,7 @@ pub extern "C" fn nw_ticket_about(
     ensures about { result ≡ pos 0 → IsAbout ticket.old.value digest.new floor.new }
     ensures same { ticket.new.value ≡ ticket.old.value }
     ensures stays { ticket.new.held ≡ ticket.old.held }
+    ensures closed { result ≡ CLOSED → ticket.old.held ≡ true → ⊥ }
 {
     if !ticket.is_open() {
         return CLOSED;
@@ -69,6 +70,7 @@ pub extern "C" fn nw_ticket_agree(
     ensures other { other.new.value ≡ other.old.value }
     ensures stays { ticket.new.held ≡ ticket.old.held }
     ensures other_stays { other.new.held ≡ other.old.held }
+    ensures closed { result ≡ CLOSED → ticket.old.held ≡ true → other.old.held ≡ true → ⊥ }
 {
     if !ticket.is_open() || !other.is_open() {
         return CLOSED;
@@ -98,6 +100,8 @@ pub extern "C" fn nw_ticket_walk(
     ensures held { (result ≡ pos 0 → ⊥) → out.new.held ≡ out.old.held }
     ensures opened { result ≡ pos 0 → out.new.held ≡ true }
     ensures stays { ticket.new.held ≡ ticket.old.held }
+    ensures occupied { result ≡ OPEN → out.old.held ≡ true }
+    ensures closed { result ≡ CLOSED → ticket.old.held ≡ true → ⊥ }
 {
     if !ticket.is_open() {
         return CLOSED;
@@ -120,6 +124,7 @@ pub extern "C" fn nw_list_len(list: &mut ListHandle, out: &mut usize) -> i32
     ensures len { result ≡ pos 0 → HasBlocks list.old.value out.new }
     ensures same { list.new.value ≡ list.old.value }
     ensures stays { list.new.held ≡ list.old.held }
+    ensures closed { result ≡ CLOSED → list.old.held ≡ true → ⊥ }
 {
     if !list.is_open() {
         return CLOSED;
@@ -146,6 +151,8 @@ pub extern "C" fn nw_list_block(
     ensures held { (result ≡ pos 0 → ⊥) → out.new.held ≡ out.old.held }
     ensures opened { result ≡ pos 0 → out.new.held ≡ true }
     ensures stays { list.new.held ≡ list.old.held }
+    ensures occupied { result ≡ OPEN → out.old.held ≡ true }
+    ensures closed { result ≡ CLOSED → list.old.held ≡ true → ⊥ }
 {
     if !list.is_open() {
         return CLOSED;

@@ -1,6 +1,7 @@
 //! Blocks that are made from their parts.
 ghost use Rattle.std.specs.Prelude.{◌≡◌, pos, map, IfOk, IfErr, true};
 ghost use Rattle.nw_c.specs.Blocks.{AreCutFrom, IsMadeBlock, parent_in};
+ghost use Rattle.nw_c.specs.declared.codes.TheConstants.{OPEN};
 
 use super::CParent;
 use crate::codes::{BAD_ROUND, NO_MEMORY, OPEN, OVER_LIMIT, code_of_text};
@@ -28,7 +29,7 @@ fn parents_of(alloc: Global, listed: &[CParent]) -> Result<Vec<Ref>, NoMemory>
 /// The transactions of these lengths, which the bytes are in order, or the code of the refusal.
 fn transactions_of(alloc: Global, bytes: &[u8], lengths: &[u32]) -> Result<Transactions, i32>
     ensures made { IfOk result (AreCutFrom bytes.now lengths.now) }
-    ensures refused { IfErr result (λ why. why ≡ pos 0 → ⊥) }
+    ensures refused { IfErr result (λ why. (why ≡ pos 0 → ⊥) × (why ≡ OPEN → ⊥)) }
 {
     let mut transactions = Transactions::new(alloc);
     let mut left = bytes;
@@ -65,6 +66,7 @@ pub extern "C" fn nw_block_new(
         → IsMadeBlock author round parents.now transactions.now lengths.now out.new.value }
     ensures held { (result ≡ pos 0 → ⊥) → out.new.held ≡ out.old.held }
     ensures opened { result ≡ pos 0 → out.new.held ≡ true }
+    ensures occupied { result ≡ OPEN → out.old.held ≡ true }
 {
     if out.is_open() {
         return OPEN;

@@ -1,11 +1,12 @@
 //! The calls of a book that hand nothing in.
-ghost use Rattle.std.specs.Prelude.{◌≡◌, pos, None};
+ghost use Rattle.std.specs.Prelude.{◌≡◌, pos, None, true};
 ghost use Rattle.nw_ed25519.specs.Accepts.{accepts};
 ghost use Rattle.nw_model.specs.declared.call.Call.TheVariants as Call;
 ghost use Rattle.nw_book.specs.declared.error.NoStep.{NoStep as Refusal};
 ghost use Rattle.nw_c.specs.Books.{IsOpened, IsRefusedBy, IsTaken};
 ghost use Rattle.nw_c.specs.Codes.{step_code};
 ghost use Rattle.nw_c.specs.Plain.{digest_in};
+ghost use Rattle.nw_c.specs.declared.codes.TheConstants.{CLOSED};
 
 use super::{is_room, take};
 use crate::codes::{BAD_ROUND, CLOSED, DONE, OTHER_KIND, code_of_step};
@@ -34,6 +35,7 @@ pub extern "C" fn nw_book_certificate(
     ensures answer { (result ≡ pos 0 → ⊥) → answer.new.value ≡ answer.old.value }
     ensures stays { book.new.held ≡ book.old.held }
     ensures answer_stays { answer.new.held ≡ answer.old.held }
+    ensures closed { result ≡ CLOSED → book.old.held ≡ true → answer.old.held ≡ true → ⊥ }
 {
     let command = Command::Certificate(digest.get());
     take(alloc, book, answer, session, number, &command)
@@ -57,6 +59,7 @@ pub extern "C" fn nw_book_read(
     ensures answer { (result ≡ pos 0 → ⊥) → answer.new.value ≡ answer.old.value }
     ensures stays { book.new.held ≡ book.old.held }
     ensures answer_stays { answer.new.held ≡ answer.old.held }
+    ensures closed { result ≡ CLOSED → book.old.held ≡ true → answer.old.held ≡ true → ⊥ }
 {
     let command = Command::Read(digest.get());
     take(alloc, book, answer, session, number, &command)
@@ -81,6 +84,7 @@ pub extern "C" fn nw_book_collect(
     ensures answer { (result ≡ pos 0 → ⊥) → answer.new.value ≡ answer.old.value }
     ensures stays { book.new.held ≡ book.old.held }
     ensures answer_stays { answer.new.held ≡ answer.old.held }
+    ensures closed { result ≡ CLOSED → book.old.held ≡ true → answer.old.held ≡ true → ⊥ }
 {
     let Some(round) = Round::new(round) else {
         return BAD_ROUND;
@@ -107,6 +111,7 @@ pub extern "C" fn nw_book_missing(
     ensures answer { (result ≡ pos 0 → ⊥) → answer.new.value ≡ answer.old.value }
     ensures stays { book.new.held ≡ book.old.held }
     ensures answer_stays { answer.new.held ≡ answer.old.held }
+    ensures closed { result ≡ CLOSED → book.old.held ≡ true → answer.old.held ≡ true → ⊥ }
 {
     let command = Command::Missing(most);
     take(alloc, book, answer, session, number, &command)
@@ -129,6 +134,7 @@ pub extern "C" fn nw_book_status(
     ensures answer { (result ≡ pos 0 → ⊥) → answer.new.value ≡ answer.old.value }
     ensures stays { book.new.held ≡ book.old.held }
     ensures answer_stays { answer.new.held ≡ answer.old.held }
+    ensures closed { result ≡ CLOSED → book.old.held ≡ true → answer.old.held ≡ true → ⊥ }
 {
     take(alloc, book, answer, session, number, &Command::Status)
 }
@@ -152,6 +158,7 @@ pub extern "C" fn nw_book_open(
     ensures answer { (result ≡ pos 0 → ⊥) → answer.new.value ≡ answer.old.value }
     ensures stays { book.new.held ≡ book.old.held }
     ensures answer_stays { answer.new.held ≡ answer.old.held }
+    ensures closed { result ≡ CLOSED → book.old.held ≡ true → answer.old.held ≡ true → ⊥ }
 {
     if !book.is_open() || !answer.is_open() {
         return CLOSED;

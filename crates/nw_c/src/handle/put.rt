@@ -1,5 +1,6 @@
 //! Contents that are put into handles.
 ghost use Rattle.std.specs.Prelude.{◌≡◌, true, false, pos};
+ghost use Rattle.nw_c.specs.declared.codes.TheConstants.{NO_MEMORY};
 
 use super::Handle;
 use crate::codes::{DONE, NO_MEMORY};
@@ -13,6 +14,7 @@ pub(crate) fn put(alloc: Global, out: &mut Handle, content: Content) -> i32
     ensures held { result ≡ pos 0 → out.new.held ≡ true }
     ensures value { result ≡ pos 0 → out.new.value ≡ content }
     ensures closed { (result ≡ pos 0 → ⊥) → out.new.held ≡ false }
+    ensures refused { (result ≡ pos 0 → ⊥) → result ≡ NO_MEMORY }
 {
     match Box::new(alloc, content) {
         Ok(held) => {
