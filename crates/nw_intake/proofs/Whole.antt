@@ -1,16 +1,16 @@
 -- The answers of all workers, as the answers to all texts.
-use Rattle.std.proofs.Common.{◌≡◌, ℕ, ◌<◌, Bool, Result, Err, List, length, sym, ◌∙◌, ap, subst, Vec}
+use Rattle.std.proofs.Common.{◌≡◌, ℕ, ◌<◌, Bool, Result, List, length, sym, ◌∙◌, ap, subst, Vec}
 use Rattle.std.specs.List.{AllZip}
+use Rattle.std.specs.declared.alloc.Global.{Global}
 use Rattle.std.specs.declared.collections.VecDeque.{VecDeque}
 use Rattle.nw_committee.specs.declared.member.Member.{Member}
 use Rattle.nw_sig.specs.Signed.{Meaning}
 use Rattle.nw_check.specs.declared.message.Checked.{Checked}
 use Rattle.nw_intake.specs.Answers.{IsAnswer, IsDealt, turns_of}
-use Rattle.nw_intake.specs.Faults.{IsCrew, IsIntakeFault}
-use Rattle.nw_intake.specs.Shares.{AreShareResults, IsShareResult, IsJointFault}
+use Rattle.nw_intake.specs.Faults.{IsCrew}
+use Rattle.nw_intake.specs.Shares.{AreShareResults, IsIntakeFault, IsJointFault, IsShareResult}
 use Rattle.nw_intake.specs.declared.point.Point.{Point}
 use Rattle.nw_intake.specs.declared.fault.ShareFault.{ShareFault}
-use Rattle.nw_intake.specs.declared.fault.ShareFault.TheVariants as share
 use Rattle.nw_intake.specs.declared.fault.IntakeFault.{IntakeFault}
 use Rattle.nw_intake.specs.declared.fault.IntakeFault.TheVariants as fault
 use Rattle.nw_intake.proofs.Dealt.{Whole, dealt_back, zip_length, items_at, items_at_is}
@@ -31,12 +31,11 @@ module _ {S A B : Type 0} (accepts : Meaning) (members : List Member) (texts : L
       ) in
       subst (AllZip R texts) (sym (order w.whole dealt)) w.fits
 
-  -- the gate is blamed only where it held a start back
-  pub joint_fault : (results : List (Result (VecDeque (Checked S) B) ShareFault)) (e : IntakeFault) → IsCrew workers → AreShareResults accepts members texts says workers results → IsJointFault workers results e
-      → IsIntakeFault says (length texts) workers e
+module _ {S A : Type 0} (accepts : Meaning) (members : List Member) (texts : List (Vec ℕ A)) (says : Point → Bool → Type 0) (workers : ℕ) where
+  -- the joint fault of what the workers gave is the fault of all checks
+  pub joint_fault : (results : List (Result (VecDeque (Checked S) Global) ShareFault)) (e : IntakeFault) → IsCrew workers → AreShareResults accepts members texts says workers results → IsJointFault workers results e
+      → IsIntakeFault S accepts members texts says workers e
   joint_fault results fault.BadWorkers crew all h = absurd h
-  joint_fault results fault.NoMemory crew all h = crew
-  joint_fault results fault.Spawn crew all h = crew
-  joint_fault results fault.GateShut crew all h =
-      let at = h.2 in
-      (crew, subst (IsShareResult accepts members texts says at.0 workers) at.2 (all.1 at.0 (Err share.GateShut) at.1))
+  joint_fault results fault.NoMemory crew all h = (crew, (results, all, h))
+  joint_fault results fault.Spawn crew all h = (crew, (results, all, h))
+  joint_fault results fault.GateShut crew all h = (crew, (results, all, h))

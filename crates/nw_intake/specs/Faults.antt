@@ -5,8 +5,6 @@ use Rattle.nw_intake.specs.declared.point.Point.TheVariants as point
 use Rattle.nw_intake.specs.declared.threads.TheConstants.{MOST_WORKERS}
 use Rattle.nw_intake.specs.declared.fault.ShareFault.{ShareFault}
 use Rattle.nw_intake.specs.declared.fault.ShareFault.TheVariants as share
-use Rattle.nw_intake.specs.declared.fault.IntakeFault.{IntakeFault}
-use Rattle.nw_intake.specs.declared.fault.IntakeFault.TheVariants as fault
 
 -- at least one worker, and not too many
 abbrev pub IsCrew : ℕ → Type 0
@@ -25,10 +23,3 @@ IsOneFault says place share.GateShut = says (point.CheckStart place) false
 abbrev pub IsShareFault : (Point → Bool → Type 0) → ℕ → ShareFault → Type 0
 IsShareFault says count share.NoMemory = Unit {0}
 IsShareFault says count share.GateShut = HoldsBack says count
-
--- the fault of all checks: other numbers of workers are refused before anything else, and the gate is blamed only where it may say no
-abbrev pub IsIntakeFault : (Point → Bool → Type 0) → ℕ → ℕ → IntakeFault → Type 0
-IsIntakeFault says count workers fault.BadWorkers = IsCrew workers → ⊥
-IsIntakeFault says count workers fault.NoMemory = IsCrew workers
-IsIntakeFault says count workers fault.Spawn = IsCrew workers
-IsIntakeFault says count workers fault.GateShut = IsCrew workers × HoldsBack says count

@@ -1,12 +1,13 @@
 -- What workers give.
 use Rattle.std.specs.Prelude.{◌≡◌, ℕ, ◌<◌, ◌≤◌, Bool, List, Contains, Result, Ok, Err, length, slice_index_or, Vec}
 use Rattle.std.specs.List.{AllZip}
+use Rattle.std.specs.declared.alloc.Global.{Global}
 use Rattle.std.specs.declared.collections.VecDeque.{VecDeque}
 use Rattle.nw_committee.specs.declared.member.Member.{Member}
 use Rattle.nw_sig.specs.Signed.{Meaning}
 use Rattle.nw_check.specs.declared.message.Checked.{Checked}
 use Rattle.nw_intake.specs.Answers.{IsAnswer, turns_of}
-use Rattle.nw_intake.specs.Faults.{IsShareFault}
+use Rattle.nw_intake.specs.Faults.{IsCrew, IsShareFault}
 use Rattle.nw_intake.specs.declared.point.Point.{Point}
 use Rattle.nw_intake.specs.declared.fault.ShareFault.{ShareFault}
 use Rattle.nw_intake.specs.declared.fault.ShareFault.TheVariants as share
@@ -34,3 +35,14 @@ IsJointFault workers results fault.BadWorkers = ⊥
 IsJointFault workers results fault.NoMemory = Unit {0}
 IsJointFault workers results fault.Spawn = HadMemory results × (length results < workers)
 IsJointFault workers results fault.GateShut = HadMemory results × (length results ≡ workers) × Contains results (Err share.GateShut)
+
+-- these workers gave results of which this is the fault
+abbrev pub CameTo : (S : Type 0) → {A : Type 0} → Meaning → List Member → List (Vec ℕ A) → (Point → Bool → Type 0) → ℕ → IntakeFault → Type 0
+CameTo S accepts members texts says workers why = (results : List (Result (VecDeque (Checked S) Global) ShareFault)) × AreShareResults accepts members texts says workers results × IsJointFault workers results why
+
+-- the fault of all checks: other numbers of workers are refused before anything else
+abbrev pub IsIntakeFault : (S : Type 0) → {A : Type 0} → Meaning → List Member → List (Vec ℕ A) → (Point → Bool → Type 0) → ℕ → IntakeFault → Type 0
+IsIntakeFault S accepts members texts says workers fault.BadWorkers = IsCrew workers → ⊥
+IsIntakeFault S accepts members texts says workers fault.NoMemory = IsCrew workers × CameTo S accepts members texts says workers fault.NoMemory
+IsIntakeFault S accepts members texts says workers fault.Spawn = IsCrew workers × CameTo S accepts members texts says workers fault.Spawn
+IsIntakeFault S accepts members texts says workers fault.GateShut = IsCrew workers × CameTo S accepts members texts says workers fault.GateShut

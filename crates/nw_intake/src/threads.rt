@@ -2,9 +2,9 @@
 ghost use Rattle.std.specs.Prelude.{◌≡◌, ◌^◌, ◌<◌, ◌≤◌, length, map, Ok, IfOk, IfErr, vec_len};
 ghost use Rattle.std.specs.List.{AllZip};
 ghost use Rattle.nw_intake.specs.Answers.{IsAnswer};
-ghost use Rattle.nw_intake.specs.Faults.{IsCrew, IsIntakeFault};
+ghost use Rattle.nw_intake.specs.Faults.{IsCrew};
 ghost use Rattle.nw_intake.specs.Promised.{ArePromised};
-ghost use Rattle.nw_intake.specs.Shares.{AreShareResults, IsJointFault};
+ghost use Rattle.nw_intake.specs.Shares.{AreShareResults, IsIntakeFault, IsJointFault};
 
 use crate::fault::ShareFault;
 use crate::order::put_in_order;
@@ -43,7 +43,8 @@ pub fn check_all<S: Scheme + Send, G: Gate + Sync, R: Threads + Wait + Sync>(
     ensures workers { IfOk result (λ _. IsCrew workers) }
     ensures checked { IfOk result
         (λ answers. AllZip (IsAnswer S.accepts committee.now) texts.items answers.items) }
-    ensures fault { IfErr result (IsIntakeFault (G.says gate.now) (vec_len texts) workers) }
+    ensures fault { IfErr result (IsIntakeFault S S.accepts committee.now texts.items
+        (G.says gate.now) workers) }
 {
     if workers == 0 || workers > MOST_WORKERS {
         return Err(IntakeFault::BadWorkers);
