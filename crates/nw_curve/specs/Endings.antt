@@ -1,4 +1,5 @@
 -- Points by the numbers that sums and doublings end with.
+use Rattle.std.specs.Prelude.{◌==◌}
 use Rattle.nw_field.specs.Field.{plus, minus, times}
 use Rattle.nw_curve.specs.Curve.{curve_d, twice, finished}
 use Rattle.nw_curve.specs.declared.point.Point.{Point}
@@ -11,4 +12,4 @@ point_of n = finished n.e n.f n.g n.h
 
 -- what sums need of a point
 unfoldable pub prepared : Point → Addend
-prepared p = record { difference = minus p.y p.x; sum = plus p.y p.x; z = twice p.z; t = times (twice curve_d) p.t }
+prepared p = record { difference = minus p.y p.x; sum = plus p.y p.x; z = twice p.z; t = times (twice curve_d) p.t; is_plain = p.z == 1 }

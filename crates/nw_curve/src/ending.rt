@@ -1,6 +1,7 @@
 //! The numbers that a point's coordinates are the products of.
 ghost use Rattle.std.specs.Prelude.{◌≡◌, ℕ};
-ghost use Rattle.nw_curve.specs.Curve.{identity, added, doubled};
+ghost use Rattle.nw_field.specs.Field.{times};
+ghost use Rattle.nw_curve.specs.Curve.{identity, added, doubled, twice};
 ghost use Rattle.nw_curve.specs.Endings.{prepared, point_of};
 ghost use Rattle.nw_curve.specs.declared.point.Point.{Point};
 
@@ -49,7 +50,7 @@ impl Ending {
     pub fn doubled(&self) -> Ending
         ensures { point_of result ≡ doubled (point_of self.now) }
     {
-        twice(
+        twofold(
             &self.e.times(&self.f),
             &self.g.times(&self.h),
             &self.f.times(&self.g),
@@ -64,6 +65,7 @@ pub struct Addend {
     pub sum: Number,
     pub z: Number,
     pub t: Number,
+    pub is_plain: bool,
 }
 
 impl Addend {
@@ -77,6 +79,7 @@ impl Addend {
             sum: point.y.plus(&point.x),
             z: point.z.plus(&point.z),
             t: twice_d().times(&point.t),
+            is_plain: point.z.equals(&Number::one()),
         }
     }
 }
@@ -90,7 +93,7 @@ pub fn sum(point: &Point, addend: &Addend) -> Ending
     let a = point.y.minus(&point.x).times(&addend.difference);
     let b = point.y.plus(&point.x).times(&addend.sum);
     let c = point.t.times(&addend.t);
-    let d = point.z.times(&addend.z);
+    let d = twice_by_z(&point.z, addend);
     Ending {
         e: b.minus(&a),
         f: d.minus(&c),
@@ -99,10 +102,23 @@ pub fn sum(point: &Point, addend: &Addend) -> Ending
     }
 }
 
+/// Twice the product of a z and the addend's.
+#[inline(always)]
+#[tactic(auto, unfolding(crate::specs::Endings::prepared), using(crate::proofs::Products::twice_one, crate::proofs::Products::twice_times))]
+fn twice_by_z(z: &Number, addend: &Addend) -> Number
+    ensures { (p : Point) → addend.now ≡ prepared p → result ≡ times (twice z.now) p.z }
+{
+    if addend.is_plain {
+        z.plus(z)
+    } else {
+        z.times(&addend.z)
+    }
+}
+
 /// The ending of twice the point of these x, y and z.
 #[inline(always)]
 #[tactic(auto, unfolding(crate::specs::Curve::doubled))]
-pub fn twice(x: &Number, y: &Number, z: &Number) -> Ending
+pub fn twofold(x: &Number, y: &Number, z: &Number) -> Ending
     ensures { (t : ℕ) → point_of result ≡ doubled (record { x = x.now; y = y.now; z = z.now; t = t }) }
 {
     let a = x.square();

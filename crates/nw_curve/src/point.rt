@@ -3,7 +3,7 @@ ghost use Rattle.std.specs.Prelude.{◌≡◌};
 ghost use Rattle.nw_curve.specs.Curve.{base, identity, added, doubled, negated, multiple};
 
 use crate::constants::{base_t, base_x, base_y};
-use crate::ending::{Addend, Ending, sum, twice};
+use crate::ending::{Addend, Ending, sum, twofold};
 use nw_field::{Number, Whole};
 
 /// How many bits of a number multiply a point.
@@ -55,7 +55,7 @@ impl Point {
     pub fn doubled(&self) -> Point
         ensures { result ≡ doubled self.now }
     {
-        twice(&self.x, &self.y, &self.z).point()
+        twofold(&self.x, &self.y, &self.z).point()
     }
 
     /// The point on the other side of x = 0.
