@@ -1,4 +1,4 @@
-//! The numbers that a point's coordinates are the products of.
+//! Points by the four numbers whose products are their coordinates.
 ghost use Rattle.std.specs.Prelude.{◌≡◌, ℕ};
 ghost use Rattle.nw_field.specs.Field.{times};
 ghost use Rattle.nw_curve.specs.Curve.{identity, added, doubled, twice};
@@ -9,7 +9,7 @@ use crate::Point;
 use crate::constants::twice_d;
 use nw_field::Number;
 
-/// The four numbers that a sum or a doubling ends with.
+/// The last four numbers of the formulas for sums and doublings. Each coordinate of the point is a product of two of them.
 #[derive(Debug, Drop)]
 pub struct Ending {
     pub e: Number,
@@ -19,7 +19,7 @@ pub struct Ending {
 }
 
 impl Ending {
-    /// The neutral point's.
+    /// The neutral point.
     #[tactic(auto, unfolding(nw_field::specs::Field::prime))]
     pub fn identity() -> Ending
         ensures { point_of result ≡ identity }
@@ -32,7 +32,7 @@ impl Ending {
         }
     }
 
-    /// The point.
+    /// The point with its coordinates.
     #[inline(always)]
     pub fn point(&self) -> Point
         ensures { result ≡ point_of self.now }
@@ -45,31 +45,71 @@ impl Ending {
         }
     }
 
-    /// Those of twice the point.
+    /// Twice the point. The T of the point itself takes no part in it, and is not computed.
     #[inline(always)]
     pub fn doubled(&self) -> Ending
         ensures { point_of result ≡ doubled (point_of self.now) }
     {
-        twofold(
+        Ending::of_twice(
             &self.e.times(&self.f),
             &self.g.times(&self.h),
             &self.f.times(&self.g),
         )
     }
+
+    /// Twice the point of these coordinates.
+    #[inline(always)]
+    #[tactic(auto, unfolding(crate::specs::Curve::doubled))]
+    pub fn of_twice(x: &Number, y: &Number, z: &Number) -> Ending
+        ensures { (t : ℕ) → point_of result
+            ≡ doubled (record { x = x.now; y = y.now; z = z.now; t = t }) }
+    {
+        let a = x.square();
+        let b = y.square();
+        let square = z.square();
+        let c = square.plus(&square);
+        let h = a.plus(&b);
+        let e = h.minus(&x.plus(y).square());
+        let g = a.minus(&b);
+        Ending {
+            e,
+            f: c.plus(&g),
+            g,
+            h,
+        }
+    }
+
+    /// The sum of a point and a prepared one.
+    #[inline(always)]
+    #[tactic(auto, unfolding(crate::specs::Curve::added, crate::specs::Endings::prepared), using(crate::proofs::Products::times_times, crate::proofs::Products::twice_times))]
+    pub fn of_sum(point: &Point, addend: &Addend) -> Ending
+        ensures { (p : Point) → addend.now ≡ prepared p → point_of result ≡ added point.now p }
+    {
+        let a = point.y.minus(&point.x).times(&addend.difference);
+        let b = point.y.plus(&point.x).times(&addend.sum);
+        let c = point.t.times(&addend.t);
+        let d = addend.twice_z_times(&point.z);
+        Ending {
+            e: b.minus(&a),
+            f: d.minus(&c),
+            g: d.plus(&c),
+            h: b.plus(&a),
+        }
+    }
 }
 
-/// What of a point its sums with others need.
+/// A point prepared for many sums: y - x, y + x, 2 z, 2 d t, and whether z is 1.
 #[derive(Debug, Drop)]
 pub struct Addend {
     pub difference: Number,
     pub sum: Number,
     pub z: Number,
     pub t: Number,
-    pub is_plain: bool,
+    pub has_unit_z: bool,
 }
 
 impl Addend {
-    /// That of a point.
+    /// The point, prepared.
     #[tactic(auto, unfolding(crate::specs::Endings::prepared))]
     pub fn of(point: &Point) -> Addend
         ensures { result ≡ prepared point.now }
@@ -79,59 +119,20 @@ impl Addend {
             sum: point.y.plus(&point.x),
             z: point.z.plus(&point.z),
             t: twice_d().times(&point.t),
-            is_plain: point.z.equals(&Number::one()),
+            has_unit_z: point.z.equals(&Number::one()),
         }
     }
-}
 
-/// The ending of a sum.
-#[inline(always)]
-#[tactic(auto, unfolding(crate::specs::Curve::added, crate::specs::Endings::prepared), using(crate::proofs::Products::times_times, crate::proofs::Products::twice_times))]
-pub fn sum(point: &Point, addend: &Addend) -> Ending
-    ensures { (p : Point) → addend.now ≡ prepared p → point_of result ≡ added point.now p }
-{
-    let a = point.y.minus(&point.x).times(&addend.difference);
-    let b = point.y.plus(&point.x).times(&addend.sum);
-    let c = point.t.times(&addend.t);
-    let d = twice_by_z(&point.z, addend);
-    Ending {
-        e: b.minus(&a),
-        f: d.minus(&c),
-        g: d.plus(&c),
-        h: b.plus(&a),
-    }
-}
-
-/// Twice the product of a z and the addend's.
-#[inline(always)]
-#[tactic(auto, unfolding(crate::specs::Endings::prepared), using(crate::proofs::Products::twice_one, crate::proofs::Products::twice_times))]
-fn twice_by_z(z: &Number, addend: &Addend) -> Number
-    ensures { (p : Point) → addend.now ≡ prepared p → result ≡ times (twice z.now) p.z }
-{
-    if addend.is_plain {
-        z.plus(z)
-    } else {
-        z.times(&addend.z)
-    }
-}
-
-/// The ending of twice the point of these x, y and z.
-#[inline(always)]
-#[tactic(auto, unfolding(crate::specs::Curve::doubled))]
-pub fn twofold(x: &Number, y: &Number, z: &Number) -> Ending
-    ensures { (t : ℕ) → point_of result ≡ doubled (record { x = x.now; y = y.now; z = z.now; t = t }) }
-{
-    let a = x.square();
-    let b = y.square();
-    let square = z.square();
-    let c = square.plus(&square);
-    let h = a.plus(&b);
-    let e = h.minus(&x.plus(y).square());
-    let g = a.minus(&b);
-    Ending {
-        e,
-        f: c.plus(&g),
-        g,
-        h,
+    /// Twice the product of the z of the two points.
+    #[inline(always)]
+    #[tactic(auto, unfolding(crate::specs::Endings::prepared), using(crate::proofs::Products::twice_one, crate::proofs::Products::twice_times))]
+    fn twice_z_times(&self, z: &Number) -> Number
+        ensures { (p : Point) → self.now ≡ prepared p → result ≡ times (twice z.now) p.z }
+    {
+        if self.has_unit_z {
+            z.plus(z)
+        } else {
+            z.times(&self.z)
+        }
     }
 }

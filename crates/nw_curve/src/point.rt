@@ -3,7 +3,7 @@ ghost use Rattle.std.specs.Prelude.{◌≡◌};
 ghost use Rattle.nw_curve.specs.Curve.{base, identity, added, doubled, negated, multiple};
 
 use crate::constants::{base_t, base_x, base_y};
-use crate::ending::{Addend, Ending, sum, twofold};
+use crate::ending::{Addend, Ending};
 use nw_field::{Number, Whole};
 
 /// How many bits of a number multiply a point.
@@ -48,14 +48,14 @@ impl Point {
     pub fn added(&self, other: &Point) -> Point
         ensures { result ≡ added self.now other.now }
     {
-        sum(self, &Addend::of(other)).point()
+        Ending::of_sum(self, &Addend::of(other)).point()
     }
 
     /// Twice the point.
     pub fn doubled(&self) -> Point
         ensures { result ≡ doubled self.now }
     {
-        twofold(&self.x, &self.y, &self.z).point()
+        Ending::of_twice(&self.x, &self.y, &self.z).point()
     }
 
     /// The point on the other side of x = 0.
@@ -80,7 +80,7 @@ impl Point {
         for done in 0..BITS {
             partial = partial.doubled();
             if number.is_set(BITS - 1 - done) {
-                partial = sum(&partial.point(), &addend);
+                partial = Ending::of_sum(&partial.point(), &addend);
             }
         }
         partial.point()

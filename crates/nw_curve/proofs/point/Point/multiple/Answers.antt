@@ -18,7 +18,7 @@ loop-done-preserved c =
     let r = point_of c.doubled-partial.result in
     elim c.if-is_set.branch [
       | then-is_set w ↦
-          let is = w.sum-partial.ensures p c.of-addend.ensures in
-          ap point_of w.partial-is ∙ step_set n d p q r (point_of w.sum-partial.result) (omega arith) (sym c.is_set.ensures ∙ w.if-is_set.true) c.loop-done.invariant c.doubled-partial.ensures (rw w.point.ensures at is)
+          let is = w.of_sum-partial.ensures p c.of-addend.ensures in
+          ap point_of w.partial-is ∙ step_set n d p q r (point_of w.of_sum-partial.result) (omega arith) (sym c.is_set.ensures ∙ w.if-is_set.true) c.loop-done.invariant c.doubled-partial.ensures (rw w.point.ensures at is)
       | else-is_set w ↦ ap point_of w.partial-is ∙ step_clear n d p q r (omega arith) (sym c.is_set.ensures ∙ w.if-is_set.false) c.loop-done.invariant c.doubled-partial.ensures
     ]
