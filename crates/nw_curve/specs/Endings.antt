@@ -12,4 +12,10 @@ point_of n = finished n.e n.f n.g n.h
 
 -- a point prepared for sums
 unfoldable pub prepared : Point → Addend
-prepared p = record { difference = minus p.y p.x; sum = plus p.y p.x; z = twice p.z; t = times (twice curve_d) p.t; has_unit_z = p.z == 1 }
+prepared p = record {
+  difference = minus p.y p.x;
+  sum = plus p.y p.x;
+  z = twice p.z;
+  t = times (twice curve_d) p.t;
+  has_unit_z = p.z == 1;
+}

@@ -96,7 +96,7 @@ pub fn square(a: &Limbs) -> (Limbs, Limbs)
     )
 }
 
-/// The sum of the products of two different digits: six digits, from the second place on.
+/// The sum of the products of two different digits, in six digits from the second place on.
 #[inline(always)]
 fn mixed(a: &Limbs) -> (Limbs, u64, u64)
     ensures { weighed result.0 + 2 ^ 256 * result.1 + 2 ^ 320 * result.2
@@ -113,7 +113,7 @@ fn mixed(a: &Limbs) -> (Limbs, u64, u64)
     (Limbs::new(first, second, third, fourth), fifth, sixth)
 }
 
-/// The digit of a doubled number, from that digit of the number and the one below.
+/// A digit of twice a number, from the number's digit there and the one below.
 #[inline(always)]
 fn twice(digit: u64, below: u64) -> u64
     ensures { result + digit / 2 ^ 63 * 2 ^ 64 ≡ 2 * digit + below / 2 ^ 63 }
@@ -121,7 +121,7 @@ fn twice(digit: u64, below: u64) -> u64
     digit % HALF * 2 + below / HALF
 }
 
-/// What comes back of a carry from above 2^256.
+/// What a carry over 2^256 comes back as, modulo the prime.
 #[inline(always)]
 fn back(carry: u64) -> u64
     requires { carry < 2 }
@@ -156,7 +156,7 @@ fn lowered(limbs: &Limbs, less: u64) -> Limbs
     Limbs::new(first - back(borrow as u64), second, third, fourth)
 }
 
-/// Of a number in two halves, what it is modulo the prime: from above 2^256 each comes back 38 times.
+/// A number in two halves, modulo the prime: the higher half comes back 38 times.
 #[inline(always)]
 pub fn wrapped(low: &Limbs, high: &Limbs) -> Limbs
     ensures { weighed result % prime ≡ (weighed low.now + 2 ^ 256 * weighed high.now) % prime }
