@@ -42,7 +42,7 @@ impl Point {
 fn recovered(y: &Number, sign: bool) -> Option<Number>
     ensures { result ≡ recovered y.now sign }
 {
-    let square = y.times(y);
+    let square = y.square();
     let one = Number::one();
     signed(
         sign,
@@ -72,7 +72,7 @@ fn root(u: &Number, v: &Number) -> Option<Number>
     let r = u
         .times(&v.cube())
         .times(&u.times(&v.seventh()).root_power());
-    let s = v.times(&r.times(&r));
+    let s = v.times(&r.square());
     if s.equals(u) {
         Some(r)
     } else if s.equals(&u.negative()) {

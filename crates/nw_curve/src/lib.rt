@@ -6,6 +6,7 @@
 
 mod coding;
 mod constants;
+mod ending;
 mod laws;
 mod point;
 

@@ -1,8 +1,9 @@
 //! Points in extended coordinates.
 ghost use Rattle.std.specs.Prelude.{◌≡◌};
-ghost use Rattle.nw_curve.specs.Curve.{base, identity, added, doubled, negated, multiple, finished};
+ghost use Rattle.nw_curve.specs.Curve.{base, identity, added, doubled, negated, multiple};
 
-use crate::constants::{base_t, base_x, base_y, twice_d};
+use crate::constants::{base_t, base_x, base_y};
+use crate::ending::{Addend, Ending};
 use nw_field::{Number, Whole};
 
 /// How many bits of a number multiply a point.
@@ -44,31 +45,17 @@ impl Point {
     }
 
     /// The sum.
-    #[tactic(auto, unfolding(crate::specs::Curve::added))]
     pub fn added(&self, other: &Point) -> Point
         ensures { result ≡ added self.now other.now }
     {
-        let a = self.y.minus(&self.x).times(&other.y.minus(&other.x));
-        let b = self.y.plus(&self.x).times(&other.y.plus(&other.x));
-        let c = self.t.times(&twice_d()).times(&other.t);
-        let d = self.z.plus(&self.z).times(&other.z);
-        finished(&b.minus(&a), &d.minus(&c), &d.plus(&c), &b.plus(&a))
+        Ending::of_sum(self, &Addend::of(other)).point()
     }
 
     /// Twice the point.
-    #[tactic(auto, unfolding(crate::specs::Curve::doubled))]
     pub fn doubled(&self) -> Point
         ensures { result ≡ doubled self.now }
     {
-        let a = self.x.times(&self.x);
-        let b = self.y.times(&self.y);
-        let square = self.z.times(&self.z);
-        let c = square.plus(&square);
-        let h = a.plus(&b);
-        let s = self.x.plus(&self.y);
-        let e = h.minus(&s.times(&s));
-        let g = a.minus(&b);
-        finished(&e, &c.plus(&g), &g, &h)
+        Ending::of_twice(&self.x, &self.y, &self.z).point()
     }
 
     /// The point on the other side of x = 0.
@@ -88,25 +75,14 @@ impl Point {
     pub fn multiple(&self, number: &Whole) -> Point
         ensures { result ≡ multiple 253 number.now self.now }
     {
-        let mut partial = Point::identity();
+        let addend = Addend::of(self);
+        let mut partial = Ending::identity();
         for done in 0..BITS {
             partial = partial.doubled();
             if number.is_set(BITS - 1 - done) {
-                partial = partial.added(self);
+                partial = Ending::of_sum(&partial.point(), &addend);
             }
         }
-        partial
-    }
-}
-
-/// The point of the four numbers that sums and doublings end with.
-fn finished(e: &Number, f: &Number, g: &Number, h: &Number) -> Point
-    ensures { result ≡ finished e.now f.now g.now h.now }
-{
-    Point {
-        x: e.times(f),
-        y: g.times(h),
-        z: f.times(g),
-        t: e.times(h),
+        partial.point()
     }
 }

@@ -1,6 +1,5 @@
 //! Numbers modulo the order of the base point.
 ghost use Rattle.std.specs.Prelude.{◌≡◌, ◌+◌, ◌*◌, ◌%◌, ◌<◌, ◌^◌};
-ghost use Rattle.std.specs.Prelude.{length, if◌then◌else◌};
 ghost use Rattle.nw_field.specs.Bytes.{number_of};
 ghost use Rattle.nw_ed25519.specs.Accepts.{order};
 
@@ -18,35 +17,40 @@ pub fn the_order() -> Whole
 pub fn modulo_order(bytes: &[u8; 64]) -> Whole
     ensures { result ≡ number_of bytes.now % order }
 {
-    let high = appended(Whole::new(0, 0), &Whole::from_bytes(&bytes[32..]));
-    appended(high, &Whole::from_bytes(&bytes[..32]))
-}
-
-/// The rest modulo the order, once 256 more bits stand behind it.
-fn appended(rest: Whole, bits: &Whole) -> Whole
-    requires rest { rest < order }
-    requires bits { bits.now < 2 ^ 256 }
-    ensures number { result ≡ (rest * 2 ^ 256 + bits.now) % order }
-    ensures bound { result < order }
-{
-    let mut so_far = rest;
-    for done in 0..256 {
-        so_far = shifted(&so_far, bits.is_set(255 - done));
+    let mut rest = Whole::new(0, 0);
+    for done in 0..64 {
+        rest = appended(&rest, bytes[63 - done]);
     }
-    so_far
+    rest
 }
 
-/// The rest modulo the order, once one more bit stands behind it.
-fn shifted(rest: &Whole, bit: bool) -> Whole
+/// The remainder modulo the order after one more byte, the next lower one.
+///
+/// The order is a little above 2^252. So the digits from 2^252 on are the number of times that it is taken off, or one more.
+fn appended(rest: &Whole, byte: u8) -> Whole
     requires { rest.now < order }
-    ensures number { result ≡ (2 * rest.now + (if bit then 1 else 0)) % order }
-    ensures bound { result < order }
+    ensures { result ≡ (256 * rest.now + byte) % order }
 {
-    let twice = rest.shifted(bit);
-    let order = the_order();
-    if twice.is_below(&order) {
-        twice
+    let times = (rest.high() / (1 << 116)) as u64;
+    let lower = Whole::new(
+        rest.low() % (1 << 120) * 256 + byte as u128,
+        rest.high() % (1 << 116) * 256 + rest.low() / (1 << 120),
+    );
+    let excess = excess(times);
+    if lower.is_below(&excess) {
+        the_order().minus(&excess.minus(&lower))
     } else {
-        twice.minus(&order)
+        lower.minus(&excess)
     }
+}
+
+/// A multiple of what the order has above 2^252.
+#[tactic(auto, unfolding(crate::specs::Accepts::order))]
+fn excess(times: u64) -> Whole
+    ensures number { result + times * 2 ^ 252 ≡ times * order }
+    ensures bound { result < 2 ^ 192 }
+{
+    let (first, carry) = times.carrying_mul(0x5812631a_5cf5d3ed, 0);
+    let (second, third) = times.carrying_mul(0x14def9de_a2f79cd6, carry);
+    Whole::new(first as u128 + second as u128 * (1 << 64), third as u128)
 }

@@ -4,7 +4,7 @@ ghost use Rattle.std.specs.Prelude.{nat_lt, Some, None, if◌then◌else◌};
 ghost use Rattle.nw_field.specs.Field.{prime, plus, minus, times, negative};
 
 use crate::Whole;
-use crate::limbs::{Limbs, WEIGHT, packed, paired, reduced, unpacked, wrapped};
+use crate::limbs::{Limbs, minus, packed, plus, product, square, unpacked, wrapped};
 use std::marker::Model;
 
 /// A number modulo the prime. Contracts see the number, which is below the prime.
@@ -14,7 +14,7 @@ pub struct Number {
 }
 
 impl Model for Number {
-    ghost use Rattle.std.specs.Prelude.{ℕ, ◌%◌, ◌<◌, ◌^◌};
+    ghost use Rattle.std.specs.Prelude.{ℕ, ◌%◌};
 
     ghost Value = { ℕ };
 
@@ -22,9 +22,6 @@ impl Model for Number {
     ghost use Rattle.nw_field.specs.Weights.{weighed};
 
     ghost view = { λ n. weighed n.limbs % prime };
-
-    ghost invariant = { λ n. (n.limbs.first < 2 ^ 51) × (n.limbs.second < 2 ^ 52)
-        × (n.limbs.third < 2 ^ 51) × (n.limbs.fourth < 2 ^ 51) × (n.limbs.fifth < 2 ^ 51) };
 }
 
 impl Number {
@@ -73,7 +70,7 @@ impl Number {
         ensures below { result < prime }
         ensures bound { result < 2 ^ 255 }
     {
-        packed(&reduced(&self.limbs))
+        reduced(packed(&self.limbs))
     }
 
     /// Whether it is odd.
@@ -91,33 +88,23 @@ impl Number {
     }
 
     /// The sum.
+    #[inline(always)]
     pub fn plus(&self, other: &Number) -> Number
         ensures { result ≡ plus self.now other.now }
     {
-        let a = &self.limbs;
-        let b = &other.limbs;
-        carried(
-            a.first as u128 + b.first as u128,
-            a.second as u128 + b.second as u128,
-            a.third as u128 + b.third as u128,
-            a.fourth as u128 + b.fourth as u128,
-            a.fifth as u128 + b.fifth as u128,
-        )
+        Number {
+            limbs: plus(&self.limbs, &other.limbs),
+        }
     }
 
     /// The difference.
+    #[inline(always)]
     pub fn minus(&self, other: &Number) -> Number
         ensures { result ≡ minus self.now other.now }
     {
-        let a = &self.limbs;
-        let b = &other.limbs;
-        carried(
-            a.first as u128 + (4 * WEIGHT - 76) - b.first as u128,
-            a.second as u128 + (4 * WEIGHT - 4) - b.second as u128,
-            a.third as u128 + (4 * WEIGHT - 4) - b.third as u128,
-            a.fourth as u128 + (4 * WEIGHT - 4) - b.fourth as u128,
-            a.fifth as u128 + (4 * WEIGHT - 4) - b.fifth as u128,
-        )
+        Number {
+            limbs: minus(&self.limbs, &other.limbs),
+        }
     }
 
     /// The negative.
@@ -128,23 +115,25 @@ impl Number {
     }
 
     /// The product.
+    #[inline(always)]
     pub fn times(&self, other: &Number) -> Number
         ensures { result ≡ times self.now other.now }
     {
-        let (a, b) = (&self.limbs, &other.limbs);
-        let back = wrapped(b);
-        let first = Limbs::new(b.first, back.fifth, back.fourth, back.third, back.second);
-        let second = Limbs::new(b.second, b.first, back.fifth, back.fourth, back.third);
-        let third = Limbs::new(b.third, b.second, b.first, back.fifth, back.fourth);
-        let fourth = Limbs::new(b.fourth, b.third, b.second, b.first, back.fifth);
-        let fifth = Limbs::new(b.fifth, b.fourth, b.third, b.second, b.first);
-        carried(
-            paired(a, &first),
-            paired(a, &second),
-            paired(a, &third),
-            paired(a, &fourth),
-            paired(a, &fifth),
-        )
+        let (low, high) = product(&self.limbs, &other.limbs);
+        Number {
+            limbs: wrapped(&low, &high),
+        }
+    }
+
+    /// The square.
+    #[inline(always)]
+    pub fn square(&self) -> Number
+        ensures { result ≡ times self.now self.now }
+    {
+        let (low, high) = square(&self.limbs);
+        Number {
+            limbs: wrapped(&low, &high),
+        }
     }
 }
 
@@ -156,28 +145,19 @@ fn the_prime() -> Whole
     Whole::new(u128::MAX - 18, (1 << 127) - 1)
 }
 
-/// The number of five sums by their weights.
-fn carried(first: u128, second: u128, third: u128, fourth: u128, fifth: u128) -> Number
-    requires first { first < 2 ^ 120 }
-    requires second { second < 2 ^ 120 }
-    requires third { third < 2 ^ 120 }
-    requires fourth { fourth < 2 ^ 120 }
-    requires fifth { fifth < 2 ^ 120 }
-    ensures { result ≡ (first + 2 ^ 51 * second + 2 ^ 102 * third + 2 ^ 153 * fourth
-        + 2 ^ 204 * fifth) % prime }
+/// The number modulo the prime.
+#[tactic(auto, using(crate::proofs::Digits::left_over, crate::proofs::Digits::wraps))]
+fn reduced(whole: Whole) -> Whole
+    ensures { result ≡ whole % prime }
 {
-    let to_third = second + first / WEIGHT;
-    let to_fourth = third + to_third / WEIGHT;
-    let to_fifth = fourth + to_fourth / WEIGHT;
-    let to_first = fifth + to_fifth / WEIGHT;
-    let again = first % WEIGHT + 19 * (to_first / WEIGHT);
-    Number {
-        limbs: Limbs {
-            first: (again % WEIGHT) as u64,
-            second: (to_third % WEIGHT + again / WEIGHT) as u64,
-            third: (to_fourth % WEIGHT) as u64,
-            fourth: (to_fifth % WEIGHT) as u64,
-            fifth: (to_first % WEIGHT) as u64,
-        },
+    let prime = the_prime();
+    if whole.is_below(&prime) {
+        return whole;
+    }
+    let once = whole.minus(&prime);
+    if once.is_below(&prime) {
+        once
+    } else {
+        once.minus(&prime)
     }
 }

@@ -55,9 +55,9 @@ impl Number {
         requires { 0 < times }
         ensures { result ≡ power self.now (2 ^ times) }
     {
-        let mut square = self.times(self);
+        let mut square = self.square();
         for _done in 1..times {
-            square = square.times(&square);
+            square = square.square();
         }
         square
     }

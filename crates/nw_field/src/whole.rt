@@ -125,17 +125,6 @@ impl Whole {
         }
     }
 
-    /// Twice the number, and one more where a bit comes in.
-    pub fn shifted(&self, bit: bool) -> Whole
-        requires { self.now < 2 ^ 255 }
-        ensures { result ≡ 2 * self.now + (if bit then 1 else 0) }
-    {
-        Whole {
-            low: self.low % HALF * 2 + bit as u128,
-            high: self.high * 2 + self.low / HALF,
-        }
-    }
-
     /// The difference.
     pub fn minus(&self, other: &Whole) -> Whole
         requires { other.now ≤ self.now }

@@ -1,18 +1,14 @@
-use Rattle.std.proofs.Common.{if◌then◌else◌, Bool, ◌+◌, ◌*◌, ◌%◌, ap, ◌∙◌, arith}
-use Rattle.nw_ed25519.specs.Accepts.{order}
-use Rattle.nw_ed25519.proofs.Remainders.{first_rest, next_rest}
+use Rattle.std.proofs.Common.{◌+◌, ◌*◌, ◌/◌, ◌^◌, sym, ◌∙◌, arith}
+use borrow.Author.Tests.{ltb-true, ltb-false}
+use Rattle.nw_ed25519.proofs.Remainders.{left_over, left_under, order_large}
 use Rattle.nw_ed25519.proofs.order.appended.Goals as goal
 
-pub loop-done-init : goal.loop-done-init
-loop-done-init c = record {
-  number = first_rest c.args.rest c.args.bits.now c.requires.rest c.requires.bits;
-  bound = c.requires.rest;
-}
+pub returns-then-is_below : goal.returns-then-is_below
+returns-then-is_below c =
+    let above = ltb-true _ _ (sym c.is_below.ensures ∙ c.if-is_below.true) in
+    left_under (256 * c.args.rest.now + c.args.byte) c.minus-then-is_below.result (c.high.result / 2 ^ 116) (omega (arith, order_large)) (omega (arith, order_large))
 
-pub loop-done-preserved : goal.loop-done-preserved
-loop-done-preserved c =
-    let bit = ap (λ (b : Bool). (2 * c.loop-done.so_far + (if b then 1 else 0)) % order) c.is_set.ensures in
-    record {
-      number = next_rest c.args.rest c.args.bits.now c.loop-done.done order c.loop-done.so_far c.shifted-so_far.result (omega arith) c.loop-done.invariant.number (c.shifted-so_far.ensures.number ∙ bit);
-      bound = c.shifted-so_far.ensures.bound;
-    }
+pub returns-else-is_below : goal.returns-else-is_below
+returns-else-is_below c =
+    let within = ltb-false _ _ (sym c.is_below.ensures ∙ c.if-is_below.false) in
+    left_over (256 * c.args.rest.now + c.args.byte) c.minus-else-is_below.result (c.high.result / 2 ^ 116) (omega (arith, order_large)) (omega arith)

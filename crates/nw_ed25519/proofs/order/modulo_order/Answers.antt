@@ -1,11 +1,14 @@
-use Rattle.std.proofs.Common.{arith}
-use Rattle.nw_ed25519.proofs.Remainders.{order_pos, modulo_halves}
+use Rattle.std.proofs.Common.{◌-◌, drop, ◌∙◌, arith}
+use Rattle.nw_field.specs.Bytes.{number_of}
+use Rattle.nw_ed25519.proofs.Remainders.{first_rest, next_rest, rest_below}
 use Rattle.nw_ed25519.proofs.order.modulo_order.Goals as goal
 
-pub appended-high-requires : goal.appended-high-requires
-appended-high-requires c = record { rest = omega (arith, order_pos); bits = c.from_bytes.ensures.bound }
+pub loop-done-init : goal.loop-done-init
+loop-done-init c = c.new-rest.ensures ∙ first_rest c.args.bytes.now c.told-bytes
 
-pub returns : goal.returns
-returns c =
-    modulo_halves c.args.bytes.now c.new.result c.from_bytes.result c.from_bytes-2.result c.appended-high.result c.appended.result
-    c.told-bytes c.new.ensures c.from_bytes.ensures.number c.from_bytes-2.ensures.number c.appended-high.ensures.number c.appended.ensures.number
+pub appended-rest-requires : goal.appended-rest-requires
+appended-rest-requires c = rest_below (number_of (drop (64 - c.loop-done.done) c.args.bytes.now)) c.loop-done.rest c.loop-done.invariant
+
+pub loop-done-preserved : goal.loop-done-preserved
+loop-done-preserved c =
+    next_rest c.args.bytes.now c.loop-done.done c.loop-done.rest c.appended-rest.result (omega arith) c.told-bytes c.loop-done.invariant c.appended-rest.ensures

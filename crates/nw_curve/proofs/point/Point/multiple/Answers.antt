@@ -1,5 +1,6 @@
-use Rattle.std.proofs.Common.{sym, ◌∙◌, arith}
+use Rattle.std.proofs.Common.{sym, ◌∙◌, ap, arith}
 use Rattle.nw_curve.specs.Curve.{multiple}
+use Rattle.nw_curve.specs.Endings.{point_of}
 use Rattle.nw_curve.proofs.Multiples.{step_set, step_clear}
 use Rattle.nw_curve.proofs.point.Point.multiple.Goals as goal
 use Rattle.nw_curve.proofs.point.Point.multiple.Goals.{then-is_set, else-is_set}
@@ -13,7 +14,11 @@ loop-done-preserved c =
     let n = c.args.number.now in
     let d = c.loop-done.done in
     let p = c.args.self.now in
+    let q = point_of c.loop-done.partial in
+    let r = point_of c.doubled-partial.result in
     elim c.if-is_set.branch [
-      | then-is_set w ↦ w.partial-is ∙ step_set n d p c.loop-done.partial c.doubled-partial.result w.added-partial.result (omega arith) (sym c.is_set.ensures ∙ w.if-is_set.true) c.loop-done.invariant c.doubled-partial.ensures w.added-partial.ensures
-      | else-is_set w ↦ w.partial-is ∙ step_clear n d p c.loop-done.partial c.doubled-partial.result (omega arith) (sym c.is_set.ensures ∙ w.if-is_set.false) c.loop-done.invariant c.doubled-partial.ensures
+      | then-is_set w ↦
+          let is = w.of_sum-partial.ensures p c.of-addend.ensures in
+          ap point_of w.partial-is ∙ step_set n d p q r (point_of w.of_sum-partial.result) (omega arith) (sym c.is_set.ensures ∙ w.if-is_set.true) c.loop-done.invariant c.doubled-partial.ensures (rw w.point.ensures at is)
+      | else-is_set w ↦ ap point_of w.partial-is ∙ step_clear n d p q r (omega arith) (sym c.is_set.ensures ∙ w.if-is_set.false) c.loop-done.invariant c.doubled-partial.ensures
     ]
