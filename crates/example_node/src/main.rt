@@ -1,0 +1,170 @@
+//! A node of one thread over the store: it checks the messages of a committee, keeps them, and reads blocks causally.
+//!
+//! Each line of standard input is a message in hex, or `causal` and a digest in hex. Of each message the node prints what became of it,
+//! and of each causal read the blocks that the walk lists. docs/EMBEDDING.md explains the program.
+//!
+//! The exit status is 1 if a line is neither, if the input can't be read or the output written, or if memory runs out.
+#![tactic(auto)]
+
+ghost use Rattle.std.specs.Prelude.{◌≡◌};
+ghost use Rattle.nw_history.specs.Story.{first_origin};
+ghost use Rattle.nw_store.specs.Kept.{parts_of_a_ledger};
+
+use anyhow::Result;
+use hex::FromHex;
+use nw_check::{Checked, check_message};
+use nw_committee::Key;
+use nw_ed25519::Ed25519;
+use nw_model::WriteReply;
+use nw_store::{
+    Block, Committee, Digest, Done, Home, Limits, Opening, Reply, Session, Shared, Store,
+};
+use std::alloc::Global;
+use std::marker::Brand;
+use std::str;
+use std::sync::Wait;
+
+/// The public keys of the members, each of weight 1.
+const KEYS: [&str; 4] = [
+    "7d86cdd0b5134f6030148ac1e2869d98d0aabbd3aae6065d5ef7905fc8e146ab",
+    "686083025d813ae5196605c3d6691a7859a236713f3dbf47ef251cf2ef18b9c1",
+    "2286b8047a033c1b937dbb6cea7fc048f8fa988a7060ddf7f0a2ea8ac6dc53bc",
+    "42930ead3e8b13f9d5e6e79f0f50e7bba38ef82c78216f97216043d57d372de9",
+];
+
+const LIMITS: Limits = Limits {
+    blocks: 1024,
+    events: 1024,
+    window: 64,
+    sessions: 1,
+};
+
+fn main(rt: HostRuntime) -> Result<()> {
+    open(&rt, rt.alloc())
+}
+
+/// Opens the store of the committee, and takes the input.
+fn open<R: Wait + Input + Print>(rt: &R, alloc: Global) -> Result<()> {
+    let mut keys = Vec::new(alloc);
+    for key in KEYS {
+        keys.push(Key(<[u8; 32] as FromHex>::from_hex(key)?))?;
+    }
+    let committee = Shared::new(alloc, Committee::new(alloc, keys)?)?;
+    let shared = committee.try_clone()?;
+    let opening = Opening::new(alloc)?;
+    run::<Brand, R>(rt, alloc, &shared, opening, committee, LIMITS)
+}
+
+/// Takes the input on the store that `L` names.
+fn run<L: Home, R: Wait + Input + Print>(
+    rt: &R,
+    alloc: Global,
+    shared: &Shared<Committee>,
+    opening: Opening<Ed25519>,
+    committee: Shared<Committee>,
+    limits: Limits,
+) -> Result<()>
+    requires log { opening.log ≡ L.log }
+    requires ledger { (opening.ledger ≡ L.name) × (L.parts ≡ parts_of_a_ledger) }
+    requires origin { first_origin committee limits ≡ L.origin }
+{
+    let store = Store::<Ed25519, L>::new(alloc, opening, committee, limits)?;
+    let outcome = match store.session(rt, alloc) {
+        Ok(session) => Node {
+            rt,
+            alloc,
+            committee: shared,
+            store: &store,
+            session,
+        }
+        .take_all(),
+        Err(refused) => Err(refused.into()),
+    };
+    drop(store);
+    outcome
+}
+
+/// The store, with the one session that makes all calls.
+#[derive(Drop)]
+struct Node<'a, L: Home, R> {
+    rt: &'a R,
+    alloc: Global,
+    committee: &'a Shared<Committee>,
+    store: &'a Store<Ed25519, L>,
+    session: Session<Ed25519, L>,
+}
+
+impl<'a, L: Home, R: Wait + Input + Print> Node<'a, L, R> {
+    /// Takes each line of the input.
+    fn take_all(mut self) -> Result<()> {
+        for line in self.rt.lines(self.alloc) {
+            let line = line?;
+            match line.as_str().strip_prefix("causal ") {
+                Some(digest) => self.read(Digest(<[u8; 32] as FromHex>::from_hex(digest)?))?,
+                None => self.take(line.as_str())?,
+            }
+        }
+        Ok(())
+    }
+
+    /// Checks a message, which takes no lock, and hands in the block or the certificate that it is.
+    fn take(&mut self, line: &str) -> Result<()> {
+        let text = hex::decode(self.alloc, line)?;
+        match check_message(self.alloc, self.committee, text.as_slice())? {
+            Checked::Block(block) => {
+                let done = self
+                    .store
+                    .write(self.rt, self.alloc, &mut self.session, &block)?;
+                self.tell(block.digest(), &done)
+            }
+            Checked::Cert(certificate) => {
+                let done = self
+                    .store
+                    .certify(self.rt, self.alloc, &mut self.session, &certificate)?;
+                self.tell(certificate.digest(), &done)
+            }
+            Checked::Vote(vote) => Ok(println!(self.rt; "a vote by member {}", vote.signer)?),
+            Checked::BadText(fault) => Ok(println!(self.rt; "refused: {fault}")?),
+            Checked::BadBlock(fault) => Ok(println!(self.rt; "refused: {fault}")?),
+            Checked::BadCert(fault) => Ok(println!(self.rt; "refused: {fault}")?),
+        }
+    }
+
+    /// Prints what the store answered.
+    fn tell(&self, digest: Digest, done: &Done<Ed25519>) -> Result<()> {
+        let digest = hex::encode(self.alloc, digest.0)?;
+        match done.reply() {
+            // A validator signs `vote_text` here, and sends the vote.
+            Reply::Write(WriteReply::Stored { vote: true }) => {
+                println!(self.rt; "vote for {digest}")?;
+            }
+            reply => println!(self.rt; "{digest}: {reply:?}")?,
+        }
+        Ok(())
+    }
+
+    /// Reads the digest causally, and prints the blocks that the walk lists.
+    fn read(&mut self, digest: Digest) -> Result<()> {
+        match self
+            .store
+            .open_causal(self.rt, self.alloc, &mut self.session, digest)?
+        {
+            Err(done) => self.tell(digest, &done),
+            Ok(ticket) => {
+                for block in ticket.walk(self.alloc)? {
+                    self.print(block.get())?;
+                }
+                Ok(())
+            }
+        }
+    }
+
+    /// Prints the slot and the transactions of a block.
+    fn print(&self, block: &Block) -> Result<()> {
+        print!(self.rt; "round {}, author {}:", block.round.get(), block.author)?;
+        for transaction in block.transactions.iter() {
+            print!(self.rt; " {:?}", str::from_utf8(transaction).unwrap_or("bytes"))?;
+        }
+        Ok(println!(self.rt)?)
+    }
+}
