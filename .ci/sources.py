@@ -73,8 +73,8 @@ def names_of(crate):
 
 @functools.cache
 def words():
-    """Each word that stands in a source, a specification or a proof, or in crates.txt, or in the name of a file beside these."""
+    """Each word that stands in a source, a specification or a proof, in crates.txt or the drawn script, or in the name of a file beside these."""
     crates, bindings = ("src/**/*.rt", "specs/**/*.antt", "proofs/**/*.antt"), ("c/*.[ch]", "rust/src/**/*.rs")
-    sources = [*(f"crates/*/{it}" for it in crates), *(f"bindings/{it}" for it in bindings), "crates.txt"]
+    sources = [*(f"crates/*/{it}" for it in crates), *(f"bindings/{it}" for it in bindings), "crates.txt", "crates/nw_picture/stdin"]
     texts = [content(path) for source in sources for path in paths(source)] + paths("crates/*/[mps]*/**/*") + paths("bindings/*/*")
     return {word for text in texts for word in re.findall(NAME, text)}
