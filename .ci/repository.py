@@ -48,6 +48,7 @@ def tried(folder):
     return ran.returncode, ran.stdout
 
 
+@functools.cache
 def uses():
     """For each crate, the crates and the kit's libraries that crates.txt names for it."""
     return {crate: rest.split() for crate, rest in re.findall(r"^(\w+)[^:\n]*:(.*)$", content("crates.txt"), re.M)}
