@@ -81,3 +81,33 @@ def status_of(prints):
     if re.fullmatch(rb"line \d+ bad", last):
         return 2
     return 3 if last.startswith(b"differs ") else 0
+
+
+class Misfit(Exception):
+    """A wrong body does not fit the file that it changes."""
+
+
+def plant(body, root, kind):
+    """Changes the copy of the repository at this root as the wrong body says, and returns what its lines of this kind name."""
+    named, path, old = set(), "", None
+    for line in content(body).splitlines():
+        word, _, rest = line.partition(":")
+        rest = rest[1:]
+        if word == kind:
+            named.add(rest)
+        elif word == "file":
+            path = f"{root}/{rest}"
+        elif word == "old":
+            old = rest
+        elif word == "new" and old is not None:
+            replace(path, old, rest)
+    return named
+
+
+def replace(path, old, new):
+    with open(path) as file:
+        text = file.read()
+    if text.count(old) != 1:
+        raise Misfit(f"{old.strip()!r} stands {text.count(old)} times in {os.path.basename(path)}")
+    with open(path, "w") as file:
+        file.write(text.replace(old, new))

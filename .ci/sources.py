@@ -22,7 +22,7 @@ class Names:
             self.read(content(path))
         for path in paths(f"{folder}/proofs/Sent.antt"):
             self.laws.update(re.findall(rf"^ *pub ({NAME}) :", content(path), re.M))
-        self.edits, self.planted = (files(f"{folder}/{it}/*.edit") for it in ("must-fail", "planted"))
+        self.edits, self.planted = files(f"{folder}/must-fail/*.edit") | files(f"{folder}/wrong/*.edit"), files(f"{folder}/planted/*.edit")
 
     def read(self, text):
         owner, name, is_open, is_test = None, None, False, False
@@ -76,5 +76,5 @@ def words():
     """Each word that stands in a source, a specification or a proof, in crates.txt or the drawn script, or in the name of a file beside these."""
     crates, bindings = ("src/**/*.rt", "specs/**/*.antt", "proofs/**/*.antt"), ("c/*.[ch]", "rust/src/**/*.rs")
     sources = [*(f"crates/*/{it}" for it in crates), *(f"bindings/{it}" for it in bindings), "crates.txt", "crates/nw_picture/stdin"]
-    texts = [content(path) for source in sources for path in paths(source)] + paths("crates/*/[mps]*/**/*") + paths("bindings/*/*")
+    texts = [content(path) for source in sources for path in paths(source)] + paths("crates/*/[mpsw]*/**/*") + paths("bindings/*/*")
     return {word for text in texts for word in re.findall(NAME, text)}

@@ -1,2 +1,3 @@
 pub mod AsBox
 pub mod Sent
+pub mod Cut

@@ -1,6 +1,9 @@
 -- What answers carry.
 use Rattle.std.specs.Prelude.{◌≡◌, ℕ, List, Option, Some, None, slice_get}
+use Rattle.nw_codec.specs.Fits.{CertificateFits}
 use Rattle.nw_codec.specs.Spelled.{Spells}
+use Rattle.nw_codec.specs.declared.block.Block.{Block}
+use Rattle.nw_codec.specs.declared.certificate.Certificate.{Certificate}
 use Rattle.nw_codec.specs.declared.message.Message.TheVariants as messages
 use Rattle.nw_waiting.specs.declared.wanted.Wanted.{Wanted}
 use Rattle.nw_model.specs.declared.reply.Counts.{Counts}
@@ -50,3 +53,42 @@ counts_of s = record { floor = s.floor; blocks = s.blocks; certificates = s.cert
 abbrev pub IsStatusTold : Content → CStatus → Type 0
 IsStatusTold (kind.Answer told) s = told.event.reply ≡ reply.Status (counts_of s)
 IsStatusTold other s = ⊥
+
+-- the reply lists missing parents, and none at the index
+abbrev pub ListsNoneAt : Reply → ℕ → Type 0
+ListsNoneAt (reply.Missing wanted) index = slice_get wanted index ≡ None
+ListsNoneAt other index = ⊥
+
+-- it is the answer to a call for missing parents, and lists none at the index
+abbrev pub HasNoMissingAt : Content → ℕ → Type 0
+HasNoMissingAt (kind.Answer told) index = ListsNoneAt told.event.reply index
+HasNoMissingAt other index = ⊥
+
+-- it is an answer with this reply
+abbrev pub HasReply : Content → Reply → Type 0
+HasReply (kind.Answer told) r = told.event.reply ≡ r
+HasReply other r = ⊥
+
+-- what the call asked for: a block, a certificate, missing parents, the status
+
+abbrev pub AnswersRead : Content → Type 0
+AnswersRead answer = (found : Option Block) × HasReply answer (reply.Read found)
+
+abbrev pub AnswersCertificate : Content → Type 0
+AnswersCertificate answer = (found : Option Certificate) × HasReply answer (reply.Certificate found)
+
+abbrev pub AnswersMissing : Content → Type 0
+AnswersMissing answer = (wanted : List Wanted) × HasReply answer (reply.Missing wanted)
+
+abbrev pub AnswersStatus : Content → Type 0
+AnswersStatus answer = (counts : Counts) × HasReply answer (reply.Status counts)
+
+-- the reply has a certificate that breaks a limit or an order of the format
+abbrev pub HasOverLimit : Reply → Type 0
+HasOverLimit (reply.Certificate (Some c)) = CertificateFits c → ⊥
+HasOverLimit other = ⊥
+
+-- it is an answer with such a reply
+abbrev pub AnswersOverLimit : Content → Type 0
+AnswersOverLimit (kind.Answer told) = HasOverLimit told.event.reply
+AnswersOverLimit other = ⊥

@@ -1,10 +1,12 @@
 -- Blocks that C makes and reads.
-use Rattle.std.specs.Prelude.{◌≡◌, ℕ, List, Some, length, map, slice_get}
+use Rattle.std.specs.Prelude.{◌≡◌, ℕ, ◌≤◌, List, Some, None, All, length, map, slice_get}
 use Rattle.std.specs.List.{flat_map}
 use Rattle.nw_codec.specs.Fits.{Fits}
 use Rattle.nw_codec.specs.Grammar.{body}
 use Rattle.nw_codec.specs.Spelled.{Spells}
+use Rattle.nw_codec.specs.declared.block.Block.{Block}
 use Rattle.nw_codec.specs.declared.block.Ref.{Ref}
+use Rattle.nw_codec.specs.declared.limits.TheConstants.{MAX_TRANSACTION}
 use Rattle.nw_codec.specs.declared.message.Message.TheVariants as messages
 use Rattle.nw_model.specs.Checks.{digest_of}
 use Rattle.nw_c.specs.Plain.{digest_in, slot_of}
@@ -27,6 +29,14 @@ abbrev pub IsMadeBlock : ℕ → ℕ → List CParent → List ℕ → List ℕ 
 IsMadeBlock author round parents bytes lengths (kind.Block b) =
     (b.author ≡ author) × (b.round ≡ round) × (b.parents ≡ map parent_in parents) × AreCutFrom bytes lengths b.transactions × Fits b
 IsMadeBlock author round parents bytes lengths other = ⊥
+
+-- no block with these parts fits the format
+abbrev pub IsNoBlock : ℕ → ℕ → List CParent → List ℕ → List ℕ → Type 0
+IsNoBlock author round parents bytes lengths = (b : Block) → IsMadeBlock author round parents bytes lengths (kind.Block b) → ⊥
+
+-- the bytes cannot be cut into transactions of these lengths, none of which is too long
+abbrev pub CannotBeCut : List ℕ → List ℕ → Type 0
+CannotBeCut bytes lengths = (transactions : List (List ℕ)) → AreCutFrom bytes lengths transactions → All (λ t. length t ≤ MAX_TRANSACTION) transactions → ⊥
 
 -- it is a block with this slot
 abbrev pub HasSlot : Content → CSlot → Type 0
@@ -57,3 +67,18 @@ HasBody other text = ⊥
 abbrev pub HasMessage : Content → CSignature → List ℕ → Type 0
 HasMessage (kind.Block b) s text = Spells text (messages.Block b (record { 0 = s.bytes }))
 HasMessage other s text = ⊥
+
+-- it is a block that breaks a limit or an order of the format
+abbrev pub IsOverLimit : Content → Type 0
+IsOverLimit (kind.Block b) = Fits b → ⊥
+IsOverLimit other = ⊥
+
+-- it is a block with no parent at the index
+abbrev pub HasNoParentAt : Content → ℕ → Type 0
+HasNoParentAt (kind.Block b) index = slice_get b.parents index ≡ None
+HasNoParentAt other index = ⊥
+
+-- it is a block with no transaction at the index
+abbrev pub HasNoTransactionAt : Content → ℕ → Type 0
+HasNoTransactionAt (kind.Block b) index = slice_get b.transactions index ≡ None
+HasNoTransactionAt other index = ⊥

@@ -1,6 +1,7 @@
 -- Checked texts.
 use Rattle.std.specs.Prelude.{◌≡◌, ℕ, List}
 use Rattle.nw_sig.specs.Signed.{Meaning}
+use Rattle.nw_codec.specs.Fits.{CertificateFits}
 use Rattle.nw_codec.specs.Spelled.{Spells}
 use Rattle.nw_codec.specs.declared.message.Message.TheVariants as messages
 use Rattle.nw_check.specs.Message.{IsChecked}
@@ -30,3 +31,8 @@ abbrev pub IsSpelledBy : Content → List ℕ → Type 0
 IsSpelledBy (kind.Checked (checked.Cert c)) text = Spells text (messages.Certificate c.certificate)
 IsSpelledBy (kind.Checked (checked.Vote v)) text = Spells text (messages.Vote v)
 IsSpelledBy other text = ⊥
+
+-- it is a checked certificate that breaks a limit or an order of the format
+abbrev pub IsOverLimit : Content → Type 0
+IsOverLimit (kind.Checked (checked.Cert c)) = CertificateFits c.certificate → ⊥
+IsOverLimit other = ⊥

@@ -1,5 +1,5 @@
 -- Committees that C makes and reads.
-use Rattle.std.specs.Prelude.{◌≡◌, ℕ, List, Some, length, map, slice_get}
+use Rattle.std.specs.Prelude.{◌≡◌, ℕ, List, Some, None, length, map, slice_get}
 use Rattle.nw_committee.specs.Committee.{quorum}
 use Rattle.nw_committee.specs.declared.member.Member.{Member}
 use Rattle.nw_c.specs.declared.committees.CMember.{CMember}
@@ -34,3 +34,8 @@ HasMember other number m = ⊥
 abbrev pub HasQuorum : Content → ℕ → Type 0
 HasQuorum (kind.Committee members) n = n ≡ quorum members
 HasQuorum other n = ⊥
+
+-- it is a committee, and has no member of this number
+abbrev pub LacksMember : Content → ℕ → Type 0
+LacksMember (kind.Committee members) number = slice_get members number ≡ None
+LacksMember other number = ⊥

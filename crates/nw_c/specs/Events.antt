@@ -53,3 +53,8 @@ HasEventAt None index t = ⊥
 abbrev pub Begins : Option Story → Option Story → Bool → Type 0
 Begins (Some one) (Some other) b = IsTrue b ↔ IsPrefixOf one other
 Begins one other b = ⊥
+
+-- there is a history, and it has no event at the index
+abbrev pub HasNoEventAt : Option Story → ℕ → Type 0
+HasNoEventAt (Some s) index = slice_get s.events index ≡ None
+HasNoEventAt None index = ⊥

@@ -1,4 +1,5 @@
 pub mod Held
+pub mod Kinds
 pub mod Lent
 pub mod Codes
 pub mod Plain

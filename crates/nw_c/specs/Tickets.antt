@@ -1,5 +1,5 @@
 -- Tickets and the lists of their walks.
-use Rattle.std.specs.Prelude.{◌≡◌, ◌↔◌, ℕ, ℤ, pos, Bool, IsTrue, Some, length, slice_get}
+use Rattle.std.specs.Prelude.{◌≡◌, ◌↔◌, ℕ, ℤ, pos, Bool, IsTrue, Some, None, length, slice_get}
 use Rattle.nw_model.specs.Step.{IsReply}
 use Rattle.nw_model.specs.declared.call.Call.TheVariants as call
 use Rattle.nw_model.specs.declared.reply.Reply.TheVariants as reply
@@ -7,7 +7,7 @@ use Rattle.nw_history.specs.Story.{bounds_of, state_of}
 use Rattle.nw_book.specs.Ticket.{Given, HaveOneList}
 use Rattle.nw_c.specs.Plain.{digest_in}
 use Rattle.nw_c.specs.declared.plain.CDigest.{CDigest}
-use Rattle.nw_c.specs.declared.codes.TheConstants.{APART, CLOSED}
+use Rattle.nw_c.specs.declared.codes.TheConstants.{APART, CLOSED, OTHER_KIND}
 use Rattle.nw_c.specs.declared.content.Content.{Content}
 use Rattle.nw_c.specs.declared.content.Content.TheVariants as kind
 
@@ -33,6 +33,7 @@ DifferInScope one other = one.digest ≡ other.digest → floor_of one ≡ floor
 pub record IsWhyApart (one other : Given) (code : ℤ) : Type 0 where
   pub not_done : code ≡ pos 0 → ⊥
   pub not_closed : code ≡ CLOSED → ⊥
+  pub not_other_kind : code ≡ OTHER_KIND → ⊥
   pub apart : code ≡ APART → DifferInScope one other
 
 -- both are tickets, for two digests or with two garbage rounds
@@ -54,3 +55,8 @@ HasBlocks other n = ⊥
 abbrev pub IsBlockAt : Content → ℕ → Content → Type 0
 IsBlockAt (kind.List blocks) index (kind.Block b) = slice_get blocks index ≡ Some b
 IsBlockAt list index other = ⊥
+
+-- it is a list with no block at the index
+abbrev pub HasNoBlockAt : Content → ℕ → Type 0
+HasNoBlockAt (kind.List blocks) index = slice_get blocks index ≡ None
+HasNoBlockAt other index = ⊥

@@ -1,7 +1,9 @@
 //! What answers carry.
-ghost use Rattle.std.specs.Prelude.{◌≡◌, pos, take, true};
-ghost use Rattle.nw_c.specs.Answers.{IsCertificateTold, IsFound, IsMissingAt, IsStatusTold};
-ghost use Rattle.nw_c.specs.declared.codes.TheConstants.{CLOSED, OPEN};
+ghost use Rattle.std.specs.Prelude.{◌≡◌, ◌<◌, pos, take, true, length, None};
+ghost use Rattle.nw_model.specs.declared.reply.Reply.TheVariants as Reply;
+ghost use Rattle.nw_c.specs.Answers.{AnswersCertificate, AnswersMissing, AnswersOverLimit, AnswersRead, AnswersStatus, HasNoMissingAt, HasReply, IsCertificateTold, IsFound, IsMissingAt, IsStatusTold};
+ghost use Rattle.nw_c.specs.Kinds.{IsAsBefore};
+ghost use Rattle.nw_c.specs.declared.codes.TheConstants.{ABSENT, CLOSED, OPEN, OTHER_KIND, OVER_LIMIT, SMALL};
 
 use crate::codes::{ABSENT, CLOSED, DONE, NO_MEMORY, OPEN, OTHER_KIND};
 use crate::content::Content;
@@ -26,7 +28,7 @@ pub struct CStatus {
 /// again: a new answer replaces the old one, and a refused call keeps it.
 #[unsafe(no_mangle)]
 pub extern "C" fn nw_answer_new(alloc: Global, out: &mut AnswerHandle) -> i32
-    ensures held { (result ≡ pos 0 → ⊥) → out.new.held ≡ out.old.held }
+    ensures unchanged { (result ≡ pos 0 → ⊥) → IsAsBefore out.old out.new }
     ensures opened { result ≡ pos 0 → out.new.held ≡ true }
     ensures occupied { result ≡ OPEN → out.old.held ≡ true }
 {
@@ -44,12 +46,13 @@ pub extern "C" fn nw_answer_block(
     out: &mut BlockHandle,
 ) -> i32
     ensures found { result ≡ pos 0 → IsFound answer.old.value out.new.value }
-    ensures same { answer.new.value ≡ answer.old.value }
-    ensures held { (result ≡ pos 0 → ⊥) → out.new.held ≡ out.old.held }
+    ensures same { IsAsBefore answer.old answer.new }
+    ensures unchanged { (result ≡ pos 0 → ⊥) → IsAsBefore out.old out.new }
     ensures opened { result ≡ pos 0 → out.new.held ≡ true }
-    ensures stays { answer.new.held ≡ answer.old.held }
     ensures occupied { result ≡ OPEN → out.old.held ≡ true }
     ensures closed { result ≡ CLOSED → answer.old.held ≡ true → ⊥ }
+    ensures other_kind { result ≡ OTHER_KIND → AnswersRead answer.old.value → ⊥ }
+    ensures absent { result ≡ ABSENT → HasReply answer.old.value (Reply.Read None) }
 {
     if !answer.is_open() {
         return CLOSED;
@@ -81,9 +84,13 @@ pub extern "C" fn nw_answer_message(
 ) -> i32
     ensures certificate { result ≡ pos 0
         → IsCertificateTold answer.old.value (take needed.new buffer.new) }
-    ensures same { answer.new.value ≡ answer.old.value }
-    ensures stays { answer.new.held ≡ answer.old.held }
+    ensures same { IsAsBefore answer.old answer.new }
     ensures closed { result ≡ CLOSED → answer.old.held ≡ true → ⊥ }
+    ensures other_kind { result ≡ OTHER_KIND → AnswersCertificate answer.old.value → ⊥ }
+    ensures absent { result ≡ ABSENT → HasReply answer.old.value (Reply.Certificate None) }
+    ensures over_limit { result ≡ OVER_LIMIT → AnswersOverLimit answer.old.value }
+    ensures small { result ≡ SMALL → length buffer.old < needed.new }
+    ensures unchanged { (result ≡ pos 0 → ⊥) → buffer.new ≡ buffer.old }
 {
     if !answer.is_open() {
         return CLOSED;
@@ -106,9 +113,10 @@ pub extern "C" fn nw_answer_message(
 #[unsafe(no_mangle)]
 pub extern "C" fn nw_answer_missing(answer: &mut AnswerHandle, index: usize, out: &mut CSlot) -> i32
     ensures missing { result ≡ pos 0 → IsMissingAt answer.old.value index out.new }
-    ensures same { answer.new.value ≡ answer.old.value }
-    ensures stays { answer.new.held ≡ answer.old.held }
+    ensures same { IsAsBefore answer.old answer.new }
     ensures closed { result ≡ CLOSED → answer.old.held ≡ true → ⊥ }
+    ensures other_kind { result ≡ OTHER_KIND → AnswersMissing answer.old.value → ⊥ }
+    ensures absent { result ≡ ABSENT → HasNoMissingAt answer.old.value index }
 {
     if !answer.is_open() {
         return CLOSED;
@@ -132,9 +140,9 @@ pub extern "C" fn nw_answer_missing(answer: &mut AnswerHandle, index: usize, out
 #[unsafe(no_mangle)]
 pub extern "C" fn nw_answer_status(answer: &mut AnswerHandle, out: &mut CStatus) -> i32
     ensures status { result ≡ pos 0 → IsStatusTold answer.old.value out.new }
-    ensures same { answer.new.value ≡ answer.old.value }
-    ensures stays { answer.new.held ≡ answer.old.held }
+    ensures same { IsAsBefore answer.old answer.new }
     ensures closed { result ≡ CLOSED → answer.old.held ≡ true → ⊥ }
+    ensures other_kind { result ≡ OTHER_KIND → AnswersStatus answer.old.value → ⊥ }
 {
     if !answer.is_open() {
         return CLOSED;

@@ -1,8 +1,9 @@
 //! Blocks.
-ghost use Rattle.std.specs.Prelude.{◌≡◌, pos, take, slice_get, true};
+ghost use Rattle.std.specs.Prelude.{◌≡◌, ◌<◌, pos, take, slice_get, true, length};
 ghost use Rattle.std.specs.Option.{option_copied};
-ghost use Rattle.nw_c.specs.Blocks.{HasBody, HasCounts, HasMessage, HasParent, HasSlot, HasTransaction};
-ghost use Rattle.nw_c.specs.declared.codes.TheConstants.{CLOSED};
+ghost use Rattle.nw_c.specs.Blocks.{HasBody, HasCounts, HasMessage, HasNoParentAt, HasNoTransactionAt, HasParent, HasSlot, HasTransaction, IsOverLimit};
+ghost use Rattle.nw_c.specs.Kinds.{IsAsBefore, IsBlock};
+ghost use Rattle.nw_c.specs.declared.codes.TheConstants.{ABSENT, CLOSED, OTHER_KIND, OVER_LIMIT, SMALL};
 
 use crate::codes::{ABSENT, CLOSED, DONE, OTHER_KIND, OVER_LIMIT};
 use crate::content::Content;
@@ -27,9 +28,10 @@ pub struct CParent {
 #[unsafe(no_mangle)]
 pub extern "C" fn nw_block_slot(block: &mut BlockHandle, out: &mut CSlot) -> i32
     ensures slot { result ≡ pos 0 → HasSlot block.old.value out.new }
-    ensures same { block.new.value ≡ block.old.value }
-    ensures stays { block.new.held ≡ block.old.held }
+    ensures same { IsAsBefore block.old block.new }
     ensures closed { result ≡ CLOSED → block.old.held ≡ true → ⊥ }
+    ensures other_kind { result ≡ OTHER_KIND → IsBlock block.old.value → ⊥ }
+    ensures over_limit { result ≡ OVER_LIMIT → IsOverLimit block.old.value }
 {
     if !block.is_open() {
         return CLOSED;
@@ -53,9 +55,9 @@ pub extern "C" fn nw_block_counts(
     transactions: &mut usize,
 ) -> i32
     ensures counts { result ≡ pos 0 → HasCounts block.old.value parents.new transactions.new }
-    ensures same { block.new.value ≡ block.old.value }
-    ensures stays { block.new.held ≡ block.old.held }
+    ensures same { IsAsBefore block.old block.new }
     ensures closed { result ≡ CLOSED → block.old.held ≡ true → ⊥ }
+    ensures other_kind { result ≡ OTHER_KIND → IsBlock block.old.value → ⊥ }
 {
     if !block.is_open() {
         return CLOSED;
@@ -74,9 +76,10 @@ pub extern "C" fn nw_block_counts(
 #[unsafe(no_mangle)]
 pub extern "C" fn nw_block_parent(block: &mut BlockHandle, index: usize, out: &mut CParent) -> i32
     ensures parent { result ≡ pos 0 → HasParent block.old.value index out.new }
-    ensures same { block.new.value ≡ block.old.value }
-    ensures stays { block.new.held ≡ block.old.held }
+    ensures same { IsAsBefore block.old block.new }
     ensures closed { result ≡ CLOSED → block.old.held ≡ true → ⊥ }
+    ensures other_kind { result ≡ OTHER_KIND → IsBlock block.old.value → ⊥ }
+    ensures absent { result ≡ ABSENT → HasNoParentAt block.old.value index }
 {
     if !block.is_open() {
         return CLOSED;
@@ -120,9 +123,12 @@ pub extern "C" fn nw_block_transaction(
     needed: &mut usize,
 ) -> i32
     ensures transaction { result ≡ pos 0 → HasTransaction block.old.value index (take needed.new buffer.new) }
-    ensures same { block.new.value ≡ block.old.value }
-    ensures stays { block.new.held ≡ block.old.held }
+    ensures same { IsAsBefore block.old block.new }
     ensures closed { result ≡ CLOSED → block.old.held ≡ true → ⊥ }
+    ensures other_kind { result ≡ OTHER_KIND → IsBlock block.old.value → ⊥ }
+    ensures absent { result ≡ ABSENT → HasNoTransactionAt block.old.value index }
+    ensures small { result ≡ SMALL → length buffer.old < needed.new }
+    ensures unchanged { (result ≡ pos 0 → ⊥) → buffer.new ≡ buffer.old }
 {
     if !block.is_open() {
         return CLOSED;
@@ -145,9 +151,12 @@ pub extern "C" fn nw_block_body(
     needed: &mut usize,
 ) -> i32
     ensures body { result ≡ pos 0 → HasBody block.old.value (take needed.new buffer.new) }
-    ensures same { block.new.value ≡ block.old.value }
-    ensures stays { block.new.held ≡ block.old.held }
+    ensures same { IsAsBefore block.old block.new }
     ensures closed { result ≡ CLOSED → block.old.held ≡ true → ⊥ }
+    ensures other_kind { result ≡ OTHER_KIND → IsBlock block.old.value → ⊥ }
+    ensures over_limit { result ≡ OVER_LIMIT → IsOverLimit block.old.value }
+    ensures small { result ≡ SMALL → length buffer.old < needed.new }
+    ensures unchanged { (result ≡ pos 0 → ⊥) → buffer.new ≡ buffer.old }
 {
     if !block.is_open() {
         return CLOSED;
@@ -172,9 +181,12 @@ pub extern "C" fn nw_block_message(
     needed: &mut usize,
 ) -> i32
     ensures message { result ≡ pos 0 → HasMessage block.old.value signature.now (take needed.new buffer.new) }
-    ensures same { block.new.value ≡ block.old.value }
-    ensures stays { block.new.held ≡ block.old.held }
+    ensures same { IsAsBefore block.old block.new }
     ensures closed { result ≡ CLOSED → block.old.held ≡ true → ⊥ }
+    ensures other_kind { result ≡ OTHER_KIND → IsBlock block.old.value → ⊥ }
+    ensures over_limit { result ≡ OVER_LIMIT → IsOverLimit block.old.value }
+    ensures small { result ≡ SMALL → length buffer.old < needed.new }
+    ensures unchanged { (result ≡ pos 0 → ⊥) → buffer.new ≡ buffer.old }
 {
     if !block.is_open() {
         return CLOSED;

@@ -1,11 +1,13 @@
 //! Books: histories that grow by steps.
-ghost use Rattle.std.specs.Prelude.{◌≡◌, pos, IfErr, true};
+ghost use Rattle.std.specs.Prelude.{◌≡◌, pos, IfErr, true, false};
 ghost use Rattle.nw_ed25519.specs.Accepts.{accepts};
 ghost use Rattle.nw_book.specs.Command.{call_of, committee_of};
 ghost use Rattle.nw_book.specs.declared.error.NoStep.{NoStep as Refusal};
+ghost use Rattle.nw_history.specs.Limits.{AreInRange};
 ghost use Rattle.nw_c.specs.Books.{HasEvents, IsEmptyBook, IsRefusedBy, IsRestarted, IsTaken, limits_in};
 ghost use Rattle.nw_c.specs.Codes.{step_code};
-ghost use Rattle.nw_c.specs.declared.codes.TheConstants.{CLOSED, OPEN};
+ghost use Rattle.nw_c.specs.Kinds.{IsAsBefore, IsBook, IsCommittee, IsRoom};
+ghost use Rattle.nw_c.specs.declared.codes.TheConstants.{BAD_LIMITS, BAD_ROUND, CLOSED, OPEN, OTHER_KIND};
 
 use crate::codes::{BAD_LIMITS, CLOSED, DONE, NO_MEMORY, OPEN, OTHER_KIND, code_of_step};
 use crate::content::Content;
@@ -50,12 +52,13 @@ pub extern "C" fn nw_book_new(
     out: &mut BookHandle,
 ) -> i32
     ensures made { result ≡ pos 0 → IsEmptyBook committee.old.value limits.now out.new.value }
-    ensures same { committee.new.value ≡ committee.old.value }
-    ensures held { (result ≡ pos 0 → ⊥) → out.new.held ≡ out.old.held }
+    ensures same { IsAsBefore committee.old committee.new }
+    ensures unchanged { (result ≡ pos 0 → ⊥) → IsAsBefore out.old out.new }
     ensures opened { result ≡ pos 0 → out.new.held ≡ true }
-    ensures stays { committee.new.held ≡ committee.old.held }
     ensures occupied { result ≡ OPEN → out.old.held ≡ true }
     ensures closed { result ≡ CLOSED → committee.old.held ≡ true → ⊥ }
+    ensures other_kind { result ≡ OTHER_KIND → IsCommittee committee.old.value → ⊥ }
+    ensures bad_limits { result ≡ BAD_LIMITS → AreInRange (limits_in limits.now) → ⊥ }
 {
     if !committee.is_open() {
         return CLOSED;
@@ -80,9 +83,9 @@ pub extern "C" fn nw_book_new(
 #[unsafe(no_mangle)]
 pub extern "C" fn nw_book_events(book: &mut BookHandle, out: &mut usize) -> i32
     ensures events { result ≡ pos 0 → HasEvents book.old.value out.new }
-    ensures same { book.new.value ≡ book.old.value }
-    ensures stays { book.new.held ≡ book.old.held }
+    ensures same { IsAsBefore book.old book.new }
     ensures closed { result ≡ CLOSED → book.old.held ≡ true → ⊥ }
+    ensures other_kind { result ≡ OTHER_KIND → IsBook book.old.value → ⊥ }
 {
     if !book.is_open() {
         return CLOSED;
@@ -97,7 +100,9 @@ pub extern "C" fn nw_book_events(book: &mut BookHandle, out: &mut usize) -> i32
 }
 
 /// Whether an answer can be put in the place of this content.
-pub(crate) fn is_room(content: &Content) -> bool {
+pub(crate) fn is_room(content: &Content) -> bool
+    ensures { result ≡ false → IsRoom content.now → ⊥ }
+{
     matches!(
         content,
         Content::Room | Content::Answer(_) | Content::Ticket(_)
@@ -117,11 +122,13 @@ pub(crate) fn take(
         book.old.value book.new.value answer.new.value }
     ensures refused { (why : Refusal) → result ≡ step_code why
         → IsRefusedBy book.old.value session number (committee_of command.now) why }
-    ensures unchanged { (result ≡ pos 0 → ⊥) → book.new.value ≡ book.old.value }
-    ensures answer { (result ≡ pos 0 → ⊥) → answer.new.value ≡ answer.old.value }
+    ensures unchanged { (result ≡ pos 0 → ⊥) → IsAsBefore book.old book.new }
+    ensures answer { (result ≡ pos 0 → ⊥) → IsAsBefore answer.old answer.new }
     ensures stays { book.new.held ≡ book.old.held }
     ensures answer_stays { answer.new.held ≡ answer.old.held }
     ensures closed { result ≡ CLOSED → book.old.held ≡ true → answer.old.held ≡ true → ⊥ }
+    ensures other_kind { result ≡ OTHER_KIND → IsBook book.old.value → IsRoom answer.old.value → ⊥ }
+    ensures not_bad_round { result ≡ BAD_ROUND → ⊥ }
 {
     if !book.is_open() || !answer.is_open() {
         return CLOSED;
@@ -144,9 +151,9 @@ pub(crate) fn take(
 /// Rebuilds the tables that later tickets share, without what was collected. Nothing that a caller can observe changes.
 #[unsafe(no_mangle)]
 pub extern "C" fn nw_book_compact(alloc: Global, book: &mut BookHandle) -> i32
-    ensures same { book.new.value ≡ book.old.value }
-    ensures stays { book.new.held ≡ book.old.held }
+    ensures same { IsAsBefore book.old book.new }
     ensures closed { result ≡ CLOSED → book.old.held ≡ true → ⊥ }
+    ensures other_kind { result ≡ OTHER_KIND → IsBook book.old.value → ⊥ }
 {
     if !book.is_open() {
         return CLOSED;
@@ -165,9 +172,10 @@ pub extern "C" fn nw_book_compact(alloc: Global, book: &mut BookHandle) -> i32
 #[unsafe(no_mangle)]
 pub extern "C" fn nw_book_restart(alloc: Global, book: &mut BookHandle) -> i32
     ensures restarted { result ≡ pos 0 → IsRestarted book.old.value book.new.value }
-    ensures unchanged { (result ≡ pos 0 → ⊥) → book.new.value ≡ book.old.value }
+    ensures unchanged { (result ≡ pos 0 → ⊥) → IsAsBefore book.old book.new }
     ensures stays { book.new.held ≡ book.old.held }
     ensures closed { result ≡ CLOSED → book.old.held ≡ true → ⊥ }
+    ensures other_kind { result ≡ OTHER_KIND → IsBook book.old.value → ⊥ }
 {
     if !book.is_open() {
         return CLOSED;

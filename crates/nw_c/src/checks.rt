@@ -1,8 +1,9 @@
 //! Texts that are decoded and checked.
-ghost use Rattle.std.specs.Prelude.{◌≡◌, pos, take, true};
+ghost use Rattle.std.specs.Prelude.{◌≡◌, ◌⊎◌, ◌<◌, pos, take, true, length};
 ghost use Rattle.nw_ed25519.specs.Accepts.{accepts};
-ghost use Rattle.nw_c.specs.Checks.{IsBlockOf, IsCheckOf, IsSpelledBy, IsToldOf};
-ghost use Rattle.nw_c.specs.declared.codes.TheConstants.{CLOSED, OPEN};
+ghost use Rattle.nw_c.specs.Checks.{IsBlockOf, IsCheckOf, IsOverLimit, IsSpelledBy, IsToldOf};
+ghost use Rattle.nw_c.specs.Kinds.{IsAsBefore, IsChecked, IsCheckedBlock, IsCheckedCert, IsCommittee, IsVote};
+ghost use Rattle.nw_c.specs.declared.codes.TheConstants.{CLOSED, OPEN, OTHER_KIND, OVER_LIMIT, SMALL};
 
 use crate::codes::{CLOSED, DONE, NO_MEMORY, OPEN, OTHER_KIND};
 use crate::content::Content;
@@ -24,12 +25,12 @@ pub extern "C" fn nw_check(
     out: &mut CheckedHandle,
 ) -> i32
     ensures checked { result ≡ pos 0 → IsCheckOf accepts committee.old.value text.now out.new.value }
-    ensures same { committee.new.value ≡ committee.old.value }
-    ensures held { (result ≡ pos 0 → ⊥) → out.new.held ≡ out.old.held }
+    ensures same { IsAsBefore committee.old committee.new }
+    ensures unchanged { (result ≡ pos 0 → ⊥) → IsAsBefore out.old out.new }
     ensures opened { result ≡ pos 0 → out.new.held ≡ true }
-    ensures stays { committee.new.held ≡ committee.old.held }
     ensures occupied { result ≡ OPEN → out.old.held ≡ true }
     ensures closed { result ≡ CLOSED → committee.old.held ≡ true → ⊥ }
+    ensures other_kind { result ≡ OTHER_KIND → IsCommittee committee.old.value → ⊥ }
 {
     if !committee.is_open() {
         return CLOSED;
@@ -50,9 +51,9 @@ pub extern "C" fn nw_check(
 #[unsafe(no_mangle)]
 pub extern "C" fn nw_checked_told(checked: &mut CheckedHandle, out: &mut CMessage) -> i32
     ensures told { result ≡ pos 0 → IsToldOf checked.old.value out.new }
-    ensures same { checked.new.value ≡ checked.old.value }
-    ensures stays { checked.new.held ≡ checked.old.held }
+    ensures same { IsAsBefore checked.old checked.new }
     ensures closed { result ≡ CLOSED → checked.old.held ≡ true → ⊥ }
+    ensures other_kind { result ≡ OTHER_KIND → IsChecked checked.old.value → ⊥ }
 {
     if !checked.is_open() {
         return CLOSED;
@@ -74,12 +75,12 @@ pub extern "C" fn nw_checked_block(
     out: &mut BlockHandle,
 ) -> i32
     ensures block { result ≡ pos 0 → IsBlockOf checked.old.value out.new.value }
-    ensures same { checked.new.value ≡ checked.old.value }
-    ensures held { (result ≡ pos 0 → ⊥) → out.new.held ≡ out.old.held }
+    ensures same { IsAsBefore checked.old checked.new }
+    ensures unchanged { (result ≡ pos 0 → ⊥) → IsAsBefore out.old out.new }
     ensures opened { result ≡ pos 0 → out.new.held ≡ true }
-    ensures stays { checked.new.held ≡ checked.old.held }
     ensures occupied { result ≡ OPEN → out.old.held ≡ true }
     ensures closed { result ≡ CLOSED → checked.old.held ≡ true → ⊥ }
+    ensures other_kind { result ≡ OTHER_KIND → IsCheckedBlock checked.old.value → ⊥ }
 {
     if !checked.is_open() {
         return CLOSED;
@@ -106,9 +107,12 @@ pub extern "C" fn nw_checked_message(
     needed: &mut usize,
 ) -> i32
     ensures message { result ≡ pos 0 → IsSpelledBy checked.old.value (take needed.new buffer.new) }
-    ensures same { checked.new.value ≡ checked.old.value }
-    ensures stays { checked.new.held ≡ checked.old.held }
+    ensures same { IsAsBefore checked.old checked.new }
     ensures closed { result ≡ CLOSED → checked.old.held ≡ true → ⊥ }
+    ensures other_kind { result ≡ OTHER_KIND → (IsCheckedCert checked.old.value ⊎ IsVote checked.old.value) → ⊥ }
+    ensures over_limit { result ≡ OVER_LIMIT → IsOverLimit checked.old.value }
+    ensures small { result ≡ SMALL → length buffer.old < needed.new }
+    ensures unchanged { (result ≡ pos 0 → ⊥) → buffer.new ≡ buffer.old }
 {
     if !checked.is_open() {
         return CLOSED;

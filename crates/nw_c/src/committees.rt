@@ -1,7 +1,9 @@
 //! Committees.
 ghost use Rattle.std.specs.Prelude.{◌≡◌, pos, map, IfOk, IfErr, true};
-ghost use Rattle.nw_c.specs.Committees.{AreOneCommittee, HasMember, HasQuorum, HasSize, IsCommitteeOf, member_in};
-ghost use Rattle.nw_c.specs.declared.codes.TheConstants.{CLOSED, OPEN};
+ghost use Rattle.nw_committee.specs.Committee.{IsCommittee as IsValid};
+ghost use Rattle.nw_c.specs.Committees.{AreOneCommittee, HasMember, HasQuorum, HasSize, IsCommitteeOf, LacksMember, member_in};
+ghost use Rattle.nw_c.specs.Kinds.{IsAsBefore, IsCommittee};
+ghost use Rattle.nw_c.specs.declared.codes.TheConstants.{ABSENT, BAD_COMMITTEE, CLOSED, OPEN, OTHER_KIND};
 
 use crate::codes::{ABSENT, BAD_COMMITTEE, CLOSED, DONE, NO_MEMORY, OPEN, OTHER_KIND};
 use crate::content::Content;
@@ -37,6 +39,8 @@ fn members_of(alloc: Global, listed: &[CMember]) -> Result<Vec<Member>, NoMemory
 fn committee_of(alloc: Global, listed: &[CMember]) -> Result<Shared<Committee>, i32>
     ensures made { IfOk result (λ committee. committee ≡ map member_in listed.now) }
     ensures refused { IfErr result (λ why. (why ≡ pos 0 → ⊥) × (why ≡ OPEN → ⊥)) }
+    ensures bad_committee { IfErr result
+        (λ why. why ≡ BAD_COMMITTEE → IsValid (map member_in listed.now) → ⊥) }
 {
     let Ok(members) = members_of(alloc, listed) else {
         return Err(NO_MEMORY);
@@ -59,9 +63,10 @@ pub extern "C" fn nw_committee_new(
     out: &mut CommitteeHandle,
 ) -> i32
     ensures made { result ≡ pos 0 → IsCommitteeOf members.now out.new.value }
-    ensures held { (result ≡ pos 0 → ⊥) → out.new.held ≡ out.old.held }
+    ensures unchanged { (result ≡ pos 0 → ⊥) → IsAsBefore out.old out.new }
     ensures opened { result ≡ pos 0 → out.new.held ≡ true }
     ensures occupied { result ≡ OPEN → out.old.held ≡ true }
+    ensures bad_committee { result ≡ BAD_COMMITTEE → IsValid (map member_in members.now) → ⊥ }
 {
     if out.is_open() {
         return OPEN;
@@ -80,12 +85,12 @@ pub extern "C" fn nw_committee_share(
     out: &mut CommitteeHandle,
 ) -> i32
     ensures shared { result ≡ pos 0 → AreOneCommittee committee.old.value out.new.value }
-    ensures same { committee.new.value ≡ committee.old.value }
-    ensures held { (result ≡ pos 0 → ⊥) → out.new.held ≡ out.old.held }
+    ensures same { IsAsBefore committee.old committee.new }
+    ensures unchanged { (result ≡ pos 0 → ⊥) → IsAsBefore out.old out.new }
     ensures opened { result ≡ pos 0 → out.new.held ≡ true }
-    ensures stays { committee.new.held ≡ committee.old.held }
     ensures occupied { result ≡ OPEN → out.old.held ≡ true }
     ensures closed { result ≡ CLOSED → committee.old.held ≡ true → ⊥ }
+    ensures other_kind { result ≡ OTHER_KIND → IsCommittee committee.old.value → ⊥ }
 {
     if !committee.is_open() {
         return CLOSED;
@@ -106,9 +111,9 @@ pub extern "C" fn nw_committee_share(
 #[unsafe(no_mangle)]
 pub extern "C" fn nw_committee_size(committee: &mut CommitteeHandle, out: &mut usize) -> i32
     ensures size { result ≡ pos 0 → HasSize committee.old.value out.new }
-    ensures same { committee.new.value ≡ committee.old.value }
-    ensures stays { committee.new.held ≡ committee.old.held }
+    ensures same { IsAsBefore committee.old committee.new }
     ensures closed { result ≡ CLOSED → committee.old.held ≡ true → ⊥ }
+    ensures other_kind { result ≡ OTHER_KIND → IsCommittee committee.old.value → ⊥ }
 {
     if !committee.is_open() {
         return CLOSED;
@@ -130,9 +135,10 @@ pub extern "C" fn nw_committee_member(
     out: &mut CMember,
 ) -> i32
     ensures member { result ≡ pos 0 → HasMember committee.old.value number out.new }
-    ensures same { committee.new.value ≡ committee.old.value }
-    ensures stays { committee.new.held ≡ committee.old.held }
+    ensures same { IsAsBefore committee.old committee.new }
     ensures closed { result ≡ CLOSED → committee.old.held ≡ true → ⊥ }
+    ensures other_kind { result ≡ OTHER_KIND → IsCommittee committee.old.value → ⊥ }
+    ensures absent { result ≡ ABSENT → LacksMember committee.old.value number }
 {
     if !committee.is_open() {
         return CLOSED;
@@ -153,9 +159,9 @@ pub extern "C" fn nw_committee_member(
 #[unsafe(no_mangle)]
 pub extern "C" fn nw_committee_quorum(committee: &mut CommitteeHandle, out: &mut u32) -> i32
     ensures quorum { result ≡ pos 0 → HasQuorum committee.old.value out.new }
-    ensures same { committee.new.value ≡ committee.old.value }
-    ensures stays { committee.new.held ≡ committee.old.held }
+    ensures same { IsAsBefore committee.old committee.new }
     ensures closed { result ≡ CLOSED → committee.old.held ≡ true → ⊥ }
+    ensures other_kind { result ≡ OTHER_KIND → IsCommittee committee.old.value → ⊥ }
 {
     if !committee.is_open() {
         return CLOSED;

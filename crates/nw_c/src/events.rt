@@ -1,8 +1,9 @@
 //! The events of the histories that explain answers.
 ghost use Rattle.std.specs.Prelude.{◌≡◌, pos, true};
 ghost use Rattle.std.specs.Option.{option_copied};
-ghost use Rattle.nw_c.specs.Events.{Begins, HasEventAt, HasLength, IsCallTold, IsEventTold, front_in};
-ghost use Rattle.nw_c.specs.declared.codes.TheConstants.{CLOSED};
+ghost use Rattle.nw_c.specs.Events.{Begins, HasEventAt, HasLength, HasNoEventAt, IsCallTold, IsEventTold, front_in};
+ghost use Rattle.nw_c.specs.Kinds.{HasHistory, IsAsBefore};
+ghost use Rattle.nw_c.specs.declared.codes.TheConstants.{ABSENT, CLOSED, OTHER_KIND};
 
 use crate::codes::{ABSENT, CLOSED, DONE, OTHER_KIND};
 use crate::content::Content;
@@ -83,9 +84,9 @@ fn front_of(content: &Content) -> Option<&Front<Ed25519>>
 #[unsafe(no_mangle)]
 pub extern "C" fn nw_answer_events(answer: &mut AnswerHandle, out: &mut usize) -> i32
     ensures events { result ≡ pos 0 → HasLength (front_in answer.old.value) out.new }
-    ensures same { answer.new.value ≡ answer.old.value }
-    ensures stays { answer.new.held ≡ answer.old.held }
+    ensures same { IsAsBefore answer.old answer.new }
     ensures closed { result ≡ CLOSED → answer.old.held ≡ true → ⊥ }
+    ensures other_kind { result ≡ OTHER_KIND → HasHistory answer.old.value → ⊥ }
 {
     if !answer.is_open() {
         return CLOSED;
@@ -103,9 +104,10 @@ pub extern "C" fn nw_answer_events(answer: &mut AnswerHandle, out: &mut usize) -
 #[unsafe(no_mangle)]
 pub extern "C" fn nw_answer_event(answer: &mut AnswerHandle, index: usize, out: &mut CEvent) -> i32
     ensures event { result ≡ pos 0 → HasEventAt (front_in answer.old.value) index out.new }
-    ensures same { answer.new.value ≡ answer.old.value }
-    ensures stays { answer.new.held ≡ answer.old.held }
+    ensures same { IsAsBefore answer.old answer.new }
     ensures closed { result ≡ CLOSED → answer.old.held ≡ true → ⊥ }
+    ensures other_kind { result ≡ OTHER_KIND → HasHistory answer.old.value → ⊥ }
+    ensures absent { result ≡ ABSENT → HasNoEventAt (front_in answer.old.value) index }
 {
     if !answer.is_open() {
         return CLOSED;
@@ -131,11 +133,10 @@ pub extern "C" fn nw_answer_begins(
     out: &mut bool,
 ) -> i32
     ensures begins { result ≡ pos 0 → Begins (front_in answer.old.value) (front_in other.old.value) out.new }
-    ensures same { answer.new.value ≡ answer.old.value }
-    ensures other { other.new.value ≡ other.old.value }
-    ensures stays { answer.new.held ≡ answer.old.held }
-    ensures other_stays { other.new.held ≡ other.old.held }
+    ensures same { IsAsBefore answer.old answer.new }
+    ensures other { IsAsBefore other.old other.new }
     ensures closed { result ≡ CLOSED → answer.old.held ≡ true → other.old.held ≡ true → ⊥ }
+    ensures other_kind { result ≡ OTHER_KIND → HasHistory answer.old.value → HasHistory other.old.value → ⊥ }
 {
     if !answer.is_open() || !other.is_open() {
         return CLOSED;

@@ -1,10 +1,11 @@
 //! Votes that are gathered into a certificate.
-ghost use Rattle.std.specs.Prelude.{◌≡◌, pos, true};
+ghost use Rattle.std.specs.Prelude.{◌≡◌, ◌^◌, ◌≤◌, pos, true};
 ghost use Rattle.nw_ed25519.specs.Accepts.{accepts};
 ghost use Rattle.nw_check.specs.declared.fault.GatherFault.{GatherFault as Fault};
 ghost use Rattle.nw_c.specs.Codes.{gather_code};
-ghost use Rattle.nw_c.specs.Gathers.{IsCertificateOf, IsCountedIn, IsNewGather, IsNotCounted};
-ghost use Rattle.nw_c.specs.declared.codes.TheConstants.{CLOSED, OPEN};
+ghost use Rattle.nw_c.specs.Gathers.{HasFewVotes, IsCertificateOf, IsCountedIn, IsNewGather, IsNotCounted, LacksAuthor};
+ghost use Rattle.nw_c.specs.Kinds.{IsAsBefore, IsCommittee, IsGather, IsVote};
+ghost use Rattle.nw_c.specs.declared.codes.TheConstants.{BAD_ROUND, CLOSED, FEW_VOTES, NO_MEMBER, OPEN, OTHER_KIND};
 
 use crate::codes::{
     BAD_ROUND, CLOSED, DONE, FEW_VOTES, NO_MEMBER, NO_MEMORY, OPEN, OTHER_KIND, code_of_vote,
@@ -27,12 +28,14 @@ pub extern "C" fn nw_gather_new(
     out: &mut GatherHandle,
 ) -> i32
     ensures new { result ≡ pos 0 → IsNewGather committee.old.value slot.now out.new.value }
-    ensures same { committee.new.value ≡ committee.old.value }
-    ensures held { (result ≡ pos 0 → ⊥) → out.new.held ≡ out.old.held }
+    ensures same { IsAsBefore committee.old committee.new }
+    ensures unchanged { (result ≡ pos 0 → ⊥) → IsAsBefore out.old out.new }
     ensures opened { result ≡ pos 0 → out.new.held ≡ true }
-    ensures stays { committee.new.held ≡ committee.old.held }
     ensures occupied { result ≡ OPEN → out.old.held ≡ true }
     ensures closed { result ≡ CLOSED → committee.old.held ≡ true → ⊥ }
+    ensures other_kind { result ≡ OTHER_KIND → IsCommittee committee.old.value → ⊥ }
+    ensures bad_round { result ≡ BAD_ROUND → 2 ^ 48 ≤ slot.now.round }
+    ensures no_member { result ≡ NO_MEMBER → LacksAuthor committee.old.value slot.now.author }
 {
     if !committee.is_open() {
         return CLOSED;
@@ -66,11 +69,11 @@ pub extern "C" fn nw_gather_add(
         gather.new.value quorum.new }
     ensures refused { (why : Fault) → result ≡ gather_code why
         → IsNotCounted accepts gather.old.value vote.old.value why }
-    ensures unchanged { (result ≡ pos 0 → ⊥) → gather.new.value ≡ gather.old.value }
-    ensures same { vote.new.value ≡ vote.old.value }
+    ensures unchanged { (result ≡ pos 0 → ⊥) → IsAsBefore gather.old gather.new }
+    ensures same { IsAsBefore vote.old vote.new }
     ensures stays { gather.new.held ≡ gather.old.held }
-    ensures vote_stays { vote.new.held ≡ vote.old.held }
     ensures closed { result ≡ CLOSED → gather.old.held ≡ true → vote.old.held ≡ true → ⊥ }
+    ensures other_kind { result ≡ OTHER_KIND → IsGather gather.old.value → IsVote vote.old.value → ⊥ }
 {
     if !gather.is_open() || !vote.is_open() {
         return CLOSED;
@@ -98,12 +101,13 @@ pub extern "C" fn nw_gather_certificate(
     out: &mut CheckedHandle,
 ) -> i32
     ensures certificate { result ≡ pos 0 → IsCertificateOf gather.old.value out.new.value }
-    ensures same { gather.new.value ≡ gather.old.value }
-    ensures held { (result ≡ pos 0 → ⊥) → out.new.held ≡ out.old.held }
+    ensures same { IsAsBefore gather.old gather.new }
+    ensures unchanged { (result ≡ pos 0 → ⊥) → IsAsBefore out.old out.new }
     ensures opened { result ≡ pos 0 → out.new.held ≡ true }
-    ensures stays { gather.new.held ≡ gather.old.held }
     ensures occupied { result ≡ OPEN → out.old.held ≡ true }
     ensures closed { result ≡ CLOSED → gather.old.held ≡ true → ⊥ }
+    ensures other_kind { result ≡ OTHER_KIND → IsGather gather.old.value → ⊥ }
+    ensures few_votes { result ≡ FEW_VOTES → HasFewVotes gather.old.value }
 {
     if !gather.is_open() {
         return CLOSED;

@@ -1,12 +1,13 @@
 //! Blocks and certificates that are handed to a book.
-ghost use Rattle.std.specs.Prelude.{◌≡◌, pos, IfOk, IfErr, true};
+ghost use Rattle.std.specs.Prelude.{◌≡◌, ◌⊎◌, pos, IfOk, IfErr, true};
 ghost use Rattle.nw_ed25519.specs.Accepts.{accepts};
 ghost use Rattle.nw_book.specs.declared.error.NoStep.{NoStep as Refusal};
 ghost use Rattle.nw_c.specs.declared.content.Content.{Content as Held};
 ghost use Rattle.nw_c.specs.Books.{IsRefusedBy};
 ghost use Rattle.nw_c.specs.Codes.{step_code};
 ghost use Rattle.nw_c.specs.Handed.{IsCommandOf, IsHandedIn, committee_of};
-ghost use Rattle.nw_c.specs.declared.codes.TheConstants.{CLOSED};
+ghost use Rattle.nw_c.specs.Kinds.{IsAsBefore, IsBook, IsCheckedBlock, IsCheckedCert, IsRoom};
+ghost use Rattle.nw_c.specs.declared.codes.TheConstants.{CLOSED, OTHER_KIND};
 
 use crate::books::take;
 use crate::codes::{CLOSED, OTHER_KIND};
@@ -22,6 +23,8 @@ use std::mem;
 fn command_of(content: Content) -> Result<Command<Ed25519>, Content>
     ensures command { IfOk result (IsCommandOf content) }
     ensures back { IfErr result (λ back. back ≡ content) }
+    ensures neither { IfErr result
+        (λ _. (IsCheckedBlock content ⊎ IsCheckedCert content) → ⊥) }
 {
     match content {
         Content::Checked(Checked::Block(block)) => Ok(Command::Write(block)),
@@ -57,13 +60,13 @@ pub extern "C" fn nw_book_take(
         book.old.value book.new.value answer.new.value }
     ensures refused { (why : Refusal) → result ≡ step_code why
         → IsRefusedBy book.old.value session number (committee_of checked.old.value) why }
-    ensures unchanged { (result ≡ pos 0 → ⊥) → book.new.value ≡ book.old.value }
-    ensures answer { (result ≡ pos 0 → ⊥) → answer.new.value ≡ answer.old.value }
-    ensures same { checked.new.value ≡ checked.old.value }
+    ensures unchanged { (result ≡ pos 0 → ⊥) → IsAsBefore book.old book.new }
+    ensures answer { (result ≡ pos 0 → ⊥) → IsAsBefore answer.old answer.new }
+    ensures same { IsAsBefore checked.old checked.new }
     ensures stays { book.new.held ≡ book.old.held }
-    ensures checked_stays { checked.new.held ≡ checked.old.held }
     ensures answer_stays { answer.new.held ≡ answer.old.held }
     ensures closed { result ≡ CLOSED → book.old.held ≡ true → checked.old.held ≡ true → answer.old.held ≡ true → ⊥ }
+    ensures other_kind { result ≡ OTHER_KIND → (IsCheckedBlock checked.old.value ⊎ IsCheckedCert checked.old.value) → IsBook book.old.value → IsRoom answer.old.value → ⊥ }
 {
     if !checked.is_open() {
         return CLOSED;

@@ -2,7 +2,8 @@
 ghost use Rattle.std.specs.Prelude.{◌≡◌, pos, true};
 ghost use Rattle.nw_model.specs.declared.reply.Reply.TheVariants as Reply;
 ghost use Rattle.nw_c.specs.Replies.{IsReplyTold, IsToldAs};
-ghost use Rattle.nw_c.specs.declared.codes.TheConstants.{CLOSED};
+ghost use Rattle.nw_c.specs.Kinds.{HasHistory, IsAsBefore};
+ghost use Rattle.nw_c.specs.declared.codes.TheConstants.{CLOSED, OTHER_KIND};
 
 use crate::codes::{CLOSED, DONE, OTHER_KIND};
 use crate::content::Content;
@@ -109,9 +110,9 @@ pub(crate) fn reply_told(reply: &Reply) -> CTold
 #[unsafe(no_mangle)]
 pub extern "C" fn nw_answer_reply(answer: &mut AnswerHandle, out: &mut CTold) -> i32
     ensures reply { result ≡ pos 0 → IsReplyTold answer.old.value out.new }
-    ensures same { answer.new.value ≡ answer.old.value }
-    ensures stays { answer.new.held ≡ answer.old.held }
+    ensures same { IsAsBefore answer.old answer.new }
     ensures closed { result ≡ CLOSED → answer.old.held ≡ true → ⊥ }
+    ensures other_kind { result ≡ OTHER_KIND → HasHistory answer.old.value → ⊥ }
 {
     if !answer.is_open() {
         return CLOSED;

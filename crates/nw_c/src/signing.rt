@@ -1,10 +1,11 @@
 //! Digests, and the texts that members sign.
-ghost use Rattle.std.specs.Prelude.{◌≡◌, pos, take};
+ghost use Rattle.std.specs.Prelude.{◌≡◌, ◌^◌, ◌≤◌, ◌<◌, pos, take, length};
 ghost use Rattle.sha2.specs.Sha256.{sha256};
 ghost use Rattle.nw_codec.specs.Spelled.{Spells};
 ghost use Rattle.nw_sig.specs.Signed.{block_text, vote_text};
 ghost use Rattle.nw_c.specs.Plain.{digest_in};
 ghost use Rattle.nw_c.specs.Votes.{vote_of};
+ghost use Rattle.nw_c.specs.declared.codes.TheConstants.{BAD_ROUND, SMALL};
 
 use crate::codes::{BAD_ROUND, DONE};
 use crate::plain::{CDigest, CSignature, CSlot};
@@ -49,8 +50,9 @@ pub extern "C" fn nw_text_of_block(digest: &CDigest, out: &mut CBlockText)
 /// Writes the text that a member signs to vote for the block of this slot. Returns `NW_BAD_ROUND` if the round is not below 2^48.
 #[unsafe(no_mangle)]
 pub extern "C" fn nw_text_of_vote(slot: &CSlot, out: &mut CVoteText) -> i32
-    ensures { result ≡ pos 0 → out.new.bytes
+    ensures text { result ≡ pos 0 → out.new.bytes
         ≡ vote_text (digest_in slot.now.digest) slot.now.round slot.now.author }
+    ensures bad_round { result ≡ BAD_ROUND → 2 ^ 48 ≤ slot.now.round }
 {
     let Some(round) = Round::new(slot.round) else {
         return BAD_ROUND;
@@ -72,8 +74,11 @@ pub extern "C" fn nw_vote_message(
     buffer: &mut [u8],
     needed: &mut usize,
 ) -> i32
-    ensures { result ≡ pos 0 → Spells (take needed.new buffer.new)
+    ensures message { result ≡ pos 0 → Spells (take needed.new buffer.new)
         (vote_of slot.now signer signature.now) }
+    ensures bad_round { result ≡ BAD_ROUND → 2 ^ 48 ≤ slot.now.round }
+    ensures small { result ≡ SMALL → length buffer.old < needed.new }
+    ensures unchanged { (result ≡ pos 0 → ⊥) → buffer.new ≡ buffer.old }
 {
     let Some(round) = Round::new(slot.round) else {
         return BAD_ROUND;

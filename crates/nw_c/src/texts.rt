@@ -1,8 +1,10 @@
 //! Texts that are copied into a buffer of the caller's.
-ghost use Rattle.std.specs.Prelude.{◌≡◌, pos, take, length, IfOk, MatchResult};
+ghost use Rattle.std.specs.Prelude.{◌≡◌, ◌<◌, pos, take, length, IfOk, MatchResult, IsErrOf};
+ghost use Rattle.nw_codec.specs.declared.error.EncodeError.TheVariants as EncodeError;
+ghost use Rattle.nw_codec.specs.Fits.{CertificateFits};
 ghost use Rattle.nw_codec.specs.Spelled.{Spells};
 ghost use Rattle.nw_codec.specs.declared.message.Message.TheVariants as Message;
-ghost use Rattle.nw_c.specs.declared.codes.TheConstants.{CLOSED, SMALL};
+ghost use Rattle.nw_c.specs.declared.codes.TheConstants.{ABSENT, BAD_ROUND, CLOSED, OTHER_KIND, OVER_LIMIT, SMALL};
 
 use crate::codes::{DONE, SMALL, code_of_text};
 use nw_codec::{Certificate, EncodeError, Message, encode_message};
@@ -14,6 +16,7 @@ pub(crate) fn hand_out(text: &[u8], buffer: &mut [u8], needed: &mut usize) -> i3
     ensures copied { result ≡ pos 0 → take needed.new buffer.new ≡ text.now }
     ensures unchanged { (result ≡ pos 0 → ⊥) → buffer.new ≡ buffer.old }
     ensures refused { (result ≡ pos 0 → ⊥) → result ≡ SMALL }
+    ensures small { result ≡ SMALL → length buffer.old < needed.new }
 {
     let size = text.len();
     *needed = size;
@@ -31,7 +34,11 @@ pub(crate) fn hand_out_encoded(
     needed: &mut usize,
 ) -> i32
     ensures copied { result ≡ pos 0 → MatchResult text (λ v. take needed.new buffer.new ≡ v.items) (λ _. ⊥) }
-    ensures not_closed { result ≡ CLOSED → ⊥ }
+    ensures unchanged { (result ≡ pos 0 → ⊥) → buffer.new ≡ buffer.old }
+    ensures small { result ≡ SMALL → length buffer.old < needed.new }
+    ensures over_limit { result ≡ OVER_LIMIT → IsErrOf text EncodeError.OverLimit }
+    ensures other_codes { (result ≡ CLOSED → ⊥) × (result ≡ OTHER_KIND → ⊥) × (result ≡ ABSENT → ⊥)
+        × (result ≡ BAD_ROUND → ⊥) }
 {
     match text {
         Ok(text) => hand_out(&text, buffer, needed),
@@ -44,7 +51,8 @@ pub(crate) fn certificate_text(
     alloc: Global,
     certificate: &Certificate,
 ) -> Result<Vec<u8>, EncodeError>
-    ensures { IfOk result (λ v. Spells v.items (Message.Certificate certificate.now)) }
+    ensures spells { IfOk result (λ v. Spells v.items (Message.Certificate certificate.now)) }
+    ensures over_limit { IsErrOf result EncodeError.OverLimit → CertificateFits certificate.now → ⊥ }
 {
     let copy = Certificate {
         digest: certificate.digest,

@@ -1,9 +1,10 @@
 //! Tickets of causal reads, and the lists of their walks.
 ghost use Rattle.std.specs.Prelude.{◌≡◌, ◌↔◌, pos, IfOk, IfErr, IsTrue, true};
 ghost use Rattle.nw_book.specs.Ticket.{HaveOneList};
-ghost use Rattle.nw_c.specs.Tickets.{Agrees, AreApart, HasBlocks, IsAbout, IsBlockAt, IsWalkOf};
+ghost use Rattle.nw_c.specs.Tickets.{Agrees, AreApart, HasBlocks, HasNoBlockAt, IsAbout, IsBlockAt, IsWalkOf};
 ghost use Rattle.nw_c.specs.Tickets.{IsWhyApart};
-ghost use Rattle.nw_c.specs.declared.codes.TheConstants.{APART, CLOSED, OPEN};
+ghost use Rattle.nw_c.specs.Kinds.{IsAsBefore, IsList, IsTicket};
+ghost use Rattle.nw_c.specs.declared.codes.TheConstants.{ABSENT, APART, CLOSED, OPEN, OTHER_KIND};
 
 use crate::codes::{ABSENT, APART, CLOSED, DONE, NO_MEMORY, OPEN, OTHER_KIND};
 use crate::content::Content;
@@ -23,9 +24,9 @@ pub extern "C" fn nw_ticket_about(
     floor: &mut u64,
 ) -> i32
     ensures about { result ≡ pos 0 → IsAbout ticket.old.value digest.new floor.new }
-    ensures same { ticket.new.value ≡ ticket.old.value }
-    ensures stays { ticket.new.held ≡ ticket.old.held }
+    ensures same { IsAsBefore ticket.old ticket.new }
     ensures closed { result ≡ CLOSED → ticket.old.held ≡ true → ⊥ }
+    ensures other_kind { result ≡ OTHER_KIND → IsTicket ticket.old.value → ⊥ }
 {
     if !ticket.is_open() {
         return CLOSED;
@@ -66,11 +67,10 @@ pub extern "C" fn nw_ticket_agree(
 ) -> i32
     ensures agrees { result ≡ pos 0 → Agrees ticket.old.value other.old.value out.new }
     ensures apart { result ≡ APART → AreApart ticket.old.value other.old.value }
-    ensures same { ticket.new.value ≡ ticket.old.value }
-    ensures other { other.new.value ≡ other.old.value }
-    ensures stays { ticket.new.held ≡ ticket.old.held }
-    ensures other_stays { other.new.held ≡ other.old.held }
+    ensures same { IsAsBefore ticket.old ticket.new }
+    ensures other { IsAsBefore other.old other.new }
     ensures closed { result ≡ CLOSED → ticket.old.held ≡ true → other.old.held ≡ true → ⊥ }
+    ensures other_kind { result ≡ OTHER_KIND → IsTicket ticket.old.value → IsTicket other.old.value → ⊥ }
 {
     if !ticket.is_open() || !other.is_open() {
         return CLOSED;
@@ -96,12 +96,12 @@ pub extern "C" fn nw_ticket_walk(
     out: &mut ListHandle,
 ) -> i32
     ensures list { result ≡ pos 0 → IsWalkOf ticket.old.value out.new.value }
-    ensures same { ticket.new.value ≡ ticket.old.value }
-    ensures held { (result ≡ pos 0 → ⊥) → out.new.held ≡ out.old.held }
+    ensures same { IsAsBefore ticket.old ticket.new }
+    ensures unchanged { (result ≡ pos 0 → ⊥) → IsAsBefore out.old out.new }
     ensures opened { result ≡ pos 0 → out.new.held ≡ true }
-    ensures stays { ticket.new.held ≡ ticket.old.held }
     ensures occupied { result ≡ OPEN → out.old.held ≡ true }
     ensures closed { result ≡ CLOSED → ticket.old.held ≡ true → ⊥ }
+    ensures other_kind { result ≡ OTHER_KIND → IsTicket ticket.old.value → ⊥ }
 {
     if !ticket.is_open() {
         return CLOSED;
@@ -122,9 +122,9 @@ pub extern "C" fn nw_ticket_walk(
 #[unsafe(no_mangle)]
 pub extern "C" fn nw_list_len(list: &mut ListHandle, out: &mut usize) -> i32
     ensures len { result ≡ pos 0 → HasBlocks list.old.value out.new }
-    ensures same { list.new.value ≡ list.old.value }
-    ensures stays { list.new.held ≡ list.old.held }
+    ensures same { IsAsBefore list.old list.new }
     ensures closed { result ≡ CLOSED → list.old.held ≡ true → ⊥ }
+    ensures other_kind { result ≡ OTHER_KIND → IsList list.old.value → ⊥ }
 {
     if !list.is_open() {
         return CLOSED;
@@ -147,12 +147,13 @@ pub extern "C" fn nw_list_block(
     out: &mut BlockHandle,
 ) -> i32
     ensures block { result ≡ pos 0 → IsBlockAt list.old.value index out.new.value }
-    ensures same { list.new.value ≡ list.old.value }
-    ensures held { (result ≡ pos 0 → ⊥) → out.new.held ≡ out.old.held }
+    ensures same { IsAsBefore list.old list.new }
+    ensures unchanged { (result ≡ pos 0 → ⊥) → IsAsBefore out.old out.new }
     ensures opened { result ≡ pos 0 → out.new.held ≡ true }
-    ensures stays { list.new.held ≡ list.old.held }
     ensures occupied { result ≡ OPEN → out.old.held ≡ true }
     ensures closed { result ≡ CLOSED → list.old.held ≡ true → ⊥ }
+    ensures other_kind { result ≡ OTHER_KIND → IsList list.old.value → ⊥ }
+    ensures absent { result ≡ ABSENT → HasNoBlockAt list.old.value index }
 {
     if !list.is_open() {
         return CLOSED;

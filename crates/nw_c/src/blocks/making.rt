@@ -1,13 +1,14 @@
 //! Blocks that are made from their parts.
-ghost use Rattle.std.specs.Prelude.{◌≡◌, pos, map, IfOk, IfErr, true};
-ghost use Rattle.nw_c.specs.Blocks.{AreCutFrom, IsMadeBlock, parent_in};
-ghost use Rattle.nw_c.specs.declared.codes.TheConstants.{OPEN};
+ghost use Rattle.std.specs.Prelude.{◌≡◌, ◌^◌, ◌≤◌, pos, map, IfOk, IfErr, true};
+ghost use Rattle.nw_c.specs.Blocks.{AreCutFrom, CannotBeCut, IsMadeBlock, IsNoBlock, parent_in};
+ghost use Rattle.nw_c.specs.Kinds.{IsAsBefore};
+ghost use Rattle.nw_c.specs.declared.codes.TheConstants.{BAD_ROUND, OPEN, OVER_LIMIT};
 
 use super::CParent;
-use crate::codes::{BAD_ROUND, NO_MEMORY, OPEN, OVER_LIMIT, code_of_text};
+use crate::codes::{BAD_ROUND, NO_MEMORY, OPEN, OVER_LIMIT};
 use crate::content::Content;
 use crate::handle::{BlockHandle, put};
-use nw_codec::{Block, Ref, Transactions};
+use nw_codec::{Block, EncodeError, Ref, Transactions};
 use nw_digest::{Digest, NoMemory, Round, Sequence, Shared};
 use std::alloc::Global;
 
@@ -29,7 +30,9 @@ fn parents_of(alloc: Global, listed: &[CParent]) -> Result<Vec<Ref>, NoMemory>
 /// The transactions of these lengths, which the bytes are in order, or the code of the refusal.
 fn transactions_of(alloc: Global, bytes: &[u8], lengths: &[u32]) -> Result<Transactions, i32>
     ensures made { IfOk result (AreCutFrom bytes.now lengths.now) }
-    ensures refused { IfErr result (λ why. (why ≡ pos 0 → ⊥) × (why ≡ OPEN → ⊥)) }
+    ensures refused { IfErr result (λ why. (why ≡ pos 0 → ⊥) × (why ≡ OPEN → ⊥) × (why ≡ BAD_ROUND → ⊥)) }
+    ensures over_limit { IfErr result
+        (λ why. why ≡ OVER_LIMIT → CannotBeCut bytes.now lengths.now) }
 {
     let mut transactions = Transactions::new(alloc);
     let mut left = bytes;
@@ -37,10 +40,11 @@ fn transactions_of(alloc: Global, bytes: &[u8], lengths: &[u32]) -> Result<Trans
         let Some((transaction, rest)) = left.split_at_checked(*length as usize) else {
             return Err(OVER_LIMIT);
         };
-        if let Err(why) = transactions.push(transaction) {
-            return Err(code_of_text(why));
+        match transactions.push(transaction) {
+            Ok(()) => left = rest,
+            Err(EncodeError::OverLimit) => return Err(OVER_LIMIT),
+            Err(EncodeError::NoMemory) => return Err(NO_MEMORY),
         }
-        left = rest;
     }
     if !left.is_empty() {
         return Err(OVER_LIMIT);
@@ -64,9 +68,12 @@ pub extern "C" fn nw_block_new(
 ) -> i32
     ensures made { result ≡ pos 0
         → IsMadeBlock author round parents.now transactions.now lengths.now out.new.value }
-    ensures held { (result ≡ pos 0 → ⊥) → out.new.held ≡ out.old.held }
+    ensures unchanged { (result ≡ pos 0 → ⊥) → IsAsBefore out.old out.new }
     ensures opened { result ≡ pos 0 → out.new.held ≡ true }
     ensures occupied { result ≡ OPEN → out.old.held ≡ true }
+    ensures bad_round { result ≡ BAD_ROUND → 2 ^ 48 ≤ round }
+    ensures over_limit { result ≡ OVER_LIMIT
+        → IsNoBlock author round parents.now transactions.now lengths.now }
 {
     if out.is_open() {
         return OPEN;

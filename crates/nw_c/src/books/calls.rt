@@ -1,12 +1,13 @@
 //! The calls of a book that hand nothing in.
-ghost use Rattle.std.specs.Prelude.{◌≡◌, pos, None, true};
+ghost use Rattle.std.specs.Prelude.{◌≡◌, ◌^◌, ◌≤◌, pos, None, true};
 ghost use Rattle.nw_ed25519.specs.Accepts.{accepts};
 ghost use Rattle.nw_model.specs.declared.call.Call.TheVariants as Call;
 ghost use Rattle.nw_book.specs.declared.error.NoStep.{NoStep as Refusal};
 ghost use Rattle.nw_c.specs.Books.{IsOpened, IsRefusedBy, IsTaken};
 ghost use Rattle.nw_c.specs.Codes.{step_code};
 ghost use Rattle.nw_c.specs.Plain.{digest_in};
-ghost use Rattle.nw_c.specs.declared.codes.TheConstants.{CLOSED};
+ghost use Rattle.nw_c.specs.Kinds.{IsAsBefore, IsBook, IsRoom};
+ghost use Rattle.nw_c.specs.declared.codes.TheConstants.{BAD_ROUND, CLOSED, OTHER_KIND};
 
 use super::{is_room, take};
 use crate::codes::{BAD_ROUND, CLOSED, DONE, OTHER_KIND, code_of_step};
@@ -31,11 +32,12 @@ pub extern "C" fn nw_book_certificate(
         book.old.value book.new.value answer.new.value }
     ensures refused { (why : Refusal) → result ≡ step_code why
         → IsRefusedBy book.old.value session number None why }
-    ensures unchanged { (result ≡ pos 0 → ⊥) → book.new.value ≡ book.old.value }
-    ensures answer { (result ≡ pos 0 → ⊥) → answer.new.value ≡ answer.old.value }
+    ensures unchanged { (result ≡ pos 0 → ⊥) → IsAsBefore book.old book.new }
+    ensures answer { (result ≡ pos 0 → ⊥) → IsAsBefore answer.old answer.new }
     ensures stays { book.new.held ≡ book.old.held }
     ensures answer_stays { answer.new.held ≡ answer.old.held }
     ensures closed { result ≡ CLOSED → book.old.held ≡ true → answer.old.held ≡ true → ⊥ }
+    ensures other_kind { result ≡ OTHER_KIND → IsBook book.old.value → IsRoom answer.old.value → ⊥ }
 {
     let command = Command::Certificate(digest.get());
     take(alloc, book, answer, session, number, &command)
@@ -55,11 +57,12 @@ pub extern "C" fn nw_book_read(
         book.old.value book.new.value answer.new.value }
     ensures refused { (why : Refusal) → result ≡ step_code why
         → IsRefusedBy book.old.value session number None why }
-    ensures unchanged { (result ≡ pos 0 → ⊥) → book.new.value ≡ book.old.value }
-    ensures answer { (result ≡ pos 0 → ⊥) → answer.new.value ≡ answer.old.value }
+    ensures unchanged { (result ≡ pos 0 → ⊥) → IsAsBefore book.old book.new }
+    ensures answer { (result ≡ pos 0 → ⊥) → IsAsBefore answer.old answer.new }
     ensures stays { book.new.held ≡ book.old.held }
     ensures answer_stays { answer.new.held ≡ answer.old.held }
     ensures closed { result ≡ CLOSED → book.old.held ≡ true → answer.old.held ≡ true → ⊥ }
+    ensures other_kind { result ≡ OTHER_KIND → IsBook book.old.value → IsRoom answer.old.value → ⊥ }
 {
     let command = Command::Read(digest.get());
     take(alloc, book, answer, session, number, &command)
@@ -80,11 +83,13 @@ pub extern "C" fn nw_book_collect(
         book.old.value book.new.value answer.new.value }
     ensures refused { (why : Refusal) → result ≡ step_code why
         → IsRefusedBy book.old.value session number None why }
-    ensures unchanged { (result ≡ pos 0 → ⊥) → book.new.value ≡ book.old.value }
-    ensures answer { (result ≡ pos 0 → ⊥) → answer.new.value ≡ answer.old.value }
+    ensures unchanged { (result ≡ pos 0 → ⊥) → IsAsBefore book.old book.new }
+    ensures answer { (result ≡ pos 0 → ⊥) → IsAsBefore answer.old answer.new }
     ensures stays { book.new.held ≡ book.old.held }
     ensures answer_stays { answer.new.held ≡ answer.old.held }
     ensures closed { result ≡ CLOSED → book.old.held ≡ true → answer.old.held ≡ true → ⊥ }
+    ensures other_kind { result ≡ OTHER_KIND → IsBook book.old.value → IsRoom answer.old.value → ⊥ }
+    ensures bad_round { result ≡ BAD_ROUND → 2 ^ 48 ≤ round }
 {
     let Some(round) = Round::new(round) else {
         return BAD_ROUND;
@@ -107,11 +112,12 @@ pub extern "C" fn nw_book_missing(
         book.old.value book.new.value answer.new.value }
     ensures refused { (why : Refusal) → result ≡ step_code why
         → IsRefusedBy book.old.value session number None why }
-    ensures unchanged { (result ≡ pos 0 → ⊥) → book.new.value ≡ book.old.value }
-    ensures answer { (result ≡ pos 0 → ⊥) → answer.new.value ≡ answer.old.value }
+    ensures unchanged { (result ≡ pos 0 → ⊥) → IsAsBefore book.old book.new }
+    ensures answer { (result ≡ pos 0 → ⊥) → IsAsBefore answer.old answer.new }
     ensures stays { book.new.held ≡ book.old.held }
     ensures answer_stays { answer.new.held ≡ answer.old.held }
     ensures closed { result ≡ CLOSED → book.old.held ≡ true → answer.old.held ≡ true → ⊥ }
+    ensures other_kind { result ≡ OTHER_KIND → IsBook book.old.value → IsRoom answer.old.value → ⊥ }
 {
     let command = Command::Missing(most);
     take(alloc, book, answer, session, number, &command)
@@ -130,11 +136,12 @@ pub extern "C" fn nw_book_status(
         book.old.value book.new.value answer.new.value }
     ensures refused { (why : Refusal) → result ≡ step_code why
         → IsRefusedBy book.old.value session number None why }
-    ensures unchanged { (result ≡ pos 0 → ⊥) → book.new.value ≡ book.old.value }
-    ensures answer { (result ≡ pos 0 → ⊥) → answer.new.value ≡ answer.old.value }
+    ensures unchanged { (result ≡ pos 0 → ⊥) → IsAsBefore book.old book.new }
+    ensures answer { (result ≡ pos 0 → ⊥) → IsAsBefore answer.old answer.new }
     ensures stays { book.new.held ≡ book.old.held }
     ensures answer_stays { answer.new.held ≡ answer.old.held }
     ensures closed { result ≡ CLOSED → book.old.held ≡ true → answer.old.held ≡ true → ⊥ }
+    ensures other_kind { result ≡ OTHER_KIND → IsBook book.old.value → IsRoom answer.old.value → ⊥ }
 {
     take(alloc, book, answer, session, number, &Command::Status)
 }
@@ -154,11 +161,12 @@ pub extern "C" fn nw_book_open(
         book.old.value book.new.value answer.new.value }
     ensures refused { (why : Refusal) → result ≡ step_code why
         → IsRefusedBy book.old.value session number None why }
-    ensures unchanged { (result ≡ pos 0 → ⊥) → book.new.value ≡ book.old.value }
-    ensures answer { (result ≡ pos 0 → ⊥) → answer.new.value ≡ answer.old.value }
+    ensures unchanged { (result ≡ pos 0 → ⊥) → IsAsBefore book.old book.new }
+    ensures answer { (result ≡ pos 0 → ⊥) → IsAsBefore answer.old answer.new }
     ensures stays { book.new.held ≡ book.old.held }
     ensures answer_stays { answer.new.held ≡ answer.old.held }
     ensures closed { result ≡ CLOSED → book.old.held ≡ true → answer.old.held ≡ true → ⊥ }
+    ensures other_kind { result ≡ OTHER_KIND → IsBook book.old.value → IsRoom answer.old.value → ⊥ }
 {
     if !book.is_open() || !answer.is_open() {
         return CLOSED;
