@@ -176,9 +176,10 @@ impl Session {
     /// the tables. Log a collection that answers [`CollectReply::Raised`]. Open tickets keep their
     /// lists.
     ///
-    /// The memory of the blocks is freed after a restart of the history and once no answer or ticket
-    /// holds them. Lower [`Limits::events`](crate::Limits::events), or call
-    /// [`Store::restart`](crate::Store::restart), if blocks are large.
+    /// This does not free the blocks. The history holds them until
+    /// [`Store::restart`](crate::Store::restart), the list that causal reads share until
+    /// [`Store::compact`](crate::Store::compact) or its next rebuild, and answers and tickets until
+    /// they are dropped.
     ///
     /// # Errors
     ///
