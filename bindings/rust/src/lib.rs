@@ -69,7 +69,8 @@
 //! 1. Append each message whose write answered `Stored` or whose certificate answered `Certified`,
 //!    and each collection that answered `Raised`. The log must have the order of the store's steps.
 //!    If several threads call, hold one lock around each call and its append.
-//! 2. Sync the log before you send a vote.
+//! 2. Sync the log before you send a vote or a block of your own. When you create the log, sync its
+//!    folder too.
 //! 3. After a crash, open a store with the same committee and limits. Repeat the calls of the log in
 //!    their order, before anything else.
 //!

@@ -43,7 +43,8 @@ impl Session {
 
     /// Writes a block. What a validator does next depends on the reply:
     ///
-    /// - `Stored { vote: true }`: log the block, and vote for it.
+    /// - `Stored { vote: true }`: log the block, and vote for it. Its parents may be missing or not
+    ///   certified. If your consensus needs them before it votes, look them up first.
     /// - `Stored { vote: false }`: log the block. Send no vote: the block is certified, and another
     ///   block of its round and author came first.
     /// - `Held`: the block was stored before. There is nothing to do.
