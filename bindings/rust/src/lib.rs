@@ -1,17 +1,17 @@
 //! The block store of a Narwhal mempool, as formally verified software.
 //!
-//! The store keeps blocks of transactions and their certificates in memory. It tells which block of
-//! each round and author comes first, so that the validator votes for it. It reads a block with its
-//! certified ancestors of rounds not below the garbage round. Meanwhile other threads write, and old
-//! rounds are collected. The code of the store is proved to meet its contracts. This crate is a thin
-//! safe layer over its static library.
+//! The store keeps blocks of transactions and their certificates in memory. For each round and
+//! author, it says which block came first, so that the validator votes for this one. It lists a
+//! block with its certified ancestors. Meanwhile, other threads write blocks and collect old rounds:
+//! a collection raises the *garbage round*, and drops all rounds below it. The code of the store is
+//! proved to meet its contracts. This crate is a thin safe layer over its static library.
 //!
 //! # Use
 //!
 //! 1. Make a [`Committee`] from the members' Ed25519 keys, and a [`Store`] under it.
-//! 2. Check what comes from the network with [`Message::check`] or [`check_all`]. A check takes no
-//!    lock.
-//! 3. Hand checked messages to a [`Session`] of the store: [`Session::write`] and
+//! 2. Check messages from the network with [`Message::check`] or [`check_all`]. A check does not
+//!    take the store's lock.
+//! 3. Pass checked messages to a [`Session`] of the store: [`Session::write`] and
 //!    [`Session::certify`].
 //! 4. When a write answers `Stored { vote: true }`, log the block and sign a vote.
 //! 5. Make your own blocks with [`Block::new`], sign [`Block::text_to_sign`], and pass
@@ -51,32 +51,32 @@
 //!
 //! The proofs cover the static library: every function is memory-safe and returns, and
 //!
-//! - each answer is the reply of the sequential store after the [`History`] that the answer
-//!   carries;
-//! - a walk lists exactly the certified ancestors of rounds not below the garbage round, as of the
+//! - each answer carries a [`History`] of calls and replies that ends with its own, and a sequential
+//!   store that takes these calls in order gives exactly these replies;
+//! - a walk lists exactly the certified ancestors that are not below the garbage round, as of the
 //!   call that opened the ticket;
 //! - at most one write per round and author answers `Stored { vote: true }`, also across restarts
 //!   of the history.
 //!
-//! The proofs do not cover this crate, its lock, the Rust and C libraries, the compilers and the
-//! code of SHA-256. Nor do they show that signatures cannot be forged, or that no two blocks have
-//! one digest.
+//! The proofs do not cover this crate, its lock, std, libc, the compilers or the code of SHA-256.
+//! Nor do they show that signatures cannot be forged, or that no two blocks have one digest.
 //!
 //! # After a crash
 //!
 //! The store is in memory only, and it forgets its votes when the process ends. A validator that
-//! forgets its votes can vote twice. So it keeps a log of the calls that changed its store:
+//! forgets its votes can vote twice. So it must keep a log of the calls that changed its store:
 //!
 //! 1. Append each message whose write answered `Stored` or whose certificate answered `Certified`,
 //!    and each collection that answered `Raised`. The log must have the order of the store's steps.
 //!    If several threads call, hold one lock around each call and its append.
-//! 2. Sync the log before you send a vote.
+//! 2. Sync the log before you send a vote or a block of your own. When you create the log, sync its
+//!    folder too.
 //! 3. After a crash, open a store with the same committee and limits. Repeat the calls of the log in
 //!    their order, before anything else.
 //!
-//! After a collection to round g is logged, the log may be cut. It then has `collect(g)`, followed
-//! by the logged messages of rounds >= g in their order. The example `durable` shows the log without
-//! the cut.
+//! After you logged a collection to round g, you can cut the log. The shorter log has `collect(g)`,
+//! and then the logged messages of rounds >= g in their order. The example `durable` shows the log
+//! without the cut.
 //!
 //! # Panics
 //!

@@ -43,7 +43,8 @@ impl Session {
 
     /// Writes a block. What a validator does next depends on the reply:
     ///
-    /// - `Stored { vote: true }`: log the block, and vote for it.
+    /// - `Stored { vote: true }`: log the block, and vote for it. Its parents may be missing or not
+    ///   certified. If your consensus needs them before it votes, look them up first.
     /// - `Stored { vote: false }`: log the block. Send no vote: the block is certified, and another
     ///   block of its round and author came first.
     /// - `Held`: the block was stored before. There is nothing to do.
@@ -176,9 +177,10 @@ impl Session {
     /// the tables. Log a collection that answers [`CollectReply::Raised`]. Open tickets keep their
     /// lists.
     ///
-    /// The memory of the blocks is freed after a restart of the history and once no answer or ticket
-    /// holds them. Lower [`Limits::events`](crate::Limits::events), or call
-    /// [`Store::restart`](crate::Store::restart), if blocks are large.
+    /// This does not free the blocks. The history holds them until
+    /// [`Store::restart`](crate::Store::restart), the list that causal reads share until
+    /// [`Store::compact`](crate::Store::compact) or its next rebuild, and answers and tickets until
+    /// they are dropped.
     ///
     /// # Errors
     ///

@@ -17,9 +17,10 @@ use std::sync::{Arc, Mutex, MutexGuard, PoisonError};
 ///
 /// Nothing is written to disk. [After a crash](crate#after-a-crash) says what a validator must log.
 ///
-/// Collection removes blocks from the tables. Their memory is freed after a restart of the history
-/// and once no answer or ticket holds them. Lower [`Limits::events`], or call [`Store::restart`], if
-/// blocks are large.
+/// Collection removes blocks from the tables, but does not free them. The history holds them until
+/// [`Store::restart`], the list that causal reads share until [`Store::compact`] or its next
+/// rebuild, and answers and tickets until they are dropped. If blocks are large, call
+/// [`Session::collect`] and these two, or lower [`Limits::events`].
 ///
 /// ```
 /// # mod data { include!(concat!(env!("CARGO_MANIFEST_DIR"), "/examples/data/mod.rs")); }
@@ -98,8 +99,8 @@ impl Store {
         }
     }
 
-    /// Makes a session, for one more caller. At most `sessions` of the [`Limits`] can be made. The
-    /// number of a dropped session is never used again.
+    /// Makes a session, for one more caller. At most [`Limits::sessions`] can be made. The number of a
+    /// dropped session is never used again.
     ///
     /// # Errors
     ///
@@ -115,11 +116,12 @@ impl Store {
         Ok(Session::new(Arc::clone(&self.inner), id as u16))
     }
 
-    /// Rebuilds the table of blocks that causal reads share, without the collected blocks.
+    /// Rebuilds the list of blocks that causal reads share, without the collected blocks.
     ///
-    /// Call it after collections, if tickets are opened often and memory matters.
+    /// Call it after collections to free their memory. About every fifteenth causal read that finds
+    /// new complete blocks rebuilds the list too.
     ///
-    /// Tickets that are opened later share the new table. No answer changes, and this is not a call
+    /// Tickets that are opened later share the new list. No answer changes, and this is not a call
     /// of a session.
     ///
     /// # Errors
@@ -134,7 +136,7 @@ impl Store {
     /// All blocks, certificates and votes stay. The calls of every session are numbered from 1
     /// again. Answers and tickets of the old history stay as they are.
     ///
-    /// A restart runs under the store's lock: some 50 ms for 65,536 events.
+    /// A restart runs under the store's lock: 50 to 80 ms for 65,536 events.
     ///
     /// # Errors
     ///
@@ -244,7 +246,7 @@ impl StoreBuilder {
     /// [`StepError::HistoryFull`]. An answer then has the events since the last restart in its
     /// history. The default is `false`.
     ///
-    /// - The restart runs inside one call under the store's lock: some 50 ms for 65,536 events.
+    /// - The restart runs inside one call under the store's lock: 50 to 80 ms for 65,536 events.
     /// - It comes after a number of events, not of bytes. If blocks are large, lower
     ///   [`Limits::events`] or call [`Store::restart`].
     /// - If the call fails with [`StepError::NoMemory`] after the restart, the history is empty

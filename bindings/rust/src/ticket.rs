@@ -17,7 +17,8 @@ use std::sync::{Arc, Mutex};
 /// on meanwhile. The list is that of the moment when the ticket was opened, also when rounds were
 /// collected since. A ticket outlives its store.
 ///
-/// A ticket keeps the blocks of its list in memory. Drop it after its use.
+/// A ticket keeps in memory its history and all blocks that were complete when it was opened, not
+/// only those of its list. Drop it after its use.
 ///
 /// The type is `Send`, so another thread can walk it, and it is not `Sync`.
 ///
@@ -60,7 +61,7 @@ impl Ticket {
     /// call that opened the ticket. The order is ascending by round and author.
     ///
     /// Every walk of a ticket returns the same list. So do walks of all tickets for the same digest
-    /// with the same [`floor`](Ticket::floor), of any store.
+    /// with the same [`floor`](Ticket::floor), of any store, unless two blocks have one digest.
     ///
     /// The blocks share the list in memory. Each leaves it when one of its parts is asked for.
     ///
