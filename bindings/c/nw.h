@@ -420,8 +420,8 @@ int32_t nw_book_missing(nw_book *book, uint16_t session, uint32_t number, uint16
 int32_t nw_book_status(nw_book *book, uint16_t session, uint32_t number, nw_answer *answer);
 
 /* Opens a causal read of the digest, as the session's call of this number. The answer becomes a ticket if
-   the block and all its certified ancestors are stored, and otherwise an answer whose reply says why there
-   is none. */
+   the block is complete: it and its ancestors, down to the garbage round, are stored and certified.
+   Otherwise it is an answer whose reply says why there is no ticket. */
 int32_t nw_book_open(nw_book *book, uint16_t session, uint32_t number, const nw_digest *digest, nw_answer *answer);
 
 /* Makes room for an answer. It is made before a call, so that no call that was taken lacks memory for its

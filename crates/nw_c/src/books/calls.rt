@@ -146,8 +146,8 @@ pub extern "C" fn nw_book_status(
     take(alloc, book, answer, session, number, &Command::Status)
 }
 
-/// Opens a causal read of the digest, as the session's call of this number. The answer becomes a ticket if the block and all its certified
-/// ancestors are stored, and otherwise an answer whose reply says why there is none.
+/// Opens a causal read of the digest, as the session's call of this number. The answer becomes a ticket if the block is complete: it and its
+/// ancestors, down to the garbage round, are stored and certified. Otherwise it is an answer whose reply says why there is no ticket.
 #[unsafe(no_mangle)]
 pub extern "C" fn nw_book_open(
     alloc: Global,
