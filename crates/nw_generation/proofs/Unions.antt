@@ -47,17 +47,17 @@ pub get_older : (left older : List (FinMap digest_cmp Block)) (latest : FinMap d
 get_older left older latest d is lacks = ap (λ found. option_or found (get (union older) d)) lacks ∙ sym (get_latest older latest d) ∙ ap (λ gs. get (union gs) d) (sym is)
 
 -- what all generations have is of the round, so what the latest has is
-pub of_latest : (left older : List (FinMap digest_cmp Block)) (latest : FinMap digest_cmp Block) (round : Option ℕ) (d : Digest) → left ≡ older ++ latest ∷ [] → IsOf round (get (union left) d) → IsOf round (get latest d)
+pub of_latest : (left older : List (FinMap digest_cmp Block)) (latest : FinMap digest_cmp Block) (slot : Option (ℕ × ℕ)) (d : Digest) → left ≡ older ++ latest ∷ [] → IsOf slot (get (union left) d) → IsOf slot (get latest d)
 of_latest left older latest None d is of = tt
-of_latest left older latest (Some round) d is of = by (get latest d) (subst (λ o. IfSome o (λ (b : Block). b.round ≡ round)) (ap (λ gs. get (union gs) d) is ∙ get_latest older latest d) of)
+of_latest left older latest (Some (round, author)) d is of = by (get latest d) (subst (λ o. IfSome o (λ (b : Block). b.round ≡ round)) (ap (λ gs. get (union gs) d) is ∙ get_latest older latest d) of)
   where
     by : (found : Option Block) → IfSome (option_or found (get (union older) d)) (λ (b : Block). b.round ≡ round) → IfSome found (λ (b : Block). b.round ≡ round)
     by None h = tt
     by (Some b) h = h
 
 -- entries of other rounds alone have no block of this one
-pub none_of : (es : List (Digest × Block)) (rounds : Option (ℕ × ℕ)) (round : ℕ) (d : Digest) → All (λ (e : Digest × Block). IsWithin rounds e.1.round) es → (IsWithin rounds round → ⊥) → IsOf (Some round) (under es d) → None ≡ under es d
-none_of es rounds round d within out of = by (under es d) (look es (recursion_from_All (λ (e : Digest × Block). IsWithin rounds e.1.round) es within)) of
+pub none_of : (es : List (Digest × Block)) (rounds : Option (ℕ × ℕ)) (round author : ℕ) (d : Digest) → All (λ (e : Digest × Block). IsWithin rounds e.1.round) es → (IsWithin rounds round → ⊥) → IsOf (Some (round, author)) (under es d) → None ≡ under es d
+none_of es rounds round author d within out of = by (under es d) (look es (recursion_from_All (λ (e : Digest × Block). IsWithin rounds e.1.round) es within)) of
   where
     pick : (t : Bool) (b : Block) (o : Option Block) → IsWithin rounds b.round → IfSome o (λ (x : Block). IsWithin rounds x.round) → IfSome (cond t (Some b) o) (λ (x : Block). IsWithin rounds x.round)
     pick true b o here later = here
