@@ -88,6 +88,11 @@ impl Generation {
         })
     }
 
+    /// How many blocks it has.
+    pub(crate) fn len(&self) -> usize {
+        self.entries().len()
+    }
+
     /// Its entries, ascending.
     pub(crate) fn entries(&self) -> &[Entry]
         ensures entries { map.from_entries result.now ≡ self.now }
