@@ -50,7 +50,7 @@ turned : (o r : Ordering) → o ≡ ordering_reverse r → r ≡ Less → is_eq 
 turned o r is less = ap is_eq (is ∙ ap ordering_reverse less)
 
 -- a digest behind another one is not under it
-past : (d k : Digest) → digest_cmp k d ≡ Less → is_eq (digest_cmp d k) ≡ false
+pub past : (d k : Digest) → digest_cmp k d ≡ Less → is_eq (digest_cmp d k) ≡ false
 past d k less = turned (digest_cmp d k) (digest_cmp k d) (digests_total.antisymm d k) less
 
 module _ (d k : Digest) (b : Block) (after : Entries) where

@@ -1,5 +1,5 @@
 //! Blocks that are searched by their digests.
-ghost use Rattle.std.specs.Prelude.{◌≡◌, ◌<◌, ◌++◌, ◌∷◌, IfOk, IfSome, Some, length};
+ghost use Rattle.std.specs.Prelude.{◌≡◌, ◌<◌, ◌++◌, ◌∷◌, IfOk, length};
 ghost use Rattle.std.specs.Option.{option_copied};
 ghost use Rattle.nw_digest.specs.Order.{digest_cmp};
 ghost use Rattle.nw_generation.specs.Entries.{AreHeads, Ascend, IsHead, under};
@@ -18,6 +18,7 @@ pub(crate) struct Index {
     /// The first two bytes of each digest, so that a search follows few pointers.
     heads: Vec<u16>,
     entries: Vec<Entry>,
+    /// The same blocks by their rounds and authors.
     slots: Slots,
 }
 
@@ -31,8 +32,10 @@ impl Model for Index {
     ghost view = { λ i. i.entries.items };
 
     ghost use Rattle.nw_generation.specs.Entries.{AreHeads, Ascend};
+    ghost use Rattle.nw_generation.specs.Slots.{AreAmong};
 
-    ghost invariant = { λ i. AreHeads i.heads.items i.entries.items × Ascend i.entries.items };
+    ghost invariant = { λ i. AreHeads i.heads.items i.entries.items × Ascend i.entries.items
+        × AreAmong i.slots.slots.items i.entries.items };
 }
 
 impl Index {
@@ -60,28 +63,13 @@ impl Index {
     pub(crate) fn get(&self, slot: &Option<(Round, u16)>, digest: &Digest) -> Option<&Shared<Block>>
         ensures { option_copied result ≡ under self.now digest.now }
     {
-        let entries = self.entries.as_slice();
         if let Some((round, author)) = slot
-            && let Some(place) = self.slots.place(*round, *author)
-            && let Some(block) = at(entries, place, digest)
+            && let Some(block) = self.slots.get(*round, *author, digest)
         {
             return Some(block);
         }
-        find(self.heads.as_slice(), entries, digest)
+        find(self.heads.as_slice(), self.entries.as_slice(), digest)
     }
-}
-
-/// The block at the place, if it is under the digest.
-fn at<'a>(entries: &'a [Entry], place: usize, digest: &Digest) -> Option<&'a Shared<Block>>
-    requires { Ascend entries.now }
-    ensures { IfSome result (λ block. under entries.now digest.now ≡ Some block.now) }
-{
-    if place >= entries.len() {
-        return None;
-    }
-    let (_before, entry, _after) = parted(entries, place);
-    let (key, block) = entry.get();
-    if digest == key { Some(block) } else { None }
 }
 
 /// The block under the digest.

@@ -1,38 +1,70 @@
-//! Where the blocks of each round and author stand among entries.
+//! Blocks by their rounds and authors.
+ghost use Rattle.std.specs.Prelude.{◌≡◌, IfOk, IfSome, List, Some};
+ghost use Rattle.nw_digest.specs.declared.digest.Digest.{Digest};
+ghost use Rattle.nw_codec.specs.declared.block.Block.{Block};
+ghost use Rattle.nw_generation.specs.Entries.{Ascend, under};
+ghost use Rattle.nw_generation.specs.Slots.{AreAmong};
+
 use crate::entries::Entry;
-use nw_digest::{NoMemory, Round};
+use nw_codec::Block;
+use nw_digest::{Digest, NoMemory, Round, Shared};
 use std::alloc::Global;
 
-/// The place of an entry, under the round and author of its block.
-#[derive(Clone, Copy, Debug, PartialEq, Eq, PartialOrd, Ord)]
-struct Slot {
+/// A block under its digest, with its round and author.
+#[derive(Drop)]
+pub(crate) struct Slot {
     round: Round,
     author: u16,
-    place: u32,
+    digest: Digest,
+    block: Shared<Block>,
 }
 
-/// Tells where the block of a round and author is expected among entries. The caller compares the digest there, so that no
-/// clause says which place is told.
+/// The blocks of entries by round and author. They lie side by side, so that a walk follows few pointers.
 #[derive(Drop)]
 pub(crate) struct Slots {
-    /// Ascending.
-    slots: Vec<Slot>,
+    /// Ascending by round and author.
+    pub(crate) slots: Vec<Slot>,
     /// For each round from the first one on, how many slots are of earlier rounds.
     begins: Vec<u32>,
 }
 
 impl Slots {
     /// The slots of these entries.
-    pub(crate) fn of(alloc: Global, entries: &[Entry]) -> Result<Slots, NoMemory> {
+    pub(crate) fn of(alloc: Global, entries: &[Entry]) -> Result<Slots, NoMemory>
+        requires { Ascend entries.now }
+        ensures { IfOk result (λ made. AreAmong made.slots.items entries.now) }
+    {
         let mut slots = slots_of(alloc, entries)?;
-        slots.sort()?;
+        slots.sort_by(|one: &Slot, other: &Slot| {
+            let by_round = one.round.cmp(&other.round);
+            by_round.then(one.author.cmp(&other.author))
+        })?;
         let begins = begins_of(alloc, slots.as_slice())?;
         Ok(Slots { slots, begins })
     }
 
-    /// Where the block of the round and author stands, if it does.
-    pub(crate) fn place(&self, round: Round, author: u16) -> Option<usize> {
-        let row = self.row(round)?;
+    /// The block under the digest, if it is expected at the round and author.
+    pub(crate) fn get(
+        &self,
+        round: Round,
+        author: u16,
+        digest: &Digest,
+    ) -> Option<&Shared<Block>>
+        ensures { (entries : List (Digest × Block)) → AreAmong self.now.slots.items entries
+            → IfSome result (λ block. under entries digest.now ≡ Some block.now) }
+    {
+        let place = self.place(round, author)?;
+        let slot = self.slots.get(place)?;
+        if *digest == slot.digest {
+            Some(&slot.block)
+        } else {
+            None
+        }
+    }
+
+    /// Where a block of the round and author is expected. It is a guess, of which no clause says anything.
+    fn place(&self, round: Round, author: u16) -> Option<usize> {
+        let (begin, row) = self.row(round)?;
         let mut last = 0;
         // Which place a row of one block has depends on nothing, so that a processor need not wait for the author.
         if row.len() > 1 {
@@ -41,11 +73,11 @@ impl Slots {
                 last -= 1;
             }
         }
-        Some(row.get(last)?.place as usize)
+        begin.checked_add(last)
     }
 
-    /// The slots of the round, by author.
-    fn row(&self, round: Round) -> Option<&[Slot]> {
+    /// The slots of the round, by author, and how many are before them.
+    fn row(&self, round: Round) -> Option<(usize, &[Slot])> {
         let first = self.slots.first()?.round;
         let number = round.get().checked_sub(first.get())? as usize;
         let begin = *self.begins.get(number)? as usize;
@@ -53,7 +85,7 @@ impl Slots {
             Some(end) => *end as usize,
             None => self.slots.len(),
         };
-        self.slots.get(begin..end)
+        Some((begin, self.slots.get(begin..end)?))
     }
 }
 
@@ -66,14 +98,18 @@ fn is_after(row: &[Slot], place: usize, author: u16) -> bool {
 }
 
 /// A slot for each entry.
-fn slots_of(alloc: Global, entries: &[Entry]) -> Result<Vec<Slot>, NoMemory> {
+fn slots_of(alloc: Global, entries: &[Entry]) -> Result<Vec<Slot>, NoMemory>
+    requires { Ascend entries.now }
+    ensures { IfOk result (λ slots. AreAmong slots.items entries.now) }
+{
     let mut slots = Vec::with_capacity(alloc, entries.len())?;
-    for (place, entry) in entries.iter().enumerate() {
-        let block = entry.get().1.get();
+    for entry in entries {
+        let (digest, block) = entry.get();
         slots.push(Slot {
-            round: block.round,
-            author: block.author,
-            place: u32::try_from(place).unwrap_or(u32::MAX),
+            round: block.get().round,
+            author: block.get().author,
+            digest: *digest,
+            block: block.try_clone()?,
         })?;
     }
     Ok(slots)
