@@ -97,7 +97,11 @@ fn find_parents<'a>(
         match place_of(parents, reference.author, last.saturating_sub(1)) {
             Ok(place) => last = place,
             Err(place) => {
-                let parent = Ancestor::look_up(view, Some((round, reference.author)), &reference.digest);
+                let parent = Ancestor::look_up(
+                    view,
+                    Some((round, reference.author)),
+                    &reference.digest,
+                );
                 parents.insert(place, parent)?;
                 last = place;
             }

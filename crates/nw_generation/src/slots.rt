@@ -44,12 +44,7 @@ impl Slots {
     }
 
     /// The block under the digest, if it is expected at the round and author.
-    pub(crate) fn get(
-        &self,
-        round: Round,
-        author: u16,
-        digest: &Digest,
-    ) -> Option<&Shared<Block>>
+    pub(crate) fn get(&self, round: Round, author: u16, digest: &Digest) -> Option<&Shared<Block>>
         ensures { (entries : List (Digest × Block)) → AreAmong self.now.slots.items entries
             → IfSome result (λ block. under entries digest.now ≡ Some block.now) }
     {
