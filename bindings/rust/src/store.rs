@@ -118,8 +118,8 @@ impl Store {
 
     /// Rebuilds the list of blocks that causal reads share, without the collected blocks.
     ///
-    /// Call it after collections to free their memory. About every fifteenth causal read that finds
-    /// new complete blocks rebuilds the list too.
+    /// Call it after collections to free their memory. Causal reads rebuild the list too, but only
+    /// after about as many new complete blocks as it had at the last rebuild.
     ///
     /// Tickets that are opened later share the new list. No answer changes, and this is not a call
     /// of a session.

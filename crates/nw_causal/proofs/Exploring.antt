@@ -44,14 +44,14 @@ ancestor_on v d e f closed (path, on) (b, r, at, above, among, same) =
     (path ++ f ∷ [], path_on v d e f path on (b, r, at, above, among, same) (p.0, p.1))
 
 in_both : (found level : List Ancestor) (e : Digest) → IsIn found level e → Contains (digests (found ++ level)) e
-in_both found level e (inl among) = rw (map-append (λ (a : Ancestor). a.digest) found level) (Contains-append_left (digests found) (digests level) e among)
-in_both found level e (inr among) = rw (map-append (λ (a : Ancestor). a.digest) found level) (Contains-append_right (digests found) (digests level) e among)
+in_both found level e (inl among) = rw (map-append (λ (a : Ancestor). a.digest.now) found level) (Contains-append_left (digests found) (digests level) e among)
+in_both found level e (inr among) = rw (map-append (λ (a : Ancestor). a.digest.now) found level) (Contains-append_right (digests found) (digests level) e among)
 
 in_either : (found level : List Ancestor) (e : Digest) → Contains (digests (found ++ level)) e → IsIn found level e
-in_either found level e among = Contains-append_cases (digests found) (digests level) e (rw (← map-append (λ (a : Ancestor). a.digest) found level) among)
+in_either found level e among = Contains-append_cases (digests found) (digests level) e (rw (← map-append (λ (a : Ancestor). a.digest.now) found level) among)
 
 -- at first the block itself is to be gone on from
-pub explores_first : (v : Frozen) (d : Digest) (a : Ancestor) → (b : Block) × IsThere v d b → a.digest ≡ d → get v.blocks d ≡ Some a.block.now → Explores v d [] (a ∷ []) a.block.now.round
+pub explores_first : (v : Frozen) (d : Digest) (a : Ancestor) → (b : Block) × IsThere v d b → a.digest.now ≡ d → get v.blocks d ≡ Some a.block.now → Explores v d [] (a ∷ []) a.block.now.round
 explores_first v d a there named at =
     let here : IsThere v d a.block.now = there_is v d a.block.now there at in
     record {
@@ -60,10 +60,10 @@ explores_first v d a there named at =
       at = All-nil _;
       later = All-nil _;
       order = (level_none v 0).order;
-      first = inr (subst (λ q. Contains (a.digest ∷ []) q) named (contains_first a.digest []));
+      first = inr (subst (λ q. Contains (a.digest.now ∷ []) q) named (contains_first a.digest.now []));
       only = λ e among. elim among [
         | inl none ↦ absurd (contains_none e none)
-        | inr itself ↦ elim (contains_cases a.digest [] e itself) [
+        | inr itself ↦ elim (contains_cases a.digest.now [] e itself) [
           | inl same ↦ ([], ((a.block.now, here), sym named ∙ same))
           | inr none ↦ absurd (contains_none e none)
         ]
@@ -77,7 +77,7 @@ pub explores_on : (v : Frozen) (d : Digest) (found level parents : List Ancestor
 explores_on v d found level parents round next closed now before floor is gains = record {
   floor = floor;
   last = is;
-  at = All-append (λ (a : Ancestor). get v.blocks a.digest ≡ Some a.block.now) found level now.at now.last.at;
+  at = All-append (λ (a : Ancestor). get v.blocks a.digest.now ≡ Some a.block.now) found level now.at now.last.at;
   later = All-append (λ (a : Ancestor). next < a.block.now.round) found level
       (λ k a lt. let later = now.later k a lt in omega (arith, later, before)) (λ k a lt. let here = now.last.rounds k a lt in omega (arith, here, before));
   order = order_both v round found level now.later now.last now.order;
@@ -98,7 +98,7 @@ explores_on v d found level parents round next closed now before floor is gains 
 -- where the last ones have no parents, all ancestors are found
 pub explores_all : (v : Frozen) (d : Digest) (found level : List Ancestor) (round : ℕ) → Explores v d found level round → (v.floor < round → level ≡ []) → AreFound v d (found ++ level)
 explores_all v d found level round now last = record {
-  at = All-append (λ (a : Ancestor). get v.blocks a.digest ≡ Some a.block.now) found level now.at now.last.at;
+  at = All-append (λ (a : Ancestor). get v.blocks a.digest.now ≡ Some a.block.now) found level now.at now.last.at;
   exactly = λ e. (λ among. now.only e (in_either found level e among), λ (path, on). in_both found level e (along d path e now.first on));
   order = order_both v round found level now.later now.last now.order;
 }
@@ -106,7 +106,7 @@ explores_all v d found level round now last = record {
     none_above : (e f : Digest) → Contains (digests level) e → IsParentIn v e f → ⊥
     none_above e f among (b, r, at, above, named, same_digest) =
         let (a, last_one, same) = ancestor_of level e among in
-        let held : get v.blocks a.digest ≡ Some a.block.now = All-contains (λ (x : Ancestor). get v.blocks x.digest ≡ Some x.block.now) level a now.last.at last_one in
+        let held : get v.blocks a.digest.now ≡ Some a.block.now = All-contains (λ (x : Ancestor). get v.blocks x.digest.now ≡ Some x.block.now) level a now.last.at last_one in
         let one : a.block.now ≡ b = one_block a.block.now b (subst (λ q. get v.blocks q ≡ Some a.block.now) same held) at in
         let here : a.block.now.round ≡ round = All-contains (λ (x : Ancestor). x.block.now.round ≡ round) level a now.last.rounds last_one in
         contains_none e (subst (λ xs. Contains (digests xs) e) (last (omega (arith, above, here, ap (λ (x : Block). x.round) one))) among)

@@ -86,22 +86,22 @@ ascend (a ∷ rest) order = sorted_from_all_adjacent blocks_total (blocks (rever
 
 -- ---- digests and blocks of ancestors
 
-pub among_digests : (xs : List Ancestor) (a : Ancestor) → Contains xs a → Contains (digests xs) a.digest
+pub among_digests : (xs : List Ancestor) (a : Ancestor) → Contains xs a → Contains (digests xs) a.digest.now
 among_digests xs a (k, lt, at) =
-    (k, omega (arith, lt, length-map xs (λ (x : Ancestor). x.digest)), get_or-map (λ (x : Ancestor). x.digest) xs k a a.digest lt ∙ ap (λ (x : Ancestor). x.digest) at)
+    (k, omega (arith, lt, length-map xs (λ (x : Ancestor). x.digest.now)), get_or-map (λ (x : Ancestor). x.digest.now) xs k a a.digest.now lt ∙ ap (λ (x : Ancestor). x.digest.now) at)
 
-pub ancestor_of : (xs : List Ancestor) (e : Digest) → Contains (digests xs) e → (a : Ancestor) × Contains xs a × (a.digest ≡ e)
+pub ancestor_of : (xs : List Ancestor) (e : Digest) → Contains (digests xs) e → (a : Ancestor) × Contains xs a × (a.digest.now ≡ e)
 ancestor_of [] e among = absurd (contains_none e among)
-ancestor_of (x ∷ xs) e among = elim (contains_cases x.digest (digests xs) e among) [
+ancestor_of (x ∷ xs) e among = elim (contains_cases x.digest.now (digests xs) e among) [
   | inl same ↦ (x, contains_first x xs, same)
   | inr later ↦ let (a, below, same) = ancestor_of xs e later in (a, contains_later x xs a below, same)
 ]
 
 -- the blocks of ancestors are what the view has under their digests
-blocks_at : (v : Frozen) (xs : List Ancestor) → AllByRecursion (λ (a : Ancestor). get v.blocks a.digest ≡ Some a.block.now) xs → map (get v.blocks) (digests xs) ≡ map Some (blocks xs)
+blocks_at : (v : Frozen) (xs : List Ancestor) → AllByRecursion (λ (a : Ancestor). get v.blocks a.digest.now ≡ Some a.block.now) xs → map (get v.blocks) (digests xs) ≡ map Some (blocks xs)
 blocks_at v [] at = refl
 blocks_at v (x ∷ xs) at =
-    let first : get v.blocks x.digest ≡ Some x.block.now = at.0 in
+    let first : get v.blocks x.digest.now ≡ Some x.block.now = at.0 in
     let rest : map (get v.blocks) (digests xs) ≡ map Some (blocks xs) = blocks_at v xs at.1 in
     cc
 
@@ -117,8 +117,8 @@ none_back (a ∷ rest) none = absurd (omega (arith, none))
 pub walk_of : (v : Frozen) (d : Digest) (found : List Ancestor) → AreFound v d found → IsWalk v d (blocks (reverse found))
 walk_of v d found are = record {
   digests = digests (reverse found);
-  found = blocks_at v (reverse found) (recursion_from_All (λ (a : Ancestor). get v.blocks a.digest ≡ Some a.block.now) (reverse found)
-      (All-permutation (λ (a : Ancestor). get v.blocks a.digest ≡ Some a.block.now) found (reverse found) (IsPermutation-reverse found) are.at));
+  found = blocks_at v (reverse found) (recursion_from_All (λ (a : Ancestor). get v.blocks a.digest.now ≡ Some a.block.now) (reverse found)
+      (All-permutation (λ (a : Ancestor). get v.blocks a.digest.now ≡ Some a.block.now) found (reverse found) (IsPermutation-reverse found) are.at));
   exactly = λ a. (
     λ among. (are.exactly a).0 (Contains-permutation (digests (reverse found)) (digests found) a (IsPermutation-sym _ _ moved) among),
     λ ancestor. Contains-permutation (digests found) (digests (reverse found)) a moved ((are.exactly a).1 ancestor),
@@ -127,7 +127,7 @@ walk_of v d found are = record {
 }
   where
     moved : IsPermutation (digests found) (digests (reverse found))
-    moved = IsPermutation-map (λ (x : Ancestor). x.digest) found (reverse found) (IsPermutation-reverse found)
+    moved = IsPermutation-map (λ (x : Ancestor). x.digest.now) found (reverse found) (IsPermutation-reverse found)
 
 -- ---- a block more of a round
 
@@ -136,10 +136,10 @@ pub level_none : (v : Frozen) (round : ℕ) → IsLevel v round []
 unfolding IsStrictlySortedBy
 level_none v round = record { at = All-nil _; rounds = All-nil _; order = tt }
 
-pub level_one : (v : Frozen) (a : Ancestor) → get v.blocks a.digest ≡ Some a.block.now → IsLevel v a.block.now.round (a ∷ [])
+pub level_one : (v : Frozen) (a : Ancestor) → get v.blocks a.digest.now ≡ Some a.block.now → IsLevel v a.block.now.round (a ∷ [])
 unfolding IsStrictlySortedBy
 level_one v a at = record {
-  at = All-cons (λ (x : Ancestor). get v.blocks x.digest ≡ Some x.block.now) a [] at (All-nil _);
+  at = All-cons (λ (x : Ancestor). get v.blocks x.digest.now ≡ Some x.block.now) a [] at (All-nil _);
   rounds = All-cons (λ (x : Ancestor). x.block.now.round ≡ a.block.now.round) a [] refl (All-nil _);
   order = (tt, tt);
 }
@@ -155,10 +155,10 @@ rise v round n level is i j d le lt = index_falls n (get_or level j d).block.now
 ])
 
 -- a block that the search did not find takes its place
-pub level_more : (v : Frozen) (round p : ℕ) (level : List Ancestor) (a : Ancestor) → IsLevel v round level → get v.blocks a.digest ≡ Some a.block.now → a.block.now.round ≡ round → p ≤ length level
+pub level_more : (v : Frozen) (round p : ℕ) (level : List Ancestor) (a : Ancestor) → IsLevel v round level → get v.blocks a.digest.now ≡ Some a.block.now → a.block.now.round ≡ round → p ≤ length level
     → IsBinarySearchResult (λ (x : Ancestor). nat_cmp a.block.now.author x.block.now.author) level (Err p) → IsLevel v round (insert level p a)
 level_more v round p level a is at of within searched = record {
-  at = put (λ (x : Ancestor). get v.blocks x.digest ≡ Some x.block.now) is.at at;
+  at = put (λ (x : Ancestor). get v.blocks x.digest.now ≡ Some x.block.now) is.at at;
   rounds = put (λ (x : Ancestor). x.block.now.round ≡ round) is.rounds of;
   order = sorted_with descending (take p level) (drop p level) a (rw (take-append-drop p level) is.order) before after;
 }
@@ -183,20 +183,20 @@ level_more v round p level a is at of within searched = record {
         rw (get_or-drop p level k d) (less_by_author x.block.now.round a.block.now.round x.block.now.author a.block.now.author (is.rounds (p + k) d there ∙ sym of)
         (ranked a.block.now.author x.block.now.author Greater (sym (parted.1 (p + k) d (omega arith) there))))
 
-pub gains_more : (level : List Ancestor) (p : ℕ) (a : Ancestor) (e : Digest) → a.digest ≡ e → Gains (λ f. e ≡ f) level (insert level p a)
+pub gains_more : (level : List Ancestor) (p : ℕ) (a : Ancestor) (e : Digest) → a.digest.now ≡ e → Gains (λ f. e ≡ f) level (insert level p a)
 gains_more level p a e is f = (
-  λ among. elim (contains_cases a.digest (digests level) f (Contains-permutation (digests (insert level p a)) (digests (a ∷ level)) f (IsPermutation-sym _ _ moved) among)) [
+  λ among. elim (contains_cases a.digest.now (digests level) f (Contains-permutation (digests (insert level p a)) (digests (a ∷ level)) f (IsPermutation-sym _ _ moved) among)) [
     | inl here ↦ inr (sym is ∙ here)
     | inr before ↦ inl before
   ],
   λ either. Contains-permutation (digests (a ∷ level)) (digests (insert level p a)) f moved (elim either [
-    | inl before ↦ contains_later a.digest (digests level) f before
-    | inr here ↦ subst (λ q. Contains (a.digest ∷ digests level) q) (is ∙ here) (contains_first a.digest (digests level))
+    | inl before ↦ contains_later a.digest.now (digests level) f before
+    | inr here ↦ subst (λ q. Contains (a.digest.now ∷ digests level) q) (is ∙ here) (contains_first a.digest.now (digests level))
   ]),
 )
   where
     moved : IsPermutation (digests (a ∷ level)) (digests (insert level p a))
-    moved = IsPermutation-map (λ (x : Ancestor). x.digest) (a ∷ level) (insert level p a) (IsPermutation-insert level p a)
+    moved = IsPermutation-map (λ (x : Ancestor). x.digest.now) (a ∷ level) (insert level p a) (IsPermutation-insert level p a)
 
 -- where the search finds the author, the block that is referred to is there
 pub gains_none : (v : Frozen) (round k : ℕ) (level : List Ancestor) (r : Ref) → IsClosed v → v.floor ≤ round → IsLevel v round level → HasParent v.blocks (round + 1) r → k < length level
@@ -215,7 +215,7 @@ gains_none v round k (d ∷ others) r closed floor is (b, at, by, before) lt equ
         let x : Ancestor = get_or (d ∷ others) k d in
         let rounds : x.block.now.round ≡ b.round = omega (arith, is.rounds k d lt, before) in
         let authors : x.block.now.author ≡ b.author = sym (by ∙ ranked r.author x.block.now.author Equal (sym (equal d))) in
-        subst (λ q. Contains (digests (d ∷ others)) q) (closed.apart x.digest r.digest x.block.now b (is.at k d lt) at (omega (arith, is.rounds k d lt, floor)) (λ i. (rounds i, authors i)))
+        subst (λ q. Contains (digests (d ∷ others)) q) (closed.apart x.digest.now r.digest x.block.now b (is.at k d lt) at (omega (arith, is.rounds k d lt, floor)) (λ i. (rounds i, authors i)))
         (among_digests (d ∷ others) x (Contains-get_or (d ∷ others) k d lt))
 
 -- one gain, and then another
@@ -240,12 +240,12 @@ gains_on P Q R a b c one two both e = (
 -- an ancestor of a round, by its place
 pub record IsChild (v : Frozen) (round i : ℕ) (level : List Ancestor) (a : Ancestor) (b : Block) : Type 0 where
   pub within : i < length (digests level)
-  pub at : get v.blocks (get_or (digests level) i a.digest) ≡ Some b
+  pub at : get v.blocks (get_or (digests level) i a.digest.now) ≡ Some b
   pub of : b.round ≡ round
 
 pub child_is : (v : Frozen) (round i : ℕ) (level : List Ancestor) (a : Ancestor) (b : Block) → IsLevel v round level → i < length level → a ≡ get_or level i a → b ≡ a.block.now → IsChild v round i level a b
 child_is v round i level a b level_is lt is is_b = record {
-  within = omega (arith, lt, length-map level (λ (x : Ancestor). x.digest));
-  at = ap (get v.blocks) (get_or-map (λ (x : Ancestor). x.digest) level i a a.digest lt) ∙ level_is.at i a lt ∙ ap (λ (x : Ancestor). Some x.block.now) (sym is) ∙ ap Some (sym is_b);
+  within = omega (arith, lt, length-map level (λ (x : Ancestor). x.digest.now));
+  at = ap (get v.blocks) (get_or-map (λ (x : Ancestor). x.digest.now) level i a a.digest.now lt) ∙ level_is.at i a lt ∙ ap (λ (x : Ancestor). Some x.block.now) (sym is) ∙ ap Some (sym is_b);
   of = ap (λ (x : Block). x.round) is_b ∙ ap (λ (x : Ancestor). x.block.now.round) is ∙ level_is.rounds i a lt;
 }

@@ -11,7 +11,7 @@ use Rattle.nw_causal.specs.declared.ancestor.Ancestor.{Ancestor}
 
 -- the digests, in order
 abbrev pub digests : List Ancestor → List Digest
-digests = map (λ (a : Ancestor). a.digest)
+digests = map (λ (a : Ancestor). a.digest.now)
 
 -- the blocks, in order
 abbrev pub blocks : List Ancestor → List Block
@@ -19,7 +19,7 @@ blocks = map (λ (a : Ancestor). a.block.now)
 
 -- the block of each is what the view has under its digest
 abbrev pub AreAt : Frozen → List Ancestor → Type 0
-AreAt v = All (λ (a : Ancestor). get v.blocks a.digest ≡ Some a.block.now)
+AreAt v = All (λ (a : Ancestor). get v.blocks a.digest.now ≡ Some a.block.now)
 
 -- from the last to the first by round, and then by author
 abbrev pub descending : Ancestor → Ancestor → Ordering

@@ -35,7 +35,7 @@ pub fn agree(alloc: Global, one: &View, other: &View, digest: Digest) -> Result<
     ensures { IfOk result
         (λ agreement. IsAgreement one.now.frozen other.now.frozen digest agreement) }
 {
-    let found = ancestors(alloc, one, digest)?;
+    let found = ancestors(alloc, one, &digest)?;
     let floor = other.floor();
     for ancestor in &found {
         if let Some(rival) = rival(other, floor, ancestor)? {
@@ -56,10 +56,10 @@ fn rival(
 ) -> Result<Option<Shared<Block>>, NoMemory>
     requires { floor ≡ other.now.frozen.floor }
     ensures { IfOk result (λ found. MatchOption found
-        (IsMatched other.now.frozen ancestor.now.digest ancestor.now.block.now)
-        (λ rival. IsRival other.now.frozen ancestor.now.digest ancestor.now.block.now rival)) }
+        (IsMatched other.now.frozen ancestor.now.digest.now ancestor.now.block.now)
+        (λ rival. IsRival other.now.frozen ancestor.now.digest.now ancestor.now.block.now rival)) }
 {
-    if let Some(rival) = other.get(&ancestor.digest) {
+    if let Some(rival) = other.get(ancestor.digest) {
         let (one, other) = (ancestor.block.get(), rival.get());
         if floor <= one.round && floor <= other.round && !is_same(one, other) {
             return Ok(Some(rival.try_clone()?));

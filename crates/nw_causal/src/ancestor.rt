@@ -11,20 +11,24 @@ use nw_generation::View;
 /// A digest, and the block that stands under it in the view.
 #[derive(Drop)]
 pub(crate) struct Ancestor<'a> {
-    pub(crate) digest: Digest,
+    pub(crate) digest: &'a Digest,
     pub(crate) block: &'a Shared<Block>,
 }
 
 impl<'a> Ancestor<'a> {
-    /// The digest with its block, which the view has, of this round where one is named: one look-up.
-    pub(crate) fn look_up(view: &'a View, round: Option<Round>, digest: Digest) -> Ancestor<'a>
-        requires there { (b : Block) × (map.get view.now.frozen.blocks digest ≡ Some b) }
-        requires round { IsOf round (map.get view.now.frozen.blocks digest) }
-        ensures digest { result.digest ≡ digest }
-        ensures block { map.get view.now.frozen.blocks digest ≡ Some result.block.now }
+    /// The digest with its block, which the view has, of this round where one is named, with an author: one look-up.
+    pub(crate) fn look_up(
+        view: &'a View,
+        slot: Option<(Round, u16)>,
+        digest: &'a Digest,
+    ) -> Ancestor<'a>
+        requires there { (b : Block) × (map.get view.now.frozen.blocks digest.now ≡ Some b) }
+        requires slot { IsOf slot (map.get view.now.frozen.blocks digest.now) }
+        ensures digest { result.digest.now ≡ digest.now }
+        ensures block { map.get view.now.frozen.blocks digest.now ≡ Some result.block.now }
         ensures closed { IsClosed view.now.frozen }
     {
-        let Some(block) = view.get_of(round, &digest) else {
+        let Some(block) = view.get_of(slot, digest) else {
             unreachable!()
         };
         Ancestor { digest, block }

@@ -21,7 +21,7 @@ pub fn walk(alloc: Global, view: &View, digest: Digest) -> Result<Vec<Shared<Blo
     requires { (b : Block) × IsThere view.now.frozen digest b }
     ensures { IfOk result (λ blocks. IsWalk view.now.frozen digest blocks.items) }
 {
-    let found = ancestors(alloc, view, digest)?;
+    let found = ancestors(alloc, view, &digest)?;
     let mut blocks = Vec::with_capacity(alloc, found.len())?;
     for ancestor in found.iter().rev() {
         blocks.push(ancestor.block.try_clone()?)?;
@@ -33,10 +33,10 @@ pub fn walk(alloc: Global, view: &View, digest: Digest) -> Result<Vec<Shared<Blo
 pub(crate) fn ancestors<'a>(
     alloc: Global,
     view: &'a View,
-    digest: Digest,
+    digest: &'a Digest,
 ) -> Result<Vec<Ancestor<'a>>, NoMemory>
-    requires { (b : Block) × IsThere view.now.frozen digest b }
-    ensures found { IfOk result (λ found. AreFound view.now.frozen digest found.items) }
+    requires { (b : Block) × IsThere view.now.frozen digest.now b }
+    ensures found { IfOk result (λ found. AreFound view.now.frozen digest.now found.items) }
     ensures closed { OnOk result (IsClosed view.now.frozen) }
 {
     let floor = view.floor().get();
@@ -81,7 +81,7 @@ fn find_parents_of_all<'a>(
 fn find_parents<'a>(
     view: &'a View,
     round: Round,
-    references: &[Ref],
+    references: &'a [Ref],
     parents: &mut Vec<Ancestor<'a>>,
 ) -> Result<(), NoMemory>
     requires closed { IsClosed view.now.frozen }
@@ -97,7 +97,11 @@ fn find_parents<'a>(
         match place_of(parents, reference.author, last.saturating_sub(1)) {
             Ok(place) => last = place,
             Err(place) => {
-                let parent = Ancestor::look_up(view, Some(round), reference.digest);
+                let parent = Ancestor::look_up(
+                    view,
+                    Some((round, reference.author)),
+                    &reference.digest,
+                );
                 parents.insert(place, parent)?;
                 last = place;
             }

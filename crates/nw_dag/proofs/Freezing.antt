@@ -23,7 +23,7 @@ use Rattle.nw_generation.specs.Seen.{IsOver}
 use Rattle.nw_held.specs.Standing.{Stands}
 use Rattle.nw_dag.specs.Lacking.{IsReady}
 use Rattle.nw_dag.specs.Settled.{IsSettled}
-use Rattle.nw_dag.specs.Frozen.{IsHeldReady, AreOf, AreFrozen, AreFrozenBut, Grows}
+use Rattle.nw_dag.specs.Frozen.{IsHeldReady, AreOf, AreFrozen, AreFrozenBut, AreKept, Grows}
 use Rattle.nw_dag.proofs.Arrival.{Arrives, AreLackingSince, ready_still, ready_was}
 use Rattle.nw_dag.proofs.Complete.{ready_complete}
 
@@ -92,6 +92,11 @@ frozen_above s lacking fresh all kept was is = record {
     | inr among ↦ inr among
   ];
 }
+
+-- all is kept, or what is not below the garbage round
+pub frozen_kept : (s : State) (lacking : Pairs) (fresh : List Digest) (all kept : FinMap digest_cmp Block) → AreFrozenBut s lacking fresh all → AreKept s.floor all kept → AreFrozenBut s lacking fresh kept
+frozen_kept s lacking fresh all kept was (inl same) = subst (AreFrozenBut s lacking fresh) (sym same) was
+frozen_kept s lacking fresh all kept was (inr above) = frozen_above s lacking fresh all kept was above
 
 -- one generation more
 pub frozen_over : (s : State) (lacking : Pairs) (fresh : List Digest) (older newer blocks : FinMap digest_cmp Block) → AreFrozenBut s lacking fresh older → ((d : Digest) → Contains fresh d → IsReady s lacking d) → AreOf s fresh newer

@@ -6,6 +6,7 @@ use Rattle.nw_codec.specs.declared.block.Block.{Block}
 use Rattle.nw_waiting.specs.Pairs.{Pairs}
 use Rattle.nw_digest.specs.Order.{digest_cmp}
 use Rattle.nw_model.specs.State.{State}
+use Rattle.nw_model.specs.Step.{from_round}
 use Rattle.nw_dag.specs.Lacking.{IsReady}
 use Rattle.nw_dag.specs.Settled.{IsSettled}
 
@@ -25,6 +26,10 @@ AreFrozen s lacking blocks = (d : Digest) (b : Block) → s.floor ≤ b.round �
 pub record AreFrozenBut (s : State) (lacking : Pairs) (fresh : List Digest) (blocks : FinMap digest_cmp Block) : Type 0 where
   pub only : (d : Digest) (b : Block) → s.floor ≤ b.round → get blocks d ≡ Some b → IsHeldReady s lacking d b
   pub each : (d : Digest) (b : Block) → s.floor ≤ b.round → IsHeldReady s lacking d b → (get blocks d ≡ Some b) ⊎ Contains fresh d
+
+-- the new blocks are the old ones, or those of them that are not below the round
+abbrev pub AreKept : ℕ → FinMap digest_cmp Block → FinMap digest_cmp Block → Type 0
+AreKept round old new = (new ≡ old) ⊎ (new ≡ from_round (λ b. b.round) round old)
 
 -- the list begins so
 abbrev pub Begins : List Digest → List Digest → Type 0

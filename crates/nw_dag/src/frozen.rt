@@ -1,8 +1,8 @@
 //! The complete blocks that are frozen, of which views are made.
-ghost use Rattle.std.specs.Prelude.{◌≡◌, IfOk, OnOk, OnErr};
+ghost use Rattle.std.specs.Prelude.{◌≡◌, ◌<◌, ◌≤◌, IfOk, OnOk, OnErr};
 ghost use Rattle.std.specs.FinMap as map;
 ghost use Rattle.nw_model.specs.Step.{from_round};
-ghost use Rattle.nw_dag.specs.Frozen.{AreFrozen, AreFrozenBut, AreOf};
+ghost use Rattle.nw_dag.specs.Frozen.{AreFrozen, AreFrozenBut, AreKept, AreOf};
 
 use crate::waits::Waits;
 use nw_codec::Block;
@@ -13,8 +13,8 @@ use nw_trie::Trie;
 use std::alloc::Global;
 
 /// Freezes the blocks that became complete since the last view, as one more generation, or none where none did, and lists them
-/// no more. Where there are as many generations as there may be, they become one first. Want of memory changes nothing but that
-/// what was collected is listed no more.
+/// no more. Where there are as many generations as there may be, some of them become one first. Want of memory changes nothing
+/// but that what was collected is listed no more.
 pub(crate) fn freeze(
     generations: &mut Generations,
     alloc: Global,
@@ -38,7 +38,7 @@ pub(crate) fn freeze(
     }
     let fresh = freeze_held(alloc, held, waits.roll.fresh.as_slice())?;
     if generations.parts() == MOST_PARTS {
-        let mut all = as_one(generations, alloc, held.floor())?;
+        let mut all = fewer(generations, alloc, held.floor())?;
         all.push(fresh)?;
         *generations = all;
     } else {
@@ -46,6 +46,19 @@ pub(crate) fn freeze(
     }
     waits.roll.clear();
     Ok(())
+}
+
+/// What the generations have, in fewer of them. Where all become one, it has only blocks that are not below the round.
+fn fewer(generations: &Generations, alloc: Global, round: Round) -> Result<Generations, NoMemory>
+    requires { 2 ≤ generations.now.parts }
+    ensures blocks { IfOk result
+        (λ fewer. AreKept round generations.now.blocks fewer.blocks) }
+    ensures parts { IfOk result (λ fewer. fewer.parts < generations.now.parts) }
+{
+    match generations.first_small() {
+        0 => as_one(generations, alloc, round),
+        first => generations.joined_from(alloc, first),
+    }
 }
 
 /// What the generations have that is not below the round, as one generation. It costs what they have, and looks at nothing that

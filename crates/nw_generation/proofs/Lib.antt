@@ -1,3 +1,4 @@
 pub mod Searches
 pub mod Unions
 pub mod Merging
+pub mod Slotted

@@ -6,7 +6,8 @@ use Rattle.std.specs.Ordering.{is_eq, ordering_reverse}
 use Rattle.std.specs.Str.{bytes_eq}
 use Rattle.std.proofs.lemmas.Map.Text.{is_eq-slice_cmp}
 use Rattle.std.specs.Map.{keys_of}
-use Rattle.std.specs.Prelude.{filter}
+use Rattle.std.specs.Prelude.{filter, nat_le}
+use Rattle.std.proofs.Math.Dec.{leb-zero}
 use Rattle.std.proofs.lemmas.Map.Keys.{sorted_head, sorted_tail}
 use Rattle.nw_digest.specs.declared.digest.Digest.{Digest}
 use Rattle.nw_codec.specs.declared.block.Block.{Block}
@@ -49,7 +50,7 @@ turned : (o r : Ordering) → o ≡ ordering_reverse r → r ≡ Less → is_eq 
 turned o r is less = ap is_eq (is ∙ ap ordering_reverse less)
 
 -- a digest behind another one is not under it
-past : (d k : Digest) → digest_cmp k d ≡ Less → is_eq (digest_cmp d k) ≡ false
+pub past : (d k : Digest) → digest_cmp k d ≡ Less → is_eq (digest_cmp d k) ≡ false
 past d k less = turned (digest_cmp d k) (digest_cmp k d) (digests_total.antisymm d k) less
 
 module _ (d k : Digest) (b : Block) (after : Entries) where
@@ -108,6 +109,11 @@ filtered_ascend keep (e ∷ es) ascend =
       | true ↦ (above_all e.0 (filter keep es) (each_filter _ keep es (each_above e.0 es ascend.0)), rest)
       | false ↦ rest
     ]
+
+-- no block is below the first round
+pub filtered_all : (es : Entries) → filter (λ e. nat_le 0 e.1.round) es ≡ es
+filtered_all [] = refl
+filtered_all (e ∷ es) = ap (λ t. cond t (e ∷ filter (λ x. nat_le 0 x.1.round) es) (filter (λ x. nat_le 0 x.1.round) es)) (leb-zero e.1.round) ∙ ap (λ (fs : Entries). e ∷ fs) (filtered_all es)
 
 -- the heads of what is before an entry, of it, and of what is after it
 pub heads_parted : (heads later : List ℕ) (es after : Entries) (head : ℕ) (e : Digest × Block) → length heads ≡ length es → AreHeads (heads ++ head ∷ later) (es ++ e ∷ after) → AreHeads heads es × IsHead head e.0 × AreHeads later after

@@ -5,12 +5,12 @@ use Rattle.std.specs.declared.cmp.Ordering.{Ordering}
 use Rattle.std.specs.BTreeMap.{is_at}
 use Rattle.std.specs.List.{AllByRecursion}
 use Rattle.std.proofs.lemmas.List.Elements.{recursion_from_All}
-use Rattle.std.specs.FinMap.{FinMap, entries, get, get-empty, get-entries, get-from_entries}
+use Rattle.std.specs.FinMap.{FinMap, entries, get, get-empty, get-entries, get-from_entries, same_map}
 use Rattle.std.specs.FinMap.Entries.{find}
 use Rattle.nw_digest.specs.declared.digest.Digest.{Digest}
 use Rattle.nw_codec.specs.declared.block.Block.{Block}
 use Rattle.nw_digest.specs.Order.{digest_cmp}
-use Rattle.nw_model.proofs.Maps.{digests_total}
+use Rattle.nw_model.proofs.Maps.{digests_apart, digests_total}
 use Rattle.nw_generation.specs.Entries.{under}
 use Rattle.nw_generation.specs.Seen.{IsOf, IsWithin, latest_first, union}
 
@@ -23,17 +23,26 @@ find_append : {K X : Type 0} (R : K → K → Ordering) (q : K) (es fs : List (K
 find_append R q [] fs = refl
 find_append R q (e ∷ es) fs = ap (cond (is_at (R q) e.0) (Some e.1)) (find_append R q es fs) ∙ or_later (is_at (R q) e.0) e.1 (find R q es) (find R q fs)
 
--- one more generation, which is the latest
-latest_first_append : (older : List (FinMap digest_cmp Block)) (latest : FinMap digest_cmp Block) → latest_first (older ++ latest ∷ []) ≡ entries latest ++ latest_first older
-latest_first_append [] latest = sym (append-nil (entries latest))
-latest_first_append (g ∷ older) latest =
-    ap (λ es. es ++ entries g) (latest_first_append older latest) ∙ append_assoc (entries latest) (latest_first older) (entries g)
+-- more generations, which are later
+latest_first_append : (older later : List (FinMap digest_cmp Block)) → latest_first (older ++ later) ≡ latest_first later ++ latest_first older
+latest_first_append [] later = sym (append-nil (latest_first later))
+latest_first_append (g ∷ older) later =
+    ap (λ es. es ++ entries g) (latest_first_append older later) ∙ append_assoc (latest_first later) (latest_first older) (entries g)
+
+-- a digest is looked for in the later generations, and then in the older ones
+pub get_later : (older later : List (FinMap digest_cmp Block)) (d : Digest) → get (union (older ++ later)) d ≡ option_or (get (union later) d) (get (union older) d)
+get_later older later d =
+    get-from_entries digests_total (latest_first (older ++ later)) d
+    ∙ ap (find digest_cmp d) (latest_first_append older later)
+    ∙ find_append digest_cmp d (latest_first later) (latest_first older)
+    ∙ ap (λ found. option_or found (find digest_cmp d (latest_first older))) (sym (get-from_entries digests_total (latest_first later) d))
+    ∙ ap (option_or (get (union later) d)) (sym (get-from_entries digests_total (latest_first older) d))
 
 -- a digest is looked for in the latest generation, and then in the older ones
 pub get_latest : (older : List (FinMap digest_cmp Block)) (latest : FinMap digest_cmp Block) (d : Digest) → get (union (older ++ latest ∷ [])) d ≡ option_or (get latest d) (get (union older) d)
 get_latest older latest d =
     get-from_entries digests_total (latest_first (older ++ latest ∷ [])) d
-    ∙ ap (find digest_cmp d) (latest_first_append older latest)
+    ∙ ap (find digest_cmp d) (latest_first_append older (latest ∷ []))
     ∙ find_append digest_cmp d (entries latest) (latest_first older)
     ∙ ap (λ found. option_or found (find digest_cmp d (latest_first older))) (sym (get-entries latest d))
     ∙ ap (option_or (get latest d)) (sym (get-from_entries digests_total (latest_first older) d))
@@ -47,17 +56,17 @@ pub get_older : (left older : List (FinMap digest_cmp Block)) (latest : FinMap d
 get_older left older latest d is lacks = ap (λ found. option_or found (get (union older) d)) lacks ∙ sym (get_latest older latest d) ∙ ap (λ gs. get (union gs) d) (sym is)
 
 -- what all generations have is of the round, so what the latest has is
-pub of_latest : (left older : List (FinMap digest_cmp Block)) (latest : FinMap digest_cmp Block) (round : Option ℕ) (d : Digest) → left ≡ older ++ latest ∷ [] → IsOf round (get (union left) d) → IsOf round (get latest d)
+pub of_latest : (left older : List (FinMap digest_cmp Block)) (latest : FinMap digest_cmp Block) (slot : Option (ℕ × ℕ)) (d : Digest) → left ≡ older ++ latest ∷ [] → IsOf slot (get (union left) d) → IsOf slot (get latest d)
 of_latest left older latest None d is of = tt
-of_latest left older latest (Some round) d is of = by (get latest d) (subst (λ o. IfSome o (λ (b : Block). b.round ≡ round)) (ap (λ gs. get (union gs) d) is ∙ get_latest older latest d) of)
+of_latest left older latest (Some (round, author)) d is of = by (get latest d) (subst (λ o. IfSome o (λ (b : Block). b.round ≡ round)) (ap (λ gs. get (union gs) d) is ∙ get_latest older latest d) of)
   where
     by : (found : Option Block) → IfSome (option_or found (get (union older) d)) (λ (b : Block). b.round ≡ round) → IfSome found (λ (b : Block). b.round ≡ round)
     by None h = tt
     by (Some b) h = h
 
 -- entries of other rounds alone have no block of this one
-pub none_of : (es : List (Digest × Block)) (rounds : Option (ℕ × ℕ)) (round : ℕ) (d : Digest) → All (λ (e : Digest × Block). IsWithin rounds e.1.round) es → (IsWithin rounds round → ⊥) → IsOf (Some round) (under es d) → None ≡ under es d
-none_of es rounds round d within out of = by (under es d) (look es (recursion_from_All (λ (e : Digest × Block). IsWithin rounds e.1.round) es within)) of
+pub none_of : (es : List (Digest × Block)) (rounds : Option (ℕ × ℕ)) (round author : ℕ) (d : Digest) → All (λ (e : Digest × Block). IsWithin rounds e.1.round) es → (IsWithin rounds round → ⊥) → IsOf (Some (round, author)) (under es d) → None ≡ under es d
+none_of es rounds round author d within out of = by (under es d) (look es (recursion_from_All (λ (e : Digest × Block). IsWithin rounds e.1.round) es within)) of
   where
     pick : (t : Bool) (b : Block) (o : Option Block) → IsWithin rounds b.round → IfSome o (λ (x : Block). IsWithin rounds x.round) → IfSome (cond t (Some b) o) (λ (x : Block). IsWithin rounds x.round)
     pick true b o here later = here
@@ -75,3 +84,8 @@ none_of es rounds round d within out of = by (under es d) (look es (recursion_fr
 pub get_nowhere : (left : List (FinMap digest_cmp Block)) (d : Digest) → length left ≡ 0 → get (union left) d ≡ None
 get_nowhere [] d none = get-empty digest_cmp d
 get_nowhere (g ∷ left) d none = absurd (omega arith)
+
+-- the later generations become one
+pub union_joined : (older later : List (FinMap digest_cmp Block)) (joined : FinMap digest_cmp Block) → joined ≡ union later → union (older ++ joined ∷ []) ≡ union (older ++ later)
+union_joined older later joined is = same_map digests_total digests_apart (union (older ++ joined ∷ [])) (union (older ++ later)) (λ d.
+    get_latest older joined d ∙ ap (λ (m : FinMap digest_cmp Block). option_or (get m d) (get (union older) d)) is ∙ sym (get_later older later d))

@@ -37,9 +37,9 @@ joined generations = record { blocks = union generations; parts = length generat
 abbrev pub IsOver : FinMap digest_cmp Block → FinMap digest_cmp Block → FinMap digest_cmp Block → Type 0
 IsOver newer older both = (d : Digest) → get both d ≡ option_or (get newer d) (get older d)
 
--- a block, where there is one, is of the round, where one is named
-abbrev pub IsOf : Option ℕ → Option Block → Type 0
-IsOf round found = IfSome round (λ r. IfSome found (λ b. b.round ≡ r))
+-- a block, where there is one, is of the round, where one is named, with an author
+abbrev pub IsOf : Option (ℕ × ℕ) → Option Block → Type 0
+IsOf slot found = IfSome slot (λ s. IfSome found (λ b. b.round ≡ s.0))
 
 -- frozen blocks, and how many generations they come from
 pub record Seen : Type 0 where

@@ -1,5 +1,5 @@
 //! Generations: blocks that are frozen at one moment.
-ghost use Rattle.std.specs.Prelude.{◌≡◌, IfOk, IfErr};
+ghost use Rattle.std.specs.Prelude.{◌≡◌, IfOk, IfErr, IsTrue, None};
 ghost use Rattle.std.specs.Option.{option_copied};
 ghost use Rattle.std.specs.FinMap as map;
 ghost use Rattle.nw_generation.specs.Entries.{Ascend};
@@ -7,6 +7,7 @@ ghost use Rattle.nw_generation.specs.Seen.{IsOf};
 
 use crate::entries::{Entry, of_trie};
 use crate::index::Index;
+use crate::span::{is_within, rounds_of};
 use nw_codec::Block;
 use nw_digest::{Digest, NoMemory, Round, Shared};
 use nw_trie::Trie;
@@ -17,6 +18,8 @@ use std::marker::Model;
 #[derive(Drop)]
 pub struct Generation {
     index: Shared<Index>,
+    /// The least and the greatest round of the blocks.
+    rounds: Option<(Round, Round)>,
 }
 
 impl Model for Generation {
@@ -30,6 +33,11 @@ impl Model for Generation {
     ghost coded = { map.code coded_digest coded_block };
 
     ghost view = { λ g. map.from_entries g.index };
+
+    ghost use Rattle.std.specs.Prelude.{All};
+    ghost use Rattle.nw_generation.specs.Seen.{IsWithin};
+
+    ghost invariant = { λ g. All (λ e. IsWithin g.rounds e.1.round) g.index };
 }
 
 /// The generation of these blocks, which it shares. Want of memory hands the trie back, as it was.
@@ -62,8 +70,10 @@ impl Generation {
         requires { Ascend entries.items }
         ensures { IfOk result (λ generation. generation ≡ map.from_entries entries.items) }
     {
+        let rounds = rounds_of(&entries);
         let index = Index::of(alloc, entries)?;
         Ok(Generation {
+            rounds,
             index: Shared::new(alloc, index)?,
         })
     }
@@ -74,7 +84,13 @@ impl Generation {
     {
         Ok(Generation {
             index: self.index.try_clone()?,
+            rounds: self.rounds,
         })
+    }
+
+    /// How many blocks it has.
+    pub(crate) fn len(&self) -> usize {
+        self.entries().len()
     }
 
     /// Its entries, ascending.
@@ -85,12 +101,27 @@ impl Generation {
         self.index.get().entries()
     }
 
-    /// The block under the digest, which is of this round where one is named: one search, or none where no block is of the
-    /// round.
-    pub fn get(&self, round: Option<Round>, digest: &Digest) -> Option<&Shared<Block>>
-        requires { IsOf round (map.get self.now digest.now) }
+    /// The block under the digest, which is of this round where one is named, and is sought first at the author named with it. It
+    /// looks nowhere where no block is of the round.
+    pub fn get(&self, slot: Option<(Round, u16)>, digest: &Digest) -> Option<&Shared<Block>>
+        requires { IsOf slot (map.get self.now digest.now) }
         ensures { option_copied result ≡ map.get self.now digest.now }
     {
-        self.index.get().get(round, digest)
+        let named = &slot;
+        if self.is_without(named) {
+            return None;
+        }
+        self.index.get().get(named, digest)
+    }
+
+    /// Whether no block is of the round, where one is named.
+    fn is_without(&self, slot: &Option<(Round, u16)>) -> bool
+        ensures { IsTrue result → (d : Digest) → IsOf slot.now (map.get self.now d)
+            → map.get self.now d ≡ None }
+    {
+        match slot {
+            Some((round, _author)) if !is_within(self.rounds, *round) => true,
+            _ => false,
+        }
     }
 }

@@ -76,6 +76,40 @@ impl Generations {
         Generation::of(alloc, entries)
     }
 
+    /// From which on they are to be joined, so that each block is joined seldom: the oldest that has no more blocks than the later
+    /// ones together, or else the last two.
+    pub fn first_small(&self) -> usize
+        requires several { 2 ≤ self.now.parts }
+        ensures { result + 2 ≤ self.now.parts }
+    {
+        let last = self.list.len() - 2;
+        let (mut first, mut later) = (last, 0usize);
+        let mut left = self.list.as_slice();
+        while let Some((generation, older)) = left.split_last() {
+            if generation.len() <= later {
+                first = older.len();
+            }
+            later = later.saturating_add(generation.len());
+            left = older;
+        }
+        first.min(last)
+    }
+
+    /// The same blocks in as many generations as are named and one more, which has what the others hold together. The blocks
+    /// are shared.
+    pub fn joined_from(&self, alloc: Global, first: usize) -> Result<Generations, NoMemory>
+        requires within { first < self.now.parts }
+        ensures blocks { IfOk result (λ joined. joined.blocks ≡ self.now.blocks) }
+        ensures parts { IfOk result (λ joined. joined.parts ≡ first + 1) }
+    {
+        let (older, later) = self.list.as_slice().split_at(first);
+        let lent = joined_entries(alloc, later)?;
+        let entries = owned(alloc, &lent, Round::ZERO)?;
+        let mut list = shared(alloc, older)?;
+        list.push(Generation::of(alloc, entries)?)?;
+        Ok(Generations { list })
+    }
+
     /// A view of what they hold together. It shares them.
     pub fn view(&self, alloc: Global, floor: Round) -> Result<View, NoMemory>
         requires closed { IsClosed (record { blocks = self.now.blocks; floor = floor }) }

@@ -1,13 +1,13 @@
 //! Blocks that are searched by their digests.
-ghost use Rattle.std.specs.Prelude.{◌≡◌, ◌↔◌, ◌<◌, ◌++◌, ◌∷◌, ℕ, All, IfOk, IsTrue, Some, length};
+ghost use Rattle.std.specs.Prelude.{◌≡◌, ◌<◌, ◌++◌, ◌∷◌, IfOk, length};
 ghost use Rattle.std.specs.Option.{option_copied};
 ghost use Rattle.nw_digest.specs.Order.{digest_cmp};
 ghost use Rattle.nw_generation.specs.Entries.{AreHeads, Ascend, IsHead, under};
-ghost use Rattle.nw_generation.specs.Seen.{IsOf, IsWithin};
 
 use crate::entries::Entry;
+use crate::slots::Slots;
 use nw_codec::Block;
-use nw_digest::{Digest, InRound, NoMemory, Round, Shared};
+use nw_digest::{Digest, NoMemory, Round, Shared};
 use std::alloc::Global;
 use std::cmp::Ordering;
 use std::marker::Model;
@@ -18,8 +18,8 @@ pub(crate) struct Index {
     /// The first two bytes of each digest, so that a search follows few pointers.
     heads: Vec<u16>,
     entries: Vec<Entry>,
-    /// The least and the greatest round of the blocks.
-    rounds: Option<(Round, Round)>,
+    /// The same blocks by their rounds and authors.
+    slots: Slots,
 }
 
 impl Model for Index {
@@ -31,12 +31,11 @@ impl Model for Index {
 
     ghost view = { λ i. i.entries.items };
 
-    ghost use Rattle.std.specs.Prelude.{All};
     ghost use Rattle.nw_generation.specs.Entries.{AreHeads, Ascend};
-    ghost use Rattle.nw_generation.specs.Seen.{IsWithin};
+    ghost use Rattle.nw_generation.specs.Slots.{AreAmong};
 
     ghost invariant = { λ i. AreHeads i.heads.items i.entries.items × Ascend i.entries.items
-        × All (λ e. IsWithin i.rounds e.1.round) i.entries.items };
+        × AreAmong i.slots.slots.items i.entries.items };
 }
 
 impl Index {
@@ -47,7 +46,7 @@ impl Index {
     {
         Ok(Index {
             heads: heads_of(alloc, &entries)?,
-            rounds: rounds_of(&entries),
+            slots: Slots::of(alloc, &entries)?,
             entries,
         })
     }
@@ -60,16 +59,16 @@ impl Index {
         self.entries.as_slice()
     }
 
-    /// The block under the digest, which is of this round where one is named: one search, or none where no block is of the
-    /// round.
-    pub(crate) fn get(&self, round: Option<Round>, digest: &Digest) -> Option<&Shared<Block>>
-        requires { IsOf round (under self.now digest.now) }
+    /// The block under the digest. Where a round and an author are named, it is sought there first.
+    pub(crate) fn get(&self, slot: &Option<(Round, u16)>, digest: &Digest) -> Option<&Shared<Block>>
         ensures { option_copied result ≡ under self.now digest.now }
     {
-        match round {
-            Some(round) if !is_within(self.rounds, round) => None,
-            _ => find(self.heads.as_slice(), self.entries.as_slice(), digest),
+        if let Some((round, author)) = slot
+            && let Some(block) = self.slots.get(*round, *author, digest)
+        {
+            return Some(block);
         }
+        find(self.heads.as_slice(), self.entries.as_slice(), digest)
     }
 }
 
@@ -169,37 +168,4 @@ fn heads_of(alloc: Global, entries: &[Entry]) -> Result<Vec<u16>, NoMemory>
         heads.push(head_of(&entry.get().0))?;
     }
     Ok(heads)
-}
-
-/// The least and the greatest round of the blocks, or `None` where there are none. The clause says only that the rounds of
-/// all lie between these two.
-fn rounds_of(entries: &[Entry]) -> Option<(Round, Round)>
-    ensures { All (λ e. IsWithin result e.1.round) entries.now }
-{
-    let mut rounds = None;
-    for entry in entries {
-        rounds = Some(widened(rounds, entry.get().1.round()));
-    }
-    rounds
-}
-
-/// The rounds between these two, and this one.
-fn widened(rounds: Option<(Round, Round)>, round: Round) -> (Round, Round)
-    ensures this { IsWithin (Some result) round }
-    ensures those { (other : ℕ) → IsWithin rounds other → IsWithin (Some result) other }
-{
-    match rounds {
-        None => (round, round),
-        Some((least, greatest)) => (least.min(round), greatest.max(round)),
-    }
-}
-
-/// Whether the round is one of these.
-fn is_within(rounds: Option<(Round, Round)>, round: Round) -> bool
-    ensures { IsTrue result ↔ IsWithin rounds round }
-{
-    match rounds {
-        None => false,
-        Some((least, greatest)) => least <= round && round <= greatest,
-    }
 }

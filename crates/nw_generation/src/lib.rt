@@ -10,6 +10,8 @@ mod entries;
 mod generation;
 mod generations;
 mod index;
+mod slots;
+mod span;
 mod view;
 
 pub use generation::{Generation, freeze};

@@ -51,15 +51,15 @@ impl View {
         self.get_of(None, digest)
     }
 
-    /// The block under the digest, which is of this round where one is named. It looks into those generations alone that have
-    /// blocks of the round.
-    pub fn get_of(&self, round: Option<Round>, digest: &Digest) -> Option<&Shared<Block>>
-        requires { IsOf round (map.get self.now.frozen.blocks digest.now) }
+    /// The block under the digest, which is of this round where one is named, and is sought first at the author named with it. It
+    /// looks only into generations that have blocks of the round.
+    pub fn get_of(&self, slot: Option<(Round, u16)>, digest: &Digest) -> Option<&Shared<Block>>
+        requires { IsOf slot (map.get self.now.frozen.blocks digest.now) }
         ensures block { option_copied result ≡ map.get self.now.frozen.blocks digest.now }
         ensures closed { IsClosed self.now.frozen }
     {
         // (the borrow checker refuses to copy the argument itself in a loop)
-        let named = &round;
+        let named = &slot;
         let mut left = self.generations.as_slice();
         while let Some((generation, older)) = left.split_last() {
             if let Some(block) = generation.get(*named, digest) {

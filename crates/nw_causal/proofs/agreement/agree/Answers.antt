@@ -21,10 +21,10 @@ returns-in-Some c =
     let b : Block = c.in_ok-try_clone.field-0 in
     let found : List Ancestor = c.deref-ancestor-items.result.now in
     let are : AreFound v d found = rw (c.deref-ancestor-items.ensures.value) c.in_ok-found.ensures.found in
-    let at : get v.blocks a.digest ≡ Some a.block.now = subst (λ (x : Ancestor). get v.blocks x.digest ≡ Some x.block.now) (sym c.ancestor-item.is) (are.at c.loop-ancestor.ancestor-index a c.loop-ancestor-test.true) in
-    let ancestor : IsAncestorIn v d a.digest = (are.exactly a.digest).0 (among_digests found a (c.loop-ancestor.ancestor-index, c.loop-ancestor-test.true, sym c.ancestor-item.is)) in
-    let collide : CollideAt v w a.digest b c.in-Some.rival = collide_at v w a.digest b c.in-Some.rival c.requires.floor (at ∙ ap Some (sym c.in_ok-try_clone.ensures)) (rw (c.in_ok-try_clone.ensures) (rw c.in-Some.is at c.in_ok-rival.ensures)) in
-    (no_walk v w d a.digest b c.in-Some.rival c.in_ok-found.ensures.closed c.floor-floor.ensures.closed c.requires.floor c.requires.in_one c.requires.in_other ancestor collide, (a.digest, collide))
+    let at : get v.blocks a.digest.now ≡ Some a.block.now = subst (λ (x : Ancestor). get v.blocks x.digest.now ≡ Some x.block.now) (sym c.ancestor-item.is) (are.at c.loop-ancestor.ancestor-index a c.loop-ancestor-test.true) in
+    let ancestor : IsAncestorIn v d a.digest.now = (are.exactly a.digest.now).0 (among_digests found a (c.loop-ancestor.ancestor-index, c.loop-ancestor-test.true, sym c.ancestor-item.is)) in
+    let collide : CollideAt v w a.digest.now b c.in-Some.rival = collide_at v w a.digest.now b c.in-Some.rival c.requires.floor (at ∙ ap Some (sym c.in_ok-try_clone.ensures)) (rw (c.in_ok-try_clone.ensures) (rw c.in-Some.is at c.in_ok-rival.ensures)) in
+    (no_walk v w d a.digest.now b c.in-Some.rival c.in_ok-found.ensures.closed c.floor-floor.ensures.closed c.requires.floor c.requires.in_one c.requires.in_other ancestor collide, (a.digest.now, collide))
 
 pub loop-ancestor-preserved : goal.loop-ancestor-preserved
 loop-ancestor-preserved c =
@@ -33,9 +33,9 @@ loop-ancestor-preserved c =
     let a : Ancestor = c.ancestor-item.result in
     let found : List Ancestor = c.deref-ancestor-items.result.now in
     let are : AreFound v c.args.digest found = rw (c.deref-ancestor-items.ensures.value) c.in_ok-found.ensures.found in
-    let at : get v.blocks a.digest ≡ Some a.block.now = subst (λ (x : Ancestor). get v.blocks x.digest ≡ Some x.block.now) (sym c.ancestor-item.is) (are.at c.loop-ancestor.ancestor-index a c.loop-ancestor-test.true) in
-    All-more (λ (x : Ancestor). MatchAt v w x.digest) found c.loop-ancestor.ancestor-index a c.loop-ancestor-test.true c.loop-ancestor.invariant
-    (subst (λ (x : Ancestor). MatchAt v w x.digest) c.ancestor-item.is (match_at v w a.digest a.block.now c.requires.floor at (rw c.in_default.is at c.in_ok-rival.ensures)))
+    let at : get v.blocks a.digest.now ≡ Some a.block.now = subst (λ (x : Ancestor). get v.blocks x.digest.now ≡ Some x.block.now) (sym c.ancestor-item.is) (are.at c.loop-ancestor.ancestor-index a c.loop-ancestor-test.true) in
+    All-more (λ (x : Ancestor). MatchAt v w x.digest.now) found c.loop-ancestor.ancestor-index a c.loop-ancestor-test.true c.loop-ancestor.invariant
+    (subst (λ (x : Ancestor). MatchAt v w x.digest.now) c.ancestor-item.is (match_at v w a.digest.now a.block.now c.requires.floor at (rw c.in_default.is at c.in_ok-rival.ensures)))
 
 pub returns : goal.returns
 returns c =
@@ -44,6 +44,6 @@ returns c =
     let d : Digest = c.args.digest in
     let found : List Ancestor = c.deref-ancestor-items.result.now in
     let are : AreFound v d found = rw (c.deref-ancestor-items.ensures.value) c.in_ok-found.ensures.found in
-    let match : All (λ (x : Ancestor). MatchAt v w x.digest) found = subst (All (λ (x : Ancestor). MatchAt v w x.digest)) (take_all c.loop-ancestor.ancestor-index found c.loop-ancestor-test.false) c.loop-ancestor.invariant in
+    let match : All (λ (x : Ancestor). MatchAt v w x.digest.now) found = subst (All (λ (x : Ancestor). MatchAt v w x.digest.now)) (take_all c.loop-ancestor.ancestor-index found c.loop-ancestor-test.false) c.loop-ancestor.invariant in
     one_walk v w d (blocks (reverse found)) c.in_ok-found.ensures.closed c.floor-floor.ensures.closed c.requires.floor c.requires.in_one c.requires.in_other (walk_of v d found are)
-    (λ e ancestor. All-contains (MatchAt v w) (digests found) e (All-map (MatchAt v w) (λ (x : Ancestor). x.digest) found match) ((are.exactly e).1 ancestor))
+    (λ e ancestor. All-contains (MatchAt v w) (digests found) e (All-map (MatchAt v w) (λ (x : Ancestor). x.digest.now) found match) ((are.exactly e).1 ancestor))

@@ -12,7 +12,7 @@ loop-level-init c =
     let first : Ancestor = c.look_up-first.result in
     let level : c.push.new.self.items ≡ first ∷ [] = c.in_ok-push.ensures.items ∙ ap (λ (xs : List Ancestor). xs ++ first ∷ []) c.new-level.ensures.items in
     record {
-      explores = rw (c.new-found.ensures.items, level, c.get.ensures) (explores_first c.args.view.now.frozen c.args.digest first c.requires c.look_up-first.ensures.digest c.look_up-first.ensures.block);
+      explores = rw (c.new-found.ensures.items, level, c.get.ensures) (explores_first c.args.view.now.frozen c.args.digest.now first c.requires c.look_up-first.ensures.digest c.look_up-first.ensures.block);
       floor = c.get-floor.ensures.number ∙ c.floor.ensures.floor;
       empty = c.new-parents.ensures.items;
     }
@@ -22,7 +22,7 @@ loop-level-preserved c =
     let v : Frozen = c.args.view.now.frozen in
     let before : c.unwrap-round.result + 1 ≡ c.loop-level.round = rw c.unwrap-round.ensures at c.before-in-loop-level.ensures in
     record {
-      explores = rw (c.in_ok-append.ensures.items, c.swap.ensures.x_after) (explores_on v c.args.digest c.loop-level.found.items c.loop-level.level.items c.find_parents_of_all.new.parents.items c.loop-level.round c.unwrap-round.result
+      explores = rw (c.in_ok-append.ensures.items, c.swap.ensures.x_after) (explores_on v c.args.digest.now c.loop-level.found.items c.loop-level.level.items c.find_parents_of_all.new.parents.items c.loop-level.round c.unwrap-round.result
           c.floor.ensures.closed c.loop-level.invariant.explores before (omega (arith, before, c.loop-level-test.true, c.loop-level.invariant.floor, c.get-in-loop-level.ensures.number)) c.in_ok-find_parents_of_all.ensures.level
           (rw (c.deref.ensures.value, c.loop-level.invariant.empty) at c.in_ok-find_parents_of_all.ensures.gains));
       floor = c.get-floor.ensures.number ∙ c.floor.ensures.floor;
@@ -31,7 +31,7 @@ loop-level-preserved c =
 
 pub returns-clause-found : goal.returns-clause-found
 returns-clause-found c =
-    rw (c.in_ok-append-2.ensures.items) (explores_all c.args.view.now.frozen c.args.digest c.loop-level.found.items c.loop-level.level.items c.loop-level.round c.loop-level.invariant.explores (λ above. elim c.loop-level-test.branch [
+    rw (c.in_ok-append-2.ensures.items) (explores_all c.args.view.now.frozen c.args.digest.now c.loop-level.found.items c.loop-level.level.items c.loop-level.round c.loop-level.invariant.explores (λ above. elim c.loop-level-test.branch [
       | then-loop-level-test+else-not-is_empty w ↦
           let none = none_left c.loop-level.level.len w.if-not-is_empty.ensures in
           nil_from_length c.loop-level.level.items (omega (arith, none, c.loop-level.level.ok.0))

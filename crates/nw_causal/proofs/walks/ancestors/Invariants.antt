@@ -4,7 +4,7 @@ use Rattle.nw_causal.proofs.walks.ancestors.Given as goal
 
 abbrev pub invariant-loop-level : goal.invariant-loop-level
 invariant-loop-level l = record {
-  explores : Explores l.view.frozen l.fn.digest l.found.items l.level.items l.round;
+  explores : Explores l.view.frozen l.digest l.found.items l.level.items l.round;
   floor : l.floor ≡ l.view.frozen.floor;
   empty : l.parents.items ≡ [];
 }

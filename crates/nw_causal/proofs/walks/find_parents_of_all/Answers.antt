@@ -40,11 +40,11 @@ loop-child-preserved c =
     record {
       level = c.in_ok-find_parents.ensures.level;
       gains = gains_on (IsParentOfAny v (take c.loop-child.child-index names)) (IsNamed b.parents) (IsParentOfAny v (take (c.loop-child.child-index + 1) names)) c.args.parents.now.items c.loop-child.parents.items c.find_parents.new.parents.items
-          c.loop-child.invariant.gains (rw c.as_slice-references.ensures at c.in_ok-find_parents.ensures.gains) (parents_more v names c.loop-child.child-index a.digest b child.within child.at (omega (arith, child.of, c.requires.floor)));
+          c.loop-child.invariant.gains (rw c.as_slice-references.ensures at c.in_ok-find_parents.ensures.gains) (parents_more v names c.loop-child.child-index a.digest.now b child.within child.at (omega (arith, child.of, c.requires.floor)));
     }
 
 pub returns-clause-gains : goal.returns-clause-gains
 returns-clause-gains c =
     let names : List Digest = digests c.args.level.now in
-    let past : length names ≤ c.loop-child.child-index = omega (arith, c.loop-child-test.false, length-map c.args.level.now (λ (x : Ancestor). x.digest)) in
+    let past : length names ≤ c.loop-child.child-index = omega (arith, c.loop-child-test.false, length-map c.args.level.now (λ (x : Ancestor). x.digest.now)) in
     rw (← take_all c.loop-child.child-index names past) c.loop-child.invariant.gains

@@ -1,5 +1,5 @@
 use Rattle.std.proofs.Common.{arith}
-use Rattle.nw_dag.proofs.Freezing.{frozen_above, frozen_all, frozen_fewer, frozen_none, frozen_over}
+use Rattle.nw_dag.proofs.Freezing.{frozen_all, frozen_fewer, frozen_kept, frozen_none, frozen_over}
 use Rattle.std.specs.Prelude.{Contains}
 use Rattle.nw_digest.specs.declared.digest.Digest.{Digest}
 use Rattle.nw_dag.specs.Lacking.{IsReady}
@@ -36,7 +36,7 @@ returns-clause-all c =
     elim c.if-parts-eq-MOST_PARTS.branch [
       | then-parts-eq-MOST_PARTS+in_ok-all+in_ok-push w ↦
           rw w.generations-is (frozen_over s lacking fresh w.in_ok-all.all.blocks c.in_ok-fresh.fresh w.push.new.self.blocks
-          (frozen_above s lacking fresh c.args.generations.now.blocks w.in_ok-all.all.blocks fewer (rw w.floor.ensures at w.in_ok-all.ensures.blocks)) ready of w.in_ok-push.ensures.blocks)
+          (frozen_kept s lacking fresh c.args.generations.now.blocks w.in_ok-all.all.blocks fewer (rw w.floor.ensures at w.in_ok-all.ensures.blocks)) ready of w.in_ok-push.ensures.blocks)
       | else-parts-eq-MOST_PARTS+in_ok-push-2 w ↦
           rw w.generations-is (frozen_over s lacking fresh c.args.generations.now.blocks c.in_ok-fresh.fresh w.push-else-parts-eq-MOST_PARTS.new.self.blocks fewer ready of w.in_ok-push-2.ensures.blocks)
     ]

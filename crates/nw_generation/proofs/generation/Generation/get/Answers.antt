@@ -1,18 +1,11 @@
-use Rattle.std.proofs.Common.{List, ap, subst, sym, ◌∙◌}
+use Rattle.std.proofs.Common.{List, ap, sym, ◌∙◌}
 use Rattle.std.specs.FinMap.{FinMap, get}
 use Rattle.nw_digest.specs.declared.digest.Digest.{Digest}
 use Rattle.nw_codec.specs.declared.block.Block.{Block}
 use Rattle.nw_digest.specs.Order.{digest_cmp}
 use Rattle.nw_model.proofs.Maps.{digests_total, get_lookup}
 use Rattle.nw_generation.specs.Entries.{under}
-use Rattle.nw_generation.specs.Seen.{IsOf}
 use Rattle.nw_generation.proofs.generation.Generation.get.Goals as goal
-
-pub get-requires-2 : goal.get-requires-2
-get-requires-2 c =
-    let es : List (Digest × Block) = c.self.inside.index in
-    let d : Digest = c.args.digest.now in
-    rw c.get.ensures (subst (IsOf c.args.round) (ap (λ (m : FinMap digest_cmp Block). get m d) (sym c.self.view_is) ∙ get_lookup digests_total es d) c.requires)
 
 pub returns : goal.returns
 returns c =

@@ -4,7 +4,7 @@ use Rattle.nw_generation.proofs.view.View.get_of.Goals as goal
 
 pub get-requires : goal.get-requires
 get-requires c =
-    of_latest c.loop-generation.left.now c.in-Some.older.now c.in-Some.generation.now c.args.round c.args.digest.now c.in-Some.ensures.cases.0
+    of_latest c.loop-generation.left.now c.in-Some.older.now c.in-Some.generation.now c.args.slot c.args.digest.now c.in-Some.ensures.cases.0
     (rw (← c.self.view_is, ← c.as_slice-left.ensures.value, ← c.loop-generation.invariant) at c.requires)
 
 pub returns-in-Some-get-clause-block : goal.returns-in-Some-get-clause-block

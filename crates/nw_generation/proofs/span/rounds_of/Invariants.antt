@@ -2,7 +2,7 @@ use Rattle.std.proofs.Common.{All, take}
 use Rattle.nw_codec.specs.declared.block.Block.{Block}
 use Rattle.nw_digest.specs.declared.digest.Digest.{Digest}
 use Rattle.nw_generation.specs.Seen.{IsWithin}
-use Rattle.nw_generation.proofs.index.rounds_of.Given as goal
+use Rattle.nw_generation.proofs.span.rounds_of.Given as goal
 
 abbrev pub invariant-loop-entry : goal.invariant-loop-entry
 invariant-loop-entry l = All (λ (e : Digest × Block). IsWithin l.rounds e.1.round) (take l.entry-index l.entries)
