@@ -18,7 +18,8 @@ use std::sync::{Arc, Mutex, MutexGuard, OnceLock, PoisonError};
 ///
 /// The digest of a block from a walk takes a SHA-256 of the whole body when it is first asked for.
 /// The first use of any other part copies the whole body once, also for the round and the author.
-/// That is cheaper than the digest, and in one walk no two blocks share both.
+/// That is cheaper than the digest. In one walk, no two blocks have the same round and author, so the
+/// two name a block there.
 ///
 /// A block made by [`Block::new`] keeps the limits of the format, but it is not checked under a
 /// committee. [`Message::check`](crate::Message::check) does that for a signed block.

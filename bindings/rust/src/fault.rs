@@ -7,6 +7,8 @@ use std::error::Error;
 use std::fmt;
 
 /// Why a message did not pass its check.
+///
+/// The text names only the kind of the message. The source of the error is the rule that is broken.
 #[derive(Clone, Copy, Debug, PartialEq, Eq)]
 #[non_exhaustive]
 pub enum CheckError {
