@@ -112,6 +112,7 @@ mod slot;
 mod store;
 mod ticket;
 mod told;
+mod walk;
 
 pub use answer::{Answer, Causal};
 pub use block::{Block, BlockError};
@@ -132,6 +133,7 @@ pub use session::Session;
 pub use slot::{Slot, text_of_block, text_of_vote, vote_message};
 pub use store::{Store, StoreBuilder};
 pub use ticket::{AgreeError, Ticket};
+pub use walk::Walk;
 
 /// The path of the static library that this crate was linked with.
 pub const ARCHIVE: &str = env!("NW_ARCHIVE");
@@ -154,4 +156,6 @@ const _: () = {
     send::<Causal>();
     send::<History>();
     send::<Ticket>();
+    send::<Walk>();
+    sync::<Walk>();
 };

@@ -1,14 +1,12 @@
 //! Tickets of causal reads.
 
-use crate::block::Source;
 use crate::code::Code;
 use crate::error::error_texts;
 use crate::ffi::{self, Handle};
 use crate::room::Room;
-use crate::{Block, Digest, History, NoMemory};
+use crate::{Digest, History, NoMemory, Walk};
 use std::fmt;
 use std::ptr;
-use std::sync::{Arc, Mutex};
 
 /// A causal read that is ready to be walked: a snapshot of a block with its certified ancestors of
 /// rounds not below the garbage round, as of the call that opened the ticket.
@@ -63,8 +61,6 @@ impl Ticket {
     /// Every walk of a ticket returns the same list. So do walks of all tickets for the same digest
     /// with the same [`floor`](Ticket::floor), of any store, unless two blocks have one digest.
     ///
-    /// The blocks share the list in memory. Each leaves it when one of its parts is asked for.
-    ///
     /// # Errors
     ///
     /// [`NoMemory`] if the library could not allocate memory.
@@ -88,20 +84,18 @@ impl Ticket {
     /// let ticket = session.causal(&last)?.into_ticket()?;
     /// session.collect(1)?; // It drops the blocks of round 0, but not from the ticket.
     /// let walker = std::thread::spawn(move || ticket.walk());
-    /// let blocks = walker.join().unwrap()?;
+    /// let blocks: Vec<_> = walker.join().unwrap()?.collect();
     /// assert_eq!(blocks[0].round(), 0);
     /// assert_eq!(blocks.last().unwrap().digest(), last);
     /// # Ok::<(), Box<dyn std::error::Error>>(())
     /// ```
-    pub fn walk(&self) -> Result<Vec<Block>, NoMemory> {
+    pub fn walk(&self) -> Result<Walk, NoMemory> {
         let ticket = &mut self.history.room.borrow_mut();
         let mut list =
             Handle::opened(|out| ffi::nw_ticket_walk(ticket, out)).map_err(Code::no_memory)?;
         let mut len = 0;
         ffi::nw_list_len(&mut list, &mut len).or_no_memory()?;
-        let list = Arc::new(Mutex::new(list));
-        let listed = |index| Block::at(Source::Listed(Arc::clone(&list), index));
-        Ok((0..len).map(listed).collect())
+        Ok(Walk::new(list, len))
     }
 
     /// Compares the lists of two tickets for the same digest with the same

@@ -298,8 +298,8 @@ impl<'a> World<'a> {
         );
         let walked = ticket.walk().expect("memory");
         assert_eq!(walked.len(), list.len(), "the length of a walk");
-        for (block, expected) in walked.iter().zip(list) {
-            assert_eq!(block_of(block), **expected, "a block of a walk");
+        for (block, expected) in walked.zip(list) {
+            assert_eq!(block_of(&block), **expected, "a block of a walk");
         }
         let digests: Vec<_> = list.iter().map(|block| block.digest).collect();
         if let Some((other, other_ticket)) = self.lists.get(&key) {

@@ -1,0 +1,69 @@
+//! Lists of walks.
+
+use crate::Block;
+use crate::block::Source;
+use crate::ffi::Handle;
+use std::fmt;
+use std::iter::FusedIterator;
+use std::ops::Range;
+use std::sync::{Arc, Mutex};
+
+/// The blocks of a walk, ascending by round and author.
+///
+/// [`Ticket::walk`](crate::Ticket::walk) makes it. It is an iterator that knows its length and goes
+/// in both directions. The blocks share one list in memory. Each leaves it when one of its parts is
+/// asked for.
+#[derive(Clone)]
+pub struct Walk {
+    list: Arc<Mutex<Handle>>,
+    left: Range<usize>,
+}
+
+impl Walk {
+    pub(crate) fn new(list: Handle, len: usize) -> Walk {
+        Walk {
+            list: Arc::new(Mutex::new(list)),
+            left: 0..len,
+        }
+    }
+
+    fn block(&self, index: usize) -> Block {
+        Block::at(Source::Listed(Arc::clone(&self.list), index))
+    }
+}
+
+impl Iterator for Walk {
+    type Item = Block;
+
+    fn next(&mut self) -> Option<Block> {
+        self.left.next().map(|index| self.block(index))
+    }
+
+    fn size_hint(&self) -> (usize, Option<usize>) {
+        self.left.size_hint()
+    }
+
+    fn nth(&mut self, n: usize) -> Option<Block> {
+        self.left.nth(n).map(|index| self.block(index))
+    }
+
+    fn last(mut self) -> Option<Block> {
+        self.next_back()
+    }
+}
+
+impl DoubleEndedIterator for Walk {
+    fn next_back(&mut self) -> Option<Block> {
+        self.left.next_back().map(|index| self.block(index))
+    }
+}
+
+impl ExactSizeIterator for Walk {}
+
+impl FusedIterator for Walk {}
+
+impl fmt::Debug for Walk {
+    fn fmt(&self, f: &mut fmt::Formatter<'_>) -> fmt::Result {
+        f.debug_list().entries(self.clone()).finish()
+    }
+}
