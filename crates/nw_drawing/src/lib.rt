@@ -20,5 +20,5 @@ mod whole;
 
 pub use fault::DrawFault;
 pub use picture::{Link, Picture, State, Tile};
-pub use scale::{Scale, boxes_do_not_overlap};
+pub use scale::{Scale, boxes_do_not_overlap, lane_below};
 pub use whole::draw;
