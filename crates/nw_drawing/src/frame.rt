@@ -1,8 +1,8 @@
 //! What stands round the blocks: rounds, authors, and the line of the garbage round.
 
 use crate::grid::Grid;
-use crate::rows::Row;
-use crate::scale::{LANE, Scale};
+use crate::marks::write_branch;
+use crate::scale::{GROUND_HEIGHT, Scale};
 use crate::shapes::{Point, write_box, write_count, write_line, write_text};
 use std::io::{self, Write};
 
@@ -11,6 +11,9 @@ const ROUNDS: u64 = 40;
 
 // How far down the garbage round is told.
 const GARBAGE: u64 = 18;
+
+// How far right rows begin.
+const ROWS: u64 = 8;
 
 // How far right authors are told.
 const AUTHORS: u64 = 16;
@@ -44,27 +47,36 @@ pub(crate) fn write_rounds<W: Write>(out: &mut W, grid: &Grid, scale: Scale) -> 
     Ok(())
 }
 
-/// Tells the authors, each on a ground for its lanes.
+/// Where the rows end.
+pub(crate) fn right_of(grid: &Grid, scale: Scale) -> u64 {
+    let half = u64::from(scale.gap) / 2;
+    scale.column(grid.columns()).saturating_add(half)
+}
+
+/// Tells the authors, each on the ground of its row.
 pub(crate) fn write_authors<W: Write>(out: &mut W, grid: &Grid, scale: Scale) -> io::Result<()> {
-    let width = scale.column(grid.columns());
-    for row in &grid.rows {
-        write_author(out, *row, width)?;
+    let width = right_of(grid, scale).saturating_sub(ROWS);
+    for (row, author) in (0..=u16::MAX).zip(&grid.authors) {
+        write_author(out, u32::from(row), *author, width)?;
     }
     Ok(())
 }
 
-fn write_author<W: Write>(out: &mut W, row: Row, width: u64) -> io::Result<()> {
-    let top = Scale::top(row.first_lane);
-    let height = u64::from(row.lanes).saturating_mul(LANE).saturating_sub(2);
-    write_box(
-        out,
-        "row",
-        Point::at(8, top.saturating_sub(6)),
-        width,
-        height,
-    )?;
-    let words = Point::at(AUTHORS, top.saturating_add(17));
-    write_count(out, "left", words, "author ", u64::from(row.author))
+fn write_author<W: Write>(out: &mut W, row: u32, author: u16, width: u64) -> io::Result<()> {
+    let ground = Point::at(ROWS, Scale::ground(row));
+    write_box(out, "row", ground, width, GROUND_HEIGHT)?;
+    let words = Point::at(AUTHORS, ground.y.saturating_add(23));
+    write_count(out, "left", words, "author ", u64::from(author))
+}
+
+/// Draws the grounds of the boxes outside their authors' rows.
+pub(crate) fn write_branches<W: Write>(out: &mut W, grid: &Grid, scale: Scale) -> io::Result<()> {
+    for place in grid.places.values() {
+        if place.lane != u32::from(place.row) {
+            write_branch(out, *place, scale)?;
+        }
+    }
+    Ok(())
 }
 
 /// Draws the line behind which rounds are kept, where any are collected.

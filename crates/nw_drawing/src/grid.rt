@@ -5,25 +5,19 @@ ghost use Rattle.nw_drawing.specs.declared.fault.DrawFault.TheVariants as DrawFa
 
 use crate::fault::DrawFault;
 use crate::picture::Tile;
-use crate::rows::{Row, numbers_in_cells, rows_of};
+use crate::places::{Place, places_of};
 use std::alloc::{AllocError, Global};
+use std::collections::BTreeMap;
 
 // How many tiles a picture has at most.
 const MOST_TILES: usize = 65_535;
 
-/// Where a box stands.
-#[derive(Clone, Copy)]
-pub(crate) struct Place {
-    pub column: u16,
-    pub lane: u16,
-}
-
-/// The rounds and authors that have tiles, ascending, and of each tile its place.
+/// The rounds and authors that have tiles, ascending, and the place of each tile by its number.
 #[derive(Drop)]
 pub(crate) struct Grid {
     pub rounds: Vec<u64>,
-    pub rows: Vec<Row>,
-    pub places: Vec<Place>,
+    pub authors: Vec<u16>,
+    pub places: BTreeMap<usize, Place>,
 }
 
 impl Grid {
@@ -35,37 +29,35 @@ impl Grid {
             return Err(DrawFault::TooMany);
         }
         let rounds = rounds_of(alloc, tiles)?;
-        let numbers = numbers_in_cells(alloc, tiles)?;
-        let rows = rows_of(alloc, tiles, &numbers)?;
-        let places = places_of(alloc, tiles, &numbers, &rounds, &rows)?;
+        let authors = authors_of(alloc, tiles)?;
+        let places = places_of(alloc, tiles, &rounds, &authors)?;
         Ok(Grid {
             rounds,
-            rows,
+            authors,
             places,
         })
     }
 
     /// The place of the tile with this number, if it has one.
     pub fn place(&self, tile: usize) -> Option<Place> {
-        self.places.get(tile).copied()
+        self.places.get(&tile).copied()
     }
 
-    /// How many columns there are.
+    /// The number of columns.
     pub fn columns(&self) -> u16 {
         u16::try_from(self.rounds.len()).unwrap_or(u16::MAX)
     }
 
-    /// How many lanes there are.
-    pub fn lanes(&self) -> u16 {
-        match self.rows.last() {
-            Some(row) => row.first_lane.saturating_add(row.lanes),
-            None => 0,
-        }
+    /// The number of lanes.
+    pub fn lanes(&self) -> u32 {
+        let lowest = self.places.values().map(|place| place.lane).max();
+        lowest.map_or(0, |lane| lane.saturating_add(1))
     }
 
-    /// The first column of this round or a later one, or how many columns there are.
+    /// The first column of this round or a later one, or the number of columns.
     pub fn column_from(&self, round: u64) -> u16 {
-        column_in(&self.rounds, round)
+        let below = self.rounds.partition_point(|other| *other < round);
+        u16::try_from(below).unwrap_or(u16::MAX)
     }
 }
 
@@ -77,34 +69,10 @@ fn rounds_of(alloc: Global, tiles: &[Tile]) -> Result<Vec<u64>, AllocError> {
     Ok(rounds)
 }
 
-// Of each tile its place, where it has this number in its cell.
-fn places_of(
-    alloc: Global,
-    tiles: &[Tile],
-    numbers: &[u16],
-    rounds: &[u64],
-    rows: &[Row],
-) -> Result<Vec<Place>, AllocError> {
-    let mut places = Vec::new(alloc);
-    for (tile, number) in tiles.iter().zip(numbers) {
-        places.push(Place {
-            column: column_in(rounds, tile.round),
-            lane: first_lane_in(rows, tile.author).saturating_add(*number),
-        })?;
-    }
-    Ok(places)
-}
-
-// How many of the rounds are below this one.
-fn column_in(rounds: &[u64], round: u64) -> u16 {
-    let below = rounds.partition_point(|other| *other < round);
-    u16::try_from(below).unwrap_or(u16::MAX)
-}
-
-// The first lane of the author.
-fn first_lane_in(rows: &[Row], author: u16) -> u16 {
-    match rows.binary_search_by_key(&author, |row| row.author) {
-        Ok(place) => rows.get(place).map_or(0, |row| row.first_lane),
-        Err(_) => 0,
-    }
+// The authors that have tiles, ascending.
+fn authors_of(alloc: Global, tiles: &[Tile]) -> Result<Vec<u16>, AllocError> {
+    let mut authors: Vec<u16> = tiles.iter().map(|tile| tile.author).collect(alloc)?;
+    authors.sort_unstable();
+    authors.dedup();
+    Ok(authors)
 }

@@ -1,6 +1,6 @@
 //! The head of a picture: its size, styles and marks.
 
-use crate::frame::{garbage_at, legend_at};
+use crate::frame::{garbage_at, legend_at, right_of};
 use crate::grid::Grid;
 use crate::legend;
 use crate::scale::Scale;
@@ -15,7 +15,7 @@ const STYLES: &str = "<style>\n\
 text{font:12px 'DejaVu Sans Mono',Menlo,Consolas,monospace;fill:#222}\n\
 .mid{text-anchor:middle}\n\
 .paper{fill:#fff}\n\
-.row{fill:#f4f4f4}\n\
+.row{fill:#f2f2f2}\n\
 .held,.certified,.complete,.collected,.wanted,.absent{stroke:#444}\n\
 .held{fill:#fff}\n\
 .certified{fill:#cfe2ff}\n\
@@ -24,14 +24,25 @@ text{font:12px 'DejaVu Sans Mono',Menlo,Consolas,monospace;fill:#222}\n\
 .wanted{fill:#ffe3b0;stroke-dasharray:4 3}\n\
 .absent{fill:#fff;stroke:#aaa;stroke-dasharray:1 3}\n\
 .read{fill:none;stroke:#c2185b;stroke-width:2}\n\
-.met{stroke:#888}\n\
-.unmet{stroke:#888;stroke-dasharray:5 4}\n\
+.branch{fill:#dfe9f5;stroke:#fff;stroke-width:2}\n\
+.first{stroke:#c2185b;stroke-width:1.5;marker-end:url(#dark)}\n\
+.walked{stroke:#eec1d1;marker-end:url(#light)}\n\
+.met,.unmet{stroke:#ccc;marker-end:url(#grey)}\n\
+.unmet{stroke-dasharray:5 4}\n\
+line:hover{stroke:#222;stroke-width:3}\n\
+.twins{fill:none;stroke:#e65100;stroke-width:3}\n\
 .garbage{stroke:#b00020;stroke-width:2;stroke-dasharray:8 4}\n\
 .ink{fill:none;stroke:#222;stroke-width:2}\n\
 .dot{fill:#222}\n\
 </style>\n";
 
 const MARKS: &str = "<defs>\n\
+<marker id=\"dark\" viewBox=\"0 -4 8 8\" refX=\"8\" markerWidth=\"8\" markerHeight=\"8\" markerUnits=\"userSpaceOnUse\" orient=\"auto\">\
+<path fill=\"#c2185b\" d=\"M0 -3L8 0L0 3z\"/></marker>\n\
+<marker id=\"light\" viewBox=\"0 -4 8 8\" refX=\"8\" markerWidth=\"8\" markerHeight=\"8\" markerUnits=\"userSpaceOnUse\" orient=\"auto\">\
+<path fill=\"#e29bb6\" d=\"M0 -3L8 0L0 3z\"/></marker>\n\
+<marker id=\"grey\" viewBox=\"0 -4 8 8\" refX=\"8\" markerWidth=\"8\" markerHeight=\"8\" markerUnits=\"userSpaceOnUse\" orient=\"auto\">\
+<path fill=\"#bbb\" d=\"M0 -3L8 0L0 3z\"/></marker>\n\
 <circle id=\"held\" class=\"ink\" r=\"4\"/>\n\
 <circle id=\"certified\" class=\"dot\" r=\"5\"/>\n\
 <path id=\"complete\" class=\"ink\" d=\"M-5 0l4 4l6 -9\"/>\n\
@@ -65,7 +76,7 @@ pub(crate) fn write_tail<W: Write>(out: &mut W) -> io::Result<()> {
 
 // How wide the picture is: the columns, the legend and the words of the garbage round are in it.
 fn width_of(grid: &Grid, scale: Scale, garbage_round: u64) -> u64 {
-    let columns = scale.column(grid.columns()).max(legend::WIDTH);
+    let columns = right_of(grid, scale).max(legend::WIDTH);
     let words = match garbage_at(grid, scale, garbage_round) {
         Some(x) => x.saturating_add(GARBAGE_WORDS),
         None => 0,

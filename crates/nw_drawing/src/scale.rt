@@ -1,12 +1,18 @@
 //! Where boxes stand.
 ghost use Rattle.std.specs.Prelude.{◌≡◌, ◌+◌, ◌≤◌, ◌<◌, ℕ};
-ghost use Rattle.nw_drawing.specs.Scale.{column_start, left_of, top_of};
+ghost use Rattle.nw_drawing.specs.Scale.{column_start, lane_of, left_of, top_of};
 
 /// How high a box is.
 pub(crate) const BOX_HEIGHT: u64 = 26;
 
 /// How far apart lanes are.
 pub(crate) const LANE: u64 = 40;
+
+/// How high the ground of a lane is.
+pub(crate) const GROUND_HEIGHT: u64 = 38;
+
+// How far above its boxes the ground of a lane begins.
+const ABOVE_BOX: u64 = 6;
 
 // How far from the left the first column begins.
 const LEFT: u64 = 64;
@@ -41,7 +47,8 @@ pub struct Scale {
 
 impl Scale {
     /// The scale for boxes of so many letters in so many lanes.
-    pub fn new(letters: u16, lanes: u16) -> Scale {
+    pub fn new(letters: u16, lanes: u32) -> Scale {
+        let lanes = u16::try_from(lanes).unwrap_or(MOST_LANES);
         Scale {
             width: BESIDE_LETTERS + LETTER * letters.min(MOST_LETTERS),
             gap: LEAST_GAP + GAP_PER_LANE * lanes.min(MOST_LANES),
@@ -63,16 +70,30 @@ impl Scale {
     }
 
     /// Where the boxes of the lane begin.
-    pub fn top(lane: u16) -> u64
+    pub fn top(lane: u32) -> u64
         ensures { result ≡ top_of lane }
     {
         TOP + LANE * u64::from(lane)
     }
+
+    /// Where the ground of the lane begins.
+    pub(crate) fn ground(lane: u32) -> u64 {
+        Scale::top(lane).saturating_sub(ABOVE_BOX)
+    }
 }
 
-/// Boxes, which are 26 high, do not overlap where their columns differ, nor where their lanes do.
+/// The lane of a box below another box of its column: its author's row, or the lane after the other box if that is lower.
+pub fn lane_below(row: u16, above: u32) -> u32
+    requires { above < 4294967295 }
+    ensures { result ≡ lane_of row above }
+{
+    u32::from(row).max(above + 1)
+}
+
+/// Boxes, which are 26 high, do not overlap if their columns differ, or if their lanes do. The lane of `lane_below` is a lower one.
 pub fn boxes_do_not_overlap()
     ensures columns { (width gap one other : ℕ) → one < other
         → left_of width gap one + width ≤ left_of width gap other }
     ensures lanes { (one other : ℕ) → one < other → top_of one + 26 ≤ top_of other }
+    ensures below { (row above : ℕ) → top_of above + 26 ≤ top_of (lane_of row above) }
 {}

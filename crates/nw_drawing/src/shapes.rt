@@ -22,6 +22,14 @@ impl Point {
         }
     }
 
+    /// The point so far to the left.
+    pub fn left_by(self, left: u64) -> Point {
+        Point {
+            x: self.x.saturating_sub(left),
+            y: self.y,
+        }
+    }
+
     /// The point so far to the left and above.
     pub fn outside(self, margin: u64) -> Point {
         Point {

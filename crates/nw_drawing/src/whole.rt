@@ -4,13 +4,16 @@ ghost use Rattle.std.specs.Prelude.{◌<◌, ◌↔◌, IsErrOf, vec_len};
 ghost use Rattle.nw_drawing.specs.declared.fault.DrawFault.TheVariants as DrawFault;
 
 use crate::fault::DrawFault;
-use crate::frame::{legend_at, write_authors, write_garbage, write_rounds};
-use crate::grid::{Grid, Place};
+use crate::frame::{legend_at, write_authors, write_branches, write_garbage, write_rounds};
+use crate::grid::Grid;
 use crate::head::{write_head, write_tail};
 use crate::legend::write_legend;
-use crate::picture::{Link, Picture, Tile};
+use crate::links::{Kind, kinds_of, write_links};
+use crate::marks::write_twins;
+use crate::picture::{Picture, Tile};
+use crate::places::Place;
 use crate::scale::{BOX_HEIGHT, Scale};
-use crate::shapes::{Point, write_box, write_line, write_mark, write_text};
+use crate::shapes::{Point, write_box, write_mark, write_text};
 use std::alloc::Global;
 use std::io::{self, Write};
 
@@ -20,8 +23,9 @@ pub fn draw<W: Write>(alloc: Global, picture: &Picture, out: &mut W) -> Result<(
         ↔ (65535 < vec_len picture.now.tiles) }
 {
     let grid = Grid::new(alloc, &picture.tiles)?;
+    let kinds = kinds_of(alloc, picture)?;
     let scale = Scale::new(letters_of(&picture.tiles, &grid.rounds), grid.lanes());
-    let drawn = write_picture(out, picture, &grid, scale);
+    let drawn = write_picture(out, picture, &kinds, &grid, scale);
     drop(grid);
     Ok(drawn?)
 }
@@ -48,50 +52,33 @@ fn digits_of(number: u64) -> usize {
 fn write_picture<W: Write>(
     out: &mut W,
     picture: &Picture,
+    kinds: &[Kind],
     grid: &Grid,
     scale: Scale,
 ) -> io::Result<()> {
     write_head(out, grid, scale, picture.garbage_round)?;
     write_authors(out, grid, scale)?;
     write_rounds(out, grid, scale)?;
-    write_links(out, &picture.links, grid, scale)?;
+    write_branches(out, grid, scale)?;
+    write_links(out, &picture.links, kinds, grid, scale)?;
     write_garbage(out, grid, scale, picture.garbage_round)?;
     write_tiles(out, &picture.tiles, grid, scale)?;
     write_legend(out, legend_at(grid))?;
     write_tail(out)
 }
 
-fn write_links<W: Write>(out: &mut W, links: &[Link], grid: &Grid, scale: Scale) -> io::Result<()> {
-    for link in links {
-        if let (Some(child), Some(parent)) = (grid.place(link.child), grid.place(link.parent)) {
-            write_link(out, child, parent, link.is_met, scale)?;
+fn write_tiles<W: Write>(out: &mut W, tiles: &[Tile], grid: &Grid, scale: Scale) -> io::Result<()> {
+    for (number, tile) in tiles.iter().enumerate() {
+        if let Some(place) = grid.place(number) {
+            write_tile(out, tile, place, scale)?;
         }
     }
     Ok(())
 }
 
-// A line from the left of the child to the right of the parent.
-fn write_link<W: Write>(
-    out: &mut W,
-    child: Place,
-    parent: Place,
-    is_met: bool,
-    scale: Scale,
-) -> io::Result<()> {
-    let from = corner(child, scale).beside(0, BOX_HEIGHT / 2);
-    let to = corner(parent, scale).beside(u64::from(scale.width), BOX_HEIGHT / 2);
-    write_line(out, if is_met { "met" } else { "unmet" }, from, to)
-}
-
-fn write_tiles<W: Write>(out: &mut W, tiles: &[Tile], grid: &Grid, scale: Scale) -> io::Result<()> {
-    for (tile, place) in tiles.iter().zip(&grid.places) {
-        write_tile(out, tile, corner(*place, scale), scale)?;
-    }
-    Ok(())
-}
-
 // The box of a block, with its name and marks.
-fn write_tile<W: Write>(out: &mut W, tile: &Tile, at: Point, scale: Scale) -> io::Result<()> {
+fn write_tile<W: Write>(out: &mut W, tile: &Tile, place: Place, scale: Scale) -> io::Result<()> {
+    let at = corner(place, scale);
     let width = u64::from(scale.width);
     if tile.is_read {
         write_box(
@@ -102,6 +89,9 @@ fn write_tile<W: Write>(out: &mut W, tile: &Tile, at: Point, scale: Scale) -> io
             BOX_HEIGHT + 8,
         )?;
     }
+    if place.is_twin {
+        write_twins(out, at)?;
+    }
     write_box(out, tile.state.style(), at, width, BOX_HEIGHT)?;
     write_mark(out, tile.state.style(), at.beside(14, BOX_HEIGHT / 2))?;
     if tile.has_vote {
@@ -110,7 +100,7 @@ fn write_tile<W: Write>(out: &mut W, tile: &Tile, at: Point, scale: Scale) -> io
     write_text(out, "left", at.beside(25, 17), tile.name.as_bytes())
 }
 
-// The upper left corner of the box at the place.
-fn corner(place: Place, scale: Scale) -> Point {
+/// The upper left corner of the box at the place.
+pub(crate) fn corner(place: Place, scale: Scale) -> Point {
     Point::at(scale.left(place.column), Scale::top(place.lane))
 }
