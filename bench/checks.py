@@ -5,10 +5,12 @@
 
 A committee of 100 makes the messages of N rounds (2). Each block has 100 parents and 100 transactions of 512 bytes, and each certificate
 has the votes of 67 members. The program nw_bench, which `rt run` in crates/nw_bench makes, checks the blocks, the certificates, and both
-together, by 1, 2 and 4 workers. `ms` is the least time of R runs (5), and `gain` says how many times as fast as 1 worker that is.
+together, by 1, 2 and 4 workers. All times are in ms.
 
-`OpenSSL` is the least processor time of R runs that OpenSSL needs on one thread to verify the signatures alone (python3-cryptography),
-and `times` how many times as long the check takes. `digests` is what Python's SHA-256 needs for the bodies, which a check digests too.
+`ms` is the least time of R runs (5), and `gain` says how many times as fast as by 1 worker that is. `machine` says how many times as much
+as one process so many get done at that time that only count. `OpenSSL` is the least processor time of R runs in which OpenSSL verifies
+the signatures alone on one thread (python3-cryptography), and `times` is ms / OpenSSL. `digests` is that of Python's SHA-256 for the
+bodies, which a check digests too. Last comes the load of the machine.
 """
 import argparse
 import hashlib
@@ -18,6 +20,8 @@ import sys
 import tempfile
 import time
 from typing import NamedTuple
+
+from machine import counting, gains
 
 ROOT = os.path.join(os.path.dirname(os.path.abspath(__file__)), "..")
 sys.path.append(os.path.join(ROOT, "bindings", "rust", "tests", "corpus"))
@@ -89,16 +93,18 @@ def processor_time(work, items):
 
 
 def measure(path, messages, keys, runs):
-    """The number of signatures, and the least ms by each number of workers, of OpenSSL for the signatures, and of SHA-256 for the bodies."""
+    """The least ms by each number of workers, what the machine gave to as many, and the least ms of OpenSSL and of SHA-256."""
     claims = [claim for message in messages for claim in message.claims]
     bodies = [body for message in messages for body in message.bodies]
-    took, verified, digested = {workers: [] for workers in WORKERS}, [], []
+    took, given = {workers: [] for workers in WORKERS}, {workers: [] for workers in WORKERS}
+    verified, digested = [], []
     for _ in range(runs):
         for workers in WORKERS:
+            given[workers].append(counting(workers))
             took[workers].append(checked(path, len(messages), workers))
         verified.append(processor_time(lambda claim: keys[claim.signer].verify(claim.signature, claim.text), claims))
         digested.append(processor_time(hashlib.sha256, bodies))
-    return len(claims), {workers: min(times) for workers, times in took.items()}, min(verified), min(digested)
+    return {workers: min(times) for workers, times in took.items()}, gains(given), min(verified), min(digested)
 
 
 def load():
@@ -116,15 +122,15 @@ def main():
     keys = [secret.public_key() for secret in members.secrets]
     blocks, certificates = made(members, told.rounds)
     print(f"a block has {len(blocks[0].message)} bytes, a certificate {len(certificates[0].message)}; the least of {told.runs} runs:")
-    print("messages           signatures  workers        ms  gain  messages/s  signatures/s   OpenSSL  times   digests")
+    print("messages           signatures  workers        ms  gain  machine  messages/s  signatures/s   OpenSSL  times   digests")
     with tempfile.TemporaryDirectory(prefix="nw-checks-") as folder:
         together = [message for both in zip(blocks, certificates) for message in both]
         for name, messages in (("blocks", blocks), ("certificates", certificates), ("together", together)):
-            count = len(messages)
-            signatures, took, verified, digested = measure(written(folder, name, members, messages), messages, keys, told.runs)
+            count, signatures = len(messages), sum(len(message.claims) for message in messages)
+            took, given, verified, digested = measure(written(folder, name, members, messages), messages, keys, told.runs)
             for workers, ms in took.items():
-                print(f"{count:5} {name:12} {signatures:10}  {workers:7}  {ms:8.1f}  {took[1] / ms:4.2f}  {count / ms * 1000:10.0f}"
-                      f"  {signatures / ms * 1000:12.0f}  {verified:8.1f}  {ms / verified:5.2f}  {digested:8.1f}")
+                print(f"{count:5} {name:12} {signatures:10}  {workers:7}  {ms:8.1f}  {took[1] / ms:4.2f}  {given[workers]:7.2f}"
+                      f"  {count / ms * 1000:10.0f}  {signatures / ms * 1000:12.0f}  {verified:8.1f}  {ms / verified:5.2f}  {digested:8.1f}")
     print(f"load of the machine (1, 5 and 15 minutes): {before} before, {load()} after, on {len(os.sched_getaffinity(0))} cores")
 
 
