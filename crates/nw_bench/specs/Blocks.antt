@@ -1,4 +1,4 @@
--- Answers that are checked blocks.
+-- Answers that are checked blocks, or checked certificates too.
 use Rattle.nw_check.specs.declared.message.Checked.{Checked}
 use Rattle.nw_check.specs.declared.message.Checked.TheVariants as checked
 
@@ -9,3 +9,11 @@ IsBlock (checked.Vote vote) = ⊥
 IsBlock (checked.BadText error) = ⊥
 IsBlock (checked.BadBlock fault) = ⊥
 IsBlock (checked.BadCert fault) = ⊥
+
+abbrev pub IsVerified : {S : Type 0} → Checked S → Type 0
+IsVerified (checked.Block block) = Unit {0}
+IsVerified (checked.Cert certificate) = Unit {0}
+IsVerified (checked.Vote vote) = ⊥
+IsVerified (checked.BadText error) = ⊥
+IsVerified (checked.BadBlock fault) = ⊥
+IsVerified (checked.BadCert fault) = ⊥

@@ -3,19 +3,26 @@
 //! `nw_bench MESSAGES BYTES WORKERS` makes so many messages, each of a block with one transaction of so many bytes, signed by the
 //! one member of a committee, checks them all with so many workers, and prints the milliseconds that the check took.
 //!
+//! `nw_bench ed25519 MEMBERS MESSAGES WORKERS` reads standard input, whose lines are in hex: the Ed25519 public key of each of so many
+//! members, then so many messages of blocks and certificates. It checks the messages with so many workers, and prints the milliseconds
+//! that the check took.
+//!
 //! `nw_bench node MEMBERS ROUNDS THREADS` makes the messages of a full DAG of so many members and rounds: of each block, which has
 //! as many transactions of 512 bytes as it may, and of its certificate. So many threads, 1 to 256, decode and check them, write and
 //! certify them in one store, and read a block of each round causally. It prints how many blocks were written and certified, how many
 //! the walks listed, and in milliseconds how long it all took, how long the threads together were in calls that write and certify,
 //! and how long one thread needs for the digests of the bodies alone.
 //!
-//! The making is not counted. The exit status is 0 where each answer was as it is to be, 1 where one was not, memory or a thread
-//! was refused, the clock could not be read or the line not printed, and 2 where the arguments are bad.
+//! The time of making or reading messages does not count. The exit status is 0 if each answer was as it is to be, and 2 if the
+//! arguments are bad. It is 1 if an answer was another one, memory or a thread was refused, the input or the clock could not be read,
+//! or the line not printed.
 #![tactic(auto)]
 
 use crate::node::{Report, timed_node};
-use crate::plan::{NodePlan, Plan};
-use crate::run::timed;
+use crate::plan::{InputPlan, NodePlan, Plan};
+use crate::run::{timed_made, timed_read};
+use anyhow::Error;
+use nw_ed25519::Ed25519;
 use std::io::ErrorKind;
 use std::process::ExitCode;
 use std::time::Duration;
@@ -23,6 +30,7 @@ use std::{env, fmt};
 
 mod crew;
 mod dag;
+mod input;
 mod messages;
 mod node;
 mod plan;
@@ -52,10 +60,10 @@ fn main(rt: HostRuntime) -> ExitCode {
         return ExitCode::FAILURE;
     };
     if let Some(plan) = Plan::read(&words) {
-        return match timed(&rt, rt.alloc(), &plan) {
-            Ok(took) => print_time(&rt, took),
-            Err(_) => ExitCode::FAILURE,
-        };
+        return print_time(&rt, timed_made(&rt, rt.alloc(), &plan));
+    }
+    if let Some(plan) = InputPlan::read(&words) {
+        return print_time(&rt, timed_read::<Ed25519, _>(&rt, rt.alloc(), &plan));
     }
     match NodePlan::read(&words) {
         None => ExitCode::from(BAD_ARGUMENTS),
@@ -67,7 +75,10 @@ fn main(rt: HostRuntime) -> ExitCode {
 }
 
 /// Prints the time of a check.
-fn print_time<R: Print>(rt: &R, took: Duration) -> ExitCode {
+fn print_time<R: Print>(rt: &R, took: Result<Duration, Error>) -> ExitCode {
+    let Ok(took) = took else {
+        return ExitCode::FAILURE;
+    };
     match println!(rt; "{}", Millis(took)) {
         Ok(()) => ExitCode::SUCCESS,
         Err(_) => ExitCode::FAILURE,

@@ -39,6 +39,36 @@ impl Plan {
     }
 }
 
+/// How many members and messages are read, and by how many workers the messages are checked.
+#[derive(Clone, Copy, Debug, PartialEq, Eq)]
+pub struct InputPlan {
+    pub members: u16,
+    pub messages: u32,
+    pub workers: usize,
+}
+
+impl InputPlan {
+    /// The plan of the program's name, the word `ed25519` and three numbers: 1 to `MOST_WORKERS` workers.
+    pub fn read(words: &[String]) -> Option<InputPlan>
+        ensures { IfSome result
+            (λ plan. (1 ≤ plan.workers) × (plan.workers ≤ MOST_WORKERS)) }
+    {
+        let [_, word, members, messages, workers] = words else {
+            return None;
+        };
+        if word.as_str() != "ed25519" {
+            return None;
+        }
+        let plan = InputPlan {
+            members: members.parse().ok()?,
+            messages: messages.parse().ok()?,
+            workers: workers.parse().ok()?,
+        };
+        let is_good = plan.workers >= 1 && plan.workers <= MOST_WORKERS;
+        is_good.then_some(plan)
+    }
+}
+
 /// Of how many members and rounds the full DAG is that a node takes, and by how many threads.
 #[derive(Clone, Copy, Debug, PartialEq, Eq)]
 pub struct NodePlan {
