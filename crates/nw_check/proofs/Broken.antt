@@ -1,4 +1,4 @@
--- Rules that are broken.
+-- Broken rules, and the faults of blocks and certificates.
 use Rattle.std.proofs.Common.{◌≡◌, ℕ, nat_eq, Bool, true, false, ◌+◌, ◌<◌, Option, Some, None, ap, List, ◌∷◌, ◌++◌, length, take, drop, get_or, refl, subst, arith}
 use Rattle.std.specs.Prelude.{Contains, MatchOption, is_some, not}
 use Rattle.std.specs.Cmp.Lexicographic.{pointwise, bytes_decides}
@@ -20,7 +20,7 @@ use Rattle.nw_check.specs.Fault.{BreaksRule, IsBlockFault, BreaksCertRule, IsCer
 use Rattle.nw_check.proofs.Numbers.{split_at}
 
 module _ (accepts : Meaning) (members : List Member) (b : Block) (signature : Signature) where
-  -- a rule that is broken is the block's fault
+  -- the first broken rule is the block's fault
   pub block_fault-from_rule : (f : BlockFault) → BreaksRule accepts members b signature f → IsBlockFault accepts members b signature f
   block_fault-from_rule block_fault.Author h = h
   block_fault-from_rule block_fault.ParentAuthor h = h
@@ -30,7 +30,7 @@ module _ (accepts : Meaning) (members : List Member) (b : Block) (signature : Si
   block_fault-from_rule block_fault.NoMemory h = absurd h
 
 module _ (accepts : Meaning) (members : List Member) (c : Certificate) where
-  -- a rule that is broken is the certificate's fault
+  -- the first broken rule is the certificate's fault
   pub cert_fault-from_rule : (f : CertFault) → BreaksCertRule accepts members c f → IsCertFault accepts members c f
   cert_fault-from_rule cert_fault.Author h = h
   cert_fault-from_rule cert_fault.Signer h = h
@@ -38,7 +38,7 @@ module _ (accepts : Meaning) (members : List Member) (c : Certificate) where
   cert_fault-from_rule (cert_fault.Signature signer) h = h
   cert_fault-from_rule cert_fault.NoMemory h = absurd h
 
-  -- where the votes before one are their signers' and this one is not
+  -- if the votes before a place have good signatures and the vote at the place has a bad one, it is the first bad vote
   pub first_bad : (i : ℕ) (d : Seal) → i < length c.votes → All (IsSealOf accepts members c) (take i c.votes) → (IsSealOf accepts members c (get_or c.votes i d) → ⊥)
       → IsFirstBadSeal accepts members c (get_or c.votes i d).signer
   first_bad i d h before bad = (take i c.votes, drop (i + 1) c.votes, get_or c.votes i d, split_at c.votes i d h, refl, before, bad)
@@ -56,7 +56,7 @@ module _ (accepts : Meaning) (members : List Member) (c : Certificate) where
   valid-keeps_rules (cert_fault.Signature signer) v h = not_all_sealed signer h.2 v.sealed
   valid-keeps_rules cert_fault.NoMemory v h = h
 
-  -- no fault says that the certificate is valid
+  -- a certificate is valid exactly if no rule was found broken
   pub none-valid : (r : Option CertFault) (none : Bool) → MatchOption r (IsValid accepts members c) (BreaksCertRule accepts members c) → is_some r ≡ not none → (none ≡ true → IsValid accepts members c) × (IsValid accepts members c → none ≡ true)
   none-valid None true h e = (λ t. h, λ v. refl)
   none-valid None false h e = absurd cc

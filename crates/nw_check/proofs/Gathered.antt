@@ -1,4 +1,4 @@
--- What is gathered makes a valid certificate.
+-- Gathered votes make a valid certificate.
 use Rattle.std.proofs.Common.{◌≡◌, ◌∙◌, ℕ, ◌<◌, ◌≤◌, List, ◌∷◌, ◌++◌, length, map, take, drop, get_or, refl, sym, ap, subst, arith}
 use Rattle.std.specs.Prelude.{insert}
 use Rattle.std.specs.List.{All}
@@ -15,7 +15,7 @@ use Rattle.nw_model.specs.Checks.{IsMember, IsSignedBy, IsSealOf, IsValid}
 use Rattle.nw_check.specs.Gathering.{Gathering, IsGathering, IsPlace, MayCount, Counts, certificate_of}
 use Rattle.nw_check.proofs.Places.{few_below, place-rises}
 
--- the number at a place is its seal's
+-- the number at a place is that of the seal at the place
 pub signer_at : (seals : List Seal) (i : ℕ) (d : Seal) → i < length seals → get_or (signers seals) i 0 ≡ (get_or seals i d).signer
 signer_at seals i d h = get_or-map (λ (s : Seal). s.signer) seals i d 0 h
 
@@ -28,7 +28,7 @@ module _ (accepts : Meaning) (g : Gathering) (ok : IsGathering accepts g) where
       All-map (IsMember g.committee) (λ (s : Seal). s.signer) g.seals
       (All-weaker (IsSealOf accepts g.committee (certificate_of g)) (λ s. IsMember g.committee s.signer) (λ s own. slice_get_within g.committee s.signer own.1 own.2) g.seals ok.sealed)
 
-  -- no more votes than members
+  -- there are at most as many votes as members, so at most 100
   pub gathering-few : length g.seals ≤ 100
   gathering-few =
       let few = few_below (signers g.seals) (length g.committee) ok.in_order signer_numbers in
@@ -36,7 +36,7 @@ module _ (accepts : Meaning) (g : Gathering) (ok : IsGathering accepts g) where
       let size : length g.committee ≤ 100 = ok.committee.size.1 in
       omega (arith, few, len, size)
 
-  -- where the signers reach the quorum, the certificate is valid
+  -- if the signers reach the quorum, the certificate is valid
   pub gathering-valid : ReachesQuorum g.committee (signers g.seals) → IsValid accepts g.committee (certificate_of g)
   gathering-valid reached = record {
     fits = record { few_votes = gathering-few; votes_in_order = ok.in_order };
@@ -53,7 +53,7 @@ module _ (accepts : Meaning) (g : Gathering) (ok : IsGathering accepts g) where
       ∙ ap (λ (front : List ℕ). front ++ number s ∷ map number (drop p g.seals)) (sym (take-map number p g.seals))
       ∙ ap (λ (back : List ℕ). take p (signers g.seals) ++ number s ∷ back) (sym (drop-map number p g.seals))
 
-  -- a member's seal, put in at its place, keeps what is gathered
+  -- after a member's seal is inserted at its place, the gatherer still keeps `IsGathering`
   pub gathering-insert : (p : ℕ) (s : Seal) → IsPlace (signers g.seals) s.signer p → IsSealOf accepts g.committee (certificate_of g) s → IsGathering accepts (record g { seals = insert g.seals p s })
   gathering-insert p s place own =
       let is_own : Seal → Type 0 = IsSealOf accepts g.committee (certificate_of g) in
@@ -64,7 +64,7 @@ module _ (accepts : Meaning) (g : Gathering) (ok : IsGathering accepts g) where
         sealed = All-append is_own (take p g.seals) (s ∷ drop p g.seals) (All-take is_own p g.seals ok.sealed) (All-cons is_own s (drop p g.seals) own (All-drop is_own p g.seals ok.sealed));
       }
 
--- a vote that may count keeps what is gathered
+-- after the seal of a vote that may count is inserted at its place, the gatherer still keeps `IsGathering`
 pub counted-gathering : (accepts : Meaning) (g : Gathering) (v : Vote) (p : ℕ) → IsGathering accepts g → MayCount accepts g v → IsPlace (signers g.seals) v.signer p
     → IsGathering accepts (record g { seals = insert g.seals p (seal v) })
 counted-gathering accepts g v p ok may place =
@@ -74,7 +74,7 @@ counted-gathering accepts g v p ok may place =
     let text : vote_text v.digest v.round v.author ≡ vote_text g.digest g.round g.author = cc in
     gathering-insert accepts g ok p (seal v) place (subst (λ t. IsSignedBy accepts g.committee v.signer t v.signature) text may.2)
 
--- the seal of a vote, put in at some place, is what was added
+-- a gatherer whose vote's seal was inserted at a place has counted the vote
 pub counted-counts : (g : Gathering) (v : Vote) (p : ℕ) (new : List Seal) → new ≡ insert g.seals p (seal v) → Counts g v (record g { seals = new })
 counted-counts g v p new e = record {
   seals = (take p g.seals, drop p g.seals, sym (take-append-drop p g.seals), e);

@@ -1,4 +1,4 @@
--- The numbers that are listed, one after another.
+-- The members' numbers of listed values, one after another.
 use Rattle.std.proofs.Common.{◌≡◌, ◌∙◌, ℕ, ◌+◌, ◌<◌, ◌≤◌, List, [], ◌∷◌, ◌++◌, length, map, take, drop, get_or, set, sym, ap, subst, arith, add-one, drop-cons}
 use Rattle.std.specs.List.{All}
 use Rattle.std.proofs.lemmas.List.{take_more, take_all, take_more_set, take-append-drop, get_or-map, length-map}
@@ -23,11 +23,11 @@ module _ {X : Type 0} (f : X → ℕ) (xs : List X) (i : ℕ) (x : X) (h : i < l
       take_more_set numbers i (f x) room ∙ ap (λ (front : List ℕ). front ++ f x ∷ []) before
       ∙ ap (λ (n : ℕ). take i (map f xs) ++ n ∷ []) (sym at_number) ∙ sym (take_more (map f xs) i 0 within)
 
--- a front that is the whole list
+-- what holds of all elements before a place at or past the end holds of all elements
 pub all_front : (P : ℕ → Type 0) {X : Type 0} (f : X → ℕ) (xs : List X) (i : ℕ) → length xs ≤ i → All P (take i (map f xs)) → All P (map f xs)
 all_front P f xs i high all = subst (All P) (take_all i (map f xs) (omega (arith, length-map xs f))) all
 
--- a list is what stands before an element, the element, and what stands after it
+-- a list is the elements before a place, the element at the place, and the elements after it
 pub split_at : {X : Type 0} (xs : List X) (i : ℕ) (d : X) → i < length xs → xs ≡ take i xs ++ get_or xs i d ∷ drop (i + 1) xs
 split_at xs i d h =
     let rest : drop i xs ≡ get_or xs i d ∷ drop (i + 1) xs = rw (add-one) (drop-cons xs i d h) in

@@ -66,7 +66,7 @@ module _ (accepts : Meaning) (members : List Member) (b : Block) (signature : Si
 pub blocks_have_one_fault : BlocksHaveOneFault
 blocks_have_one_fault = one_block_fault
 
--- the first element that is not good is one
+-- a list has only one first bad element: two splits at a first bad element have the same element
 same_bad : (P : Seal → Type 0) (b1 b2 a1 a2 : List Seal) (s1 s2 : Seal) → b1 ++ s1 ∷ a1 ≡ b2 ++ s2 ∷ a2 → All P b1 → All P b2 → (P s1 → ⊥) → (P s2 → ⊥) → s1 ≡ s2
 same_bad P [] [] a1 a2 s1 s2 e good1 good2 bad1 bad2 = cc
 same_bad P [] (y ∷ b2) a1 a2 s1 s2 e good1 good2 bad1 bad2 = let same : y ≡ s1 = cc in absurd (bad1 (subst P same (All-head P y b2 good2)))

@@ -1,4 +1,4 @@
--- Where a number belongs among ascending ones.
+-- The place of a number among ascending numbers.
 use Rattle.std.proofs.Common.{◌≡◌, ◌∙◌, ℕ, zero, suc, ◌+◌, ◌-◌, ◌<◌, ◌≤◌, List, [], ◌∷◌, ◌++◌, Option, Some, None, length, take, drop, get_or, refl, sym, arith, inl, inr}
 use Rattle.std.specs.Prelude.{Contains, insert}
 use Rattle.std.specs.List.{All, AllByRecursion}
@@ -10,7 +10,7 @@ use Rattle.std.proofs.lemmas.List.Kept.{AllPairs-from_increasing}
 use Rattle.nw_codec.proofs.Ascending.{IsAfter, Ascends, ascends, increasing}
 use Rattle.nw_check.specs.Gathering.{IsPlace}
 
--- ---- how many there are
+-- ---- how many numbers there are
 
 rises_at : (xs : List ℕ) → IsStrictlyIncreasing xs → (k : ℕ) → k < length xs → k ≤ get_or xs k 0
 rises_at xs rising zero h = omega arith
@@ -28,7 +28,7 @@ few_when xs n (suc m) e rising below =
     let high = below m 0 (omega arith) in
     omega (arith, low, high)
 
--- ascending numbers below n are at most n
+-- a list of strictly ascending numbers below n has at most n elements
 pub few_below : (xs : List ℕ) (n : ℕ) → IsStrictlyIncreasing xs → All (λ x. x < n) xs → length xs ≤ n
 few_below xs n = few_when xs n (length xs) refl
 
@@ -56,7 +56,7 @@ place_end xs x i n size high below = record {
   above = All-same (λ k. x < k) (drop n xs) [] (drop_all n xs (omega arith)) (All-nil (λ k. x < k));
 }
 
--- a number that has a place there is not among them
+-- a list does not contain a number that has a place in it
 pub place_fresh : (xs : List ℕ) (x p : ℕ) → IsPlace xs x p → Contains xs x → ⊥
 place_fresh xs x p place (k, lt, at) =
     elim (cases_lt k p) [
@@ -81,7 +81,7 @@ rises-insert before (y ∷ ys) zero x rising after below above = (after, (above.
 rises-insert before [] (suc p) x rising after below above = (after, tt)
 rises-insert before (y ∷ ys) (suc p) x rising after below above = (rising.0, rises-insert (Some y) ys p x rising.1 below.0 below.1 above)
 
--- put in at its place, the numbers still ascend
+-- after a number is inserted at its place, the numbers still ascend
 pub place-rises : (xs : List ℕ) (x p : ℕ) → IsStrictlyIncreasing xs → IsPlace xs x p → IsStrictlyIncreasing (insert xs p x)
 place-rises xs x p rising place =
     increasing None (insert xs p x)

@@ -1,15 +1,19 @@
--- Values that were checked, and the committee that they were checked under.
+-- Checked blocks and certificates, as contracts see them.
 use Rattle.std.specs.Prelude.{List}
 use Rattle.nw_codec.specs.declared.block.Block.{Block}
 use Rattle.nw_codec.specs.declared.certificate.Certificate.{Certificate}
 use Rattle.nw_committee.specs.declared.member.Member.{Member}
 
--- a block, and the committee under which it is well formed
+-- a block and a committee
 pub record BlockUnder : Type 0 where
+  -- the checked block
   pub block : Block
+  -- the members under which it is well formed
   pub committee : List Member
 
--- a certificate, and the committee under which it is valid
+-- a certificate and a committee
 pub record CertificateUnder : Type 0 where
+  -- the checked certificate
   pub certificate : Certificate
+  -- the members under which it is valid
   pub committee : List Member

@@ -18,11 +18,11 @@ use Rattle.nw_check.specs.declared.fault.CertFault.TheVariants as cert_fault
 abbrev pub HasMembers : List Member → Block → Type 0
 HasMembers members b = IsMember members b.author × All (IsMember members) (authors b.parents)
 
--- the authors are members, and the parents are those that the round asks for
+-- the author and the parents' authors are members; in round 0 there are no parents; in later rounds the parents' authors reach the quorum
 abbrev pub HasParents : List Member → Block → Type 0
 HasParents members b = HasMembers members b × (b.round ≡ 0 → b.parents ≡ []) × (0 < b.round → ReachesQuorum members (authors b.parents))
 
--- the block breaks this rule and none before it
+-- the block breaks the rule of this fault, and none of the rules before it; `NoMemory` stands for no rule
 abbrev pub BreaksRule : Meaning → List Member → Block → Signature → BlockFault → Type 0
 BreaksRule accepts members b signature block_fault.Author = IsMember members b.author → ⊥
 BreaksRule accepts members b signature block_fault.ParentAuthor = IsMember members b.author × (All (IsMember members) (authors b.parents) → ⊥)
@@ -31,12 +31,12 @@ BreaksRule accepts members b signature block_fault.FewParents = HasMembers membe
 BreaksRule accepts members b signature block_fault.Signature = HasParents members b × (IsSignedBy accepts members b.author (block_text (digest_of b)) signature → ⊥)
 BreaksRule accepts members b signature block_fault.NoMemory = ⊥
 
--- the fault of a block: the first rule that it breaks; memory is wanted only of a block that is well formed
+-- the block may get this fault: it is the first rule that the block breaks, or it is `NoMemory` and the block is well formed
 abbrev pub IsBlockFault : Meaning → List Member → Block → Signature → BlockFault → Type 0
 IsBlockFault accepts members b signature block_fault.NoMemory = IsWellFormedWith accepts members b signature
 IsBlockFault accepts members b signature fault = BreaksRule accepts members b signature fault
 
--- the votes before this signer's are their signers', and this one is not
+-- the certificate has a vote of this signer with a bad signature, and all votes before it have good ones
 abbrev pub IsFirstBadSeal : Meaning → List Member → Certificate → ℕ → Type 0
 IsFirstBadSeal accepts members c signer =
     (before after : List Seal) × (seal : Seal) × (c.votes ≡ before ++ seal ∷ after) × (seal.signer ≡ signer)
@@ -46,7 +46,7 @@ IsFirstBadSeal accepts members c signer =
 abbrev pub HasSigners : List Member → Certificate → Type 0
 HasSigners members c = IsMember members c.author × All (IsMember members) (signers c.votes)
 
--- the certificate breaks this rule and none before it
+-- the certificate breaks the rule of this fault, and none of the rules before it; `NoMemory` stands for no rule
 abbrev pub BreaksCertRule : Meaning → List Member → Certificate → CertFault → Type 0
 BreaksCertRule accepts members c cert_fault.Author = IsMember members c.author → ⊥
 BreaksCertRule accepts members c cert_fault.Signer = IsMember members c.author × (All (IsMember members) (signers c.votes) → ⊥)
@@ -54,7 +54,7 @@ BreaksCertRule accepts members c cert_fault.FewVotes = HasSigners members c × (
 BreaksCertRule accepts members c (cert_fault.Signature signer) = HasSigners members c × ReachesQuorum members (signers c.votes) × IsFirstBadSeal accepts members c signer
 BreaksCertRule accepts members c cert_fault.NoMemory = ⊥
 
--- the fault of a certificate: the first rule that it breaks; memory is wanted only of a certificate that is valid
+-- the certificate may get this fault: it is the first rule that the certificate breaks, or it is `NoMemory` and the certificate is valid
 abbrev pub IsCertFault : Meaning → List Member → Certificate → CertFault → Type 0
 IsCertFault accepts members c cert_fault.NoMemory = IsValid accepts members c
 IsCertFault accepts members c fault = BreaksCertRule accepts members c fault

@@ -1,4 +1,4 @@
--- Votes that are gathered for one block.
+-- The votes gathered for one block.
 use Rattle.std.specs.Prelude.{◌≡◌, ℕ, ◌<◌, ◌≤◌, List, ◌∷◌, ◌++◌, length, take, drop, All, Contains}
 use Rattle.std.specs.List.Sorted.{IsStrictlyIncreasing}
 use Rattle.nw_digest.specs.declared.digest.Digest.{Digest}
@@ -16,42 +16,51 @@ use Rattle.nw_check.specs.declared.fault.GatherFault.TheVariants as fault
 use Rattle.nw_check.specs.declared.fault.Counted.{Counted}
 use Rattle.nw_check.specs.declared.fault.Counted.TheVariants as count
 
--- the digest of a block with its round and author, the committee, and the seals that were counted
+-- a gatherer, as contracts see it
 pub record Gathering : Type 0 where
+  -- the digest of the block
   pub digest : Digest
+  -- the round of the block
   pub round : ℕ
+  -- the author of the block
   pub author : ℕ
+  -- the members that may vote
   pub committee : List Member
+  -- the seals of the counted votes
   pub seals : List Seal
 
--- the certificate that these seals make
+-- the certificate for the block with all counted seals
 abbrev pub certificate_of : Gathering → Certificate
 certificate_of g = record { digest = g.digest; round = g.round; author = g.author; votes = g.seals }
 
--- the author is a member of a committee, and the seals are their signers', strictly ascending
+-- what every gatherer keeps
 pub record IsGathering (accepts : Meaning) (g : Gathering) : Type 0 where
+  -- the members form a committee
   pub committee : IsCommittee g.committee
+  -- the block's author is a member
   pub author : IsMember g.committee g.author
+  -- the seals ascend strictly by signer
   pub in_order : IsStrictlyIncreasing (signers g.seals)
+  -- each seal has its signer's signature for the block
   pub sealed : All (IsSealOf accepts g.committee (certificate_of g)) g.seals
 
--- the vote is for this block
+-- the vote is for the block: for its digest, round and author
 abbrev pub IsFor : Gathering → Vote → Type 0
 IsFor g v = (v.digest ≡ g.digest) × (v.round ≡ g.round) × (v.author ≡ g.author)
 
--- the vote is for this block and of a signer whose vote was not counted
+-- the vote is for the block, and no vote of its signer was counted
 abbrev pub IsNew : Gathering → Vote → Type 0
 IsNew g v = IsFor g v × (Contains (signers g.seals) v.signer → ⊥)
 
--- the vote is its signer's
+-- the vote has its signer's signature
 abbrev pub IsVoteOf : Meaning → List Member → Vote → Type 0
 IsVoteOf accepts members v = IsSignedBy accepts members v.signer (vote_text v.digest v.round v.author) v.signature
 
--- the vote is new, of a member, and its own
+-- the vote is new, and a member signed it
 abbrev pub MayCount : Meaning → Gathering → Vote → Type 0
 MayCount accepts g v = IsNew g v × IsMember g.committee v.signer × IsVoteOf accepts g.committee v
 
--- the fault of a vote: the first reason why it is not counted; memory is wanted only of a vote that may count
+-- the vote may get this fault: it is the first reason not to count the vote, or it is `NoMemory` and the vote may count
 abbrev pub IsGatherFault : Meaning → Gathering → Vote → GatherFault → Type 0
 IsGatherFault accepts g v fault.OtherBlock = IsFor g v → ⊥
 IsGatherFault accepts g v fault.Repeated = IsFor g v × Contains (signers g.seals) v.signer
@@ -59,22 +68,27 @@ IsGatherFault accepts g v fault.Signer = IsNew g v × (IsMember g.committee v.si
 IsGatherFault accepts g v fault.Signature = IsNew g v × IsMember g.committee v.signer × (IsVoteOf accepts g.committee v → ⊥)
 IsGatherFault accepts g v fault.NoMemory = MayCount accepts g v
 
--- all numbers before the place are below this one, and all from there on are above
+-- the number belongs at this place among ascending numbers
 pub record IsPlace (numbers : List ℕ) (number place : ℕ) : Type 0 where
+  -- the place is within the list, or at its end
   pub within : place ≤ length numbers
+  -- all numbers before the place are lower
   pub below : All (λ n. n < number) (take place numbers)
+  -- all numbers from the place on are higher
   pub above : All (λ n. number < n) (drop place numbers)
 
--- the seal stands among the old ones
+-- the new list is the old one with the seal inserted somewhere
 abbrev pub Adds : List Seal → Seal → List Seal → Type 0
 Adds old one new = (before after : List Seal) × (old ≡ before ++ after) × (new ≡ before ++ one ∷ after)
 
--- the seal of the vote was added, and nothing else changed
+-- the vote was counted
 pub record Counts (old : Gathering) (v : Vote) (new : Gathering) : Type 0 where
+  -- its seal was added
   pub seals : Adds old.seals (seal v) new.seals
+  -- nothing else changed
   pub others : new ≡ record old { seals = new.seals }
 
--- `Quorum` says that the members whose votes were counted reach the quorum, and `Counted` that they do not
+-- `Quorum`: the signers of the counted votes reach the quorum; `Counted`: they do not
 abbrev pub IsCount : Gathering → Counted → Type 0
 IsCount g count.Quorum = ReachesQuorum g.committee (signers g.seals)
 IsCount g count.Counted = ReachesQuorum g.committee (signers g.seals) → ⊥

@@ -12,16 +12,18 @@ use Rattle.nw_check.specs.declared.fault.BlockFault.{BlockFault}
 use Rattle.nw_check.specs.declared.fault.CertFault.{CertFault}
 use Rattle.nw_check.specs.declared.fault.GatherFault.{GatherFault}
 
--- two faults of one block are the same, and so of one certificate and of one vote
+-- two faults of one block are the same
 abbrev pub BlocksHaveOneFault : Type 0
 BlocksHaveOneFault =
     (accepts : Meaning) (members : List Member) (b : Block) (signature : Signature) (one other : BlockFault)
     → IsBlockFault accepts members b signature one → IsBlockFault accepts members b signature other → one ≡ other
 
+-- two faults of one certificate are the same
 abbrev pub CertificatesHaveOneFault : Type 0
 CertificatesHaveOneFault =
     (accepts : Meaning) (members : List Member) (c : Certificate) (one other : CertFault)
     → IsCertFault accepts members c one → IsCertFault accepts members c other → one ≡ other
 
+-- two faults of one vote are the same
 abbrev pub VotesHaveOneFault : Type 0
 VotesHaveOneFault = (accepts : Meaning) (g : Gathering) (v : Vote) (one other : GatherFault) → IsGatherFault accepts g v one → IsGatherFault accepts g v other → one ≡ other

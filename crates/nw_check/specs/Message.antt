@@ -1,4 +1,4 @@
--- What a checked text is.
+-- The result of checking a text.
 use Rattle.std.specs.Prelude.{◌≡◌, ◌≢◌, ℕ, List}
 use Rattle.nw_codec.specs.Faults.{IsFirstFault}
 use Rattle.nw_codec.specs.Spelled.{Spells}
@@ -14,7 +14,11 @@ use Rattle.nw_check.specs.Fault.{BreaksRule, BreaksCertRule}
 use Rattle.nw_check.specs.declared.message.Checked.{Checked}
 use Rattle.nw_check.specs.declared.message.Checked.TheVariants as checked
 
--- the text spells a well-formed block, a valid certificate or a vote, or it has this first fault, or it spells a block or a certificate that breaks this rule
+-- The check of the text may give this result:
+-- `Block`, `Cert`: the text spells the block or the certificate, which is well formed or valid under these members;
+-- `Vote`: the text spells the vote;
+-- `BadText`: the text has this first fault, which is not `NoMemory`;
+-- `BadBlock`, `BadCert`: the text spells a block or a certificate, and this is the first rule that it breaks.
 abbrev pub IsChecked : {S : Type 0} → Meaning → List Member → List ℕ → Checked S → Type 0
 IsChecked accepts members text (checked.Block c) =
     (signature : Signature) × Spells text (messages.Block c.block signature) × IsWellFormedWith accepts members c.block signature × (c.committee ≡ members)

@@ -1,4 +1,4 @@
-//! The checks of blocks and certificates.
+//! Checks blocks and certificates, by the rules of docs/FORMATS.md.
 ghost use Rattle.std.specs.Prelude.{◌≡◌, ◌↔◌, IsTrue, IfOk, IfErr, OnOk, MatchOption, All};
 ghost use Rattle.nw_codec.specs.Fits.{Fits, CertificateFits};
 ghost use Rattle.nw_model.specs.Checks.{digest_of, IsWellFormedWith, IsSealOf, IsValid};
@@ -13,12 +13,16 @@ use nw_digest::{Digest, Shared};
 use nw_sig::{Scheme, block_text, vote_text};
 use std::alloc::Global;
 
-/// Checks the block with its creator's signature.
+/// Checks the block and its author's signature.
 ///
-/// The fault is the first of these that applies: `Author` where the author is no member, `ParentAuthor` where the author of
-/// a parent is none, `GenesisParents` where a block of round 0 has parents, `FewParents` where one of a later round has
-/// parents whose authors do not reach the quorum, `Signature` where the scheme does not accept the signature of the
-/// digest under the author's key, and `NoMemory` where memory is refused. The block is then dropped.
+/// On error the block is dropped. The error is the first of these that applies:
+///
+/// 1. `Author`: the author is not a member.
+/// 2. `ParentAuthor`: the author of a parent is not a member.
+/// 3. `GenesisParents`: the block is of round 0 and has parents.
+/// 4. `FewParents`: the block is of a later round, and the authors of its parents do not reach the quorum.
+/// 5. `Signature`: the scheme does not accept the signature of the block's digest under the author's key.
+/// 6. `NoMemory`: an allocation failed.
 pub fn check_block<S: Scheme>(
     alloc: Global,
     committee: &Shared<Committee>,
@@ -38,7 +42,7 @@ pub fn check_block<S: Scheme>(
     }
 }
 
-/// The first rule that the block breaks.
+/// The first rule that the block breaks, or `None` if it is well formed.
 fn block_fault<S: Scheme>(
     committee: &Committee,
     block: &Block,
@@ -67,12 +71,15 @@ fn block_fault<S: Scheme>(
     }
 }
 
-/// Checks the certificate.
+/// Checks the certificate and the signature of each vote, also of those beyond the quorum.
 ///
-/// The fault is the first of these that applies: `Author` where the author is no member, `Signer` where a signer is none,
-/// `FewVotes` where the signers do not reach the quorum, `Signature` with the first signer under whose key the scheme does
-/// not accept its signature of the vote, and `NoMemory` where memory is refused. All votes are verified. On a fault the
-/// certificate is dropped.
+/// On error the certificate is dropped. The error is the first of these that applies:
+///
+/// 1. `Author`: the author is not a member.
+/// 2. `Signer`: a signer is not a member.
+/// 3. `FewVotes`: the signers do not reach the quorum.
+/// 4. `Signature`: the scheme does not accept the signature of a vote under its signer's key. It names the first such signer.
+/// 5. `NoMemory`: an allocation failed.
 pub fn check_cert<S: Scheme>(
     alloc: Global,
     committee: &Shared<Committee>,
@@ -90,7 +97,7 @@ pub fn check_cert<S: Scheme>(
     }
 }
 
-/// Whether the certificate fits, is valid under the committee and is for the digest. It takes no memory.
+/// Whether the certificate fits, is valid under the committee, and is for the digest. Allocates no memory.
 pub fn valid<S: Scheme>(committee: &Committee, digest: Digest, certificate: &Certificate) -> bool
     ensures { IsTrue result
         ↔ (IsValid S.accepts committee.now certificate.now × (certificate.now.digest ≡ digest)) }
@@ -101,7 +108,7 @@ pub fn valid<S: Scheme>(committee: &Committee, digest: Digest, certificate: &Cer
     certificate.digest == digest && cert_fault::<S>(committee, certificate).is_none()
 }
 
-/// The first rule that the certificate breaks.
+/// The first rule that the certificate breaks, or `None` if it is valid.
 fn cert_fault<S: Scheme>(committee: &Committee, certificate: &Certificate) -> Option<CertFault>
     requires { CertificateFits certificate.now }
     ensures { MatchOption result (IsValid S.accepts committee.now certificate.now)
@@ -119,7 +126,7 @@ fn cert_fault<S: Scheme>(committee: &Committee, certificate: &Certificate) -> Op
     }
 }
 
-/// The first signer whose signature fails.
+/// The signer of the first vote with a bad signature, or `None` if there is no such vote.
 fn first_bad_signer<S: Scheme>(committee: &Committee, certificate: &Certificate) -> Option<u16>
     ensures { MatchOption result
         (All (IsSealOf S.accepts committee.now certificate.now) certificate.now.votes)

@@ -1,4 +1,4 @@
-//! Values that were checked.
+//! Checked blocks and certificates.
 ghost use Rattle.std.specs.Prelude.{◌≡◌};
 ghost use Rattle.nw_model.specs.Checks.{digest_of, IsWellFormed, IsValid};
 
@@ -8,8 +8,7 @@ use nw_digest::{Digest, Shared};
 use nw_sig::Scheme;
 use std::marker::{Model, PhantomData};
 
-/// A block that is well formed under its committee and what the scheme `S` accepts. Contracts see the block and the
-/// committee.
+/// A block that is well formed under its committee and the scheme `S`. Contracts see the block and the committee.
 #[derive(Drop)]
 pub struct CheckedBlock<S: Scheme> {
     block: Shared<Block>,
@@ -32,7 +31,7 @@ impl<S: Scheme> Model for CheckedBlock<S> {
 }
 
 impl<S: Scheme> CheckedBlock<S> {
-    /// The block that was checked, with its digest.
+    /// The checked block, with its digest.
     pub(crate) fn new(
         block: Shared<Block>,
         digest: Digest,
@@ -75,8 +74,7 @@ impl<S: Scheme> CheckedBlock<S> {
     }
 }
 
-/// A certificate that is valid under its committee and what the scheme `S` accepts. Contracts see the certificate and the
-/// committee.
+/// A certificate that is valid under its committee and the scheme `S`. Contracts see the certificate and the committee.
 #[derive(Drop)]
 pub struct CheckedCert<S: Scheme> {
     certificate: Shared<Certificate>,
@@ -96,7 +94,7 @@ impl<S: Scheme> Model for CheckedCert<S> {
 }
 
 impl<S: Scheme> CheckedCert<S> {
-    /// The certificate that was checked.
+    /// The checked certificate.
     pub(crate) fn new(
         certificate: Shared<Certificate>,
         committee: Shared<Committee>,
@@ -119,7 +117,7 @@ impl<S: Scheme> CheckedCert<S> {
         &self.certificate
     }
 
-    /// The digest that the certificate is for.
+    /// The digest of the certified block.
     pub fn digest(&self) -> Digest
         ensures digest { result ≡ self.now.certificate.digest }
         ensures valid { IsValid S.accepts self.now.committee self.now.certificate }

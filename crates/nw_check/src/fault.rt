@@ -1,27 +1,27 @@
-//! Why a value is not taken.
+//! Why a check fails, and why a vote is not counted.
 use nw_digest::NoMemory;
 use std::alloc::AllocError;
 use thiserror::Error;
 
-/// Why a block is not taken: the first rule that it breaks, or want of memory.
+/// Why the check of a block fails: the first rule that it breaks, or an allocation failure.
 #[derive(Clone, Copy, Debug, PartialEq, Eq, Error)]
 pub enum BlockFault {
-    /// The author is no member.
+    /// The author is not a member.
     #[error("author")]
     Author,
-    /// The author of a parent is no member.
+    /// The author of a parent is not a member.
     #[error("parent author")]
     ParentAuthor,
     /// A block of round 0 has parents.
     #[error("genesis parents")]
     GenesisParents,
-    /// A block of a later round has parents whose authors do not reach the quorum.
+    /// The block is of a later round, and the authors of its parents do not reach the quorum.
     #[error("few parents")]
     FewParents,
     /// The scheme does not accept the signature under the author's key.
     #[error("signature")]
     Signature,
-    /// Memory was refused; the block is well formed.
+    /// An allocation failed. The block is well formed.
     #[error("out of memory")]
     NoMemory,
 }
@@ -37,22 +37,22 @@ impl From<NoMemory> for BlockFault {
     }
 }
 
-/// Why a certificate is not taken: the first rule that it breaks, or want of memory.
+/// Why the check of a certificate fails: the first rule that it breaks, or an allocation failure.
 #[derive(Clone, Copy, Debug, PartialEq, Eq, Error)]
 pub enum CertFault {
-    /// The author is no member.
+    /// The author is not a member.
     #[error("author")]
     Author,
-    /// A signer is no member.
+    /// A signer is not a member.
     #[error("signer")]
     Signer,
     /// The signers do not reach the quorum.
     #[error("few votes")]
     FewVotes,
-    /// The scheme does not accept the signature of this signer, the first whose signature fails.
+    /// The scheme does not accept this signer's signature. It is the first bad one.
     #[error("signature {signer}")]
     Signature { signer: u16 },
-    /// Memory was refused; the certificate is valid.
+    /// An allocation failed. The certificate is valid.
     #[error("out of memory")]
     NoMemory,
 }
@@ -68,13 +68,13 @@ impl From<NoMemory> for CertFault {
     }
 }
 
-/// Why votes are not gathered.
+/// Why gathering cannot start.
 #[derive(Clone, Copy, Debug, PartialEq, Eq, Error)]
 pub enum StartFault {
-    /// The author of the block is no member.
+    /// The author of the block is not a member.
     #[error("author")]
     Author,
-    /// Memory was refused.
+    /// An allocation failed.
     #[error("out of memory")]
     NoMemory,
 }
@@ -90,12 +90,12 @@ impl From<NoMemory> for StartFault {
     }
 }
 
-/// What a vote that was counted makes.
+/// Whether the counted votes reach the quorum.
 #[derive(Clone, Copy, Debug, PartialEq, Eq)]
 pub enum Counted {
-    /// The members whose votes were counted do not reach the quorum yet.
+    /// The signers of the counted votes do not reach the quorum yet.
     Counted,
-    /// The members whose votes were counted reach the quorum.
+    /// The signers of the counted votes reach the quorum.
     Quorum,
 }
 
@@ -108,13 +108,13 @@ pub enum GatherFault {
     /// A vote of the signer was counted already.
     #[error("repeated")]
     Repeated,
-    /// The signer is no member.
+    /// The signer is not a member.
     #[error("signer")]
     Signer,
     /// The scheme does not accept the signature under the signer's key.
     #[error("signature")]
     Signature,
-    /// Memory was refused.
+    /// An allocation failed.
     #[error("out of memory")]
     NoMemory,
 }
@@ -133,10 +133,10 @@ impl From<NoMemory> for GatherFault {
 /// Why there is no certificate yet.
 #[derive(Clone, Copy, Debug, PartialEq, Eq, Error)]
 pub enum FinishFault {
-    /// The members whose votes were counted do not reach the quorum.
+    /// The signers of the counted votes do not reach the quorum.
     #[error("few votes")]
     FewVotes,
-    /// Memory was refused.
+    /// An allocation failed.
     #[error("out of memory")]
     NoMemory,
 }

@@ -1,4 +1,4 @@
-//! Gathering the votes for a block to a certificate.
+//! Gathers the votes for a block into a certificate.
 ghost use Rattle.std.specs.Prelude.{◌≡◌, ◌↔◌, ◌≤◌, []};
 ghost use Rattle.std.specs.Prelude.{vec_len, insert, Contains, MatchOption, IsTrue, IfOk, IfErr};
 ghost use Rattle.std.specs.Prelude.{OnOk, OnErr, IsErrOf};
@@ -18,8 +18,8 @@ use nw_sig::{Scheme, vote_text};
 use std::alloc::Global;
 use std::marker::{Model, PhantomData};
 
-/// The votes that were counted for the block of a digest. Contracts see the digest with its round and author, the committee,
-/// and the seals that were counted, ascending by signer.
+/// The counted votes for one block. Contracts see the block's digest, round and author, the committee, and the seals of the
+/// counted votes, ascending by signer.
 #[derive(Drop)]
 pub struct Gather<S: Scheme> {
     digest: Digest,
@@ -53,8 +53,9 @@ impl<S: Scheme> Model for Gather<S> {
 }
 
 impl<S: Scheme> Gather<S> {
-    /// No votes yet, for the block of this digest, round and author. `Author` exactly where the author is no member, else
-    /// `NoMemory` where memory is refused.
+    /// Starts with no votes, for the block with this digest, round and author.
+    ///
+    /// `Author`: the author is not a member. `NoMemory`: an allocation failed, and the author is a member.
     pub fn new(
         alloc: Global,
         committee: &Shared<Committee>,
@@ -86,11 +87,15 @@ impl<S: Scheme> Gather<S> {
         })
     }
 
-    /// Counts the vote, and answers `Quorum` where the members whose votes were counted now reach the quorum.
+    /// Counts the vote. Returns `Quorum` if the signers of the counted votes now reach the quorum, and `Counted` otherwise.
     ///
-    /// The fault is the first of these that applies: `OtherBlock` where the vote is for another digest, round or author,
-    /// `Repeated` where a vote of its signer was counted, `Signer` where its signer is no member, `Signature` where the scheme
-    /// does not accept its signature, and `NoMemory` where memory is refused. A fault changes nothing.
+    /// On error nothing changes. The error is the first of these that applies:
+    ///
+    /// 1. `OtherBlock`: the vote is for another digest, round or author.
+    /// 2. `Repeated`: a vote of the same signer was counted before.
+    /// 3. `Signer`: the signer is not a member.
+    /// 4. `Signature`: the scheme does not accept the signature.
+    /// 5. `NoMemory`: an allocation failed.
     pub fn add(&mut self, vote: &Vote) -> Result<Counted, GatherFault>
         ensures counted { OnOk result (Counts self.old vote.now self.new) }
         ensures quorum { IfOk result (IsCount self.new) }
@@ -112,7 +117,7 @@ impl<S: Scheme> Gather<S> {
         }
     }
 
-    /// Where the seal of the vote belongs, or the first reason why the vote is not counted.
+    /// The place of the vote's seal among the counted ones, or the first reason not to count the vote.
     fn place_for(&self, vote: &Vote) -> Result<usize, GatherFault>
         ensures may_count { OnOk result (MayCount S.accepts self.now vote.now) }
         ensures place { IfOk result (IsPlace (signers self.now.seals) vote.now.signer) }
@@ -134,15 +139,16 @@ impl<S: Scheme> Gather<S> {
         Ok(place)
     }
 
-    /// Whether the vote is for this block.
+    /// Whether the vote is for the block of this gatherer.
     fn is_for(&self, vote: &Vote) -> bool
         ensures { IsTrue result ↔ IsFor self.now vote.now }
     {
         vote.digest == self.digest && vote.round == self.round && vote.author == self.author
     }
 
-    /// The certificate of the votes that were counted, which stay. `FewVotes` exactly where their signers do not reach the
-    /// quorum, else `NoMemory` where memory is refused.
+    /// The certificate with all counted votes. The gatherer keeps them, so it can go on counting.
+    ///
+    /// `FewVotes`: the signers of the counted votes do not reach the quorum. `NoMemory`: an allocation failed, and they reach it.
     pub fn finish(&self, alloc: Global) -> Result<CheckedCert<S>, FinishFault>
         ensures certificate { IfOk result (λ checked. checked
             ≡ record { certificate = certificate_of self.now; committee = self.now.committee }) }
@@ -169,7 +175,7 @@ impl<S: Scheme> Gather<S> {
     }
 }
 
-/// Where the seal of this signer belongs, or `None` where there is one already.
+/// The place of this signer's seal among the others, or `None` if they contain one already.
 fn place_of(seals: &[Seal], signer: u16) -> Option<usize>
     requires { IsStrictlyIncreasing (signers seals.now) }
     ensures { MatchOption result (Contains (signers seals.now) signer)
@@ -186,7 +192,7 @@ fn place_of(seals: &[Seal], signer: u16) -> Option<usize>
     Some(seals.len())
 }
 
-/// Puts the seal in at its place.
+/// Inserts the seal at the place.
 fn insert_seal(seals: &mut Vec<Seal>, place: usize, seal: Seal) -> Result<(), NoMemory>
     requires { place ≤ vec_len seals.old }
     ensures ok { OnOk result (seals.new.items ≡ insert seals.old.items place seal) }

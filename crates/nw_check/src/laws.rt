@@ -1,18 +1,18 @@
-//! Laws of the faults. Each is proved of its definitions; the functions do nothing.
+//! Laws of the faults. Each law is the contract of a function, and proved. The functions do nothing.
 ghost use Rattle.nw_check.specs.Laws.{BlocksHaveOneFault, CertificatesHaveOneFault};
 ghost use Rattle.nw_check.specs.Laws.{VotesHaveOneFault};
 
-/// A block has one fault at most, and a well-formed one has none but want of memory.
+/// A block has at most one fault. The only fault of a well-formed block is `NoMemory`.
 pub fn blocks_have_one_fault()
     ensures { BlocksHaveOneFault }
 {}
 
-/// A certificate has one fault at most, and a valid one has none but want of memory.
+/// A certificate has at most one fault. The only fault of a valid certificate is `NoMemory`.
 pub fn certificates_have_one_fault()
     ensures { CertificatesHaveOneFault }
 {}
 
-/// A vote has one fault at most, and one that may count has none but want of memory.
+/// A vote has at most one fault. The only fault of a vote that may count is `NoMemory`.
 pub fn votes_have_one_fault()
     ensures { VotesHaveOneFault }
 {}

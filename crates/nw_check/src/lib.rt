@@ -1,9 +1,7 @@
-//! Checks of what comes from other validators: blocks that are well formed, certificates that are valid, votes that are
-//! gathered to a quorum.
+//! Checks blocks and certificates from other validators, and gathers votes to a quorum.
 //!
-//! Its contract: the type of a checked value keeps that its block is well formed, or its certificate valid, under the
-//! value's committee and what its scheme accepts. It stands on `nw_model` for what that means, on `nw_codec`,
-//! `nw_committee` and `nw_sig`.
+//! The type of a checked value guarantees that its block is well formed, or its certificate valid, under the value's committee and
+//! scheme. `nw_model` defines both terms. The crate uses `nw_codec`, `nw_committee` and `nw_sig`.
 #![tactic(auto)]
 
 mod check;

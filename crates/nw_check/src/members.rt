@@ -1,4 +1,4 @@
-//! Whether numbers are members', whether these reach the quorum, and whether a member signed.
+//! Tests for membership, quorums and signatures.
 ghost use Rattle.std.specs.Prelude.{◌≡◌, ◌↔◌, ◌≤◌, ℕ, length, map, All, IsTrue};
 ghost use Rattle.std.specs.List.Sorted.{IsStrictlyIncreasing};
 ghost use Rattle.nw_committee.specs.Committee.{IsCommittee, ReachesQuorum};
@@ -9,10 +9,10 @@ use nw_codec::{Ref, Seal, Signature};
 use nw_committee::Committee;
 use nw_sig::Scheme;
 
-/// How many numbers are listed at most, as parents or as votes.
+/// The maximum number of parents of a block, and of votes of a certificate.
 const MAX_LISTED: usize = 100;
 
-/// What names a member by its number.
+/// A value that has a member's number: a reference has its author's, and a seal has its signer's.
 pub(crate) trait Numbered {
     ghost number_of: { Self → ℕ };
 
@@ -36,7 +36,7 @@ impl Numbered for Seal {
     }
 }
 
-/// Whether there is a member with this number.
+/// Whether the committee has a member with this number.
 pub(crate) fn is_member(committee: &Committee, number: u16) -> bool
     ensures member { IsTrue result ↔ IsMember committee.now number }
     ensures committee { IsCommittee committee.now }
@@ -44,7 +44,7 @@ pub(crate) fn is_member(committee: &Committee, number: u16) -> bool
     usize::from(number) < committee.size()
 }
 
-/// Whether each is named by the number of a member.
+/// Whether the committee has a member for each of the values.
 pub(crate) fn are_members<T: Numbered>(committee: &Committee, listed: &[T]) -> bool
     ensures { IsTrue result ↔ All (IsMember committee.now) (map T.number_of listed.now) }
 {
@@ -56,7 +56,7 @@ pub(crate) fn are_members<T: Numbered>(committee: &Committee, listed: &[T]) -> b
     true
 }
 
-/// Whether the members listed, strictly ascending, reach the quorum.
+/// Whether the listed members reach the quorum. Their numbers must ascend strictly.
 pub(crate) fn reach_quorum<T: Numbered>(committee: &Committee, listed: &[T]) -> bool
     requires few { length listed.now ≤ MAX_LISTED }
     requires in_order { IsStrictlyIncreasing (map T.number_of listed.now) }
@@ -85,14 +85,14 @@ pub(crate) fn is_signed_by<S: Scheme>(
     }
 }
 
-/// A signature of a program has 64 bytes: a definition ranges over lists of any length.
+/// Tells the prover that a signature has 64 bytes. Definitions see it as a list of any length.
 fn note_size(signature: &Signature)
     ensures { IsSignature signature.now }
 {
     note_bytes(&signature.0);
 }
 
-/// What a slice of a program has is bytes.
+/// Tells the prover that the items of a byte slice are bytes. Definitions see them as numbers.
 fn note_bytes(bytes: &[u8])
     ensures { AreBytes bytes.now }
 {}

@@ -1,4 +1,4 @@
-//! Texts from other validators, decoded and checked.
+//! Decodes and checks messages from other validators.
 ghost use Rattle.std.specs.Prelude.{IfOk, OnErr};
 ghost use Rattle.nw_codec.specs.Spelled.{Spells, TakesMemory};
 ghost use Rattle.nw_codec.specs.declared.message.Message.TheVariants as messages;
@@ -11,24 +11,26 @@ use nw_digest::{NoMemory, Shared};
 use nw_sig::Scheme;
 use std::alloc::Global;
 
-/// What a text from another validator is. None of the faults is want of memory.
+/// The result of checking a text from another validator. None of the contained faults is `NoMemory`.
 #[derive(Drop)]
 pub enum Checked<S: Scheme> {
     /// A well-formed block.
     Block(CheckedBlock<S>),
     /// A valid certificate.
     Cert(CheckedCert<S>),
-    /// A vote, whose signature was not verified.
+    /// A vote. Its signature was not verified.
     Vote(Vote),
-    /// No message: the first fault of the text in reading order.
+    /// The text is not a message. This is its first fault in reading order.
     BadText(DecodeError),
-    /// A block that is not well formed: the first rule that it breaks.
+    /// The block is not well formed. This is the first rule that it breaks.
     BadBlock(BlockFault),
-    /// A certificate that is not valid: the first rule that it breaks.
+    /// The certificate is not valid. This is the first rule that it breaks.
     BadCert(CertFault),
 }
 
-/// Decodes the text and checks its message. `NoMemory` is answered only of a block's or a certificate's text.
+/// Decodes the text and checks its message.
+///
+/// `NoMemory`: an allocation failed. Only blocks and certificates need memory.
 pub fn check_message<S: Scheme>(
     alloc: Global,
     committee: &Shared<Committee>,
@@ -50,7 +52,7 @@ pub fn check_message<S: Scheme>(
     }
 }
 
-/// Checks the block of the text.
+/// Checks the block that the text contains.
 fn checked_block<S: Scheme>(
     alloc: Global,
     committee: &Shared<Committee>,
@@ -68,7 +70,7 @@ fn checked_block<S: Scheme>(
     }
 }
 
-/// Checks the certificate of the text.
+/// Checks the certificate that the text contains.
 fn checked_cert<S: Scheme>(
     alloc: Global,
     committee: &Shared<Committee>,

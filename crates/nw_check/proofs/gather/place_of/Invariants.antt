@@ -3,6 +3,6 @@ use Rattle.std.specs.List.{All}
 use Rattle.nw_codec.specs.Fits.{signers}
 use Rattle.nw_check.proofs.gather.place_of.Given as goal
 
--- the signers so far are below this one
+-- the signers so far are lower than this one
 abbrev pub invariant-loop-place : goal.invariant-loop-place
 invariant-loop-place l = All (λ n. n < l.signer) (take l.place (signers l.seals))
