@@ -1,4 +1,4 @@
--- What holds of each item at its place.
+-- Properties of each item of a list and its place.
 use Rattle.std.proofs.Common.{ℕ, zero, suc, ◌<◌, List, [], ◌∷◌, ◌++◌, length, slice_index_or, arith}
 
 pub each_nil : {X : Type 0} (P : ℕ → X → Type 0) → (k : ℕ) (d : X) → k < length {A = X} [] → P k (slice_index_or [] k d)

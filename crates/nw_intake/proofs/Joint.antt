@@ -1,4 +1,4 @@
--- Results of workers, joined one by one.
+-- The results of workers, joined one by one.
 use Rattle.std.proofs.Common.{◌≡◌, ◌≢◌, ℕ, zero, suc, ◌<◌, Bool, true, false, Result, Ok, Err, List, [], ◌∷◌, ◌++◌, length, slice_index_or, map, sym, ◌∙◌, ap, refl, arith, append_assoc, append-nil}
 use Rattle.std.specs.List.{Contains}
 use Rattle.std.proofs.lemmas.List.{map-append, nil_from_length}
@@ -15,15 +15,15 @@ contains_less : {X : Type 0} (x y : X) (ys : List X) → y ≢ x → (k : ℕ) �
 contains_less x y ys apart zero low is = absurd (apart is)
 contains_less x y ys apart (suc k) low is = (k, omega arith, is)
 
--- a share that was given
+-- the result of a worker that did not fail
 abbrev pub ok_of : {X : Type 0} → X → Result X ShareFault
 ok_of s = Ok s
 
--- each share was given
+-- the results if no worker failed
 abbrev pub all_ok : {X : Type 0} → List X → List (Result X ShareFault)
 all_ok shares = map ok_of shares
 
--- what is known once these results are left
+-- the loop of `joined` took these shares and has these results left; `shut` says whether it found a shut gate
 pub record Joins {X : Type 0} (results : List (Result X ShareFault)) (shares : List X) (shut : Bool) (left : List (Result X ShareFault)) : Type 0 where
   pub within : (r : Result X ShareFault) → Contains left r → Contains results r
   pub memory : HadMemory left → HadMemory results

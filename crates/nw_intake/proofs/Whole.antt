@@ -1,4 +1,4 @@
--- The answers of all workers, as the answers to all texts.
+-- The answers of all workers are the answers to all texts.
 use Rattle.std.proofs.Common.{◌≡◌, ℕ, ◌<◌, Bool, Result, List, length, sym, ◌∙◌, ap, subst, Vec}
 use Rattle.std.specs.List.{AllZip}
 use Rattle.std.specs.declared.alloc.Global.{Global}
@@ -17,7 +17,7 @@ use Rattle.nw_intake.proofs.Dealt.{Whole, dealt_back, zip_length, items_at, item
 use Rattle.nw_intake.proofs.Joint.{all_ok, each_share}
 
 module _ {S A B : Type 0} (accepts : Meaning) (members : List Member) (texts : List (Vec ℕ A)) (says : Point → Bool → Type 0) (workers : ℕ) where
-  -- what puts the shares in order answers all texts
+  -- after the shares are put in order, they answer all texts
   pub whole_answers : (shares : List (VecDeque (Checked S) B)) (all : List (Checked S)) → 0 < workers → length shares ≡ workers → AreShareResults accepts members texts says workers (all_ok shares)
       → ((whole : List (Checked S)) → IsDealt whole (length texts) shares → all ≡ whole) → AllZip (IsAnswer accepts members) texts all
   whole_answers shares all some count results order =
@@ -32,7 +32,7 @@ module _ {S A B : Type 0} (accepts : Meaning) (members : List Member) (texts : L
       subst (AllZip R texts) (sym (order w.whole dealt)) w.fits
 
 module _ {S A : Type 0} (accepts : Meaning) (members : List Member) (texts : List (Vec ℕ A)) (says : Point → Bool → Type 0) (workers : ℕ) where
-  -- the joint fault of what the workers gave is the fault of all checks
+  -- a fault of the workers' results is a fault of `check_all`
   pub joint_fault : (results : List (Result (VecDeque (Checked S) Global) ShareFault)) (e : IntakeFault) → IsCrew workers → AreShareResults accepts members texts says workers results → IsJointFault workers results e
       → IsIntakeFault S accepts members texts says workers e
   joint_fault results fault.BadWorkers crew all h = absurd h

@@ -1,4 +1,4 @@
--- Why messages are not checked.
+-- Why checks fail.
 use Rattle.std.specs.Prelude.{ℕ, ◌<◌, ◌≤◌, Bool, false}
 use Rattle.nw_intake.specs.declared.point.Point.{Point}
 use Rattle.nw_intake.specs.declared.point.Point.TheVariants as point
@@ -6,20 +6,20 @@ use Rattle.nw_intake.specs.declared.threads.TheConstants.{MOST_WORKERS}
 use Rattle.nw_intake.specs.declared.fault.ShareFault.{ShareFault}
 use Rattle.nw_intake.specs.declared.fault.ShareFault.TheVariants as share
 
--- at least one worker, and not too many
+-- the number of workers is in its range
 abbrev pub IsCrew : ℕ → Type 0
 IsCrew workers = (1 ≤ workers) × (workers ≤ MOST_WORKERS)
 
--- the gate may say no to the start of one of so many checks
-abbrev pub HoldsBack : (Point → Bool → Type 0) → ℕ → Type 0
-HoldsBack says count = (place : ℕ) × (place < count) × says (point.CheckStart place) false
+-- the gate may refuse the start of one of the checks at places below the count
+abbrev pub MayRefuseStart : (Point → Bool → Type 0) → ℕ → Type 0
+MayRefuseStart says count = (place : ℕ) × (place < count) × says (point.CheckStart place) false
 
--- the fault of one check: the gate is blamed only where it may say no to its start
-abbrev pub IsOneFault : (Point → Bool → Type 0) → ℕ → ShareFault → Type 0
-IsOneFault says place share.NoMemory = Unit {0}
-IsOneFault says place share.GateShut = says (point.CheckStart place) false
+-- the check at this place may fail with this fault: `GateShut` only if the gate may refuse its start
+abbrev pub IsCheckFault : (Point → Bool → Type 0) → ℕ → ShareFault → Type 0
+IsCheckFault says place share.NoMemory = Unit {0}
+IsCheckFault says place share.GateShut = says (point.CheckStart place) false
 
--- the fault of one worker, among so many checks
+-- a worker may stop with this fault, among this many checks: `GateShut` only if the gate may refuse the start of one of them
 abbrev pub IsShareFault : (Point → Bool → Type 0) → ℕ → ShareFault → Type 0
 IsShareFault says count share.NoMemory = Unit {0}
-IsShareFault says count share.GateShut = HoldsBack says count
+IsShareFault says count share.GateShut = MayRefuseStart says count

@@ -1,23 +1,23 @@
-//! Why messages are not checked.
+//! Why checks of many messages fail.
 use nw_digest::NoMemory;
 use std::alloc::AllocFailed;
 use thiserror::Error;
 
-/// A gate did not let a start pass.
+/// A gate did not let a thread start.
 #[derive(Clone, Copy, Debug, PartialEq, Eq, Error)]
 #[error("gate shut")]
 pub struct GateShut;
 
-/// Why messages are not checked. The first that applies is answered.
+/// Why `check_all` fails: the first of these faults that applies.
 #[derive(Clone, Copy, Debug, PartialEq, Eq, Error)]
 pub enum IntakeFault {
-    /// There are not 1 to 16 workers.
+    /// The number of workers is not between 1 and 16.
     #[error("bad workers")]
     BadWorkers,
-    /// Memory was refused.
+    /// An allocation failed.
     #[error("out of memory")]
     NoMemory,
-    /// A thread was not started.
+    /// A thread was not started, for any reason. Lack of memory is one.
     #[error("spawn")]
     Spawn,
     /// The gate did not let a check start.
@@ -47,10 +47,10 @@ impl<T: Drop> From<AllocFailed<T>> for IntakeFault {
     }
 }
 
-/// Why a worker gave up.
+/// Why a worker stopped.
 #[derive(Clone, Copy, Debug, PartialEq, Eq)]
 pub(crate) enum ShareFault {
-    /// Memory was refused.
+    /// An allocation failed.
     NoMemory,
     /// The gate did not let a check start.
     GateShut,

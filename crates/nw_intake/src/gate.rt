@@ -1,21 +1,21 @@
-//! Gates, which hold threads at named points.
+//! Gates hold threads at named points.
 ghost use Rattle.std.specs.Prelude.{◌≡◌, true, false, OnOk, OnErr};
 
 use crate::{GateShut, Point};
 
-/// How often a gate is asked at most whether a start may pass.
+/// The maximum number of times that a gate is asked about one start.
 const TURNS: u32 = 1_000_000;
 
-/// What threads tell where they are, and ask whether they may start. Threads share it, so it may keep atomics or a lock, and
-/// may sleep or yield before it says no.
+/// Threads report to a gate where they are, and ask it whether they may start. They share it, so it may have atomics or a lock.
+/// `may_pass` may sleep or yield before it returns `false`.
 pub trait Gate {
     ghost use Rattle.std.specs.Prelude.{Bool};
     ghost use Rattle.nw_intake.specs.declared.point.Point.{Point};
 
-    /// What the gate may say of a point.
+    /// The answers that the gate may give at a point.
     ghost says: { Self → Point → Bool → Type 0 };
 
-    /// A thread is at the point.
+    /// Reports that a thread is at the point.
     fn reach(&self, point: Point);
 
     /// Whether the thread at the point may start.
@@ -23,7 +23,7 @@ pub trait Gate {
         ensures { says self.now point result };
 }
 
-/// A gate that lets every start pass.
+/// A gate that lets every thread start.
 #[derive(Clone, Copy, Debug)]
 pub struct FreeGate;
 
@@ -39,8 +39,9 @@ impl Gate for FreeGate {
     }
 }
 
-/// Tells the gate that the thread is at the point, and asks until it says that the thread may start. `Ok` is answered only after
-/// the gate said so, and `GateShut` after 1,000,000 times of no.
+/// Reports the point to the gate, and asks the gate until it lets the thread start.
+///
+/// `GateShut`: the gate refused 1,000,000 times.
 pub fn pass_start<G: Gate>(gate: &G, point: Point) -> Result<(), GateShut>
     ensures passed { OnOk result (G.says gate.now point true) }
     ensures shut { OnErr result (G.says gate.now point false) }

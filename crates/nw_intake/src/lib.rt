@@ -1,8 +1,7 @@
-//! The checks of many messages by threads that take turns, and the gates that hold threads at named points.
+//! Checks many messages in several threads, and has gates, which hold threads at named points.
 //!
-//! Its contract: as many answers as texts, each an answer that the check of its text alone gives, whatever the number of
-//! workers and whatever the gate (`check_all`); a start is passed only after its gate said so (`pass_start`). It stands on
-//! `nw_check`.
+//! [`check_all`] returns one answer for each text: the one that a check of this text by itself gives. The number of workers and the
+//! gate do not change the answers. [`pass_start`] returns `Ok` only after its gate let the thread start. The crate uses `nw_check`.
 #![tactic(auto)]
 
 mod fault;

@@ -1,4 +1,4 @@
-//! Items that were dealt in turns, put in order again.
+//! Puts items back in order that were dealt to shares in turns.
 ghost use Rattle.std.specs.Prelude.{◌≡◌, ◌<◌, List, IfOk, vec_len};
 ghost use Rattle.nw_intake.specs.Answers.{IsDealt};
 
@@ -6,7 +6,7 @@ use nw_digest::NoMemory;
 use std::alloc::Global;
 use std::collections::VecDeque;
 
-/// The items of the shares, one of each in turn.
+/// All items of the shares, in order: one item of each share in turn.
 pub(crate) fn put_in_order<T: Drop>(
     alloc: Global,
     mut shares: Vec<VecDeque<T>>,

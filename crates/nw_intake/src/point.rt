@@ -1,17 +1,18 @@
-//! Where a thread is.
+//! Named points that threads reach.
 
-/// Where a thread is, which its gate is told. Messages are named by their places, walks and writes by their node and number.
+/// A point that a thread reaches and reports to its gate. A check has the place of its message, counted from 0. A walk or a write
+/// has the number of its node, and a number of its own.
 #[derive(Clone, Copy, Debug, PartialEq, Eq)]
 pub enum Point {
-    /// The check of a message is to start.
+    /// The check of the message at this place is about to start.
     CheckStart(u32),
-    /// The check of a message is done.
+    /// The check of the message at this place is done.
     CheckDone(u32),
-    /// A walk is to start.
+    /// A walk is about to start.
     WalkStart { node: u32, number: u32 },
     /// A walk is done.
     WalkDone { node: u32, number: u32 },
-    /// A write is to start.
+    /// A write is about to start.
     WriteStart { node: u32, number: u32 },
     /// A write is done.
     WriteDone { node: u32, number: u32 },

@@ -1,4 +1,4 @@
-//! What a worker is to give.
+//! The promise of a worker's thread.
 use crate::Gate;
 use crate::share::ShareResult;
 use nw_committee::Committee;
@@ -7,9 +7,9 @@ use nw_sig::Scheme;
 use std::marker::PhantomData;
 use std::thread::Promise;
 
-/// The promise of a worker: the answers to its share of the texts, or why it gave up.
+/// A worker's thread promises to return the answers to the worker's share of the texts, or why the worker stopped.
 #[derive(Drop)]
-pub(crate) struct ShareOf<'a, S: Scheme, G: Gate> {
+pub(crate) struct SharePromise<'a, S: Scheme, G: Gate> {
     pub(crate) committee: &'a Shared<Committee>,
     pub(crate) texts: &'a [Vec<u8>],
     pub(crate) worker: usize,
@@ -18,7 +18,7 @@ pub(crate) struct ShareOf<'a, S: Scheme, G: Gate> {
     pub(crate) scheme: PhantomData<S>,
 }
 
-impl<'a, S: Scheme, G: Gate> Promise<ShareResult<S>> for ShareOf<'a, S, G> {
+impl<'a, S: Scheme, G: Gate> Promise<ShareResult<S>> for SharePromise<'a, S, G> {
     ghost use Rattle.nw_intake.specs.Shares.{IsShareResult};
 
     ghost kept_by = { λ p r. IsShareResult S.accepts p.committee.now p.texts.now

@@ -1,7 +1,7 @@
-//! What one worker does, in whatever thread it runs.
+//! The work of one worker, in any thread.
 ghost use Rattle.std.specs.Prelude.{◌^◌, ◌<◌, length, IfOk, IfErr};
 ghost use Rattle.nw_check.specs.Message.{IsChecked};
-ghost use Rattle.nw_intake.specs.Faults.{IsOneFault};
+ghost use Rattle.nw_intake.specs.Faults.{IsCheckFault};
 ghost use Rattle.nw_intake.specs.Shares.{IsShareResult};
 
 use crate::fault::ShareFault;
@@ -13,10 +13,10 @@ use nw_sig::Scheme;
 use std::alloc::Global;
 use std::collections::VecDeque;
 
-/// What a worker gives: its answers from the front, or why it gave up.
+/// The result of a worker: its answers in order, or why it stopped.
 pub(crate) type ShareResult<S> = Result<VecDeque<Checked<S>>, ShareFault>;
 
-/// Checks the texts whose turn is the worker's, in order.
+/// Checks the worker's share of the texts, in order: each text i with i mod `workers` = `worker`.
 pub(crate) fn check_share<S: Scheme, G: Gate>(
     alloc: Global,
     committee: &Shared<Committee>,
@@ -39,7 +39,7 @@ pub(crate) fn check_share<S: Scheme, G: Gate>(
     Ok(answers)
 }
 
-/// Checks the text at this place, once the gate lets it start.
+/// Checks the text at this place, after the gate lets it start.
 fn check_one<S: Scheme, G: Gate>(
     alloc: Global,
     committee: &Shared<Committee>,
@@ -48,7 +48,7 @@ fn check_one<S: Scheme, G: Gate>(
     gate: &G,
 ) -> Result<Checked<S>, ShareFault>
     ensures checked { IfOk result (IsChecked S.accepts committee.now text.now) }
-    ensures fault { IfErr result (IsOneFault (G.says gate.now) place) }
+    ensures fault { IfErr result (IsCheckFault (G.says gate.now) place) }
 {
     pass_start(gate, Point::CheckStart(place))?;
     let answer = check_message(alloc, committee, text);

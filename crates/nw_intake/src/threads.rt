@@ -1,4 +1,4 @@
-//! Workers, each in a thread of its own.
+//! Runs each worker in its own thread.
 ghost use Rattle.std.specs.Prelude.{◌≡◌, ◌^◌, ◌<◌, ◌≤◌, length, map, Ok, IfOk, IfErr, vec_len};
 ghost use Rattle.std.specs.List.{AllZip};
 ghost use Rattle.nw_intake.specs.Answers.{IsAnswer};
@@ -8,7 +8,7 @@ ghost use Rattle.nw_intake.specs.Shares.{AreShareResults, IsIntakeFault, IsJoint
 
 use crate::fault::ShareFault;
 use crate::order::put_in_order;
-use crate::promise::ShareOf;
+use crate::promise::SharePromise;
 use crate::share::{ShareResult, check_share};
 use crate::{Gate, IntakeFault};
 use nw_check::Checked;
@@ -22,15 +22,20 @@ use std::sync::Wait;
 use std::thread;
 use std::thread::{PromisedHandle, Scope, Threads, join_promised};
 
-/// The most workers.
+/// The maximum number of workers.
 const MOST_WORKERS: usize = 16;
 
-/// Checks the texts by so many threads: text i in thread i mod workers, between `CheckStart(i)`, which the gate lets pass, and
-/// `CheckDone(i)`. The answers stand in the order of the texts.
+/// Checks the texts in as many threads as there are workers. Returns one answer for each text, in order.
 ///
-/// The fault is the first of these that applies: `BadWorkers` where there are not 1 to 16 workers, before anything else and
-/// without memory; `NoMemory` where memory was refused; `Spawn` where a thread was not started; `GateShut` where the gate did
-/// not let a check start. All threads that were started have ended when it returns.
+/// Thread i mod `workers` checks text i. Before the check it waits at `CheckStart(i)` until the gate lets it start, and after the
+/// check it reports `CheckDone(i)`. All started threads have ended when `check_all` returns. It consumes the texts, also on error.
+///
+/// The error is the first of these that applies:
+///
+/// 1. `BadWorkers`: the number of workers is not between 1 and 16. No memory was allocated, and no thread started.
+/// 2. `NoMemory`: an allocation failed.
+/// 3. `Spawn`: a thread was not started, for any reason. Lack of memory is one.
+/// 4. `GateShut`: the gate did not let a check start.
 pub fn check_all<S: Scheme + Send, G: Gate + Sync, R: Threads + Wait + Sync>(
     rt: &R,
     alloc: Global,
@@ -54,7 +59,7 @@ pub fn check_all<S: Scheme + Send, G: Gate + Sync, R: Threads + Wait + Sync>(
     Ok(put_in_order(alloc, shares, texts.len())?)
 }
 
-/// What the workers gave, in the order of their numbers. There are fewer results than workers where a thread was not started.
+/// The results of the workers, in the order of their numbers. If a thread was not started, there are fewer results than workers.
 fn run_all<S: Scheme + Send, G: Gate + Sync, R: Threads + Wait + Sync>(
     rt: &R,
     alloc: Global,
@@ -85,7 +90,7 @@ fn run_all<S: Scheme + Send, G: Gate + Sync, R: Threads + Wait + Sync>(
     )
 }
 
-/// Starts the workers, until one does not start.
+/// Starts the workers, and stops at the first one that does not start.
 fn start_all<'s, 'e, S: Scheme + Send + 'e, G: Gate + Sync>(
     alloc: Global,
     scope: &Scope<'s, &'e ()>,
@@ -93,7 +98,7 @@ fn start_all<'s, 'e, S: Scheme + Send + 'e, G: Gate + Sync>(
     texts: &'e [Vec<u8>],
     workers: usize,
     gate: &'e G,
-) -> Result<Vec<PromisedHandle<ShareResult<S>, ShareOf<'e, S, G>>>, NoMemory>
+) -> Result<Vec<PromisedHandle<ShareResult<S>, SharePromise<'e, S, G>>>, NoMemory>
     requires workers { 0 < workers }
     requires few { length texts.now < 2 ^ 32 }
     ensures few { IfOk result (λ handles. length handles.items ≤ workers) }
@@ -102,7 +107,7 @@ fn start_all<'s, 'e, S: Scheme + Send + 'e, G: Gate + Sync>(
 {
     let mut handles = Vec::new(alloc);
     for worker in 0..workers {
-        let promise = ShareOf {
+        let promise = SharePromise {
             committee,
             texts,
             worker,
