@@ -1,4 +1,4 @@
--- Ascending entries that are merged with others.
+-- Merging two ascending lists of entries.
 use Rattle.std.proofs.Common.{◌≡◌, ℕ, ◌-◌, Bool, true, false, List, [], ◌∷◌, ◌++◌, Option, Some, None, cond, length, take, drop, refl, ap, sym, ◌∙◌, subst, arith}
 use Rattle.std.proofs.lemmas.List.{take_rest}
 use Rattle.std.specs.declared.cmp.Ordering.TheVariants.{Less, Equal}
@@ -26,13 +26,13 @@ or_none : {X : Type 0} (a : Option X) → option_or a None ≡ a
 or_none None = refl
 or_none (Some x) = refl
 
--- ---- the first entry of both
+-- ---- the first entry of both lists
 
 one_first : {X : Type 0} (t : Bool) (b : X) (left others : Option X) → option_or (cond t (Some b) left) others ≡ option_or (cond t (Some b) None) (option_or left others)
 one_first true b left others = refl
 one_first false b left others = refl
 
--- the newer ones have it
+-- only the newer list has it
 newer_first : (e : Digest × Block) (newer older : Entries) → Ascend (e ∷ newer) → Ascend older → IsBelow e.0 older → IsNext (e ∷ newer) older e newer older
 newer_first e newer older one other below = record {
   same = λ d. one_first (is_at (digest_cmp d) e.0) e.1 (under newer d) (under older d);
@@ -44,7 +44,7 @@ newer_first e newer older one other below = record {
   fewer = omega arith;
 }
 
--- the older ones have it
+-- only the older list has it
 older_first : (e : Digest × Block) (newer older : Entries) → Ascend newer → Ascend (e ∷ older) → IsBelow e.0 newer → IsNext newer (e ∷ older) e newer older
 older_first e newer older one other below = record {
   same = λ d. by d (is_at (digest_cmp d) e.0) refl;
@@ -60,7 +60,7 @@ older_first e newer older one other below = record {
     by d true is = ap (λ found. option_or found (Some e.1)) (subst (λ q. under newer q ≡ None) (sym (same_digest d e.0 is)) (none_below e.0 newer below))
     by d false is = refl
 
--- both have it
+-- both lists have its digest
 both_first : (e f : Digest × Block) (newer older : Entries) → Ascend (e ∷ newer) → Ascend (f ∷ older) → digest_cmp e.0 f.0 ≡ Equal → IsNext (e ∷ newer) (f ∷ older) e newer older
 both_first e f newer older one other tie = record {
   same = λ d. by d (is_at (digest_cmp d) e.0) (ap is_eq (alike d));
@@ -94,18 +94,18 @@ pub both_next : (one other : Entries) (e f : Digest × Block) (newer older : Ent
 both_next one other e f newer older is are ascend_one ascend_other tie =
     subst (λ es. IsNext one es e (drop 1 one) (drop 1 es)) (sym are) (subst (λ es. IsNext es (f ∷ older) e (drop 1 es) older) (sym is) (both_first e f newer older (subst Ascend is ascend_one) (subst Ascend are ascend_other) tie))
 
--- what is left of both, as ranges of them
+-- the remaining entries of both lists, as ranges
 pub rest_next : (newer older : Entries) (e : Digest × Block) (m n : ℕ) → IsNext newer older e (drop m newer) (drop n older) → IsNext newer older e (take (length newer - m) (drop m newer)) (take (length older - n) (drop n older))
 rest_next newer older e m n next =
     subst (λ es. IsNext newer older e es (take (length older - n) (drop n older))) (sym (take_rest newer m)) (subst (IsNext newer older e (drop m newer)) (sym (take_rest older n)) next)
 
--- an entry comes before others where it comes before their first
+-- a digest comes before all ascending entries if it comes before the first one
 pub first_below : (d : Digest) (all : Entries) (f : Digest × Block) (older : Entries) → all ≡ f ∷ older → Ascend all → digest_cmp d f.0 ≡ Less → IsBelow d all
 first_below d all f older is ascend less = subst (IsBelow d) (sym is) (below_each d f.0 f.1 older less (subst Ascend is ascend))
 
--- ---- both, entry by entry
+-- ---- both lists, entry by entry
 
--- these are merged, and those are left of both
+-- the loop of `merged` has merged these entries, and has those left of each list
 pub record IsMerging (newer older both newer_left older_left : Entries) : Type 0 where
   pub each : (d : Digest) → option_or (under newer d) (under older d) ≡ option_or (under both d) (option_or (under newer_left d) (under older_left d))
   pub ascend : Ascend both
@@ -139,7 +139,7 @@ both_below : (P Q R : Digest → Type 0) (es : Entries) → ((d : Digest) → P 
 both_below P Q R [] f p q = tt
 both_below P Q R (x ∷ es) f p q = (f x.0 p.0 q.0, both_below P Q R es f p.1 q.1)
 
--- at first all are left
+-- at first all entries are left
 pub none_merged : (newer older : Entries) → Ascend newer → Ascend older → IsMerging newer older [] newer older
 unfolding Rattle.std.specs.List.Sorted.IsStrictlySortedBy
 none_merged newer older one other = record {
@@ -151,7 +151,7 @@ none_merged newer older one other = record {
   below_older = tt;
 }
 
--- the first entry of what is left comes next
+-- the first of the remaining entries is merged
 pub one_merged : (newer older both newer_left older_left newer_rest older_rest : Entries) (e : Digest × Block) → IsMerging newer older both newer_left older_left → IsNext newer_left older_left e newer_rest older_rest
     → IsMerging newer older (both ++ e ∷ []) newer_rest older_rest
 one_merged newer older both newer_left older_left newer_rest older_rest e was next = record {
@@ -165,7 +165,7 @@ one_merged newer older both newer_left older_left newer_rest older_rest e was ne
   below_older = more_each (λ k. IsBelow k older_rest) both e (both_below (λ k. IsBelow k newer_left) (λ k. IsBelow k older_left) (λ k. IsBelow k older_rest) both (λ k p q. (next.above k p q).2) was.below_newer was.below_older) next.before_older;
 }
 
--- at the end none is left
+-- at the end no entry is left
 pub all_merged : (newer older both newer_left older_left : Entries) → IsMerging newer older both newer_left older_left → newer_left ≡ [] → older_left ≡ [] → IsOver (from_entries newer) (from_entries older) (from_entries both)
 all_merged newer older both newer_left older_left merging no_newer no_older d =
     get_lookup digests_total both d ∙ sym (or_none (under both d))
@@ -173,7 +173,7 @@ all_merged newer older both newer_left older_left merging no_newer no_older d =
     ∙ sym (merging.each d)
     ∙ ap (λ found. option_or found (under older d)) (sym (get_lookup digests_total newer d)) ∙ ap (option_or (get (from_entries newer) d)) (sym (get_lookup digests_total older d))
 
--- one generation more is under what is merged
+-- the entries of one more generation are merged, as older ones
 pub joined_more : (old new entries : Entries) (left older : List (FinMap digest_cmp Block)) (latest : FinMap digest_cmp Block) (d : Digest) → left ≡ older ++ latest ∷ [] → from_entries entries ≡ latest
     → IsOver (from_entries old) (from_entries entries) (from_entries new) → option_or (under new d) (get (union older) d) ≡ option_or (under old d) (get (union left) d)
 joined_more old new entries left older latest d is are over =
@@ -181,7 +181,7 @@ joined_more old new entries left older latest d is are over =
     ∙ or_either (under old d) (get latest d) (get (union older) d)
     ∙ ap (option_or (under old d)) (sym (get_latest older latest d) ∙ ap (λ gs. get (union gs) d) (sym is))
 
--- none is left
+-- no generation is left
 pub joined_all : (entries : Entries) (left generations : List (FinMap digest_cmp Block)) → length left ≡ 0 → ((d : Digest) → option_or (under entries d) (get (union left) d) ≡ get (union generations) d) → from_entries entries ≡ union generations
 joined_all entries left generations none each = same_map digests_total digests_apart (from_entries entries) (union generations) (λ d.
     get_lookup digests_total entries d ∙ sym (or_none (under entries d)) ∙ ap (option_or (under entries d)) (sym (get_nowhere left d none)) ∙ each d)

@@ -34,7 +34,7 @@ head_below e es s = sorted_head digest_cmp e.0 (keys_of es) s
 pub tail_ascends : (e : Digest × Block) (es : Entries) → Ascend (e ∷ es) → Ascend es
 tail_ascends e es s = sorted_tail digest_cmp e.0 (keys_of es) s
 
--- what comes before a digest comes before what comes after it
+-- a digest before another one comes before all entries after that one
 pub below_all : (d k : Digest) (es : Entries) → digest_cmp d k ≡ Less → IsBelow k es → IsBelow d es
 below_all d k [] less below = tt
 below_all d k (e ∷ es) less below = (digests_total.trans d k e.0 less below.0, below_all d k es less below.1)
@@ -42,19 +42,19 @@ below_all d k (e ∷ es) less below = (digests_total.trans d k e.0 less below.0,
 pub below_each : (d k : Digest) (b : Block) (es : Entries) → digest_cmp d k ≡ Less → Ascend ((k, b) ∷ es) → IsBelow d ((k, b) ∷ es)
 below_each d k b es less s = (less, below_all d k es less (head_below (k, b) es s))
 
--- nothing is under a digest that comes before all
+-- there is no block under a digest that comes before all entries
 pub none_below : (d : Digest) (es : Entries) → IsBelow d es → under es d ≡ None
 none_below d es below = sym (find_lookup digest_cmp es d) ∙ find_below digest_cmp d es below
 
 turned : (o r : Ordering) → o ≡ ordering_reverse r → r ≡ Less → is_eq o ≡ false
 turned o r is less = ap is_eq (is ∙ ap ordering_reverse less)
 
--- a digest behind another one is not under it
+-- a digest after another one is not equal to it
 pub past : (d k : Digest) → digest_cmp k d ≡ Less → is_eq (digest_cmp d k) ≡ false
 past d k less = turned (digest_cmp d k) (digest_cmp k d) (digests_total.antisymm d k) less
 
 module _ (d k : Digest) (b : Block) (after : Entries) where
-  -- the entry of the digest
+  -- the entry has the digest
   pub found_at : (before : Entries) → Ascend (before ++ (k, b) ∷ after) → digest_cmp d k ≡ Equal → under (before ++ (k, b) ∷ after) d ≡ Some b
   found_at [] s same = ap (λ o. cond (is_eq o) (Some b) (under after d)) same
   found_at (e ∷ before) s same =
@@ -67,7 +67,7 @@ module _ (d k : Digest) (b : Block) (after : Entries) where
           before_same less = digests_total.antisymm e.0 d ∙ ap ordering_reverse (digests_total.congr d k e.0 same ∙ digests_total.antisymm k e.0 ∙ ap ordering_reverse less)
       ends (x ∷ es) below = ends es below.1
 
-  -- the digest is behind the entry
+  -- the digest comes after the entry
   pub found_after : (before : Entries) → Ascend (before ++ (k, b) ∷ after) → digest_cmp k d ≡ Less → (under (before ++ (k, b) ∷ after) d ≡ under after d) × Ascend after
   found_after [] s less = (ap (λ t. cond t (Some b) (under after d)) (past d k less), tail_ascends (k, b) after s)
   found_after (e ∷ before) s less =
@@ -78,7 +78,7 @@ module _ (d k : Digest) (b : Block) (after : Entries) where
       ends [] below = digests_total.trans e.0 k d below.0 less
       ends (x ∷ es) below = ends es below.1
 
-  -- the digest is before the entry
+  -- the digest comes before the entry
   pub found_before : (before : Entries) → Ascend (before ++ (k, b) ∷ after) → digest_cmp d k ≡ Less → (under (before ++ (k, b) ∷ after) d ≡ under before d) × Ascend before
   unfolding Rattle.std.specs.List.Sorted.IsStrictlySortedBy
   found_before [] s less = (none_below d ((k, b) ∷ after) (below_each d k b after less s), tt)
@@ -90,7 +90,7 @@ module _ (d k : Digest) (b : Block) (after : Entries) where
       front [] below = tt
       front (x ∷ es) below = (below.0, front es below.1)
 
--- equal bytes tie
+-- digests with equal bytes compare as equal
 pub is_tie : (d k : Digest) → true ≡ bytes_eq d.0 k.0 → Equal ≡ digest_cmp d k
 is_tie d k same = by (digest_cmp d k) (is_eq-slice_cmp d.0 k.0 ∙ sym same)
   where
@@ -99,7 +99,7 @@ is_tie d k same = by (digest_cmp d k) (is_eq-slice_cmp d.0 k.0 ∙ sym same)
     by Equal eq = refl
     by Greater eq = cc
 
--- some of the entries ascend too
+-- filtered entries still ascend
 pub filtered_ascend : (keep : Digest × Block → Bool) (es : Entries) → Ascend es → Ascend (filter keep es)
 unfolding Rattle.std.specs.List.Sorted.IsStrictlySortedBy
 filtered_ascend keep [] ascend = tt
@@ -110,18 +110,18 @@ filtered_ascend keep (e ∷ es) ascend =
       | false ↦ rest
     ]
 
--- no block is below the first round
+-- no block is below round 0
 pub filtered_all : (es : Entries) → filter (λ e. nat_le 0 e.1.round) es ≡ es
 filtered_all [] = refl
 filtered_all (e ∷ es) = ap (λ t. cond t (e ∷ filter (λ x. nat_le 0 x.1.round) es) (filter (λ x. nat_le 0 x.1.round) es)) (leb-zero e.1.round) ∙ ap (λ (fs : Entries). e ∷ fs) (filtered_all es)
 
--- the heads of what is before an entry, of it, and of what is after it
-pub heads_parted : (heads later : List ℕ) (es after : Entries) (head : ℕ) (e : Digest × Block) → length heads ≡ length es → AreHeads (heads ++ head ∷ later) (es ++ e ∷ after) → AreHeads heads es × IsHead head e.0 × AreHeads later after
-heads_parted [] later [] after head e same are = (refl, ap (λ bs. get_or bs 0 []) are, ap (drop 1) are)
-heads_parted [] later (x ∷ es) after head e same are = absurd (omega (arith, same))
-heads_parted (h ∷ heads) later [] after head e same are = absurd (omega (arith, same))
-heads_parted (h ∷ heads) later (x ∷ es) after head e same are =
-    let parts = heads_parted heads later es after head e (omega (arith, same)) (ap (drop 1) are) in
+-- the heads of the entries before an entry, of the entry, and of the entries after it
+pub heads_split : (heads later : List ℕ) (es after : Entries) (head : ℕ) (e : Digest × Block) → length heads ≡ length es → AreHeads (heads ++ head ∷ later) (es ++ e ∷ after) → AreHeads heads es × IsHead head e.0 × AreHeads later after
+heads_split [] later [] after head e same are = (refl, ap (λ bs. get_or bs 0 []) are, ap (drop 1) are)
+heads_split [] later (x ∷ es) after head e same are = absurd (omega (arith, same))
+heads_split (h ∷ heads) later [] after head e same are = absurd (omega (arith, same))
+heads_split (h ∷ heads) later (x ∷ es) after head e same are =
+    let parts = heads_split heads later es after head e (omega (arith, same)) (ap (drop 1) are) in
     let first : bytes_of h ≡ take 2 x.0.0 = ap (λ bs. get_or bs 0 []) are in
     let others = parts.0 in
     (cc, parts.1, parts.2)

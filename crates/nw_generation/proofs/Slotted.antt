@@ -1,4 +1,4 @@
--- Blocks by their rounds and authors are those of the entries.
+-- The blocks of slots are those of the entries.
 use Rattle.std.proofs.Common.{◌≡◌, ℕ, ◌<◌, true, List, [], ◌∷◌, ◌++◌, Some, cond, length, get_or, ap, sym, ◌∙◌, subst, arith, zero, suc}
 use Rattle.std.specs.declared.cmp.Ordering.TheVariants.{Less}
 use Rattle.std.specs.Ordering.{is_eq}
@@ -11,7 +11,7 @@ use Rattle.nw_trie.proofs.Inserts.{digest_equal}
 use Rattle.nw_model.proofs.Kept.{same_digest}
 use Rattle.nw_generation.specs.declared.slots.Slot.{Slot}
 use Rattle.nw_generation.specs.Entries.{Ascend, IsBelow, under}
-use Rattle.nw_generation.specs.Slots.{AreAmong}
+use Rattle.nw_generation.specs.Slots.{AreSlotsOf}
 use Rattle.nw_generation.proofs.Searches.{Entries, head_below, is_tie, past, tail_ascends}
 
 below_at : (d : Digest) (es : Entries) (i : ℕ) (e : Digest × Block) → IsBelow d es → i < length es → digest_cmp d (get_or es i e).0 ≡ Less
@@ -27,14 +27,14 @@ found_each (x ∷ es) (suc i) e ascend within =
     ap (λ t. cond t (Some x.1) (under es (get_or es i e).0)) (past (get_or es i e).0 x.0 (below_at x.0 es i e (head_below x es ascend) (omega (arith, within))))
     ∙ found_each es i e (tail_ascends x es ascend) (omega (arith, within))
 
--- a slot for one entry more
-pub among_more : (slots : List Slot) (es : Entries) (i : ℕ) (e : Digest × Block) (s : Slot) → AreAmong slots es → Ascend es → i < length es → e ≡ get_or es i e → s.digest ≡ e.0 → s.block ≡ e.1 → AreAmong (slots ++ s ∷ []) es
+-- one more slot, for an entry
+pub among_more : (slots : List Slot) (es : Entries) (i : ℕ) (e : Digest × Block) (s : Slot) → AreSlotsOf slots es → Ascend es → i < length es → e ≡ get_or es i e → s.digest ≡ e.0 → s.block ≡ e.1 → AreSlotsOf (slots ++ s ∷ []) es
 among_more slots es i e s are ascend within is digest block =
     let at : under es e.0 ≡ Some e.1 = subst (λ (x : Digest × Block). under es x.0 ≡ Some x.1) (sym is) (found_each es i e ascend within) in
     All-append (λ (t : Slot). under es t.digest ≡ Some t.block) slots (s ∷ []) are
     (All-cons (λ (t : Slot). under es t.digest ≡ Some t.block) s [] (ap (under es) digest ∙ at ∙ ap Some (sym block)) (All-nil _))
 
--- a slot with the digest has its block
-pub slot_answers : (slots : List Slot) (es : Entries) (place : ℕ) (s : Slot) (d : Digest) → AreAmong slots es → place < length slots → s ≡ get_or slots place s → true ≡ bytes_eq d.0 s.digest.0 → under es d ≡ Some s.block
+-- a slot with the digest has the block under the digest
+pub slot_answers : (slots : List Slot) (es : Entries) (place : ℕ) (s : Slot) (d : Digest) → AreSlotsOf slots es → place < length slots → s ≡ get_or slots place s → true ≡ bytes_eq d.0 s.digest.0 → under es d ≡ Some s.block
 slot_answers slots es place s d are within is same =
     ap (under es) (same_digest d s.digest (ap is_eq (sym (is_tie d s.digest same)))) ∙ subst (λ (x : Slot). under es x.digest ≡ Some x.block) (sym is) (are place s within)

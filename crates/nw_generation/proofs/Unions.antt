@@ -1,4 +1,4 @@
--- What a union of generations answers.
+-- Lookups in a union of generations.
 use Rattle.std.proofs.Common.{◌≡◌, ℕ, Bool, true, false, List, [], ◌∷◌, ◌++◌, Option, Some, None, IfSome, All, cond, refl, ap, sym, ◌∙◌, subst, append_assoc, append-nil, length, arith}
 use Rattle.std.specs.Option.{option_or}
 use Rattle.std.specs.declared.cmp.Ordering.{Ordering}
@@ -18,18 +18,18 @@ or_later : {X : Type 0} (b : Bool) (v : X) (first later : Option X) → cond b (
 or_later true v first later = refl
 or_later false v first later = refl
 
--- what the first list lacks is looked for in the second
+-- a lookup in two lists searches the first, and then the second
 find_append : {K X : Type 0} (R : K → K → Ordering) (q : K) (es fs : List (K × X)) → find R q (es ++ fs) ≡ option_or (find R q es) (find R q fs)
 find_append R q [] fs = refl
 find_append R q (e ∷ es) fs = ap (cond (is_at (R q) e.0) (Some e.1)) (find_append R q es fs) ∙ or_later (is_at (R q) e.0) e.1 (find R q es) (find R q fs)
 
--- more generations, which are later
+-- later generations are added
 latest_first_append : (older later : List (FinMap digest_cmp Block)) → latest_first (older ++ later) ≡ latest_first later ++ latest_first older
 latest_first_append [] later = sym (append-nil (latest_first later))
 latest_first_append (g ∷ older) later =
     ap (λ es. es ++ entries g) (latest_first_append older later) ∙ append_assoc (latest_first later) (latest_first older) (entries g)
 
--- a digest is looked for in the later generations, and then in the older ones
+-- a lookup searches the later generations, and then the older ones
 pub get_later : (older later : List (FinMap digest_cmp Block)) (d : Digest) → get (union (older ++ later)) d ≡ option_or (get (union later) d) (get (union older) d)
 get_later older later d =
     get-from_entries digests_total (latest_first (older ++ later)) d
@@ -38,7 +38,7 @@ get_later older later d =
     ∙ ap (λ found. option_or found (find digest_cmp d (latest_first older))) (sym (get-from_entries digests_total (latest_first later) d))
     ∙ ap (option_or (get (union later) d)) (sym (get-from_entries digests_total (latest_first older) d))
 
--- a digest is looked for in the latest generation, and then in the older ones
+-- a lookup searches the latest generation, and then the older ones
 pub get_latest : (older : List (FinMap digest_cmp Block)) (latest : FinMap digest_cmp Block) (d : Digest) → get (union (older ++ latest ∷ [])) d ≡ option_or (get latest d) (get (union older) d)
 get_latest older latest d =
     get-from_entries digests_total (latest_first (older ++ latest ∷ [])) d
@@ -51,11 +51,11 @@ get_latest older latest d =
 pub get_here : (left older : List (FinMap digest_cmp Block)) (latest : FinMap digest_cmp Block) (d : Digest) (b : Block) → left ≡ older ++ latest ∷ [] → Some b ≡ get latest d → get (union left) d ≡ Some b
 get_here left older latest d b is here = ap (λ gs. get (union gs) d) is ∙ get_latest older latest d ∙ ap (λ found. option_or found (get (union older) d)) (sym here)
 
--- the latest generation lacks the digest
+-- the latest generation does not have the digest
 pub get_older : (left older : List (FinMap digest_cmp Block)) (latest : FinMap digest_cmp Block) (d : Digest) → left ≡ older ++ latest ∷ [] → None ≡ get latest d → get (union older) d ≡ get (union left) d
 get_older left older latest d is lacks = ap (λ found. option_or found (get (union older) d)) lacks ∙ sym (get_latest older latest d) ∙ ap (λ gs. get (union gs) d) (sym is)
 
--- what all generations have is of the round, so what the latest has is
+-- if the block of all generations is of the slot's round, so is that of the latest generation
 pub of_latest : (left older : List (FinMap digest_cmp Block)) (latest : FinMap digest_cmp Block) (slot : Option (ℕ × ℕ)) (d : Digest) → left ≡ older ++ latest ∷ [] → IsOf slot (get (union left) d) → IsOf slot (get latest d)
 of_latest left older latest None d is of = tt
 of_latest left older latest (Some (round, author)) d is of = by (get latest d) (subst (λ o. IfSome o (λ (b : Block). b.round ≡ round)) (ap (λ gs. get (union gs) d) is ∙ get_latest older latest d) of)
@@ -64,7 +64,7 @@ of_latest left older latest (Some (round, author)) d is of = by (get latest d) (
     by None h = tt
     by (Some b) h = h
 
--- entries of other rounds alone have no block of this one
+-- entries of other rounds only have no block of this round
 pub none_of : (es : List (Digest × Block)) (rounds : Option (ℕ × ℕ)) (round author : ℕ) (d : Digest) → All (λ (e : Digest × Block). IsWithin rounds e.1.round) es → (IsWithin rounds round → ⊥) → IsOf (Some (round, author)) (under es d) → None ≡ under es d
 none_of es rounds round author d within out of = by (under es d) (look es (recursion_from_All (λ (e : Digest × Block). IsWithin rounds e.1.round) es within)) of
   where
@@ -85,7 +85,7 @@ pub get_nowhere : (left : List (FinMap digest_cmp Block)) (d : Digest) → lengt
 get_nowhere [] d none = get-empty digest_cmp d
 get_nowhere (g ∷ left) d none = absurd (omega arith)
 
--- the later generations become one
+-- joining the later generations to one keeps the union
 pub union_joined : (older later : List (FinMap digest_cmp Block)) (joined : FinMap digest_cmp Block) → joined ≡ union later → union (older ++ joined ∷ []) ≡ union (older ++ later)
 union_joined older later joined is = same_map digests_total digests_apart (union (older ++ joined ∷ [])) (union (older ++ later)) (λ d.
     get_latest older joined d ∙ ap (λ (m : FinMap digest_cmp Block). option_or (get m d) (get (union older) d)) is ∙ sym (get_later older later d))

@@ -10,7 +10,7 @@ use Rattle.nw_digest.specs.declared.digest.Digest.{Digest}
 use Rattle.nw_codec.specs.declared.block.Block.{Block}
 use Rattle.nw_digest.specs.Order.{digest_cmp}
 
--- each digest comes after the one before it
+-- the digests ascend strictly
 abbrev pub Ascend : List (Digest × Block) → Type 0
 Ascend entries = IsStrictlySortedBy digest_cmp (keys_of entries)
 
@@ -18,7 +18,7 @@ Ascend entries = IsStrictlySortedBy digest_cmp (keys_of entries)
 abbrev pub bytes_of : ℕ → List ℕ
 bytes_of n = n / 256 ∷ n % 256 ∷ []
 
--- the head is the number that the first two bytes of the digest make
+-- the head is the first two bytes of the digest, as a number
 abbrev pub IsHead : ℕ → Digest → Type 0
 IsHead head d = bytes_of head ≡ take 2 d.0
 
@@ -30,16 +30,23 @@ AreHeads heads entries = map bytes_of heads ≡ map (λ e. take 2 e.0.0) entries
 abbrev pub IsBelow : Digest → List (Digest × Block) → Type 0
 IsBelow d entries = AllByRecursion (λ k. digest_cmp d k ≡ Less) (keys_of entries)
 
--- the block that the entries have under the digest
+-- the block under the digest, if the entries have one
 abbrev pub under : List (Digest × Block) → Digest → Option Block
 under entries d = lookup (is_at (digest_cmp d)) entries
 
--- the first entry of both, and what is left of them: what is under a digest, in the newer ones or else in the older ones, is in that entry or in what is left
+-- a step of a merge: the first entry of both lists, and the remaining entries of each
 pub record IsNext (newer older : List (Digest × Block)) (first : Digest × Block) (newer_left older_left : List (Digest × Block)) : Type 0 where
+  -- the entry and the remaining ones have the same blocks under each digest as both lists
   pub same : (d : Digest) → option_or (under newer d) (under older d) ≡ option_or (under (first ∷ []) d) (option_or (under newer_left d) (under older_left d))
+  -- the entry comes before the remaining ones of the newer list
   pub before_newer : IsBelow first.0 newer_left
+  -- and before those of the older list
   pub before_older : IsBelow first.0 older_left
+  -- the remaining entries of the newer list ascend
   pub newer_ascend : Ascend newer_left
+  -- and so do those of the older list
   pub older_ascend : Ascend older_left
+  -- a digest before both lists comes before the entry and the remaining ones
   pub above : (d : Digest) → IsBelow d newer → IsBelow d older → IsBelow d (first ∷ []) × IsBelow d newer_left × IsBelow d older_left
+  -- there are fewer entries left
   pub fewer : length newer_left + length older_left < length newer + length older

@@ -1,4 +1,4 @@
--- What is seen of a view.
+-- Generations and views, as contracts see them.
 use Rattle.std.specs.Prelude.{◌≡◌, ℕ, ◌≤◌, List, [], ◌∷◌, ◌++◌, Option, Some, None, IfSome, length, refl}
 use Rattle.std.specs.Coded.{Coded, code_by, coded×, coded_ℕ}
 use Rattle.std.specs.Option.{option_or}
@@ -11,55 +11,61 @@ use Rattle.nw_model.specs.State.{coded_digest, coded_block}
 use Rattle.nw_model.specs.View.{Frozen, IsClosed, coded_frozen}
 use Rattle.nw_generation.specs.declared.generations.TheConstants.{MOST_PARTS}
 
--- the entries of all generations, which are given the oldest first: those of the latest generation come first
+-- the entries of all generations: the generations are given from the oldest on, and the latest one's entries come first
 abbrev pub latest_first : List (FinMap digest_cmp Block) → List (Digest × Block)
 latest_first [] = []
 latest_first (oldest ∷ later) = latest_first later ++ entries oldest
 
--- the blocks of all generations; where two hold a digest, it has the later one's block
+-- the blocks of all generations; if generations have different blocks under one digest, the latest one counts
 abbrev pub union : List (FinMap digest_cmp Block) → FinMap digest_cmp Block
 union generations = from_entries (latest_first generations)
 
--- what generations hold together, and how many they are
+-- the generations of a store
 pub record Joined : Type 0 where
+  -- the union of their blocks
   pub blocks : FinMap digest_cmp Block
+  -- the number of generations
   pub parts : ℕ
 
--- how what generations hold together is told apart from others
+-- a code, by which equal generations are told from others
 abbrev pub coded_joined : Coded Joined
 coded_joined = code_by (FinMap digest_cmp Block × ℕ) (coded× (map.code coded_digest coded_block) coded_ℕ) (λ j. (j.blocks, j.parts)) (λ p. record { blocks = p.0; parts = p.1 }) (λ _. refl)
 
--- what these generations hold together, given the oldest first
+-- these generations, given from the oldest on
 abbrev pub joined : List (FinMap digest_cmp Block) → Joined
 joined generations = record { blocks = union generations; parts = length generations }
 
--- a digest has the newer block where there is one, else the older one
+-- each digest has the newer block if there is one, and otherwise the older one if there is one
 abbrev pub IsOver : FinMap digest_cmp Block → FinMap digest_cmp Block → FinMap digest_cmp Block → Type 0
 IsOver newer older both = (d : Digest) → get both d ≡ option_or (get newer d) (get older d)
 
--- a block, where there is one, is of the round, where one is named, with an author
+-- if a slot is given and a block was found, the block is of the slot's round
 abbrev pub IsOf : Option (ℕ × ℕ) → Option Block → Type 0
 IsOf slot found = IfSome slot (λ s. IfSome found (λ b. b.round ≡ s.0))
 
--- frozen blocks, and how many generations they come from
+-- a view
 pub record Seen : Type 0 where
+  -- the frozen blocks and the floor
   pub frozen : Frozen
+  -- the number of generations
   pub parts : ℕ
 
--- how what is seen of a view is told apart from others
+-- a code, by which equal views are told from others
 abbrev pub coded_seen : Coded Seen
 coded_seen = code_by (Frozen × ℕ) (coded× coded_frozen coded_ℕ) (λ s. (s.frozen, s.parts)) (λ p. record { frozen = p.0; parts = p.1 }) (λ _. refl)
 
--- what is seen of the generations and the floor
+-- the view of these generations, given from the oldest on, and the floor
 abbrev pub seen_of : List (FinMap digest_cmp Block) → ℕ → Seen
 seen_of generations floor = record { frozen = record { blocks = union generations; floor = floor }; parts = length generations }
 
--- closed, and of so few generations
+-- what every view keeps
 pub record IsView (s : Seen) : Type 0 where
+  -- it is closed
   pub closed : IsClosed s.frozen
+  -- it has at most the maximum number of generations
   pub few : s.parts ≤ MOST_PARTS
 
--- the round is one of those from the first of these to the second; where there are none, no round is
+-- there is a range, and it includes the round
 abbrev pub IsWithin : Option (ℕ × ℕ) → ℕ → Type 0
 IsWithin None round = ⊥
 IsWithin (Some span) round = (span.0 ≤ round) × (round ≤ span.1)

@@ -1,4 +1,4 @@
-//! Blocks under their digests, ascending. Each entry is one piece of memory, which the lists that have it share.
+//! Entries: blocks under their digests, ascending. Each entry is one allocation, which the lists that contain it share.
 ghost use Rattle.std.specs.Prelude.{◌≡◌, ◌≤◌, IfOk, IfSome, [], drop, filter, length, nat_le};
 ghost use Rattle.std.specs.Option.{MatchOption};
 ghost use Rattle.std.specs.FinMap as map;
@@ -12,16 +12,16 @@ use std::alloc::{Allocator, Global};
 use std::cmp::Ordering;
 use std::marker::Model;
 
-/// One owner of a block under its digest.
+/// A block under its digest, with shared ownership.
 pub(crate) type Entry = Shared<(Digest, Shared<Block>)>;
 
-/// An entry that a generation lends. Contracts see the entry.
+/// A borrowed entry. Contracts see the entry.
 #[derive(Drop)]
-pub(crate) struct Lent<'a> {
+pub(crate) struct EntryRef<'a> {
     entry: &'a Entry,
 }
 
-impl<'a> Model for Lent<'a> {
+impl<'a> Model for EntryRef<'a> {
     ghost use Rattle.nw_codec.specs.declared.block.Block.{Block};
     ghost use Rattle.nw_digest.specs.declared.digest.Digest.{Digest};
 
@@ -30,7 +30,7 @@ impl<'a> Model for Lent<'a> {
     ghost view = { λ l. l.entry.now };
 }
 
-/// An entry for each of the trie. The blocks are shared.
+/// One entry for each block of the trie. The blocks are shared.
 pub(crate) fn of_trie<A: Allocator>(
     alloc: Global,
     trie: &Trie<Shared<Block>, A>,
@@ -44,12 +44,12 @@ pub(crate) fn of_trie<A: Allocator>(
     Ok(entries)
 }
 
-/// The entries of both; where both have a digest, the newer one's.
+/// The entries of both lists. If both have a digest, the newer list's entry counts.
 pub(crate) fn merged<'a>(
     alloc: Global,
-    newer: &[Lent<'a>],
+    newer: &[EntryRef<'a>],
     older: &'a [Entry],
-) -> Result<Vec<Lent<'a>>, NoMemory>
+) -> Result<Vec<EntryRef<'a>>, NoMemory>
     requires newer { Ascend newer.now }
     requires older { Ascend older.now }
     ensures { IfOk result (λ both. Ascend both.items × IsOver (map.from_entries newer.now)
@@ -59,15 +59,16 @@ pub(crate) fn merged<'a>(
     let mut both = Vec::with_capacity(alloc, most)?;
     let (mut newer, mut older) = (newer, older);
     while let Some((entry, of_newer, of_older)) = first_of(newer, older) {
-        both.push(Lent { entry })?;
+        both.push(EntryRef { entry })?;
         newer = &newer[of_newer..];
         older = &older[of_older..];
     }
     Ok(both)
 }
 
-/// The first entry of both, and how many of each have its digest: one or none. Where both have it, it is the newer one's.
-fn first_of<'a>(newer: &[Lent<'a>], older: &'a [Entry]) -> Option<(&'a Entry, usize, usize)>
+/// The first entry of both lists, and for each list the number of entries with its digest: 0 or 1. If both have the digest, the
+/// newer list's entry counts.
+fn first_of<'a>(newer: &[EntryRef<'a>], older: &'a [Entry]) -> Option<(&'a Entry, usize, usize)>
     requires newer { Ascend newer.now }
     requires older { Ascend older.now }
     ensures next { MatchOption result ((newer.now ≡ []) × (older.now ≡ []))
@@ -92,8 +93,12 @@ fn first_of<'a>(newer: &[Lent<'a>], older: &'a [Entry]) -> Option<(&'a Entry, us
     }
 }
 
-/// One more owner of each of these entries that is not below the round.
-pub(crate) fn owned(alloc: Global, entries: &[Lent], round: Round) -> Result<Vec<Entry>, NoMemory>
+/// A clone of each entry at or above the round.
+pub(crate) fn owned(
+    alloc: Global,
+    entries: &[EntryRef],
+    round: Round,
+) -> Result<Vec<Entry>, NoMemory>
     ensures { IfOk result
         (λ kept. kept.items ≡ filter (λ e. nat_le round e.1.round) entries.now) }
 {

@@ -1,4 +1,4 @@
-//! Generations: blocks that are frozen at one moment.
+//! Generations: blocks that were frozen at one moment.
 ghost use Rattle.std.specs.Prelude.{◌≡◌, IfOk, IfErr, IsTrue, None};
 ghost use Rattle.std.specs.Option.{option_copied};
 ghost use Rattle.std.specs.FinMap as map;
@@ -14,11 +14,11 @@ use nw_trie::Trie;
 use std::alloc::{Allocator, Global};
 use std::marker::Model;
 
-/// One owner of blocks that never change, under their digests. Contracts see the finite map of these.
+/// Blocks under their digests, which never change. Clones share them. Contracts see a finite map from digests to blocks.
 #[derive(Drop)]
 pub struct Generation {
     index: Shared<Index>,
-    /// The least and the greatest round of the blocks.
+    /// The lowest and the highest round of the blocks.
     rounds: Option<(Round, Round)>,
 }
 
@@ -40,7 +40,9 @@ impl Model for Generation {
     ghost invariant = { λ g. All (λ e. IsWithin g.rounds e.1.round) g.index };
 }
 
-/// The generation of these blocks, which it shares. Want of memory hands the trie back, as it was.
+/// Freezes the blocks of the trie into a generation, which shares them.
+///
+/// `NoMemory`: an allocation failed. The error returns the trie unchanged.
 pub fn freeze<A: Allocator>(
     alloc: Global,
     trie: Trie<Shared<Block>, A>,
@@ -54,6 +56,7 @@ pub fn freeze<A: Allocator>(
     }
 }
 
+/// The generation of the trie's blocks.
 fn frozen<A: Allocator>(
     alloc: Global,
     trie: &Trie<Shared<Block>, A>,
@@ -78,7 +81,7 @@ impl Generation {
         })
     }
 
-    /// One more owner of the same blocks.
+    /// A clone, which shares the blocks.
     pub fn try_clone(&self) -> Result<Generation, NoMemory>
         ensures { IfOk result (λ generation. generation ≡ self.now) }
     {
@@ -88,7 +91,7 @@ impl Generation {
         })
     }
 
-    /// How many blocks it has.
+    /// The number of blocks.
     pub(crate) fn len(&self) -> usize {
         self.entries().len()
     }
@@ -101,21 +104,23 @@ impl Generation {
         self.index.get().entries()
     }
 
-    /// The block under the digest, which is of this round where one is named, and is sought first at the author named with it. It
-    /// looks nowhere where no block is of the round.
+    /// The block under the digest, or `None` if there is no such block.
+    ///
+    /// `slot` makes the search fast. Its round must be that of the block, if the generation has the block. Its author is only a
+    /// guess. If the generation has no block of the round, nothing is searched.
     pub fn get(&self, slot: Option<(Round, u16)>, digest: &Digest) -> Option<&Shared<Block>>
         requires { IsOf slot (map.get self.now digest.now) }
         ensures { option_copied result ≡ map.get self.now digest.now }
     {
         let named = &slot;
-        if self.is_without(named) {
+        if self.excludes(named) {
             return None;
         }
         self.index.get().get(named, digest)
     }
 
-    /// Whether no block is of the round, where one is named.
-    fn is_without(&self, slot: &Option<(Round, u16)>) -> bool
+    /// Whether a round is given, and the generation has no block of it.
+    fn excludes(&self, slot: &Option<(Round, u16)>) -> bool
         ensures { IsTrue result → (d : Digest) → IsOf slot.now (map.get self.now d)
             → map.get self.now d ≡ None }
     {

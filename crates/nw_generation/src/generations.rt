@@ -1,4 +1,4 @@
-//! The generations of a store, of which its views are made.
+//! The generations of a store. Its views are made from them.
 ghost use Rattle.std.specs.Prelude.{◌≡◌, ◌+◌, ◌<◌, ◌≤◌, IfOk, OnOk, OnErr};
 ghost use Rattle.std.specs.FinMap as map;
 ghost use Rattle.nw_model.specs.Step.{from_round};
@@ -6,20 +6,20 @@ ghost use Rattle.nw_model.specs.View.{IsClosed};
 ghost use Rattle.nw_generation.specs.Entries.{Ascend};
 ghost use Rattle.nw_generation.specs.Seen.{IsOver, union};
 
-use crate::entries::{Lent, merged, owned};
+use crate::entries::{EntryRef, merged, owned};
 use crate::{Generation, View};
 use nw_digest::{NoMemory, Round};
 use std::alloc::Global;
 use std::marker::Model;
 
-/// How many generations there are at most.
+/// The maximum number of generations.
 pub const MOST_PARTS: usize = 16;
 
-/// At most `MOST_PARTS` generations, which grow in number as blocks are frozen. Contracts see what they hold together, where
-/// the later one counts, and how many they are.
+/// At most `MOST_PARTS` generations. Freezing blocks adds one. Contracts see the number of generations and the union of their blocks.
+/// If generations have different blocks under one digest, the latest one counts.
 #[derive(Drop)]
 pub struct Generations {
-    /// The oldest first.
+    /// From the oldest to the latest.
     list: Vec<Generation>,
 }
 
@@ -38,7 +38,7 @@ impl Model for Generations {
 }
 
 impl Generations {
-    /// No generations. It takes no memory.
+    /// No generations. Allocates no memory.
     pub fn new(alloc: Global) -> Generations
         ensures { result ≡ record { blocks = map.empty; parts = 0 } }
     {
@@ -47,7 +47,7 @@ impl Generations {
         }
     }
 
-    /// How many there are.
+    /// The number of generations.
     pub fn parts(&self) -> usize
         ensures parts { result ≡ self.now.parts }
         ensures few { result ≤ MOST_PARTS }
@@ -55,7 +55,9 @@ impl Generations {
         self.list.len()
     }
 
-    /// Puts one more behind the others. Want of memory changes nothing.
+    /// Adds a generation as the latest one.
+    ///
+    /// `NoMemory`: an allocation failed. Nothing changed.
     pub fn push(&mut self, generation: Generation) -> Result<(), NoMemory>
         requires room { self.old.parts < MOST_PARTS }
         ensures blocks { OnOk result (IsOver generation self.old.blocks self.new.blocks) }
@@ -66,7 +68,9 @@ impl Generations {
         Ok(())
     }
 
-    /// What they hold together and is not below the round, as one generation, which shares the blocks.
+    /// One generation with all blocks at or above the round. It shares them.
+    ///
+    /// `NoMemory`: an allocation failed.
     pub fn joined(&self, alloc: Global, round: Round) -> Result<Generation, NoMemory>
         ensures { IfOk result
             (λ generation. generation ≡ from_round (λ b. b.round) round self.now.blocks) }
@@ -76,8 +80,9 @@ impl Generations {
         Generation::of(alloc, entries)
     }
 
-    /// From which on they are to be joined, so that each block is joined seldom: the oldest that has no more blocks than the later
-    /// ones together, or else the last two.
+    /// The index of the first generation to join with all later ones, so that each block is joined seldom.
+    ///
+    /// This is the oldest generation with at most as many blocks as all later ones together. At least the last two are joined.
     pub fn first_small(&self) -> usize
         requires several { 2 ≤ self.now.parts }
         ensures { result + 2 ≤ self.now.parts }
@@ -95,8 +100,9 @@ impl Generations {
         first.min(last)
     }
 
-    /// The same blocks in as many generations as are named and one more, which has what the others hold together. The blocks
-    /// are shared.
+    /// The same blocks in `first` + 1 generations: the first ones stay, and the others are joined to one. The blocks are shared.
+    ///
+    /// `NoMemory`: an allocation failed.
     pub fn joined_from(&self, alloc: Global, first: usize) -> Result<Generations, NoMemory>
         requires within { first < self.now.parts }
         ensures blocks { IfOk result (λ joined. joined.blocks ≡ self.now.blocks) }
@@ -110,7 +116,9 @@ impl Generations {
         Ok(Generations { list })
     }
 
-    /// A view of what they hold together. It shares them.
+    /// A view of all blocks. It shares the generations.
+    ///
+    /// `NoMemory`: an allocation failed.
     pub fn view(&self, alloc: Global, floor: Round) -> Result<View, NoMemory>
         requires closed { IsClosed (record { blocks = self.now.blocks; floor = floor }) }
         ensures { IfOk result (λ view. view ≡ record {
@@ -122,11 +130,11 @@ impl Generations {
     }
 }
 
-/// The entries of these generations together.
+/// The entries of these generations, joined: one for each digest, the latest generation's.
 fn joined_entries<'a>(
     alloc: Global,
     generations: &'a [Generation],
-) -> Result<Vec<Lent<'a>>, NoMemory>
+) -> Result<Vec<EntryRef<'a>>, NoMemory>
     ensures ascend { IfOk result (λ entries. Ascend entries.items) }
     ensures union { IfOk result
         (λ entries. map.from_entries entries.items ≡ union generations.now) }
@@ -140,7 +148,7 @@ fn joined_entries<'a>(
     Ok(entries)
 }
 
-/// One more owner of each of these.
+/// A clone of each generation.
 fn shared(alloc: Global, generations: &[Generation]) -> Result<Vec<Generation>, NoMemory>
     ensures { IfOk result (λ list. list.items ≡ generations.now) }
 {

@@ -1,4 +1,4 @@
-//! Blocks that are searched by their digests.
+//! Searches blocks by their digests.
 ghost use Rattle.std.specs.Prelude.{◌≡◌, ◌<◌, ◌++◌, ◌∷◌, IfOk, length};
 ghost use Rattle.std.specs.Option.{option_copied};
 ghost use Rattle.nw_digest.specs.Order.{digest_cmp};
@@ -12,13 +12,13 @@ use std::alloc::Global;
 use std::cmp::Ordering;
 use std::marker::Model;
 
-/// Blocks under their digests, ascending. Contracts see the list of these.
+/// Blocks under their digests, ascending. Contracts see the list of entries.
 #[derive(Drop)]
 pub(crate) struct Index {
     /// The first two bytes of each digest, so that a search follows few pointers.
     heads: Vec<u16>,
     entries: Vec<Entry>,
-    /// The same blocks by their rounds and authors.
+    /// The same blocks by round and author.
     slots: Slots,
 }
 
@@ -32,10 +32,10 @@ impl Model for Index {
     ghost view = { λ i. i.entries.items };
 
     ghost use Rattle.nw_generation.specs.Entries.{AreHeads, Ascend};
-    ghost use Rattle.nw_generation.specs.Slots.{AreAmong};
+    ghost use Rattle.nw_generation.specs.Slots.{AreSlotsOf};
 
     ghost invariant = { λ i. AreHeads i.heads.items i.entries.items × Ascend i.entries.items
-        × AreAmong i.slots.slots.items i.entries.items };
+        × AreSlotsOf i.slots.slots.items i.entries.items };
 }
 
 impl Index {
@@ -59,7 +59,7 @@ impl Index {
         self.entries.as_slice()
     }
 
-    /// The block under the digest. Where a round and an author are named, it is sought there first.
+    /// The block under the digest, or `None` if there is no such block. If a slot is given, it is searched first.
     pub(crate) fn get(&self, slot: &Option<(Round, u16)>, digest: &Digest) -> Option<&Shared<Block>>
         ensures { option_copied result ≡ under self.now digest.now }
     {
@@ -72,11 +72,10 @@ impl Index {
     }
 }
 
-/// The block under the digest.
+/// The block under the digest, or `None` if there is no such block.
 ///
-/// Digests are spread evenly, so that their heads tell nearly where one stands: a search goes by heads, which lie side by side,
-/// and follows a pointer only where the head is that of the digest. Where digests are crowded, every eighth look halves what
-/// is left.
+/// Digests are spread evenly, so a head tells roughly where its digest is. The search compares heads, which are adjacent in memory.
+/// It follows a pointer only if the heads are equal. In case digests are crowded, every eighth look halves the rest.
 fn find<'a>(heads: &[u16], entries: &'a [Entry], digest: &Digest) -> Option<&'a Shared<Block>>
     requires heads { AreHeads heads.now entries.now }
     requires ascend { Ascend entries.now }
@@ -87,8 +86,8 @@ fn find<'a>(heads: &[u16], entries: &'a [Entry], digest: &Digest) -> Option<&'a 
     let (mut low, mut high) = (0, u16::MAX);
     while !left.is_empty() {
         let place = next_place(looks, left.len(), all, low, head, high);
-        let (heads_before, other, heads_after) = parted(heads, place);
-        let (before, entry, after) = parted(left, place);
+        let (heads_before, other, heads_after) = split_around(heads, place);
+        let (before, entry, after) = split_around(left, place);
         match order(head, digest, *other, entry) {
             Ordering::Less => (heads, left, high) = (heads_before, before, *other),
             Ordering::Equal => return Some(&entry.get().1),
@@ -99,8 +98,8 @@ fn find<'a>(heads: &[u16], entries: &'a [Entry], digest: &Digest) -> Option<&'a 
     None
 }
 
-/// What is before the place, what is there, and what is after it.
-fn parted<T>(items: &[T], place: usize) -> (&[T], &T, &[T])
+/// The items before the place, the item at the place, and the items after it.
+fn split_around<T>(items: &[T], place: usize) -> (&[T], &T, &[T])
     requires { place < length items.now }
     ensures parts { result.0.now ++ result.1.now ∷ result.2.now ≡ items.now }
     ensures place { length result.0.now ≡ place }
@@ -112,7 +111,7 @@ fn parted<T>(items: &[T], place: usize) -> (&[T], &T, &[T])
     (before, item, after)
 }
 
-/// How the digest compares to the entry's, where these are their heads.
+/// Compares the digest with the entry's digest. `head` is the head of the first, and `other` that of the second.
 fn order(head: u16, digest: &Digest, other: u16, entry: &Entry) -> Ordering
     requires head { IsHead head digest.now }
     requires other { IsHead other entry.now.0 }
@@ -122,7 +121,7 @@ fn order(head: u16, digest: &Digest, other: u16, entry: &Entry) -> Ordering
         return head.cmp(&other);
     }
     let key = &entry.get().0;
-    // Two digests with one head are mostly equal, which is told sooner than their order.
+    // Two digests with one head are mostly equal, and equality is faster to test than order.
     if digest == key {
         Ordering::Equal
     } else {
@@ -130,8 +129,10 @@ fn order(head: u16, digest: &Digest, other: u16, entry: &Entry) -> Ordering
     }
 }
 
-/// The place to look at next, after so many looks, for a head among so many entries with heads from the low one to the high one,
-/// where so many in all are spread evenly. It is counted from the nearer end.
+/// The next place to look for `head` among the remaining entries, whose heads are between `low` and `high`.
+///
+/// `looks` is the number of looks so far, and `all` the number of entries of the index. The place is estimated from the nearer end,
+/// as if all heads were spread evenly. Every eighth look takes the middle.
 fn next_place(looks: u32, entries: usize, all: usize, low: u16, head: u16, high: u16) -> usize
     requires { 0 < entries }
     ensures { result < entries }
@@ -147,7 +148,7 @@ fn next_place(looks: u32, entries: usize, all: usize, low: u16, head: u16, high:
     }
 }
 
-/// How many of so many heads that are spread evenly lie in a range of this width.
+/// The number of heads that lie in a range of this width, if all heads are spread evenly.
 fn expected(all: usize, width: u16) -> usize {
     (u64::from(width).saturating_mul(all as u64) >> 16) as usize
 }

@@ -1,9 +1,10 @@
-//! Frozen blocks: generations of them that never change, and views of a few generations.
+//! Frozen blocks: generations that never change, and views of a few generations.
 //!
-//! Its contract: a [`Generation`] is a finite map from digests to blocks, shared by its owners. It is made of a trie, or of
-//! other generations, whose entries it shares. [`Generations`] are at most [`MOST_PARTS`] of these, where the later ones count.
-//! A [`View`] is what some generations hold together, and it is closed above its floor.
-//! It stands on `nw_trie` for the tries, and on `nw_model` for what a closed view is.
+//! A [`Generation`] is a finite map from digests to blocks, with shared ownership. It is made from a trie, or from other generations,
+//! whose entries it shares. [`Generations`] are at most [`MOST_PARTS`] of them. A [`View`] has the blocks of some generations, and is
+//! closed above its floor. If generations have different blocks under one digest, the latest one counts.
+//!
+//! The crate uses `nw_trie` for tries. `nw_model` defines closed views.
 #![tactic(auto)]
 
 mod entries;

@@ -1,9 +1,9 @@
-//! Blocks by their rounds and authors.
+//! Blocks by round and author.
 ghost use Rattle.std.specs.Prelude.{◌≡◌, IfOk, IfSome, List, Some};
 ghost use Rattle.nw_digest.specs.declared.digest.Digest.{Digest};
 ghost use Rattle.nw_codec.specs.declared.block.Block.{Block};
 ghost use Rattle.nw_generation.specs.Entries.{Ascend, under};
-ghost use Rattle.nw_generation.specs.Slots.{AreAmong};
+ghost use Rattle.nw_generation.specs.Slots.{AreSlotsOf};
 
 use crate::entries::Entry;
 use nw_codec::Block;
@@ -19,33 +19,33 @@ pub(crate) struct Slot {
     block: Shared<Block>,
 }
 
-/// The blocks of entries by round and author. They lie side by side, so that a walk follows few pointers.
+/// The blocks of an index by round and author. They are adjacent in memory, so that a walk follows few pointers.
 #[derive(Drop)]
 pub(crate) struct Slots {
     /// Ascending by round and author.
     pub(crate) slots: Vec<Slot>,
-    /// For each round from the first one on, how many slots are of earlier rounds.
-    begins: Vec<u32>,
+    /// For each round from the first one on, the number of slots of earlier rounds.
+    starts: Vec<u32>,
 }
 
 impl Slots {
     /// The slots of these entries.
     pub(crate) fn of(alloc: Global, entries: &[Entry]) -> Result<Slots, NoMemory>
         requires { Ascend entries.now }
-        ensures { IfOk result (λ made. AreAmong made.slots.items entries.now) }
+        ensures { IfOk result (λ made. AreSlotsOf made.slots.items entries.now) }
     {
         let mut slots = slots_of(alloc, entries)?;
         slots.sort_by(|one: &Slot, other: &Slot| {
             let by_round = one.round.cmp(&other.round);
             by_round.then(one.author.cmp(&other.author))
         })?;
-        let begins = begins_of(alloc, slots.as_slice())?;
-        Ok(Slots { slots, begins })
+        let starts = starts_of(alloc, slots.as_slice())?;
+        Ok(Slots { slots, starts })
     }
 
-    /// The block under the digest, if it is expected at the round and author.
+    /// The block under the digest, if it is at the place where the round and author are expected.
     pub(crate) fn get(&self, round: Round, author: u16, digest: &Digest) -> Option<&Shared<Block>>
-        ensures { (entries : List (Digest × Block)) → AreAmong self.now.slots.items entries
+        ensures { (entries : List (Digest × Block)) → AreSlotsOf self.now.slots.items entries
             → IfSome result (λ block. under entries digest.now ≡ Some block.now) }
     {
         let place = self.place(round, author)?;
@@ -57,11 +57,11 @@ impl Slots {
         }
     }
 
-    /// Where a block of the round and author is expected. It is a guess, of which no clause says anything.
+    /// The place where a block of the round and author is expected. It is a guess, and has no contract.
     fn place(&self, round: Round, author: u16) -> Option<usize> {
         let (begin, row) = self.row(round)?;
         let mut last = 0;
-        // Which place a row of one block has depends on nothing, so that a processor need not wait for the author.
+        // In a row of one block, the place does not depend on the author. So a processor need not wait for the author.
         if row.len() > 1 {
             last = row.len().min(author as usize + 1) - 1;
             while last > 0 && is_after(row, last, author) {
@@ -71,12 +71,12 @@ impl Slots {
         begin.checked_add(last)
     }
 
-    /// The slots of the round, by author, and how many are before them.
+    /// The number of slots before those of the round, and the slots of the round, by author.
     fn row(&self, round: Round) -> Option<(usize, &[Slot])> {
         let first = self.slots.first()?.round;
         let number = round.get().checked_sub(first.get())? as usize;
-        let begin = *self.begins.get(number)? as usize;
-        let end = match self.begins.get(number + 1) {
+        let begin = *self.starts.get(number)? as usize;
+        let end = match self.starts.get(number + 1) {
             Some(end) => *end as usize,
             None => self.slots.len(),
         };
@@ -84,7 +84,7 @@ impl Slots {
     }
 }
 
-/// Whether the slot at the place is of a later author.
+/// Whether the slot at the place has a higher author.
 fn is_after(row: &[Slot], place: usize, author: u16) -> bool {
     match row.get(place) {
         Some(slot) => slot.author > author,
@@ -92,10 +92,10 @@ fn is_after(row: &[Slot], place: usize, author: u16) -> bool {
     }
 }
 
-/// A slot for each entry.
+/// One slot for each entry.
 fn slots_of(alloc: Global, entries: &[Entry]) -> Result<Vec<Slot>, NoMemory>
     requires { Ascend entries.now }
-    ensures { IfOk result (λ slots. AreAmong slots.items entries.now) }
+    ensures { IfOk result (λ slots. AreSlotsOf slots.items entries.now) }
 {
     let mut slots = Vec::with_capacity(alloc, entries.len())?;
     for entry in entries {
@@ -110,17 +110,17 @@ fn slots_of(alloc: Global, entries: &[Entry]) -> Result<Vec<Slot>, NoMemory>
     Ok(slots)
 }
 
-/// How many slots are of rounds before each round, from the first one on; of at most four times as many rounds as there are slots.
-fn begins_of(alloc: Global, slots: &[Slot]) -> Result<Vec<u32>, NoMemory> {
-    let mut begins = Vec::new(alloc);
+/// For each round from the first one on, the number of slots of earlier rounds. It lists at most four rounds for each slot.
+fn starts_of(alloc: Global, slots: &[Slot]) -> Result<Vec<u32>, NoMemory> {
+    let mut starts = Vec::new(alloc);
     let Some(first) = slots.first() else {
-        return Ok(begins);
+        return Ok(starts);
     };
     for (place, slot) in slots.iter().enumerate() {
         let number = slot.round.get().saturating_sub(first.round.get()) as usize;
         if number < slots.len().saturating_mul(4) {
-            begins.resize(number + 1, u32::try_from(place).unwrap_or(u32::MAX))?;
+            starts.resize(number + 1, u32::try_from(place).unwrap_or(u32::MAX))?;
         }
     }
-    Ok(begins)
+    Ok(starts)
 }

@@ -1,12 +1,12 @@
-//! The rounds between which blocks lie.
+//! The range of rounds of blocks.
 ghost use Rattle.std.specs.Prelude.{◌↔◌, ℕ, All, IsTrue, Some};
 ghost use Rattle.nw_generation.specs.Seen.{IsWithin};
 
 use crate::entries::Entry;
 use nw_digest::{InRound, Round};
 
-/// The least and the greatest round of the blocks, or `None` where there are none. The clause says only that the rounds of
-/// all lie between these two.
+/// The lowest and the highest round of the blocks, or `None` if there are no blocks. The contract says only that all rounds lie
+/// between the two.
 pub(crate) fn rounds_of(entries: &[Entry]) -> Option<(Round, Round)>
     ensures { All (λ e. IsWithin result e.1.round) entries.now }
 {
@@ -17,7 +17,7 @@ pub(crate) fn rounds_of(entries: &[Entry]) -> Option<(Round, Round)>
     rounds
 }
 
-/// The rounds between these two, and this one.
+/// The range, widened to include the round.
 fn widened(rounds: Option<(Round, Round)>, round: Round) -> (Round, Round)
     ensures this { IsWithin (Some result) round }
     ensures those { (other : ℕ) → IsWithin rounds other → IsWithin (Some result) other }
@@ -28,7 +28,7 @@ fn widened(rounds: Option<(Round, Round)>, round: Round) -> (Round, Round)
     }
 }
 
-/// Whether the round is one of these.
+/// Whether the range includes the round.
 pub(crate) fn is_within(rounds: Option<(Round, Round)>, round: Round) -> bool
     ensures { IsTrue result ↔ IsWithin rounds round }
 {

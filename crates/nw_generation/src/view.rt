@@ -1,4 +1,4 @@
-//! Views: what a few generations hold together, above a floor.
+//! Views: the blocks of a few generations, and a floor.
 ghost use Rattle.std.specs.Prelude.{◌≡◌, ◌≤◌, length};
 ghost use Rattle.std.specs.Option.{option_copied};
 ghost use Rattle.std.specs.FinMap as map;
@@ -11,12 +11,14 @@ use nw_codec::Block;
 use nw_digest::{Digest, Round, Shared};
 use std::marker::Model;
 
-/// The blocks of at most `MOST_PARTS` generations, and a floor. Where two generations hold a digest, the later one's block
-/// counts. Each parent of a block above the floor is there too, with the named author and in the round before, and no two
-/// blocks that are not below the floor share round and author.
+/// The blocks of at most `MOST_PARTS` generations, and a floor. If generations have different blocks under one digest, the latest
+/// one counts.
+///
+/// A view is closed: each parent of a block above the floor is in the view, with the named author and the preceding round, and no
+/// two blocks at or above the floor share a slot.
 #[derive(Drop)]
 pub struct View {
-    /// The oldest first.
+    /// From the oldest to the latest.
     generations: Vec<Generation>,
     floor: Round,
 }
@@ -34,7 +36,7 @@ impl Model for View {
 }
 
 impl View {
-    /// The view of these generations, the oldest first. It takes no memory.
+    /// The view of these generations, from the oldest to the latest. Allocates no memory.
     pub fn new(generations: Vec<Generation>, floor: Round) -> View
         requires closed { IsClosed (seen_of generations.items floor).frozen }
         requires few { length generations.items ≤ MOST_PARTS }
@@ -43,7 +45,7 @@ impl View {
         View { generations, floor }
     }
 
-    /// The block under the digest. It looks into each generation once at most, from the latest to the oldest.
+    /// The block under the digest, or `None` if there is no such block. Searches each generation at most once, the latest first.
     pub fn get(&self, digest: &Digest) -> Option<&Shared<Block>>
         ensures block { option_copied result ≡ map.get self.now.frozen.blocks digest.now }
         ensures closed { IsClosed self.now.frozen }
@@ -51,14 +53,16 @@ impl View {
         self.get_of(None, digest)
     }
 
-    /// The block under the digest, which is of this round where one is named, and is sought first at the author named with it. It
-    /// looks only into generations that have blocks of the round.
+    /// The block under the digest, or `None` if there is no such block.
+    ///
+    /// `slot` makes the search fast. Its round must be that of the block, if the view has the block. Its author is only a guess.
+    /// Only generations with blocks of the round are searched.
     pub fn get_of(&self, slot: Option<(Round, u16)>, digest: &Digest) -> Option<&Shared<Block>>
         requires { IsOf slot (map.get self.now.frozen.blocks digest.now) }
         ensures block { option_copied result ≡ map.get self.now.frozen.blocks digest.now }
         ensures closed { IsClosed self.now.frozen }
     {
-        // (the borrow checker refuses to copy the argument itself in a loop)
+        // The borrow checker does not allow a copy of the argument itself in a loop.
         let named = &slot;
         let mut left = self.generations.as_slice();
         while let Some((generation, older)) = left.split_last() {
@@ -70,7 +74,7 @@ impl View {
         None
     }
 
-    /// The round below which nothing is asked for.
+    /// The floor. Walks visit no blocks of rounds below it.
     pub fn floor(&self) -> Round
         ensures floor { result ≡ self.now.frozen.floor }
         ensures closed { IsClosed self.now.frozen }
@@ -78,7 +82,7 @@ impl View {
         self.floor
     }
 
-    /// How many generations it is made of.
+    /// The number of generations.
     pub fn parts(&self) -> usize
         ensures parts { result ≡ self.now.parts }
         ensures few { result ≤ MOST_PARTS }

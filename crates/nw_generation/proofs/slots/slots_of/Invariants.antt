@@ -1,5 +1,5 @@
-use Rattle.nw_generation.specs.Slots.{AreAmong}
+use Rattle.nw_generation.specs.Slots.{AreSlotsOf}
 use Rattle.nw_generation.proofs.slots.slots_of.Given as goal
 
 abbrev pub invariant-loop-entry : goal.invariant-loop-entry
-invariant-loop-entry l = AreAmong l.slots.items l.entries
+invariant-loop-entry l = AreSlotsOf l.slots.items l.entries

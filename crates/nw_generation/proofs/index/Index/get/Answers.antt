@@ -1,6 +1,6 @@
 use Rattle.std.proofs.Common.{sym, subst}
-use Rattle.nw_generation.specs.Slots.{AreAmong}
+use Rattle.nw_generation.specs.Slots.{AreSlotsOf}
 use Rattle.nw_generation.proofs.index.Index.get.Goals as goal
 
 pub returns : goal.returns
-returns c = sym (c.in-Some-get.ensures c.args.self.now (subst (AreAmong c.self.inside.slots.slots.items) c.self.view_is c.self.invariant.2))
+returns c = sym (c.in-Some-get.ensures c.args.self.now (subst (AreSlotsOf c.self.inside.slots.slots.items) c.self.view_is c.self.invariant.2))

@@ -7,7 +7,7 @@ use Rattle.nw_model.proofs.Maps.{digests_total, get_lookup}
 use Rattle.nw_generation.specs.Entries.{under}
 use Rattle.nw_generation.specs.Seen.{IsOf}
 use Rattle.nw_generation.proofs.Unions.{none_of}
-use Rattle.nw_generation.proofs.generation.Generation.is_without.Goals as goal
+use Rattle.nw_generation.proofs.generation.Generation.excludes.Goals as goal
 
 pub returns-in-Some : goal.returns-in-Some
 returns-in-Some c _ d of =
