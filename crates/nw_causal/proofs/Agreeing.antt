@@ -1,4 +1,4 @@
--- Two views have one walk of a digest exactly where no two blocks collide at its ancestors.
+-- Two views have one walk of a digest exactly if no two blocks collide at its ancestors.
 use Rattle.std.proofs.Common.{◌≡◌, ◌⊎◌, ◌+◌, ◌<◌, ◌≤◌, List, [], ◌∷◌, Some, map, refl, ap, sym, ◌∙◌, subst, arith, inl, inr}
 use Rattle.std.specs.Prelude.{Contains}
 use Rattle.std.specs.FinMap.{FinMap, get}
@@ -15,26 +15,26 @@ use Rattle.nw_causal.specs.Agreement.{HaveOneWalk, CollideAt, IsMatched, IsRival
 
 -- ---- the other block under a digest
 
--- a rival of the block that the first view has
+-- a rival collides with the first view's block
 pub collide_at : (v w : Frozen) (e : Digest) (b c : Block) → v.floor ≡ w.floor → get v.blocks e ≡ Some b → IsRival w e b c → CollideAt v w e b c
 collide_at v w e b c floor at (above, there, differ) = ((at, subst (λ n. n ≤ b.round) (sym floor) above), there, differ)
 
--- where the block that the first view has has no rival
+-- if the first view's block has no rival, the blocks match
 pub match_at : (v w : Frozen) (e : Digest) (b : Block) → v.floor ≡ w.floor → get v.blocks e ≡ Some b → IsMatched w e b → MatchAt v w e
 match_at v w e b floor at matched p q (at_p, above_p) there_q =
     let same : p ≡ b = one_block p b at_p at in
     same ∙ matched (subst (λ n. n ≤ b.round) floor (subst (λ (z : Block). v.floor ≤ z.round) same above_p)) q there_q
 
--- ---- down from a block that both views have
+-- ---- down from a block of both views
 
--- a parent of a block, which has the named author and is of the round before
+-- the reference of a block to its parent
 parent_of : (v : Frozen) (d e : Digest) (b : Block) → get v.blocks d ≡ Some b → IsParentIn v d e
     → (r : Ref) × Contains b.parents r × (r.digest ≡ e) × (v.floor < b.round)
 parent_of v d e b at (c, r, at_c, above, among, same) =
     let one : c ≡ b = one_block c b at_c at in
     (r, subst (λ (x : Block). Contains x.parents r) one among, same, subst (λ (x : Block). v.floor < x.round) one above)
 
--- what a reference of a block above the floor names
+-- a reference of a block above the floor names a block of the preceding round with the named author
 pub named_by : (v : Frozen) (d e : Digest) (b : Block) (r : Ref) → IsClosed v → get v.blocks d ≡ Some b → v.floor < b.round → Contains b.parents r → r.digest ≡ e
     → (p : Block) × IsThere v e p × (p.author ≡ r.author) × (p.round + 1 ≡ b.round)
 named_by v d e b r closed at above among same =
@@ -42,7 +42,7 @@ named_by v d e b r closed at above among same =
     let before : has.0.round + 1 ≡ b.round = has.3 in
     (has.0, (subst (λ q. get v.blocks q ≡ Some has.0) same has.1, omega (arith, before, above)), has.2, has.3)
 
--- a path goes down
+-- a path leads to lower rounds
 lower : (v : Frozen) (d : Digest) (path : List Digest) (a : Digest) (b p : Block) → IsClosed v → get v.blocks d ≡ Some b → get v.blocks a ≡ Some p → IsPathIn v d path a → (d ≡ a) ⊎ (p.round < b.round)
 lower v d [] a b p closed at_d at_a on = inl on.1
 lower v d (e ∷ path) a b p closed at_d at_a (parent, on) =
@@ -57,19 +57,19 @@ lower v d (e ∷ path) a b p closed at_d at_a (parent, on) =
       | inr less ↦ inr (omega (arith, before, less))
     ]
 
--- blocks of one slot that the two have under the digest are one
+-- blocks of one slot under the digest in both views are equal
 abbrev pub IsOne : Frozen → Frozen → Digest → Type 0
 IsOne v w e = (p q : Block) → IsThere v e p → IsThere w e q → block_slot p ≡ block_slot q → p ≡ q
 
--- it is so at each common ancestor
+-- this holds for each common ancestor
 abbrev pub AreOne : Frozen → Frozen → Digest → Type 0
 AreOne v w d = (e : Digest) → IsAncestorIn v d e → IsAncestorIn w d e → IsOne v w e
 
--- one block is in both
+-- both views have one block under the digest
 abbrev pub IsShared : Frozen → Frozen → Digest → Type 0
 IsShared v w e = (b : Block) × IsThere v e b × IsThere w e b
 
--- where both have the block, a parent in the one is a parent in the other, and its blocks are of one slot
+-- if both views have the block, a parent in the first is a parent in the other, and the parent's blocks are of one slot
 both_parents : (v w : Frozen) (d e : Digest) (b : Block) → IsClosed v → IsClosed w → v.floor ≡ w.floor → get v.blocks d ≡ Some b → get w.blocks d ≡ Some b → IsParentIn v d e
     → (p : Block) × (q : Block) × IsThere v e p × IsThere w e q × (block_slot p ≡ block_slot q) × IsParentIn w d e
 both_parents v w d e b closed_v closed_w floor at_v at_w parent =
@@ -85,7 +85,7 @@ both_parents v w d e b closed_v closed_w floor at_v at_w parent =
     let authors : p.0.author ≡ q.0.author = p.2 ∙ sym q.2 in
     (p.0, q.0, p.1, q.1, λ i. (rounds i, authors i), (b, r, at_w, above_w, named.1, named.2))
 
--- a path in the one is a path in the other, and leads to one block
+-- a path in the first view is a path in the other, and leads to one block
 same_path : (v w : Frozen) (d : Digest) (path : List Digest) (a : Digest) → IsClosed v → IsClosed w → v.floor ≡ w.floor → IsShared v w d → AreOne v w d → IsPathIn v d path a
     → IsPathIn w d path a × IsShared v w a
 same_path v w d [] a closed_v closed_w floor (b, in_v, in_w) one on = (((b, in_w), on.1), subst (λ q. IsShared v w q) on.1 (b, in_v, in_w))
@@ -101,7 +101,7 @@ same_path v w d (e ∷ path) a closed_v closed_w floor (b, in_v, in_w) one (pare
     (λ f one_way other_way. one f (e ∷ one_way.0, (parent, one_way.1)) (e ∷ other_way.0, (in_other, other_way.1))) on in
     ((in_other, below.0), below.1)
 
--- the two have the same ancestors, each with one block
+-- both views have the same ancestors, each with one block
 record HaveSame (v w : Frozen) (d : Digest) : Type 0 where
   to : (a : Digest) → IsAncestorIn v d a → IsAncestorIn w d a
   from : (a : Digest) → IsAncestorIn w d a → IsAncestorIn v d a
@@ -117,9 +117,9 @@ have_same v w d closed_v closed_w floor shared one = record {
     back : AreOne w v d
     back e in_w in_v q p q_there p_there slots = sym (one e in_v in_w p q p_there q_there (sym slots))
 
--- ---- where nothing collides, one list is the walk in both
+-- ---- if nothing collides, one list is the walk in both views
 
--- maps that agree at some digests have the same there
+-- maps that agree at some digests have the same blocks under them
 same_under : (m n : FinMap digest_cmp Block) (digests : List Digest) → ((a : Digest) → Contains digests a → get m a ≡ get n a) → map (get m) digests ≡ map (get n) digests
 same_under m n [] agree = refl
 same_under m n (a ∷ digests) agree =
@@ -127,7 +127,7 @@ same_under m n (a ∷ digests) agree =
     let rest : map (get m) digests ≡ map (get n) digests = same_under m n digests (λ e among. agree e (contains_later a digests e among)) in
     cc
 
--- where the blocks match at each ancestor
+-- if the blocks match at each ancestor, the views have one walk
 pub one_walk : (v w : Frozen) (d : Digest) (blocks : List Block) → IsClosed v → IsClosed w → v.floor ≡ w.floor → (b : Block) × IsThere v d b → (b : Block) × IsThere w d b
     → IsWalk v d blocks → ((a : Digest) → IsAncestorIn v d a → MatchAt v w a) → HaveOneWalk v w d
 one_walk v w d blocks closed_v closed_w floor (b, in_v) (c, in_w) walk at = (
@@ -147,9 +147,9 @@ one_walk v w d blocks closed_v closed_w floor (b, in_v) (c, in_w) walk at = (
     same : HaveSame v w d
     same = have_same v w d closed_v closed_w floor shared (λ e ancestor other p q p_there q_there slots. at e ancestor p q p_there q_there)
 
--- ---- where one list is the walk in both, nothing collides
+-- ---- if one list is the walk in both views, nothing collides
 
--- a block of the first walk stands in the other view, under an ancestor there
+-- the other view has each block of the first walk, under an ancestor there
 in_other : (v w : Frozen) (d e : Digest) (p : Block) → HaveOneWalk v w d → IsAncestorIn v d e → get v.blocks e ≡ Some p → (x : Digest) × IsAncestorIn w d x × (get w.blocks x ≡ Some p)
 in_other v w d e p (blocks, walk_v, walk_w) ancestor at =
     let listed = block_of v.blocks walk_v.digests blocks e walk_v.found ((walk_v.exactly e).1 ancestor) in
@@ -157,14 +157,14 @@ in_other v w d e p (blocks, walk_v, walk_w) ancestor at =
     let under = digest_of w.blocks walk_w.digests blocks listed.0 walk_w.found listed.1 in
     (under.0, (walk_w.exactly under.0).0 under.1, under.2 ∙ ap Some same)
 
--- blocks of one slot are one
+-- at common ancestors, blocks of one slot are equal
 ones : (v w : Frozen) (d : Digest) → IsClosed w → HaveOneWalk v w d → AreOne v w d
 ones v w d closed_w walks e ancestor other p q p_there q_there slots =
     let x = in_other v w d e p walks ancestor p_there.0 in
     let same : e ≡ x.0 = closed_w.apart e x.0 q p q_there.0 x.2 q_there.1 (sym slots) in
     one_block p q (subst (λ z. get w.blocks z ≡ Some p) (sym same) x.2) q_there.0
 
--- the block of the digest is the highest in both
+-- the digest's blocks in the two views are equal, since each is the highest of its walk
 one_top : (v w : Frozen) (d : Digest) (b c : Block) → IsClosed v → IsClosed w → IsThere v d b → IsThere w d c → HaveOneWalk v w d → b ≡ c
 one_top v w d b c closed_v closed_w in_v in_w walks =
     let x = in_other v w d d b walks ([], ((b, in_v), refl)) in_v.0 in
@@ -177,7 +177,7 @@ one_top v w d b c closed_v closed_w in_v in_w walks =
       ]
     ]
 
--- blocks that collide at an ancestor show that no list is the walk in both
+-- if blocks collide at an ancestor, no list is the walk in both views
 pub no_walk : (v w : Frozen) (d e : Digest) (b c : Block) → IsClosed v → IsClosed w → v.floor ≡ w.floor → (b : Block) × IsThere v d b → (b : Block) × IsThere w d b
     → IsAncestorIn v d e → CollideAt v w e b c → HaveOneWalk v w d → ⊥
 no_walk v w d e b c closed_v closed_w floor (x, in_v) (y, in_w) (path, on) (b_there, c_there, differ) walks =

@@ -21,7 +21,7 @@ use Rattle.nw_causal.proofs.Levels.{ancestor_of, level_none, level_one, order_bo
 abbrev pub IsIn : List Ancestor → List Ancestor → Digest → Type 0
 IsIn found level e = Contains (digests found) e ⊎ Contains (digests level) e
 
--- what was found are ancestors of d, of later rounds than the last ones, and their parents were found
+-- the loop of `ancestors` has found these ancestors of d with all their parents; the last level's parents are next
 pub record Explores (v : Frozen) (d : Digest) (found level : List Ancestor) (round : ℕ) : Type 0 where
   pub floor : v.floor ≤ round
   pub last : IsLevel v round level
@@ -32,7 +32,7 @@ pub record Explores (v : Frozen) (d : Digest) (found level : List Ancestor) (rou
   pub only : (e : Digest) → IsIn found level e → IsAncestorIn v d e
   pub whole : (e f : Digest) → Contains (digests found) e → IsParentIn v e f → IsIn found level f
 
--- a path to a digest goes on to its parents
+-- a path to a digest continues to its parents
 path_on : (v : Frozen) (d e f : Digest) (path : List Digest) → IsPathIn v d path e → IsParentIn v e f → (b : Block) × IsThere v f b → IsPathIn v d (path ++ f ∷ []) f
 path_on v d e f [] (there, same) parent last = (subst (λ q. IsParentIn v q f) (sym same) parent, (last, refl))
 path_on v d e f (next ∷ path) (step, on) parent last = (step, path_on v next e f path on parent last)
@@ -50,7 +50,7 @@ in_both found level e (inr among) = rw (map-append (λ (a : Ancestor). a.digest.
 in_either : (found level : List Ancestor) (e : Digest) → Contains (digests (found ++ level)) e → IsIn found level e
 in_either found level e among = Contains-append_cases (digests found) (digests level) e (rw (← map-append (λ (a : Ancestor). a.digest.now) found level) among)
 
--- at first the block itself is to be gone on from
+-- at first the level is the block itself
 pub explores_first : (v : Frozen) (d : Digest) (a : Ancestor) → (b : Block) × IsThere v d b → a.digest.now ≡ d → get v.blocks d ≡ Some a.block.now → Explores v d [] (a ∷ []) a.block.now.round
 explores_first v d a there named at =
     let here : IsThere v d a.block.now = there_is v d a.block.now there at in
@@ -71,7 +71,7 @@ explores_first v d a there named at =
       whole = λ e f none parent. absurd (contains_none e none);
     }
 
--- once the parents of the last ones are found, they are to be gone on from
+-- after the level's parents are found, they are the next level
 pub explores_on : (v : Frozen) (d : Digest) (found level parents : List Ancestor) (round next : ℕ) → IsClosed v → Explores v d found level round → next + 1 ≡ round → v.floor ≤ next
     → IsLevel v next parents → Gains (IsParentOfAny v (digests level)) [] parents → Explores v d (found ++ level) parents next
 explores_on v d found level parents round next closed now before floor is gains = record {
@@ -95,7 +95,7 @@ explores_on v d found level parents round next closed now before floor is gains 
   ];
 }
 
--- where the last ones have no parents, all ancestors are found
+-- if the last level has no parents in the view, all ancestors are found
 pub explores_all : (v : Frozen) (d : Digest) (found level : List Ancestor) (round : ℕ) → Explores v d found level round → (v.floor < round → level ≡ []) → AreFound v d (found ++ level)
 explores_all v d found level round now last = record {
   at = All-append (λ (a : Ancestor). get v.blocks a.digest.now ≡ Some a.block.now) found level now.at now.last.at;

@@ -1,4 +1,4 @@
--- The ancestors of one round, in order, and those that are put among them.
+-- The ancestors of one round, in order, and insertions into them.
 use Rattle.std.proofs.Common.{◌≡◌, ◌⊎◌, ℕ, ◌+◌, ◌-◌, ◌<◌, ◌≤◌, Err, List, [], ◌∷◌, ◌++◌, Some, All, length, map, take, drop, reverse, get_or, refl, ap, sym, ◌∙◌, subst, arith, inl, inr}
 use Rattle.std.specs.Prelude.{Contains}
 use Rattle.std.specs.declared.cmp.Ordering.{Ordering}
@@ -44,14 +44,14 @@ module _ {K : Type 0} (R : K → K → Ordering) where
   all_with x [] ys y all here = (here, all)
   all_with x (z ∷ xs) ys y all here = (all.0, all_with x xs ys y all.1 here)
 
-  -- an element more, between those before it and those after it
+  -- an element is inserted between lower and higher ones
   sorted_with : (xs ys : List K) (y : K) → IsStrictlySortedBy R (xs ++ ys) → All (λ x. R x y ≡ Less) xs → All (λ z. R y z ≡ Less) ys → IsStrictlySortedBy R (xs ++ y ∷ ys)
   unfolding IsStrictlySortedBy
   sorted_with [] ys y sorted before after = (recursion_from_All (λ z. R y z ≡ Less) ys after, sorted)
   sorted_with (x ∷ xs) ys y sorted before after =
       (all_with x xs ys y sorted.0 (All-head (λ z. R z y ≡ Less) x xs before), sorted_with xs ys y sorted.1 (All-tail (λ z. R z y ≡ Less) x xs before) after)
 
-  -- one list, and then another
+  -- two sorted lists are joined
   sorted_both : (xs ys : List K) → IsStrictlySortedBy R xs → IsStrictlySortedBy R ys → All (λ x. All (λ y. R x y ≡ Less) ys) xs → IsStrictlySortedBy R (xs ++ ys)
   unfolding IsStrictlySortedBy
   sorted_both [] ys one other across = other
@@ -60,7 +60,7 @@ module _ {K : Type 0} (R : K → K → Ordering) where
     sorted_both xs ys one.1 other (All-tail (λ z. All (λ y. R z y ≡ Less) ys) x xs across),
   )
 
--- those of later rounds, and then those of a round
+-- ancestors of later rounds, followed by those of a round, descend
 pub order_both : (v : Frozen) (round : ℕ) (found level : List Ancestor) → All (λ (a : Ancestor). round < a.block.now.round) found → IsLevel v round level → IsStrictlySortedBy descending found
     → IsStrictlySortedBy descending (found ++ level)
 order_both v round found level later is order = sorted_both descending found level order is.order (λ k a lt j b within.
@@ -68,7 +68,7 @@ order_both v round found level later is order = sorted_both descending found lev
     let here = is.rounds j b within in
     less_by_round (get_or level j b).block.now.round (get_or found k a).block.now.round (get_or level j b).block.now.author (get_or found k a).block.now.author (omega (arith, above, here)))
 
--- from the end, the blocks ascend
+-- the blocks of reversed ancestors ascend
 ascend : (xs : List Ancestor) → IsStrictlySortedBy descending xs → IsStrictlySortedBy block_cmp (blocks (reverse xs))
 unfolding IsStrictlySortedBy
 ascend [] order = tt
@@ -97,7 +97,7 @@ ancestor_of (x ∷ xs) e among = elim (contains_cases x.digest.now (digests xs) 
   | inr later ↦ let (a, below, same) = ancestor_of xs e later in (a, contains_later x xs a below, same)
 ]
 
--- the blocks of ancestors are what the view has under their digests
+-- the view has the ancestors' blocks under their digests
 blocks_at : (v : Frozen) (xs : List Ancestor) → AllByRecursion (λ (a : Ancestor). get v.blocks a.digest.now ≡ Some a.block.now) xs → map (get v.blocks) (digests xs) ≡ map Some (blocks xs)
 blocks_at v [] at = refl
 blocks_at v (x ∷ xs) at =
@@ -105,7 +105,7 @@ blocks_at v (x ∷ xs) at =
     let rest : map (get v.blocks) (digests xs) ≡ map Some (blocks xs) = blocks_at v xs at.1 in
     cc
 
--- the last of some ancestors is the first from the end
+-- the last ancestor is the first of the reversed ones
 pub back_first : (rest : List Ancestor) (a : Ancestor) → blocks (reverse (rest ++ a ∷ [])) ≡ a.block.now ∷ blocks (reverse rest)
 back_first rest a = ap blocks (reverse-append rest (a ∷ []))
 
@@ -113,7 +113,7 @@ pub none_back : (rest : List Ancestor) → length rest ≡ 0 → blocks (reverse
 none_back [] none = refl
 none_back (a ∷ rest) none = absurd (omega (arith, none))
 
--- the blocks of what was found are the walk, from the last to the first
+-- the blocks of the found ancestors, reversed, are the walk
 pub walk_of : (v : Frozen) (d : Digest) (found : List Ancestor) → AreFound v d found → IsWalk v d (blocks (reverse found))
 walk_of v d found are = record {
   digests = digests (reverse found);
@@ -129,9 +129,9 @@ walk_of v d found are = record {
     moved : IsPermutation (digests found) (digests (reverse found))
     moved = IsPermutation-map (λ (x : Ancestor). x.digest.now) found (reverse found) (IsPermutation-reverse found)
 
--- ---- a block more of a round
+-- ---- one more block of a round
 
--- no ancestor, and one
+-- levels of no ancestor and of one
 pub level_none : (v : Frozen) (round : ℕ) → IsLevel v round []
 unfolding IsStrictlySortedBy
 level_none v round = record { at = All-nil _; rounds = All-nil _; order = tt }
@@ -144,7 +144,7 @@ level_one v a at = record {
   order = (tt, tt);
 }
 
--- the comparisons with an author rise along a round, as a binary search asks
+-- the comparisons with an author rise along a level, as a binary search requires
 rise : (v : Frozen) (round n : ℕ) (level : List Ancestor) → IsLevel v round level → IsNonDecreasingBy (λ (x : Ancestor). ordering_index (nat_cmp n x.block.now.author)) level
 rise v round n level is i j d le lt = index_falls n (get_or level j d).block.now.author (get_or level i d).block.now.author (elim (cases_lt i j) [
   | inr ge ↦ let one = ap (λ k. (get_or level k d).block.now.author) (let same : i ≡ j = omega (arith, le, ge) in same) in omega (arith, one)
@@ -154,7 +154,7 @@ rise v round n level is i j d le lt = index_falls n (get_or level j d).block.now
       omega (arith, lower)
 ])
 
--- a block that the search did not find takes its place
+-- a block that the search did not find is inserted at its place
 pub level_more : (v : Frozen) (round p : ℕ) (level : List Ancestor) (a : Ancestor) → IsLevel v round level → get v.blocks a.digest.now ≡ Some a.block.now → a.block.now.round ≡ round → p ≤ length level
     → IsBinarySearchResult (λ (x : Ancestor). nat_cmp a.block.now.author x.block.now.author) level (Err p) → IsLevel v round (insert level p a)
 level_more v round p level a is at of within searched = record {
@@ -198,7 +198,7 @@ gains_more level p a e is f = (
     moved : IsPermutation (digests (a ∷ level)) (digests (insert level p a))
     moved = IsPermutation-map (λ (x : Ancestor). x.digest.now) (a ∷ level) (insert level p a) (IsPermutation-insert level p a)
 
--- where the search finds the author, the block that is referred to is there
+-- if the search finds the author, the level has the referenced block already
 pub gains_none : (v : Frozen) (round k : ℕ) (level : List Ancestor) (r : Ref) → IsClosed v → v.floor ≤ round → IsLevel v round level → HasParent v.blocks (round + 1) r → k < length level
     → HoldsAt (λ (x : Ancestor). nat_cmp r.author x.block.now.author ≡ Equal) level k → Gains (λ f. r.digest ≡ f) level level
 gains_none v round k [] r closed floor is parent lt equal e = absurd (omega (arith, lt))
@@ -218,7 +218,7 @@ gains_none v round k (d ∷ others) r closed floor is (b, at, by, before) lt equ
         subst (λ q. Contains (digests (d ∷ others)) q) (closed.apart x.digest.now r.digest x.block.now b (is.at k d lt) at (omega (arith, is.rounds k d lt, floor)) (λ i. (rounds i, authors i)))
         (among_digests (d ∷ others) x (Contains-get_or (d ∷ others) k d lt))
 
--- one gain, and then another
+-- two gains, one after the other
 pub gains_on : (P Q R : Digest → Type 0) (a b c : List Ancestor) → Gains P a b → Gains Q b c → ((e : Digest) → (R e → P e ⊎ Q e) × (P e ⊎ Q e → R e)) → Gains R a c
 gains_on P Q R a b c one two both e = (
   λ among. elim ((two e).0 among) [
@@ -237,7 +237,7 @@ gains_on P Q R a b c one two both e = (
   ],
 )
 
--- an ancestor of a round, by its place
+-- the ancestor at a place of a level
 pub record IsChild (v : Frozen) (round i : ℕ) (level : List Ancestor) (a : Ancestor) (b : Block) : Type 0 where
   pub within : i < length (digests level)
   pub at : get v.blocks (get_or (digests level) i a.digest.now) ≡ Some b

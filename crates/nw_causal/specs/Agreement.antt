@@ -1,4 +1,4 @@
--- Whether the walks of one digest in two views are equal lists.
+-- The comparison of the walks of one digest in two views.
 use Rattle.std.specs.Prelude.{◌≡◌, ◌≢◌, ◌≤◌, List}
 use Rattle.nw_digest.specs.declared.digest.Digest.{Digest}
 use Rattle.nw_codec.specs.declared.block.Block.{Block}
@@ -6,31 +6,31 @@ use Rattle.nw_model.specs.View.{Frozen, IsThere, IsWalk}
 use Rattle.nw_causal.specs.declared.agreement.Agreement.{Agreement}
 use Rattle.nw_causal.specs.declared.agreement.Agreement.TheVariants as agreements
 
--- one list is the walk of the digest in both
+-- one list is the walk of the digest in both views
 abbrev pub HaveOneWalk : Frozen → Frozen → Digest → Type 0
 HaveOneWalk one other d = (blocks : List Block) × IsWalk one d blocks × IsWalk other d blocks
 
--- the blocks under the digest differ, and neither is below the floor
+-- b in the first view and c in the other are under the digest and differ, and neither is below the floor
 abbrev pub CollideAt : Frozen → Frozen → Digest → Block → Block → Type 0
 CollideAt one other d b c = IsThere one d b × IsThere other d c × (b ≢ c)
 
--- the two blocks collide at some digest
+-- b in the first view and c in the other collide under some digest
 abbrev pub Collide : Frozen → Frozen → Block → Block → Type 0
 Collide one other b c = (d : Digest) × CollideAt one other d b c
 
--- the blocks under the digest are one, where neither is below the floor
+-- if both views have a block under the digest, and neither is below the floor, the blocks are equal
 abbrev pub MatchAt : Frozen → Frozen → Digest → Type 0
 MatchAt one other d = (b c : Block) → IsThere one d b → IsThere other d c → b ≡ c
 
--- c stands under the digest and differs from b, and neither is below the floor
+-- the other view has c under the digest, c differs from b, and neither is below the floor
 abbrev pub IsRival : Frozen → Digest → Block → Block → Type 0
 IsRival other d b c = (other.floor ≤ b.round) × IsThere other d c × (b ≢ c)
 
--- no block is such a rival of b
+-- b has no rival under the digest in the other view
 abbrev pub IsMatched : Frozen → Digest → Block → Type 0
 IsMatched other d b = other.floor ≤ b.round → (c : Block) → IsThere other d c → b ≡ c
 
--- the answer is Same exactly where one list is both walks; else it has two blocks that collide
+-- the answer is `Same` if one list is both walks; if there is no such list, it is `Collision` with two blocks that collide
 abbrev pub IsAgreement : Frozen → Frozen → Digest → Agreement → Type 0
 IsAgreement one other d agreements.Same = HaveOneWalk one other d
 IsAgreement one other d (agreements.Collision b c) = (HaveOneWalk one other d → ⊥) × Collide one other b c

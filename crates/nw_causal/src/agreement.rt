@@ -1,4 +1,4 @@
-//! Whether two walks agree.
+//! Compares two walks.
 ghost use Rattle.std.specs.Prelude.{◌≡◌, ◌↔◌, IfOk, IsTrue, MatchOption};
 ghost use Rattle.nw_model.specs.View.{IsThere};
 ghost use Rattle.nw_causal.specs.Agreement.{IsAgreement, IsMatched, IsRival};
@@ -10,12 +10,12 @@ use nw_digest::{Digest, NoMemory, Round, Shared};
 use nw_generation::View;
 use std::alloc::Global;
 
-/// What two walks of one digest show.
+/// The result of comparing the walks of one digest in two views.
 #[derive(Debug, Drop)]
 pub enum Agreement {
-    /// They are equal lists.
+    /// The walks are equal lists.
     Same,
-    /// They are not: different blocks stand under one digest in the two views.
+    /// The walks differ: the two views have different blocks under one digest.
     Collision {
         /// The block in the first view.
         one: Shared<Block>,
@@ -24,10 +24,12 @@ pub enum Agreement {
     },
 }
 
-/// Whether the walks of the digest in two views of one floor are equal lists; where they are not, two different blocks
-/// that stand under one digest, neither below the floor.
+/// Compares the walks of the digest in two views with the same floor.
 ///
-/// It finds the ancestors in the first view, and looks each up in the other.
+/// Returns `Same` exactly if the walks are equal lists. Otherwise it returns two different blocks under one digest, which need not
+/// be the given one. Neither block is below the floor. It finds the ancestors in the first view, and looks up each in the other.
+///
+/// `NoMemory`: an allocation failed.
 pub fn agree(alloc: Global, one: &View, other: &View, digest: Digest) -> Result<Agreement, NoMemory>
     requires floor { one.now.frozen.floor ≡ other.now.frozen.floor }
     requires in_one { (b : Block) × IsThere one.now.frozen digest b }
@@ -48,7 +50,7 @@ pub fn agree(alloc: Global, one: &View, other: &View, digest: Digest) -> Result<
     Ok(Agreement::Same)
 }
 
-/// The block under the digest in the other view, where it differs from the ancestor's and neither is below the floor.
+/// The block under the ancestor's digest in the other view, if it differs from the ancestor's block and neither is below the floor.
 fn rival(
     other: &View,
     floor: Round,
@@ -68,7 +70,7 @@ fn rival(
     Ok(None)
 }
 
-/// Whether two blocks are the same.
+/// Whether two blocks are equal.
 fn is_same(one: &Block, other: &Block) -> bool
     ensures { IsTrue result ↔ one.now ≡ other.now }
 {

@@ -1,4 +1,4 @@
-//! Ancestors that were looked up.
+//! Ancestors that were looked up in a view.
 ghost use Rattle.std.specs.Prelude.{◌≡◌, Some};
 ghost use Rattle.std.specs.FinMap as map;
 ghost use Rattle.nw_model.specs.View.{IsClosed};
@@ -8,7 +8,7 @@ use nw_codec::Block;
 use nw_digest::{Digest, Round, Shared};
 use nw_generation::View;
 
-/// A digest, and the block that stands under it in the view.
+/// A digest, and its block in the view.
 #[derive(Drop)]
 pub(crate) struct Ancestor<'a> {
     pub(crate) digest: &'a Digest,
@@ -16,7 +16,7 @@ pub(crate) struct Ancestor<'a> {
 }
 
 impl<'a> Ancestor<'a> {
-    /// The digest with its block, which the view has, of this round where one is named, with an author: one look-up.
+    /// Looks up the block under the digest, which the view must have. If a slot is given, the block must be of its round.
     pub(crate) fn look_up(
         view: &'a View,
         slot: Option<(Round, u16)>,

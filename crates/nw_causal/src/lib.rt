@@ -1,8 +1,8 @@
-//! Causal order: the blocks that happened before a block, in a frozen view.
+//! Lists the ancestors of a block in a view, and compares two such lists.
 //!
-//! Its contract: a [`walk`] lists exactly the ancestors of a block in a view, strictly ascending by round and author, and
-//! [`agree`] says whether the walks of one digest in two views are equal, or shows two blocks that stand under one digest.
-//! It stands on `nw_generation` for the views, and on `nw_model` for what an ancestor is.
+//! A [`walk`] lists exactly the ancestors of a digest, strictly ascending by round and author. [`agree`] tells whether the walks of
+//! one digest in two views are equal. If they are not, it returns two different blocks under one digest. The crate uses
+//! `nw_generation` for views. `nw_model` defines ancestors.
 #![tactic(auto)]
 
 mod agreement;

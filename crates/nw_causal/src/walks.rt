@@ -1,4 +1,4 @@
-//! Walks: the blocks that happened before a block, in a view.
+//! Walks: lists of the ancestors of a digest in a view.
 ghost use Rattle.std.specs.Prelude.{◌≡◌, ◌+◌, ◌≤◌, IfOk, OnOk, [], All, length};
 ghost use Rattle.std.specs.List.Sorted.{IsBinarySearchResult, IsSearchInRange};
 ghost use Rattle.std.specs.Ordering.{nat_cmp};
@@ -14,9 +14,11 @@ use nw_generation::View;
 use std::alloc::Global;
 use std::mem::swap;
 
-/// The block under the digest and all its ancestors in the view, strictly ascending by round and author.
+/// The walk of the digest: its block and all ancestors in the view, strictly ascending by round and author.
 ///
-/// It goes round by round, from the block's own down to the floor; each block is looked up once, however many refer to it.
+/// It visits the rounds from the block's own down to the floor. Each block is looked up once, even if many blocks refer to it.
+///
+/// `NoMemory`: an allocation failed.
 pub fn walk(alloc: Global, view: &View, digest: Digest) -> Result<Vec<Shared<Block>>, NoMemory>
     requires { (b : Block) × IsThere view.now.frozen digest b }
     ensures { IfOk result (λ blocks. IsWalk view.now.frozen digest blocks.items) }
@@ -29,7 +31,7 @@ pub fn walk(alloc: Global, view: &View, digest: Digest) -> Result<Vec<Shared<Blo
     Ok(blocks)
 }
 
-/// The ancestors, strictly descending by round and author.
+/// The ancestors of the digest, strictly descending by round and author.
 pub(crate) fn ancestors<'a>(
     alloc: Global,
     view: &'a View,
@@ -54,7 +56,7 @@ pub(crate) fn ancestors<'a>(
     Ok(found)
 }
 
-/// Finds the parents, of this round, of all blocks of the round after it.
+/// Finds the parents of all blocks of one level. The parents are of this round, and the level is of the following one.
 fn find_parents_of_all<'a>(
     view: &'a View,
     round: Round,
@@ -76,8 +78,10 @@ fn find_parents_of_all<'a>(
     Ok(())
 }
 
-/// Adds the blocks of the round that are referred to, descending by author. A reference tells the author, so that each block is
-/// looked up once; and references ascend, so that the next author mostly stands just before the last one.
+/// Adds the referenced blocks of the round to the parents, which descend by author.
+///
+/// A reference names the author, so each block is looked up only once. References ascend by author, so the place of the next author
+/// is mostly just before the last place.
 fn find_parents<'a>(
     view: &'a View,
     round: Round,
@@ -110,8 +114,8 @@ fn find_parents<'a>(
     Ok(())
 }
 
-/// Where the author's block stands among these, which descend by author, or else where it is to be put. The guess is tried before
-/// the others.
+/// Searches the author's block in a level, which descends by author. `Ok` has the place of the block, and `Err` the place at which
+/// to insert it. The guessed place is tested first.
 fn place_of(level: &[Ancestor<'_>], author: u16, guess: usize) -> Result<usize, usize>
     ensures bound { IsSearchInRange result (length level.now) }
     ensures position { IsBinarySearchResult
