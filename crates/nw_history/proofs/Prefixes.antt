@@ -1,4 +1,4 @@
--- Legal histories that start alike: where their calls are the same, so are their events.
+-- Legal histories from one base: equal calls make equal events.
 use Rattle.std.proofs.Common.{◌≡◌, ℕ, zero, suc, ◌+◌, ◌<◌, ◌≤◌, Bool, true, false, List, [], ◌∷◌, ◌++◌, length, Some, refl, ap, sym, ◌∙◌, subst, arith, length-append}
 use Rattle.std.specs.Prelude.{◌==◌, slice_get}
 use Rattle.std.proofs.lemmas.Bool.{eqb-true, eqb-false}
@@ -12,11 +12,11 @@ use Rattle.nw_model.specs.declared.reply.Reply.TheVariants as reply
 use Rattle.nw_model.proofs.OneReply.{one_reply}
 use Rattle.nw_history.specs.Prefix.{AreAlike}
 
--- both lists have an event at this place, of one call
+-- both lists have an event at this place, with the same session, number and call
 abbrev pub AlikeAt : List Event → List Event → ℕ → Type 0
 AlikeAt es fs k = AreAlike (slice_get es k) (slice_get fs k)
 
--- they have at each place before this one
+-- both lists have such events at each place before this one
 abbrev pub AlikeBelow : List Event → List Event → ℕ → Type 0
 AlikeBelow es fs n = (k : ℕ) → k < n → AlikeAt es fs k
 
@@ -33,7 +33,7 @@ same_event b s e f is short was brief alike =
     let replies : e.reply ≡ f.reply = same_short e.reply f.reply short brief (one_reply b s e.call e.reply f.reply is at) in
     λ i. record { session = alike.0 i; number = alike.1 i; call = alike.2 i; reply = replies i }
 
--- where the calls of the first are those of the second, place by place, the second begins with the first
+-- if both lists have such events at each place of the first list, the second begins with the first
 pub begun : (b : Bounds) (s : State) (es fs : List Event) → AreReplies b s es → AreReplies b s fs → AlikeBelow es fs (length es) → IsPrefix es fs
 begun b s [] fs is was h = (fs, refl)
 begun b s (e ∷ es) [] is was h = absurd (h zero (omega arith))
@@ -42,7 +42,7 @@ begun b s (e ∷ es) (f ∷ fs) is was h =
     let rest = begun b (after b s e.call) es fs is.2 (subst (λ (x : Event). AreReplies b (after b s x.call) fs) (sym same) was.2) (λ k below. h (suc k) (omega arith)) in
     (rest.0, λ i. same i ∷ rest.1 i)
 
--- a list that begins with another has its calls
+-- a list that begins with another one has such events at each place of it
 pub alike : (es fs : List Event) (k : ℕ) → IsPrefix es fs → k < length es → AlikeAt es fs k
 alike [] fs k p below = absurd (omega arith)
 alike (e ∷ es) fs zero p below = subst (λ xs. AlikeAt (e ∷ es) xs zero) p.1 (refl, refl, refl)
@@ -56,6 +56,6 @@ alike_next es fs n below here k h = by (k == n) refl
     by true is = let same : k ≡ n = eqb-true k n is in subst (λ j. AlikeAt es fs j) (sym same) here
     by false is = let other = eqb-false k n is in below k (omega (arith, other))
 
--- a beginning is no longer than what begins with it
+-- a prefix has at most as many events as the whole list
 pub no_longer : (es fs : List Event) → IsPrefix es fs → length es ≤ length fs
 no_longer es fs p = omega (arith, length-append es p.0, ap length p.1)

@@ -1,4 +1,4 @@
--- A history that starts where another ends.
+-- Histories that start where another one ends.
 use Rattle.std.proofs.Common.{◌≡◌, ℕ, zero, suc, ◌+◌, ◌<◌, List, [], ◌∷◌, ◌++◌, length, Some, None, refl, ap, sym, ◌∙◌, subst, arith, add-one}
 use Rattle.std.specs.Prelude.{slice_get, take}
 use Rattle.std.specs.Option.{unwrap_or}
@@ -30,7 +30,7 @@ there [] i is below = omega arith
 there (x ∷ es) zero is below = absurd cc
 there (x ∷ es) (suc i) is below = there es i is (omega arith)
 
--- ---- one list of events after another
+-- ---- two lists of events, one after the other
 
 replay_both : (b : Bounds) (s : State) (es fs : List Event) → replay b s (es ++ fs) ≡ replay b (replay b s es) fs
 replay_both b s [] fs = refl
@@ -40,7 +40,7 @@ replies_both : (b : Bounds) (s : State) (es fs : List Event) → AreReplies b s 
 replies_both b s [] fs is was = was
 replies_both b s (e ∷ es) fs is was = (is.0, is.1, replies_both b (after b s e.call) es fs is.2 was)
 
--- the state that a legal history leaves is a base
+-- the state after a legal history is a base
 pub based : (accepts : Meaning) (terms : Terms) (base : State) (es : List Event) → IsLegal accepts terms base es → IsBase accepts terms (replay terms.bounds base es)
 based accepts terms base es h = record {
   earlier = h.based.earlier ++ es;
@@ -49,7 +49,7 @@ based accepts terms base es h = record {
   left = ap (λ s. replay terms.bounds s es) h.based.left ∙ sym (replay_both terms.bounds opening h.based.earlier es);
 }
 
--- from a base no events are legal
+-- the history without events is legal from any base
 pub none_legal : (accepts : Meaning) (terms : Terms) (base : State) → IsBase accepts terms base → IsLegal accepts terms base []
 none_legal accepts terms base h = record {
   based = h;

@@ -1,4 +1,4 @@
--- Fronts may cross to another thread, and be shared by threads.
+-- Fronts can be sent to other threads and shared by threads.
 use denote.RattleType.{RattleType}
 use denote.Param.Send.{IsSend, IsSync, sendable, view_send, view_sync}
 use denote.Param.SendFields.{declared_send, declared_sync}

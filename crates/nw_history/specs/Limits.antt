@@ -3,14 +3,20 @@ use Rattle.std.specs.Prelude.{ℕ, ◌≤◌}
 use Rattle.nw_history.specs.declared.limits.Limits.{Limits}
 use Rattle.nw_history.specs.declared.limits.TheConstants.{MOST_BLOCKS, MOST_EVENTS, MOST_ROUNDS, MOST_SESSIONS}
 
--- from 1 to this number
+-- the number is between 1 and this maximum
 pub record IsUpTo (most n : ℕ) : Type 0 where
+  -- it is at least 1
   pub positive : 1 ≤ n
+  -- it does not exceed the maximum
   pub bounded : n ≤ most
 
 -- each limit is in its range
 pub record AreInRange (l : Limits) : Type 0 where
+  -- the number of blocks
   pub blocks : IsUpTo MOST_BLOCKS l.blocks
+  -- the number of events
   pub events : IsUpTo MOST_EVENTS l.events
+  -- the number of rounds
   pub window : IsUpTo MOST_ROUNDS l.window
+  -- the number of sessions
   pub sessions : IsUpTo MOST_SESSIONS l.sessions

@@ -1,4 +1,4 @@
-//! Legal histories that never change.
+//! Fronts: legal histories that never change.
 ghost use Rattle.std.specs.Prelude.{◌≡◌, ◌↔◌, ◌==◌, ◌+◌, ◌-◌, ◌/◌, ◌%◌, ◌++◌, ◌∷◌, ◌^◌, ◌<◌, []};
 ghost use Rattle.std.specs.Prelude.{IfOk, OnOk, IfSome, IsNone, IsTrue, length, slice_get};
 ghost use Rattle.std.specs.Option.{option_copied};
@@ -22,18 +22,16 @@ use nw_sig::Scheme;
 use std::alloc::Global;
 use std::marker::{Model, PhantomData};
 
-/// A stored legal history that never changes, with the committee and the limits under which it is legal and the base that
-/// it starts from, where `S` says which signatures are accepted.
+/// A legal history that never changes, with its committee, limits and base. `S` is the signature scheme.
 ///
-/// Each answer carries one: its last event is the call that was answered. It shares its events with every other front of the
-/// same history, in chunks of 256.
+/// Each answer has a front, whose last event is the answered call. All fronts of one history share their events, in chunks of 256.
 #[derive(Drop)]
 pub struct Front<S: Scheme> {
     events: Chunks<Start, Event>,
     scheme: PhantomData<S>,
 }
 
-/// The history of a book: the front that it has come to, which goes on as another one with each event.
+/// The history of a book: its latest front. Each event replaces it by another front.
 pub type History<S> = Front<S>;
 
 impl<S: Scheme> Model for Front<S> {
@@ -53,7 +51,9 @@ impl<S: Scheme> Model for Front<S> {
 }
 
 impl<S: Scheme> Front<S> {
-    /// The history without events, from the opening state on. `NoMemory` where memory is refused.
+    /// The history without events that starts from the opening state.
+    ///
+    /// `NoMemory`: an allocation failed.
     pub fn new(
         alloc: Global,
         committee: Shared<Committee>,
@@ -65,10 +65,11 @@ impl<S: Scheme> Front<S> {
         Front::without_events(alloc, Start::new(committee, limits, base))
     }
 
-    /// The history without events that starts where this one ends: its base is what the calls of this one leave.
+    /// The history without events that starts where this one ends: its base is the state after this one.
     ///
-    /// The calls are taken again by a store over the base of this one, at the cost of its writes and certificates. `NoMemory`
-    /// where memory is refused.
+    /// To find this state, it replays the writes, certificates and collections of this history over its base.
+    ///
+    /// `NoMemory`: an allocation failed.
     pub fn restarted(&self, alloc: Global) -> Result<Front<S>, NoMemory>
         ensures restarted { IfOk result (λ front. front ≡ reopened self.now) }
     {
@@ -77,7 +78,7 @@ impl<S: Scheme> Front<S> {
         Front::without_events(alloc, start)
     }
 
-    /// The history without events that starts with this.
+    /// The history without events that has this start.
     fn without_events(alloc: Global, start: Start) -> Result<Front<S>, NoMemory>
         requires { IsLegalStory S.accepts (story_of start []) }
         ensures { IfOk result (λ front. front ≡ story_of start []) }
@@ -85,7 +86,7 @@ impl<S: Scheme> Front<S> {
         Ok(Front::of(Chunks::new(alloc, Shared::new(alloc, start)?)?))
     }
 
-    /// The history that starts with the head of these events, and goes on with them.
+    /// The history with these events. Their head is its start.
     fn of(events: Chunks<Start, Event>) -> Front<S>
         requires { IsLegalStory S.accepts (story_of events.head (items_of events)) }
         ensures { result ≡ story_of events.head (items_of events) }
@@ -96,7 +97,7 @@ impl<S: Scheme> Front<S> {
         }
     }
 
-    /// The same history, with one more owner of its events. At most two counts go up, however long it is.
+    /// A clone, which shares the events. It raises at most two reference counts, at any length.
     pub fn try_clone(&self) -> Result<Front<S>, NoMemory>
         ensures same { IfOk result (λ front. front ≡ self.now) }
         ensures legal { IsLegalStory S.accepts self.now }
@@ -104,8 +105,10 @@ impl<S: Scheme> Front<S> {
         Ok(Front::of(self.events.try_clone()?))
     }
 
-    /// The history with one more event. It shares all that came before, so its cost is the same for every history, but for
-    /// every 256th event, which closes a chunk. `NoMemory` where memory is refused.
+    /// The history with one more event. It shares all earlier events, so the cost is the same at any length. Only each 256th event
+    /// costs more, since it closes a chunk.
+    ///
+    /// `NoMemory`: an allocation failed.
     pub fn with_event(&self, alloc: Global, event: Event) -> Result<Front<S>, NoMemory>
         requires legal { IsLegalStory S.accepts (with_event self.now event) }
         requires room { length self.now.events < 2 ^ 32 }
@@ -114,7 +117,7 @@ impl<S: Scheme> Front<S> {
         Ok(Front::of(self.events.with(alloc, event)?))
     }
 
-    /// How many events it has.
+    /// The number of events.
     pub fn len(&self) -> usize
         ensures length { result ≡ length self.now.events }
         ensures legal { IsLegalStory S.accepts self.now }
@@ -122,7 +125,7 @@ impl<S: Scheme> Front<S> {
         self.events.len()
     }
 
-    /// Whether it has no event.
+    /// Whether there are no events.
     pub fn is_empty(&self) -> bool
         ensures empty { result ≡ (length self.now.events == 0) }
         ensures legal { IsLegalStory S.accepts self.now }
@@ -130,7 +133,7 @@ impl<S: Scheme> Front<S> {
         self.events.is_empty()
     }
 
-    /// How many links it holds: one to each full chunk of 256 events, and one to each event behind them.
+    /// The number of links to events: one to each full chunk of 256 events, and one to each event after the last full chunk.
     pub fn parts(&self) -> usize
         ensures parts { result ≡ length self.now.events / CHUNK + length self.now.events % CHUNK }
         ensures legal { IsLegalStory S.accepts self.now }
@@ -138,8 +141,8 @@ impl<S: Scheme> Front<S> {
         self.events.parts()
     }
 
-    /// The event at the index, counted from 0, or `None` where it has no more than `index` events. It takes a constant number of
-    /// steps in a full chunk, and at most 255 behind the last one.
+    /// The event at the index, counted from 0, or `None` if there are at most `index` events. It takes a constant number of steps in
+    /// full chunks, and at most 255 steps after the last one.
     pub fn event(&self, index: usize) -> Option<&Event>
         ensures event { option_copied result ≡ slice_get self.now.events index }
         ensures legal { IsLegalStory S.accepts self.now }
@@ -147,7 +150,7 @@ impl<S: Scheme> Front<S> {
         self.events.get(index)
     }
 
-    /// The last event, or `None` where it has no event.
+    /// The last event, or `None` if there are no events.
     pub fn last(&self) -> Option<&Event>
         ensures last { option_copied result
             ≡ slice_get self.now.events (length self.now.events - 1) }
@@ -172,7 +175,7 @@ impl<S: Scheme> Front<S> {
         self.events.head().limits()
     }
 
-    /// The base that its calls are replayed from, or `None` where that is the opening state.
+    /// The base, or `None` if it is the opening state.
     pub fn base(&self) -> Option<&Base>
         ensures base { IfSome result (λ base.
             base.now ≡ record { bounds = bounds_of self.now.limits; state = self.now.base }) }
@@ -182,11 +185,11 @@ impl<S: Scheme> Front<S> {
         self.events.head().base()
     }
 
-    /// Whether the other front goes on where this one ends: it has the same committee, limits and base, and its events begin
-    /// with this one's.
+    /// Whether this front is a prefix of the other: both have the same committee, limits and base, and the other's events begin with
+    /// this one's.
     ///
-    /// It takes no memory. It goes over this one's events once, and compares their sessions, numbers and calls; where these are
-    /// the same in two legal histories, so are the replies.
+    /// Allocates no memory. It compares the session, number and call of each event of this front. If these are equal in two legal
+    /// histories, so are the replies.
     pub fn is_prefix_of(&self, other: &Front<S>) -> bool
         ensures prefix { IsTrue result ↔ IsPrefixOf self.now other.now }
         ensures legal { IsLegalStory S.accepts self.now }
@@ -194,7 +197,7 @@ impl<S: Scheme> Front<S> {
         self.events.head().is_same(other.events.head()) && self.begins(other)
     }
 
-    /// Whether the other front, which starts where this one does, goes on where this one ends.
+    /// Whether the other front's events begin with this one's. Both fronts have the same committee, limits and base.
     fn begins(&self, other: &Front<S>) -> bool
         requires committee { self.now.committee ≡ other.now.committee }
         requires limits { self.now.limits ≡ other.now.limits }
@@ -212,7 +215,7 @@ impl<S: Scheme> Front<S> {
         true
     }
 
-    /// Whether both have an event at the index, of one session, with one number and one call.
+    /// Whether both fronts have an event at the index, with the same session, number and call.
     fn is_alike(&self, other: &Front<S>, index: usize) -> bool
         ensures { IsTrue result
             ↔ AreAlike (slice_get self.now.events index) (slice_get other.now.events index) }
@@ -227,7 +230,7 @@ impl<S: Scheme> Front<S> {
         }
     }
 
-    /// The tables that its calls leave, made anew: the calls are taken again by a store over the base.
+    /// New tables with the state after this history: its calls are replayed over the base.
     fn replayed(&self, alloc: Global) -> Result<Plain, NoMemory>
         ensures { IfOk result (λ tables. tables ≡ tables_of self.now) }
     {
@@ -235,15 +238,15 @@ impl<S: Scheme> Front<S> {
         let behind = self.events.behind(alloc)?;
         for index in 0..self.len() {
             if let Some(event) = self.events.get_by(&behind, index) {
-                take_again(&mut tables, &event.call)?;
+                replay_call(&mut tables, &event.call)?;
             }
         }
         Ok(tables)
     }
 }
 
-/// Takes the step of the call again, whose reply is known: only writes, certificates and collections change the tables.
-fn take_again(tables: &mut Plain, call: &Call) -> Result<(), NoMemory>
+/// Replays a call. Its reply is known, so calls that do not change the tables are skipped.
+fn replay_call(tables: &mut Plain, call: &Call) -> Result<(), NoMemory>
     ensures { OnOk result (tables.new
         ≡ record tables.old { state = after tables.old.bounds tables.old.state call.now }) }
 {

@@ -1,8 +1,9 @@
-//! Legal histories that never change, and that share their events with those that go on from them.
+//! Fronts: legal histories that never change.
 //!
-//! Its contract: a front is legal under its committee and limits, from its base on; one more event makes another front, which
-//! shares all that came before; and a front tells exactly whether it is a beginning of another one. It stands on `nw_model` for
-//! what is legal, on `nw_plain` for bases, and on `nw_chunks` for lists that share; it knows no tables.
+//! A [`Front`] is legal under its committee and limits, from its base on. One more event makes another front, which shares all
+//! earlier events. A front tells exactly whether it is a prefix of another one.
+//!
+//! `nw_model` defines legal histories. The crate uses `nw_plain` for bases, and `nw_chunks` for lists that share their items.
 #![tactic(auto)]
 
 mod front;

@@ -2,25 +2,25 @@
 ghost use Rattle.std.specs.Prelude.{◌≡◌, ◌↔◌, IsTrue};
 ghost use Rattle.nw_history.specs.Limits.{AreInRange};
 
-/// How many blocks may be held at most.
+/// The maximum of `Limits::blocks`.
 pub const MOST_BLOCKS: u32 = 65_536;
-/// How many events a history may have at most.
+/// The maximum of `Limits::events`.
 pub const MOST_EVENTS: u32 = 65_536;
-/// How many rounds may be taken at most.
+/// The maximum of `Limits::window`.
 pub const MOST_ROUNDS: u32 = 4_096;
-/// How many sessions there may be at most.
+/// The maximum of `Limits::sessions`.
 pub const MOST_SESSIONS: u32 = 256;
 
-/// How much a book takes.
+/// The limits of a book.
 #[derive(Clone, Copy, Debug, PartialEq, Eq)]
 pub struct Limits {
-    /// How many blocks are held at most: 1 to `MOST_BLOCKS`.
+    /// The maximum number of held blocks, and also that of certificates: 1 to `MOST_BLOCKS`.
     pub blocks: u32,
-    /// How many events the history has at most: 1 to `MOST_EVENTS`.
+    /// The maximum number of events of the history: 1 to `MOST_EVENTS`.
     pub events: u32,
-    /// How many rounds are taken from the garbage round on: 1 to `MOST_ROUNDS`.
+    /// The number of rounds, from the garbage round on, whose blocks and certificates are accepted: 1 to `MOST_ROUNDS`.
     pub window: u32,
-    /// How many sessions there are at most: 1 to `MOST_SESSIONS`.
+    /// The maximum number of sessions: 1 to `MOST_SESSIONS`.
     pub sessions: u32,
 }
 
@@ -35,7 +35,7 @@ impl Limits {
             && (1..=MOST_SESSIONS).contains(&self.sessions)
     }
 
-    /// Whether each limit is the other's.
+    /// Whether all limits are equal.
     pub(crate) fn is_same(&self, other: &Limits) -> bool
         ensures { IsTrue result ↔ self.now ≡ other.now }
     {

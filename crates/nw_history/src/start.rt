@@ -1,4 +1,4 @@
-//! What a history starts with.
+//! The start of a history.
 ghost use Rattle.std.specs.Prelude.{◌≡◌, ◌≢◌, ◌↔◌, IsTrue, IfOk, IfSome, IsNone, Some};
 ghost use Rattle.nw_model.specs.State.{opening};
 ghost use Rattle.nw_history.specs.Story.{Origin, bounds_of, story_of, tables_of};
@@ -10,8 +10,8 @@ use nw_plain::{Base, Plain};
 use std::alloc::Global;
 use std::marker::Model;
 
-/// What a history starts with: the committee, the limits, and the base from which its calls are replayed. All fronts of
-/// a history share it.
+/// The start of a history: the committee, the limits, and the base from which its calls are replayed. All fronts of one history
+/// share it.
 #[derive(Drop)]
 pub(crate) struct Start {
     committee: Shared<Committee>,
@@ -39,7 +39,7 @@ impl Model for Start {
 }
 
 impl Start {
-    /// The start with these, where the store has the bounds of the limits. It takes no memory.
+    /// The start with this committee, these limits and this base. Allocates no memory.
     pub(crate) fn new(committee: Shared<Committee>, limits: Limits, base: Base) -> Start
         requires { base.bounds ≡ bounds_of limits }
         ensures { result ≡ record { committee = committee; limits = limits; base = base.state } }
@@ -51,19 +51,21 @@ impl Start {
         }
     }
 
+    /// The committee.
     pub(crate) fn committee(&self) -> &Shared<Committee>
         ensures { result.now ≡ self.now.committee }
     {
         &self.committee
     }
 
+    /// The limits.
     pub(crate) fn limits(&self) -> Limits
         ensures { result ≡ self.now.limits }
     {
         self.limits
     }
 
-    /// The base, or `None` where it is the opening state.
+    /// The base, or `None` if it is the opening state.
     pub(crate) fn base(&self) -> Option<&Base>
         ensures base { IfSome result (λ base.
             base.now ≡ record { bounds = bounds_of self.now.limits; state = self.now.base }) }
@@ -76,7 +78,7 @@ impl Start {
         }
     }
 
-    /// A store over the base.
+    /// New tables with the state of the base.
     pub(crate) fn tables(&self, alloc: Global) -> Result<Plain, NoMemory>
         ensures { IfOk result (λ tables. tables ≡ record {
           bounds = bounds_of self.now.limits;
@@ -86,7 +88,7 @@ impl Start {
         Plain::over(alloc, &self.base)
     }
 
-    /// Whether the other start has the same committee, limits and base. (`eq` is called by its name, for its clause `same`.)
+    /// Whether the other start has the same committee, limits and base. It calls `eq` by name, since the proof needs its clause `same`.
     pub(crate) fn is_same(&self, other: &Start) -> bool
         ensures { IsTrue result ↔ self.now ≡ other.now }
     {
