@@ -1,4 +1,4 @@
--- One block more under the digest of its slot.
+-- One more block is put under the digest of its slot.
 use Rattle.std.proofs.Common.{◌≡◌, ℕ, ◌+◌, ◌*◌, ◌<◌, Bool, true, false, cond, Some, get_or, refl, ap, sym, ◌∙◌, subst, inl, inr, arith, below_more}
 use Rattle.std.specs.FinMap.{FinMap, empty, get, insert, get-empty, get-insert}
 use Rattle.std.specs.Ordering.{eq_by_cmp}

@@ -1,4 +1,4 @@
--- Views of named blocks are closed.
+-- Views of sample blocks are closed.
 use Rattle.std.proofs.Common.{◌≡◌, ℕ, ◌<◌, ◌≤◌, ◌⊎◌, [], ◌∷◌, Option, Some, None, get_or, refl, ap, sym, ◌∙◌, inl, inr, arith}
 use Rattle.std.specs.Option.{option_or}
 use Rattle.std.specs.FinMap.{FinMap, get}
@@ -13,7 +13,7 @@ use Rattle.sample_blocks.specs.Sample.{name_of, AreNamed, AreBases, AreNext}
 use Rattle.sample_blocks.proofs.Bases.{names_apart}
 use Rattle.nw_generation.proofs.Unions.{get_latest, get_nowhere}
 
--- a block is of the later generation, or of the older one
+-- a found block is of the later generation or of the older one
 of_either : {X : Type 0} (first later : Option X) (x : X) → option_or first later ≡ Some x → (first ≡ Some x) ⊎ (later ≡ Some x)
 of_either None later x is = inr is
 of_either (Some y) later x is = inl is
@@ -22,7 +22,7 @@ of_later : {X : Type 0} (first later : Option X) (x : X) → ((y : X) → first 
 of_later None later x lacks is = is
 of_later (Some y) later x lacks is = absurd (lacks y refl)
 
--- what one generation answers
+-- a lookup in a view of one generation
 alone : (blocks : FinMap digest_cmp Block) (d : Digest) → get (union (blocks ∷ [])) d ≡ get blocks d
 alone blocks d = get_latest [] blocks d ∙ whole (get blocks d)
   where
@@ -30,11 +30,11 @@ alone blocks d = get_latest [] blocks d ∙ whole (get blocks d)
     whole None = get_nowhere [] d refl
     whole (Some b) = refl
 
--- what the view of two generations answers
+-- a lookup in a view of two generations
 both : (older newer : FinMap digest_cmp Block) (d : Digest) → get (union (older ∷ newer ∷ [])) d ≡ option_or (get newer d) (get older d)
 both older newer d = get_latest (older ∷ []) newer d ∙ ap (option_or (get newer d)) (alone older d)
 
--- what the two generations hold is of one of them
+-- each block of a view of two generations is of one of them
 held_by : (older newer : FinMap digest_cmp Block) (d : Digest) (b : Block) → get (union (older ∷ newer ∷ [])) d ≡ Some b → (get newer d ≡ Some b) ⊎ (get older d ≡ Some b)
 held_by older newer d b at = of_either (get newer d) (get older d) b (sym (both older newer d) ∙ at)
 

@@ -1,4 +1,4 @@
-//! Blocks and what they are named by.
+//! Sample blocks, and the digests that name them.
 ghost use Rattle.std.specs.Prelude.{◌≡◌, ◌+◌, ◌*◌, ◌<◌, IfOk};
 ghost use Rattle.sample_blocks.specs.Sample.{NameBases, name_of};
 
@@ -6,7 +6,7 @@ use nw_codec::{Block, Ref, Transactions};
 use nw_digest::{Digest, NoMemory, Round, Sequence, Shared};
 use std::alloc::Global;
 
-/// The digest of the block of this round and author.
+/// The digest of the sample block of this round and author: 32 bytes 16 * `round` + `author`. It is not a SHA-256 hash.
 pub fn name(round: u8, author: u8) -> Digest
     requires { 16 * round + author < 256 }
     ensures { result ≡ name_of (round, author) }
@@ -14,7 +14,7 @@ pub fn name(round: u8, author: u8) -> Digest
     Digest([16 * round + author; 32])
 }
 
-/// The round of this number.
+/// The round with this number.
 pub fn round(number: u8) -> Round
     ensures { result ≡ number }
 {
@@ -24,7 +24,7 @@ pub fn round(number: u8) -> Round
     }
 }
 
-/// The block of the round and author, with one transaction.
+/// A block with this round and author, these parents, and one transaction.
 pub fn block(
     alloc: Global,
     slot: (Round, u16),
@@ -45,7 +45,7 @@ pub fn block(
     Ok(Shared::new(alloc, block)?)
 }
 
-/// References to the blocks of round 0 of three authors.
+/// References to the blocks of round 0 of authors 0, 1 and 2.
 pub fn references(alloc: Global) -> Result<Vec<Ref>, NoMemory>
     ensures { IfOk result (λ refs. NameBases 3 refs.items) }
 {

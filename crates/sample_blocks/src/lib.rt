@@ -1,8 +1,8 @@
-//! Blocks, tries of them, and views of frozen tries, which tests share.
+//! Sample blocks, tries and views for tests.
 //!
-//! Its contract: [`older`] gives blocks of round 0, and [`newer`] one of round 1 whose parents they are, each under the
-//! digest that [`name`] gives to its round and author; [`view_of_both`] is the view of these, and [`view_of_one`] that of one block
-//! of round 0. It stands on `nw_trie` for the tries, and on `nw_generation` for the views.
+//! [`older`] returns blocks of round 0, and [`newer`] a block of round 1 that has them as parents. Each block has the digest that
+//! [`name`] returns for its round and author. [`view_of_both`] is the view of all these blocks, and [`view_of_one`] that of one block
+//! of round 0. The crate uses `nw_trie` for tries, and `nw_generation` for views.
 #![tactic(auto)]
 
 mod blocks;

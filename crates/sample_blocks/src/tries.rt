@@ -1,4 +1,4 @@
-//! Tries of blocks, which tests freeze.
+//! Tries of blocks for tests to freeze.
 ghost use Rattle.std.specs.Prelude.{IfOk};
 ghost use Rattle.std.specs.FinMap as map;
 ghost use Rattle.sample_blocks.specs.Sample.{AreBases, AreNext};
@@ -12,7 +12,7 @@ use std::alloc::Global;
 /// Blocks under their digests.
 pub type Blocks = Trie<Shared<Block>, Global>;
 
-/// The blocks of round 0 of so many authors, each with this transaction.
+/// Blocks of round 0, one of each author below `authors`, with this transaction.
 pub fn older(alloc: Global, authors: u8, text: &[u8]) -> Result<Blocks, NoMemory>
     ensures { IfOk result (λ trie. AreBases authors (map.from_entries trie)) }
 {
@@ -25,7 +25,7 @@ pub fn older(alloc: Global, authors: u8, text: &[u8]) -> Result<Blocks, NoMemory
     Ok(trie)
 }
 
-/// One block of round 1, whose parents they are.
+/// One block of round 1, by author 0. Its parents are the blocks of round 0 of authors 0, 1 and 2.
 pub fn newer(alloc: Global) -> Result<Blocks, NoMemory>
     ensures { IfOk result (λ trie. AreNext 3 (map.from_entries trie)) }
 {

@@ -7,7 +7,7 @@ use nw_digest::{NoMemory, Round};
 use nw_generation::{Generation, View, freeze};
 use std::alloc::Global;
 
-/// The view of one generation with one block, of round 0 and author 0, with this transaction.
+/// A view of one generation with one block: round 0, author 0, and this transaction.
 pub fn view_of_one(alloc: Global, text: &[u8], floor: Round) -> Result<View, NoMemory>
     ensures { IfOk result (λ view. view.frozen.floor ≡ floor) }
 {
@@ -16,8 +16,8 @@ pub fn view_of_one(alloc: Global, text: &[u8], floor: Round) -> Result<View, NoM
     Ok(View::new(generations, floor))
 }
 
-/// The view of the blocks of round 0 of three authors, each with this transaction, and of the one of round 1 over them as a later
-/// generation.
+/// A view of two generations. The older one has blocks of three authors, of round 0 with this transaction. The later one has one
+/// block of round 1 with these parents.
 pub fn view_of_both(alloc: Global, text: &[u8], floor: Round) -> Result<View, NoMemory>
     ensures { IfOk result (λ view. view.frozen.floor ≡ floor) }
 {
@@ -27,7 +27,7 @@ pub fn view_of_both(alloc: Global, text: &[u8], floor: Round) -> Result<View, No
     Ok(View::new(generations, floor))
 }
 
-/// The generation of the blocks.
+/// The generation of these blocks.
 fn frozen(alloc: Global, trie: Blocks) -> Result<Generation, NoMemory>
     ensures { IfOk result (λ generation. generation ≡ map.from_entries trie) }
 {

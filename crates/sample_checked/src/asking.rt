@@ -1,7 +1,7 @@
-//! Calls that are asked once more, and requests that have memory refused.
+//! Repeated calls, and requests that make all allocations fail.
 use std::alloc::Global;
 
-/// What the call answers; where that is this want of memory, what it answers when it is asked again at once.
+/// The result of the call. If it is the given error, an allocation failure, the call is repeated once, and its second result counts.
 #[macro_export]
 macro_rules! again {
     ($refused:pat, $ask:expr) => {
@@ -12,18 +12,19 @@ macro_rules! again {
     };
 }
 
-/// A request of this size tells the library that `.ci/refusals` loads to refuse all memory from here on; else it changes nothing.
+/// After a request of this size, the library that `.ci/refusals` loads makes all allocations fail. Without the library nothing
+/// changes.
 const REFUSE_ALL: usize = 1_000_003;
 
-/// A request of this size ends that.
+/// After a request of this size, allocations succeed again.
 const REFUSE_NONE: usize = 1_000_033;
 
-/// Has all memory refused, where that library is loaded.
+/// Makes all allocations fail from now on, if the library of `.ci/refusals` is loaded.
 pub fn refuse_all(alloc: Global) {
     drop(Vec::<u8>::with_capacity(alloc, REFUSE_ALL));
 }
 
-/// Has memory given again.
+/// Makes allocations succeed again.
 pub fn refuse_none(alloc: Global) {
     drop(Vec::<u8>::with_capacity(alloc, REFUSE_NONE));
 }

@@ -1,8 +1,8 @@
-//! What tests share: committees whose members sign by the demonstration scheme, with blocks and certificates under them.
+//! Sample committees for tests, with checked blocks and certificates. Members sign with the demonstration scheme.
 //!
-//! Its contract: each value of [`committee`], [`block`], [`block_with`] and [`certificate`] is what its arguments say, under the
-//! committee that is handed in. A builder of [`refused`] that is refused memory says so by its error, so that a test can tell that
-//! from all else and ask again by [`again`]. No program stands on it.
+//! The values of [`committee`], [`block`], [`block_with`] and [`certificate`] are as their arguments say, under the given committee.
+//! The builders in [`refused`] report an allocation failure by their error, so that a test can recognize it and repeat the call with
+//! [`again`]. No program uses this crate.
 #![tactic(auto)]
 
 mod asking;

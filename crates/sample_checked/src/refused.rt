@@ -1,4 +1,4 @@
-//! A committee whose members sign by the demonstration scheme, and blocks, votes and certificates under it.
+//! Builders of committees, blocks, votes and certificates, which report an allocation failure by their error.
 use crate::signing::seal;
 pub use crate::signing::signature;
 use crate::values::key;
@@ -12,10 +12,10 @@ use std::alloc::Global;
 /// A round and an author.
 pub type Slot = (Round, u16);
 
-/// The digest of what is voted for where no block is asked for.
+/// A digest without a block, for votes and certificates.
 pub const VOTED: Digest = Digest([7; 32]);
 
-/// The keys of members with these numbers.
+/// The keys of the members with these numbers.
 pub fn keys(alloc: Global, numbers: &[u8]) -> Result<Vec<Key>, NoMemory> {
     let mut keys = Vec::new(alloc);
     for number in numbers {
@@ -24,7 +24,7 @@ pub fn keys(alloc: Global, numbers: &[u8]) -> Result<Vec<Key>, NoMemory> {
     Ok(keys)
 }
 
-/// A committee of members with these numbers.
+/// A committee of the members with these numbers.
 pub fn committee(alloc: Global, numbers: &[u8]) -> Result<Shared<Committee>, NoMemory> {
     match Committee::new(alloc, keys(alloc, numbers)?) {
         Ok(committee) => Shared::new(alloc, committee),
@@ -32,7 +32,7 @@ pub fn committee(alloc: Global, numbers: &[u8]) -> Result<Shared<Committee>, NoM
     }
 }
 
-/// The vote of this signer for the digest of the slot.
+/// This signer's vote for the digest and the slot.
 pub fn vote(committee: &Committee, digest: Digest, slot: Slot, signer: u16) -> Vote {
     let (round, author) = slot;
     Vote {
@@ -44,7 +44,7 @@ pub fn vote(committee: &Committee, digest: Digest, slot: Slot, signer: u16) -> V
     }
 }
 
-/// The certificate of these signers for the digest of the slot.
+/// A certificate for the digest and the slot, with the votes of these signers.
 pub fn certificate(
     alloc: Global,
     committee: &Committee,
@@ -65,7 +65,7 @@ pub fn certificate(
     })
 }
 
-/// That certificate, checked.
+/// The same certificate, checked.
 pub fn checked_certificate(
     alloc: Global,
     committee: &Shared<Committee>,
@@ -80,7 +80,7 @@ pub fn checked_certificate(
     check_cert(alloc, committee, certificate)
 }
 
-/// A block of the slot with a transaction of each of these bytes.
+/// A block of the slot with these parents, and one transaction for each of these bytes.
 pub fn unsigned(
     alloc: Global,
     slot: Slot,
@@ -99,7 +99,7 @@ pub fn unsigned(
     })
 }
 
-/// Such a block that the member signs, checked.
+/// The same block, signed by this signer and checked.
 pub fn checked_block(
     alloc: Global,
     committee: &Shared<Committee>,

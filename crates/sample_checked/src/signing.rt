@@ -1,4 +1,4 @@
-//! What members sign.
+//! Signatures and votes of members.
 ghost use Rattle.std.specs.Prelude.{IfSome};
 ghost use Rattle.nw_codec.specs.Fits.{Fits};
 
@@ -7,13 +7,13 @@ use nw_committee::{Committee, Key};
 use nw_digest::{Digest, Round};
 use nw_sig::{DemoSigner, Signer, block_text, vote_text};
 
-/// The member's signature; where there is no such member, that of a key of bytes 0.
+/// The member's signature of the text. If there is no such member, it is that of a key of 32 bytes 0.
 fn sign(committee: &Committee, member: u16, text: &[u8]) -> Signature {
     let key = committee.key(member).copied().unwrap_or(Key([0; 32]));
     DemoSigner::new(key).sign(text)
 }
 
-/// The member's signature of the block, where it fits.
+/// The signer's signature of the block, or `None` if the block does not fit.
 pub fn signature(committee: &Committee, block: &Block, signer: u16) -> Option<Signature>
     ensures { IfSome result (λ _. Fits block.now) }
 {
@@ -23,7 +23,7 @@ pub fn signature(committee: &Committee, block: &Block, signer: u16) -> Option<Si
     Some(sign(committee, signer, &block_text(&block_digest(block))))
 }
 
-/// The member's vote for the digest of the round and author, as a certificate has it.
+/// The signer's vote for the digest, round and author, as a certificate contains it.
 pub fn seal(committee: &Committee, digest: Digest, round: Round, author: u16, signer: u16) -> Seal {
     let signature = sign(committee, signer, &vote_text(&digest, round, author));
     Seal { signer, signature }

@@ -1,4 +1,4 @@
-//! Committees whose members sign by the demonstration scheme, and their checked blocks and certificates.
+//! Committees whose members sign with the demonstration scheme, and their checked blocks and certificates.
 ghost use Rattle.std.specs.Prelude.{◌≡◌, IfOk, length};
 
 use crate::signing::{seal, signature};
@@ -10,20 +10,21 @@ use nw_sig::DemoScheme;
 use std::alloc::Global;
 use std::test::Fail;
 
-/// The key of the member: 30 bytes 0, and its number in two bytes.
+/// The key of the member: 30 bytes 0, followed by its number in two bytes.
 pub fn key(member: u16) -> Key {
     let mut bytes = [0; 32];
     bytes[30..].copy_from_slice(&member.to_be_bytes());
     Key(bytes)
 }
 
+/// The round with this number.
 fn round_of(number: u64) -> Result<Round, Fail>
     ensures { IfOk result (λ round. round ≡ number) }
 {
     Ok(Round::new(number).ok_or("a round has 48 bits")?)
 }
 
-/// A committee of so many members of weight 1: 1, 4, 7, ..
+/// A committee of this many members of weight 1. `members` must be 1, 4, 7, .. or 100.
 pub fn committee(alloc: Global, members: u16) -> Result<Shared<Committee>, Fail>
     ensures { IfOk result (λ committee. length committee ≡ members) }
 {
@@ -34,7 +35,7 @@ pub fn committee(alloc: Global, members: u16) -> Result<Shared<Committee>, Fail>
     Ok(Shared::new(alloc, Committee::new(alloc, keys)?)?)
 }
 
-/// A block of the author without transactions, whose parents are blocks of authors 0, 1, 2, .. with these digests.
+/// A checked block without transactions. It has these digests as parents, by authors 0, 1, 2, ..
 pub fn block(
     alloc: Global,
     committee: &Shared<Committee>,
@@ -49,7 +50,7 @@ pub fn block(
     checked(alloc, committee, author, round, parents, transactions)
 }
 
-/// A block of round 0 of member 0 that has this one transaction.
+/// A checked block of round 0 of member 0, with this one transaction.
 pub fn block_with(
     alloc: Global,
     committee: &Shared<Committee>,
@@ -63,7 +64,7 @@ pub fn block_with(
     checked(alloc, committee, 0, 0, &[], transactions)
 }
 
-/// The block of the author and round, signed.
+/// A block with these fields, signed by its author and checked.
 fn checked(
     alloc: Global,
     committee: &Shared<Committee>,
@@ -94,7 +95,7 @@ fn checked(
     Ok(check_block(alloc, committee, block, signature)?)
 }
 
-/// A certificate of the digest for the author in the round, with the votes of all members.
+/// A checked certificate for the digest, author and round, with the votes of all members.
 pub fn certificate(
     alloc: Global,
     committee: &Shared<Committee>,

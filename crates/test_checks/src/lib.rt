@@ -1,6 +1,6 @@
-//! Tests of checks, of one message and of many by several threads, under the demonstration scheme.
+//! Tests the checks of single messages, and of many messages in several threads, with the demonstration scheme.
 //!
-//! Its contract: it has tests alone, and nothing stands on it.
+//! It has tests only. No other crate uses it.
 #![tactic(auto)]
 
 #[cfg(test)]

@@ -15,10 +15,10 @@ mod texts;
 mod threads;
 mod votes;
 
-/// Of what votes and certificates are.
+/// The slot of all votes and certificates.
 const SLOT: Slot = (Round::ZERO, 0);
 
-/// What a text is found to be.
+/// The result of a check, without checked values.
 #[derive(Clone, Copy, PartialEq)]
 enum Found {
     Block,
@@ -29,7 +29,7 @@ enum Found {
     BadCert(CertFault),
 }
 
-/// What the check found.
+/// The result of the check.
 fn found_in(checked: &Checked<DemoScheme>) -> Found {
     match checked {
         Checked::Block(_) => Found::Block,
@@ -41,12 +41,12 @@ fn found_in(checked: &Checked<DemoScheme>) -> Found {
     }
 }
 
-/// What the text is found to be under the committee.
+/// The result of checking the text under the committee.
 fn judge(alloc: Global, committee: &Shared<Committee>, text: &[u8]) -> Result<Found, NoMemory> {
     Ok(found_in(&check_message(alloc, committee, text)?))
 }
 
-/// The committee of members with these weights.
+/// A committee of members with these weights.
 fn members(alloc: Global, weights: &[u32]) -> Result<Shared<Committee>, Fail> {
     let mut members = Vec::new(alloc);
     for (number, weight) in (0u16..).zip(weights) {

@@ -1,9 +1,10 @@
-//! Tests of what a refusal of memory leaves of texts, committees and checks: `.ci/refusals` runs each of them once for every
-//! allocation that it makes, with that one refused.
+//! Tests codecs, committees and checks under allocation failures.
 //!
-//! Its contract: it has tests alone, and nothing stands on it. Each test plays worked examples, and asks a call that wants memory
-//! again at once: with its input where that was handed back, and else with a copy. It then waits for exactly the example's
-//! answers. Calls that take no memory are made while all memory is refused.
+//! `.ci/refusals` runs each test once for every allocation that it makes, and makes this allocation fail. Each test repeats a call that
+//! fails with an allocation failure at once, with its input if the call returned it, or else with a copy. The repeated call must
+//! give exactly the example's answers. Calls that need no memory are made while all allocations fail.
+//!
+//! It has tests only. No other crate uses it.
 #![tactic(auto)]
 
 #[cfg(test)]

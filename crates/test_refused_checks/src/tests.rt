@@ -13,15 +13,15 @@ mod texts;
 mod without;
 mod workers;
 
-/// Of what votes and certificates are.
+/// The slot of all votes and certificates.
 const SLOT: Slot = (Round::ZERO, 0);
 
-/// The committee of four members.
+/// A committee of four members.
 fn four(alloc: Global) -> Result<Shared<Committee>, NoMemory> {
     again!(NoMemory, committee(alloc, &[0, 1, 2, 3]))
 }
 
-/// The message of a block of round 0 of member 0, which this member signs.
+/// The message of a block of round 0 of member 0, signed by this signer.
 fn block_message(alloc: Global, four: &Committee, signer: u16) -> Result<Message, Fail> {
     let block = again!(NoMemory, unsigned(alloc, SLOT, &[], b"x"))?;
     match signature(four, &block, signer) {
@@ -33,7 +33,7 @@ fn block_message(alloc: Global, four: &Committee, signer: u16) -> Result<Message
     }
 }
 
-/// The message of the certificate of these signers.
+/// The message of a certificate with the votes of these signers.
 fn certificate_message(
     alloc: Global,
     four: &Committee,

@@ -1,11 +1,11 @@
-//! Messages of which one byte was replaced.
+//! Messages with one replaced byte.
 use super::texts::{block, certificate};
 use super::*;
 
-/// What a change of one byte shows, where the byte stands, counted from 0, what is put there, and what the text is found to be.
+/// A change of one byte: what it shows, the place of the byte, counted from 0, the new byte, and the result of the check.
 type Change = (&'static str, usize, u8, Found);
 
-/// What the text with this byte at the place is found to be.
+/// The result of checking the text with this byte at the place.
 fn altered(
     alloc: Global,
     committee: &Shared<Committee>,
@@ -18,7 +18,8 @@ fn altered(
     Ok(judge(alloc, committee, &altered)?)
 }
 
-/// How many texts differ from this one in the byte at the place, how many of them are accepted, and how many have this fault.
+/// Replaces the byte at the place by each other byte. Returns the number of these texts, and how many of them are accepted and how
+/// many have this fault.
 fn count_at(
     alloc: Global,
     committee: &Shared<Committee>,
@@ -40,8 +41,8 @@ fn count_at(
     Ok([tried, accepted, faulty])
 }
 
-/// How many texts differ from this one in one byte, how many of them are accepted, and how many of those that differ in the last
-/// byte have this fault.
+/// Replaces each byte by each other byte. Returns the number of these texts, how many of them are accepted, and how many of those
+/// with another last byte have this fault.
 fn count(
     alloc: Global,
     committee: &Shared<Committee>,
@@ -83,7 +84,7 @@ fn each_byte_of_a_certificate_altered(rt: HostRuntime) -> Result<(), Fail> {
     Ok(())
 }
 
-/// Changes of the message of a block, which a committee of one checks.
+/// Changes of a block's message, under a committee of one.
 const OF_A_BLOCK: [Change; 11] = [
     ("no kind of message", 0, 4, Found::BadText(DecodeError::Tag)),
     (
@@ -148,7 +149,7 @@ const OF_A_BLOCK: [Change; 11] = [
     ),
 ];
 
-/// Changes of the message of a certificate, which a committee of four checks.
+/// Changes of a certificate's message, under a committee of four.
 const OF_A_CERTIFICATE: [Change; 16] = [
     (
         "a block of another version",

@@ -1,8 +1,8 @@
-//! Messages that were cut or lengthened.
+//! Messages that are cut or lengthened.
 use super::texts::{block, certificate};
 use super::*;
 
-/// Whether each proper front of the text is short, and the text with any byte behind it has one too many.
+/// Whether each proper prefix of the text is `Short`, and the text with any additional byte is `Trailing`.
 fn ends_exactly(alloc: Global, committee: &Shared<Committee>, text: &[u8]) -> Result<bool, Fail> {
     for length in 0..text.len() {
         if judge(alloc, committee, &text[..length])? != Found::BadText(DecodeError::Short) {
@@ -20,7 +20,7 @@ fn ends_exactly(alloc: Global, committee: &Shared<Committee>, text: &[u8]) -> Re
 }
 
 #[test]
-fn no_message_is_cut_or_lengthened(rt: HostRuntime) -> Result<(), Fail> {
+fn cut_and_lengthened_messages_are_refused(rt: HostRuntime) -> Result<(), Fail> {
     let four = members(rt.alloc(), &[1; 4])?;
     let block = block(rt.alloc(), four.get(), 0)?;
     let certificate = certificate(rt.alloc(), four.get())?;

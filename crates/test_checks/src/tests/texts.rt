@@ -1,4 +1,4 @@
-//! Messages, written out byte by byte.
+//! Messages, byte by byte.
 use super::*;
 use nw_codec::Signature;
 use nw_digest::digest_of;
@@ -14,7 +14,7 @@ pub(super) const BODY: [u8; 18] = [
     0, 0, 0, 1, 0x78, // `x`, with its length
 ];
 
-/// What a vote for the block of that body signs, behind the first four bytes: its digest, its round and its author.
+/// The text that a vote for the block of [`BODY`] signs, without its first four bytes: digest, round and author.
 const VOTE: [u8; 40] = [
     0xad, 0x5f, 0x10, 0x50, 0x76, 0xaf, 0xa1, 0x69, // digest
     0xe3, 0x88, 0x7a, 0xcc, 0x36, 0x00, 0x54, 0x05, //
@@ -24,7 +24,7 @@ const VOTE: [u8; 40] = [
     0, 0, // author
 ];
 
-/// The member's signature of the text, which has these four bytes in front.
+/// The member's signature of these four bytes followed by the text.
 fn sign(
     alloc: Global,
     committee: &Committee,
@@ -38,7 +38,7 @@ fn sign(
     Ok(DemoSigner::new(*key).sign(&signed))
 }
 
-/// The message of the block of [`BODY`], which this member signs.
+/// The message of the block of [`BODY`], signed by this member.
 pub(super) fn block(alloc: Global, committee: &Committee, signer: u16) -> Result<Vec<u8>, Fail> {
     let signature = sign(alloc, committee, signer, b"NWBK", &digest_of(&BODY).0)?;
     let mut text = [1].to_vec(alloc)?;
@@ -47,7 +47,7 @@ pub(super) fn block(alloc: Global, committee: &Committee, signer: u16) -> Result
     Ok(text)
 }
 
-/// The votes of these members for that block: each member and its signature.
+/// The votes of these members for the block of [`BODY`]: each member and its signature.
 fn votes(alloc: Global, committee: &Committee, members: &[u16]) -> Result<Vec<u8>, Fail> {
     let mut text = Vec::new(alloc);
     for member in members {
@@ -58,7 +58,7 @@ fn votes(alloc: Global, committee: &Committee, members: &[u16]) -> Result<Vec<u8
     Ok(text)
 }
 
-/// The message of a certificate for that block, with votes of members 0, 1 and 2.
+/// The message of a certificate for the block of [`BODY`], with votes of members 0, 1 and 2.
 pub(super) fn certificate(alloc: Global, committee: &Committee) -> Result<Vec<u8>, Fail> {
     let mut text = [2].to_vec(alloc)?;
     text.extend_from_slice(&VOTE)?;
@@ -67,7 +67,7 @@ pub(super) fn certificate(alloc: Global, committee: &Committee) -> Result<Vec<u8
     Ok(text)
 }
 
-/// The message of the vote of member 1 for that block.
+/// The message of the vote of member 1 for the block of [`BODY`].
 pub(super) fn vote(alloc: Global, committee: &Committee) -> Result<Vec<u8>, Fail> {
     let mut text = [3].to_vec(alloc)?;
     text.extend_from_slice(&VOTE)?;

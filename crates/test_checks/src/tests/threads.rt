@@ -1,4 +1,4 @@
-//! Messages that are checked by threads, and the gates that hold them.
+//! Checks in several threads, and gates that hold them.
 use super::texts::{block, certificate, vote};
 use super::*;
 use nw_intake::{FreeGate, Gate, GateShut, IntakeFault, Point, check_all, pass_start};
@@ -7,7 +7,7 @@ use std::sync::atomic::AtomicU64;
 use std::sync::atomic::Ordering::SeqCst;
 use std::thread::{Threads, yield_now};
 
-/// A gate whose starts pass once two checks were about to start, and which counts how often it is asked.
+/// A gate that lets checks start when two of them have reached their start points. It counts how often it is asked.
 #[derive(Drop)]
 struct Meeting {
     reached: AtomicU64,
@@ -15,7 +15,7 @@ struct Meeting {
 }
 
 impl Meeting {
-    /// Nobody has come.
+    /// No check has reached its start point.
     fn new() -> Meeting {
         Meeting {
             reached: AtomicU64::new(0),
@@ -53,7 +53,7 @@ fn a_shut_gate_is_asked_a_million_times(rt: HostRuntime) {
     );
 }
 
-/// A good block, a good certificate, a vote, bad bytes, and a block with a signature of another member.
+/// A good block, a good certificate, a vote, bad bytes, and a block with another member's signature.
 fn five_texts(alloc: Global, four: &Committee) -> Result<Vec<Vec<u8>>, Fail> {
     let mut texts = Vec::new(alloc);
     texts.push(block(alloc, four, 0)?)?;
@@ -64,7 +64,7 @@ fn five_texts(alloc: Global, four: &Committee) -> Result<Vec<Vec<u8>>, Fail> {
     Ok(texts)
 }
 
-/// What these texts are.
+/// The results for these texts.
 const FIVE: [Found; 5] = [
     Found::Block,
     Found::Cert,
@@ -73,7 +73,7 @@ const FIVE: [Found; 5] = [
     Found::BadBlock(BlockFault::Signature),
 ];
 
-/// Whether both checks answered the same: of a block, a certificate or a vote the same value.
+/// Whether both checks have the same result. Blocks, certificates and votes are compared by value.
 fn is_same(one: &Checked<DemoScheme>, other: &Checked<DemoScheme>) -> bool {
     match (one, other) {
         (Checked::Block(one), Checked::Block(other)) => one.block().get() == other.block().get(),
@@ -85,7 +85,7 @@ fn is_same(one: &Checked<DemoScheme>, other: &Checked<DemoScheme>) -> bool {
     }
 }
 
-/// Whether the answers are those that each check of the first texts alone gives, and what these are.
+/// Whether the answers are those of separate checks of the texts, and those of [`FIVE`].
 fn are_answers(
     alloc: Global,
     four: &Shared<Committee>,
@@ -93,9 +93,9 @@ fn are_answers(
     answers: &[Checked<DemoScheme>],
 ) -> Result<bool, NoMemory> {
     for (place, (text, answer)) in texts.iter().zip(answers).enumerate() {
-        let alone = check_message(alloc, four, text)?;
-        let is_it = is_same(&alone, answer);
-        drop(alone);
+        let separate = check_message(alloc, four, text)?;
+        let is_it = is_same(&separate, answer);
+        drop(separate);
         if !is_it || FIVE.get(place) != Some(&found_in(answer)) {
             return Ok(false);
         }
@@ -103,8 +103,8 @@ fn are_answers(
     Ok(true)
 }
 
-/// Whether these are as many answers as that, and those of each check alone.
-fn are_alone(
+/// Whether there are `count` answers, and they are those of separate checks.
+fn are_separate(
     alloc: Global,
     four: &Shared<Committee>,
     count: u8,
@@ -116,7 +116,7 @@ fn are_alone(
     Ok(are_answers? && answers.len() == usize::from(count))
 }
 
-/// Whether so many workers answer the first of these texts as each check alone does, or the fault.
+/// Checks the first `count` texts by this many workers. Returns whether the answers are those of separate checks, or the fault.
 fn checked_under<G: Gate + Sync, R: Threads + Wait + Sync>(
     rt: &R,
     alloc: Global,
@@ -129,15 +129,15 @@ fn checked_under<G: Gate + Sync, R: Threads + Wait + Sync>(
     texts.truncate(usize::from(count));
     match check_all(rt, alloc, four, texts, workers, gate) {
         Ok(answers) => {
-            let are_alone = are_alone(alloc, four, count, &answers);
+            let are_separate = are_separate(alloc, four, count, &answers);
             drop(answers);
-            Ok(Ok(are_alone?))
+            Ok(Ok(are_separate?))
         }
         Err(fault) => Ok(Err(fault)),
     }
 }
 
-/// The same, under a committee of four.
+/// Does the same under a committee of four.
 fn checked_by<G: Gate + Sync, R: Threads + Wait + Sync>(
     rt: &R,
     alloc: Global,

@@ -5,7 +5,7 @@ use nw_codec::{Certificate, Seal};
 use nw_digest::Sequence;
 use sample_checked::refused::{VOTED, vote};
 
-/// A certificate whose votes say that they are of the first of these members, and are signed by the second.
+/// A certificate with one vote for each pair of members. The vote names the first member, and the second one signs it.
 fn certificate(
     alloc: Global,
     committee: &Committee,
@@ -27,7 +27,7 @@ fn certificate(
     })
 }
 
-/// The fault of that certificate under a committee of four.
+/// The fault of such a certificate under a committee of four.
 fn fault_of(alloc: Global, signers: &[(u16, u16)]) -> Result<Option<CertFault>, Fail> {
     let committee = members(alloc, &[1; 4])?;
     let certificate = certificate(alloc, committee.get(), signers)?;

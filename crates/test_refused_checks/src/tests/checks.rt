@@ -1,9 +1,9 @@
-//! Blocks and certificates that are checked.
+//! Checks of blocks and certificates.
 use super::*;
 use nw_check::{BlockFault, CertFault};
 use sample_checked::refused::{checked_block, checked_certificate};
 
-/// The author of a block that is checked, where it was under this committee.
+/// The author of a checked block, or `None` if it has another committee.
 fn author_of(alloc: Global, four: &Shared<Committee>) -> Result<Option<u16>, BlockFault> {
     let block = again!(
         BlockFault::NoMemory,
@@ -15,7 +15,7 @@ fn author_of(alloc: Global, four: &Shared<Committee>) -> Result<Option<u16>, Blo
     Ok(is_under.then_some(author))
 }
 
-/// How many votes a certificate has that is checked, where it was under this committee.
+/// The number of votes of a checked certificate, or `None` if it has another committee.
 fn votes_of(alloc: Global, four: &Shared<Committee>) -> Result<Option<usize>, CertFault> {
     let three = again!(
         CertFault::NoMemory,

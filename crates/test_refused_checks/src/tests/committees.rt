@@ -1,10 +1,10 @@
-//! Committees that are made, or refused.
+//! Good and bad committees.
 use super::*;
 use nw_committee::{CommitteeFault, Member};
 use sample_checked::key;
 use sample_checked::refused::keys;
 
-/// The quorum of a committee of members with these numbers.
+/// The quorum of the committee of the members with these numbers.
 fn quorum(alloc: Global, numbers: &[u8]) -> Result<u32, CommitteeFault> {
     let Ok(keys) = keys(alloc, numbers) else {
         return Err(CommitteeFault::NoMemory);
@@ -15,7 +15,7 @@ fn quorum(alloc: Global, numbers: &[u8]) -> Result<u32, CommitteeFault> {
     Ok(quorum)
 }
 
-/// The fault of such a committee, which is made while all memory is refused.
+/// The fault of such a committee, made while all allocations fail.
 fn fault_of(alloc: Global, numbers: &[u8]) -> Result<Option<CommitteeFault>, NoMemory> {
     let keys = again!(NoMemory, keys(alloc, numbers))?;
     refuse_all(alloc);
@@ -46,7 +46,7 @@ pub(super) fn members(alloc: Global, weights: &[u32]) -> Result<Vec<Member>, NoM
     Ok(members)
 }
 
-/// The quorum of members with these weights. Their committee is made while all memory is refused.
+/// The quorum of a committee of members with these weights, made while all allocations fail.
 fn weighted(alloc: Global, weights: &[u32]) -> Result<Result<u32, CommitteeFault>, NoMemory> {
     let members = again!(NoMemory, members(alloc, weights))?;
     refuse_all(alloc);

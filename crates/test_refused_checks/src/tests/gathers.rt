@@ -1,4 +1,4 @@
-//! Votes that are gathered.
+//! Gathering votes.
 use super::committees::members;
 use super::*;
 use nw_check::{Counted, FinishFault, Gather, GatherFault, StartFault};
@@ -7,7 +7,7 @@ use nw_digest::Digest;
 use nw_sig::DemoScheme;
 use sample_checked::refused::vote;
 
-/// Gathers the vote of this signer.
+/// Adds the vote of this signer.
 fn add(
     gather: &mut Gather<DemoScheme>,
     four: &Committee,
@@ -17,7 +17,7 @@ fn add(
     again!(GatherFault::NoMemory, gather.add(&vote))
 }
 
-/// The certificate so far, whether it has signers 0, 1 and 2.
+/// Finishes the certificate. Returns whether its signers are 0, 1 and 2.
 fn finished(alloc: Global, gather: &Gather<DemoScheme>) -> Result<bool, FinishFault> {
     let checked = again!(FinishFault::NoMemory, gather.finish(alloc))?;
     let has_three = are_first_three(checked.certificate().get().votes.as_slice());
@@ -33,10 +33,10 @@ fn are_first_three(votes: &[Seal]) -> bool {
     }
 }
 
-/// What the gatherer answers to votes of these signers, and whether it has its certificate after each.
+/// For each of five votes: the gatherer's answer, and then that to `finish`.
 type Gathered = [(Result<Counted, GatherFault>, Result<bool, FinishFault>); 5];
 
-/// What a gatherer answers to votes of these signers.
+/// The answers of a new gatherer to votes of these signers.
 fn gathered(
     alloc: Global,
     four: &Shared<Committee>,
@@ -54,7 +54,7 @@ fn gathered(
     Ok(answers)
 }
 
-/// The committee of four whose members are said to weigh 1.
+/// The committee of four, made from members of weight 1.
 fn weighted_four(alloc: Global) -> Result<Shared<Committee>, NoMemory> {
     match Committee::weighted(members(alloc, &[1; 4])?) {
         Ok(four) => Shared::new(alloc, four),
@@ -83,7 +83,7 @@ fn votes_are_gathered_to_a_quorum(rt: HostRuntime) -> Result<(), Fail> {
     Ok(())
 }
 
-/// Votes that are not counted beside that of member 0: for another digest, round and author, of member 0 again, of no member, and of
+/// Votes that do not count after that of member 0: for another digest, round and author, of member 0 again, of no member, and of
 /// member 2 with the signature of member 1.
 fn uncounted(four: &Committee) -> [Vote; 6] {
     let (other, later) = (Digest([8; 32]), Round::new(1).unwrap_or(Round::ZERO));
@@ -114,8 +114,8 @@ fn gatherer(alloc: Global, four: &Shared<Committee>) -> Result<Gather<DemoScheme
     }
 }
 
-/// What the gatherer answers to those votes, and when it is asked for a certificate, while all memory is refused; and what one for
-/// a block of no member is answered.
+/// The gatherer's faults for these votes and for `finish`, and the fault of a gatherer for a block of no member, while all
+/// allocations fail.
 fn refused_votes(
     alloc: Global,
     four: &Shared<Committee>,
@@ -139,7 +139,7 @@ fn refused_votes(
 }
 
 #[test]
-fn votes_are_refused_each_for_its_reason(rt: HostRuntime) -> Result<(), Fail> {
+fn each_bad_vote_gets_its_fault(rt: HostRuntime) -> Result<(), Fail> {
     let four = four(rt.alloc())?;
     let refused = refused_votes(rt.alloc(), &four);
     drop(four);

@@ -1,4 +1,4 @@
-//! Messages that are spelled, read again, and checked.
+//! Messages that are encoded, decoded, and checked.
 use super::*;
 use nw_check::{BlockFault, CertFault, Checked, check_message};
 use nw_codec::{DecodeError, EncodeError, decode_message, encode_body, encode_message};
@@ -10,8 +10,8 @@ pub(super) fn text_of(alloc: Global, message: &Message) -> Result<Vec<u8>, Encod
     again!(EncodeError::NoMemory, encode_message(alloc, message))
 }
 
-/// How many bytes the message has, which are read as the message again.
-fn spelled(alloc: Global, message: &Message) -> Result<usize, Fail> {
+/// The length of the encoded message. It must decode to the same message.
+fn encoded_length(alloc: Global, message: &Message) -> Result<usize, Fail> {
     let text = text_of(alloc, message)?;
     let read = again!(DecodeError::NoMemory, decode_message(alloc, &text));
     let length = text.len();
@@ -27,7 +27,7 @@ fn spelled(alloc: Global, message: &Message) -> Result<usize, Fail> {
 }
 
 #[test]
-fn messages_are_spelled_and_read_again(rt: HostRuntime) -> Result<(), Fail> {
+fn messages_are_encoded_and_decoded(rt: HostRuntime) -> Result<(), Fail> {
     let four = four(rt.alloc())?;
     let lengths = lengths(rt.alloc(), four.get());
     drop(four);
@@ -36,7 +36,7 @@ fn messages_are_spelled_and_read_again(rt: HostRuntime) -> Result<(), Fail> {
     Ok(())
 }
 
-/// How many bytes the texts of a block, a certificate and a vote have.
+/// The lengths of the encoded messages of a block, a certificate and a vote.
 fn lengths(alloc: Global, four: &Committee) -> Result<[usize; 3], Fail> {
     let block = length_of(alloc, block_message(alloc, four, 0)?)?;
     let three = length_of(alloc, certificate_message(alloc, four, &[0, 1, 2])?)?;
@@ -44,14 +44,14 @@ fn lengths(alloc: Global, four: &Committee) -> Result<[usize; 3], Fail> {
     Ok([block, three, vote])
 }
 
-/// How many bytes the message has, which is used up.
+/// The length of the encoded message, which it consumes.
 fn length_of(alloc: Global, message: Message) -> Result<usize, Fail> {
-    let length = spelled(alloc, &message);
+    let length = encoded_length(alloc, &message);
     drop(message);
     length
 }
 
-/// How many bytes a block's body has.
+/// The length of a block's encoded body.
 fn length_of_body(alloc: Global) -> Result<usize, Fail> {
     let unsigned = again!(NoMemory, unsigned(alloc, SLOT, &[], b"x"))?;
     let body = again!(EncodeError::NoMemory, encode_body(alloc, &unsigned));
@@ -59,7 +59,7 @@ fn length_of_body(alloc: Global) -> Result<usize, Fail> {
     Ok(body?.len())
 }
 
-/// A word for what a text is.
+/// A word for the result of a check.
 pub(super) fn word(checked: &Checked<DemoScheme>) -> &'static str {
     match checked {
         Checked::Block(_) => "block",
@@ -73,7 +73,7 @@ pub(super) fn word(checked: &Checked<DemoScheme>) -> &'static str {
     }
 }
 
-/// The word for the text of the message.
+/// The word for the result of checking the message.
 fn found(alloc: Global, four: &Shared<Committee>, message: Message) -> Result<&'static str, Fail> {
     let text = text_of(alloc, &message);
     drop(message);
@@ -99,7 +99,7 @@ fn texts_are_decoded_and_checked(rt: HostRuntime) -> Result<(), Fail> {
 /// Words for four texts.
 type Words = (&'static str, &'static str, &'static str, &'static str);
 
-/// The words for a block's text, a forged one's, and those of certificates of three votes and of two.
+/// The words for a block, a forged block, a certificate with three votes and one with two.
 fn words(alloc: Global, four: &Shared<Committee>) -> Result<Words, Fail> {
     let block = found(alloc, four, block_message(alloc, four.get(), 0)?)?;
     let forged = found(alloc, four, block_message(alloc, four.get(), 1)?)?;

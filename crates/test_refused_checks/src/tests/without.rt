@@ -1,4 +1,4 @@
-//! Calls that take no memory, which are made while all memory is refused.
+//! Calls that need no memory, made while all allocations fail.
 use super::*;
 use nw_check::{BlockFault, CertFault, Checked, check_block, check_cert, check_message, valid};
 use nw_codec::{
@@ -9,10 +9,10 @@ use nw_digest::digest_of;
 use nw_sig::{DemoScheme, DemoSigner, Scheme, Signer, block_text, vote_text};
 use sample_checked::refused::{checked_block, checked_certificate, vote};
 
-/// A text by its bytes, each with how often it stands there, and the fault that is found in it.
+/// A text as a list of bytes, each with the number of its repetitions, and the fault of the text.
 type Text = (&'static [(u8, usize)], DecodeError);
 
-/// A text for each fault but a body that is too long.
+/// A text for each fault except `BodyTooLong`.
 const TEXTS: [Text; 10] = [
     (&[], DecodeError::Short),
     (&[(3, 1), (0, 107)], DecodeError::Trailing),
@@ -41,7 +41,7 @@ fn text_of(alloc: Global, bytes: &[(u8, usize)]) -> Result<Vec<u8>, NoMemory> {
     Ok(text)
 }
 
-/// The text of a block's message up to the length of its 16th transaction. Each has 65,536 bytes.
+/// A block's message up to the length of its 16th transaction. Each transaction has 65,536 bytes.
 fn long_text(alloc: Global) -> Result<Vec<u8>, NoMemory> {
     let mut text = text_of(alloc, &[(1, 2), (0, 11), (16, 1), (0, 1), (1, 1), (0, 2)])?;
     for _ in 1..16 {
@@ -51,7 +51,7 @@ fn long_text(alloc: Global) -> Result<Vec<u8>, NoMemory> {
     Ok(text)
 }
 
-/// The fault of the text, if a check under the committee finds the same.
+/// The fault that decoding and checking the text both report, or `None` if they do not agree on one.
 fn fault_in(alloc: Global, four: &Shared<Committee>, text: &[u8]) -> Option<DecodeError> {
     refuse_all(alloc);
     let decoded = decode_message(alloc, text).err();
@@ -63,7 +63,7 @@ fn fault_in(alloc: Global, four: &Shared<Committee>, text: &[u8]) -> Option<Deco
     }
 }
 
-/// Whether each of those texts has its fault.
+/// Whether each of [`TEXTS`] has its fault, and a body that is too long has `BodyTooLong`.
 fn have_faults(alloc: Global, four: &Shared<Committee>) -> Result<bool, NoMemory> {
     for (bytes, fault) in TEXTS {
         let text = again!(NoMemory, text_of(alloc, bytes))?;
@@ -75,7 +75,7 @@ fn have_faults(alloc: Global, four: &Shared<Committee>) -> Result<bool, NoMemory
     Ok(fault_in(alloc, four, &long) == Some(DecodeError::BodyTooLong))
 }
 
-/// The vote of the text, which is checked while all memory is refused.
+/// The vote of the text, checked while all allocations fail.
 fn vote_in(alloc: Global, four: &Shared<Committee>, text: &[u8]) -> Option<Vote> {
     refuse_all(alloc);
     let checked = check_message::<DemoScheme>(alloc, four, text);
@@ -86,14 +86,14 @@ fn vote_in(alloc: Global, four: &Shared<Committee>, text: &[u8]) -> Option<Vote>
     }
 }
 
-/// Whether a vote's text is found to be one.
+/// Whether the check of a vote's message returns the vote.
 fn finds_a_vote(alloc: Global, four: &Shared<Committee>) -> Result<bool, Fail> {
     let message = Message::Vote(vote(four.get(), VOTED, SLOT, 1));
     let text = texts::text_of(alloc, &message)?;
     Ok(vote_in(alloc, four, &text) == Some(vote(four.get(), VOTED, SLOT, 1)))
 }
 
-/// A block of the slot over blocks of these authors.
+/// A block of the slot, with parents of these authors.
 fn block_over(alloc: Global, slot: Slot, authors: &[u16]) -> Result<Block, NoMemory> {
     let mut parents = Vec::new(alloc);
     for author in authors {
@@ -106,7 +106,7 @@ fn block_over(alloc: Global, slot: Slot, authors: &[u16]) -> Result<Block, NoMem
     unsigned(alloc, slot, &parents, b"x")
 }
 
-/// Whether a block that does not fit, and a certificate, are not spelled, and a transaction that is too long is not added.
+/// Whether a block and a certificate that do not fit are not encoded, and a transaction that is too long is not added.
 fn are_over_limit(alloc: Global, four: &Committee) -> Result<bool, Fail> {
     let block = again!(NoMemory, block_over(alloc, SLOT, &[1, 0]))?;
     let certificate = certificate_message(alloc, four, &[1, 0])?;
@@ -125,7 +125,7 @@ fn are_over_limit(alloc: Global, four: &Committee) -> Result<bool, Fail> {
     Ok(!fits && refused == [Some(EncodeError::OverLimit); 5])
 }
 
-/// Whether digests, and what is signed, are made, and signatures made and verified.
+/// Whether digests and signed texts are made, and signatures are made and verified.
 fn is_signed(alloc: Global, four: &Committee) -> Result<bool, Fail> {
     let block = again!(NoMemory, block_over(alloc, SLOT, &[]))?;
     let body = again!(EncodeError::NoMemory, encode_body(alloc, &block))?;
@@ -142,8 +142,8 @@ fn is_signed(alloc: Global, four: &Committee) -> Result<bool, Fail> {
     Ok(is_its_digest && is_verified)
 }
 
-/// Whether committees tell of their members, and are compared.
-fn are_told(alloc: Global, four: &Committee) -> Result<bool, Fail> {
+/// Whether committees give information on their members, and are compared.
+fn committees_answer(alloc: Global, four: &Committee) -> Result<bool, Fail> {
     let same = again!(NoMemory, committee(alloc, &[0, 1, 2, 3]))?;
     let other = again!(NoMemory, committee(alloc, &[0, 1, 2, 4]))?;
     refuse_all(alloc);
@@ -155,7 +155,7 @@ fn are_told(alloc: Global, four: &Committee) -> Result<bool, Fail> {
     Ok(sizes == (4, 4, 3, Some(1)) && members && reached && compared)
 }
 
-/// A round, an author, authors of parents, a signer, and the fault of such a block.
+/// Bad blocks: round, author, authors of parents, signer, and fault.
 const BLOCKS: [(u64, u16, &[u16], u16, BlockFault); 5] = [
     (0, 4, &[], 0, BlockFault::Author),
     (0, 0, &[1, 4], 0, BlockFault::ParentAuthor),
@@ -164,7 +164,7 @@ const BLOCKS: [(u64, u16, &[u16], u16, BlockFault); 5] = [
     (1, 0, &[0, 1, 2], 1, BlockFault::Signature),
 ];
 
-/// The fault of a block, which is checked while all memory is refused.
+/// The fault of a block, checked while all allocations fail.
 fn block_fault(
     alloc: Global,
     four: &Shared<Committee>,
@@ -181,7 +181,7 @@ fn block_fault(
     fault
 }
 
-/// Whether each of those blocks has its fault.
+/// Whether each of [`BLOCKS`] has its fault.
 fn blocks_have_faults(alloc: Global, four: &Shared<Committee>) -> Result<bool, NoMemory> {
     for (number, author, authors, signer, fault) in BLOCKS {
         let slot = (Round::new(number).unwrap_or(Round::ZERO), author);
@@ -193,7 +193,7 @@ fn blocks_have_faults(alloc: Global, four: &Shared<Committee>) -> Result<bool, N
     Ok(true)
 }
 
-/// An author, signers, which member signs for the last of them, and the fault of such a certificate.
+/// Bad certificates: author, signers, and fault.
 const CERTIFICATES: [(u16, &[u16], CertFault); 4] = [
     (4, &[0, 1, 2], CertFault::Author),
     (0, &[0, 1, 4], CertFault::Signer),
@@ -201,8 +201,7 @@ const CERTIFICATES: [(u16, &[u16], CertFault); 4] = [
     (0, &[0, 1, 2], CertFault::Signature { signer: 0 }),
 ];
 
-/// The fault of a certificate of these signers for the author, whose votes are for another author where it is to be a forged one. It
-/// is checked while all memory is refused.
+/// The fault of a certificate for the author, checked while all allocations fail. Its votes are for author 1, so they are forged.
 fn certificate_fault(
     alloc: Global,
     four: &Shared<Committee>,
@@ -227,7 +226,7 @@ fn certificate_fault(
     Ok(if is_valid { None } else { fault })
 }
 
-/// Whether each of those certificates has its fault.
+/// Whether each of [`CERTIFICATES`] has its fault.
 fn certificates_have_faults(alloc: Global, four: &Shared<Committee>) -> Result<bool, NoMemory> {
     for (author, signers, fault) in CERTIFICATES {
         if certificate_fault(alloc, four, author, signers)? != Some(fault) {
@@ -237,8 +236,8 @@ fn certificates_have_faults(alloc: Global, four: &Shared<Committee>) -> Result<b
     Ok(true)
 }
 
-/// Whether what was checked is lent, and a certificate is valid for its own digest alone.
-fn are_lent(alloc: Global, four: &Shared<Committee>) -> Result<bool, Fail> {
+/// Whether checked values give access to their parts, and a certificate is valid only for its own digest.
+fn checked_values_answer(alloc: Global, four: &Shared<Committee>) -> Result<bool, Fail> {
     let block = again!(
         BlockFault::NoMemory,
         checked_block(alloc, four, SLOT, &[], b"x", 0)
@@ -261,27 +260,27 @@ fn are_lent(alloc: Global, four: &Shared<Committee>) -> Result<bool, Fail> {
     Ok(is_block && is_certificate && is_valid)
 }
 
-/// Whether calls are right: of texts, of what is signed, of committees, and of checks.
-fn are_right(alloc: Global, four: &Shared<Committee>) -> Result<[bool; 8], Fail> {
+/// The results of all calls, each of which must be true.
+fn all_results(alloc: Global, four: &Shared<Committee>) -> Result<[bool; 8], Fail> {
     Ok([
         have_faults(alloc, four)?,
         finds_a_vote(alloc, four)?,
         are_over_limit(alloc, four.get())?,
         is_signed(alloc, four.get())?,
-        are_told(alloc, four.get())?,
+        committees_answer(alloc, four.get())?,
         blocks_have_faults(alloc, four)?,
         certificates_have_faults(alloc, four)?,
-        are_lent(alloc, four)?,
+        checked_values_answer(alloc, four)?,
     ])
 }
 
 #[test]
 fn calls_that_take_no_memory(rt: HostRuntime) -> Result<(), Fail> {
     let four = four(rt.alloc())?;
-    let right = are_right(rt.alloc(), &four);
-    let is_at_work = workers::refuses_none_at_work(&rt, rt.alloc(), &four);
+    let right = all_results(rt.alloc(), &four);
+    let no_workers_refused = workers::refuses_no_workers(&rt, rt.alloc(), &four);
     drop(four);
     assert_eq!(rt; right?, [true; 8]);
-    assert!(rt; is_at_work);
+    assert!(rt; no_workers_refused);
     Ok(())
 }

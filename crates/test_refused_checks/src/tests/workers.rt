@@ -1,4 +1,4 @@
-//! Messages that are checked by workers.
+//! Checks by several workers.
 use super::texts::{text_of, word};
 use super::*;
 use nw_check::Checked;
@@ -9,7 +9,7 @@ use std::alloc::AllocError;
 use std::sync::Wait;
 use std::thread::Threads;
 
-/// The texts of a good block and of a vote.
+/// The messages of a good block and of a vote.
 fn two_texts(alloc: Global, four: &Committee) -> Result<Vec<Vec<u8>>, Fail> {
     let mut texts = again!(AllocError, Vec::with_capacity(alloc, 2))?;
     texts.push(text_of(alloc, &block_message(alloc, four, 0)?)?)?;
@@ -17,8 +17,8 @@ fn two_texts(alloc: Global, four: &Committee) -> Result<Vec<Vec<u8>>, Fail> {
     Ok(texts)
 }
 
-/// The answers, or why there are none, of two workers who are handed new texts.
-fn together<R: Threads + Wait + Sync>(
+/// The result of `check_all` with two workers and new texts.
+fn checked_by_two<R: Threads + Wait + Sync>(
     rt: &R,
     alloc: Global,
     four: &Shared<Committee>,
@@ -30,14 +30,14 @@ fn together<R: Threads + Wait + Sync>(
     Ok(check_all(rt, alloc, four, texts, 2, &FreeGate))
 }
 
-/// Whether two workers find a block and a vote. A thread that was not started wants memory too.
+/// Whether two workers find a block and a vote. A call that could not start a thread is repeated too.
 fn find_both<R: Threads + Wait + Sync>(
     rt: &R,
     alloc: Global,
     four: &Shared<Committee>,
 ) -> Result<bool, Fail> {
-    let answers = match together(rt, alloc, four)? {
-        Err(IntakeFault::NoMemory | IntakeFault::Spawn) => together(rt, alloc, four)??,
+    let answers = match checked_by_two(rt, alloc, four)? {
+        Err(IntakeFault::NoMemory | IntakeFault::Spawn) => checked_by_two(rt, alloc, four)??,
         answers => answers?,
     };
     let are_found = match answers.as_slice() {
@@ -48,8 +48,8 @@ fn find_both<R: Threads + Wait + Sync>(
     Ok(are_found)
 }
 
-/// Whether no workers are refused, and a free gate lets a start pass, while all memory is refused.
-pub(super) fn refuses_none_at_work<R: Threads + Wait + Sync>(
+/// Whether `check_all` refuses 0 workers, and a free gate lets a check start, while all allocations fail.
+pub(super) fn refuses_no_workers<R: Threads + Wait + Sync>(
     rt: &R,
     alloc: Global,
     four: &Shared<Committee>,
