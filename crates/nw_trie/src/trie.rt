@@ -2,13 +2,13 @@
 ghost use Rattle.std.specs.Prelude.{◌≡◌, ◌+◌, [], ◌↔◌};
 ghost use Rattle.std.specs.Prelude.{length, is_some, IsTrue, IfOk, IfErr, OnOk, OnErr};
 ghost use Rattle.std.specs.Prelude.{if◌then◌else◌, filter, nat_le};
-ghost use Rattle.std.specs.Option.{option_copied, option_copied_mut, ghost_name_of};
+ghost use Rattle.std.specs.Option.{option_copied, option_copied_mut};
 ghost use Rattle.std.specs.Map.{keys_of, lookup, remove_entry};
 ghost use Rattle.std.specs.BTreeMap.{insert_entry, is_at};
 ghost use Rattle.std.specs.List.Sorted.{IsStrictlySortedBy};
-ghost use Rattle.std.specs.Borrow.{sem, follows_if};
+ghost use Rattle.std.specs.Borrow.{sem};
 ghost use Rattle.nw_digest.specs.Order.{digest_cmp};
-ghost use Rattle.nw_trie.specs.contracts.trie.Trie.{the_row};
+ghost use Rattle.nw_trie.specs.Lent.{trie_follows_value};
 
 use crate::iter::Iter;
 use crate::tree::Tree;
@@ -70,9 +70,8 @@ impl<V: Drop, A: Allocator> Trie<V, A> {
 
     /// The value of the digest, to be changed where it lies. What is written there is then the digest's value.
     pub fn get_mut(&mut self, digest: &Digest) -> Option<&mut V>
-        ensures* writes_back { sem 𝓛 (follows_if (the_row V.row A.row A.Allocator) V.row
-            self.entry.ghost_name (ghost_name_of result)
-            (insert_entry digest_cmp self.old digest.now) self.old) }
+        ensures* writes_back { sem 𝓛 (trie_follows_value V.row A.row A.Allocator self.entry
+            digest.now result) }
         ensures value { option_copied_mut result ≡ lookup (is_at (digest_cmp digest.now)) self.old }
     {
         if self.get(digest).is_none() {
