@@ -25,11 +25,11 @@ module _ {E : Type 0} where
   abbrev pub claim_knows : List E → Knowledge E
   claim_knows seen = record { keeps = false; all = []; claims = true; seen = seen }
 
-  -- what a seat knows whose claim was dropped: nothing
+  -- no knowledge of the log
   abbrev pub knows_nothing : Knowledge E
   knows_nothing = record { keeps = false; all = []; claims = false; seen = [] }
 
-  -- what the seat `by` knows fits the log: if it is the keeper's, it is `seat` and knows exactly the log; a claim is a beginning of it
+  -- the knowledge v of the seat `by` fits the log: only the keeper, at `seat`, knows the log, and a claim is a beginning of it
   abbrev pub Fits : ℕ → List E → ℕ → Knowledge E → Type 0
   Fits seat log by v = (v.keeps ≡ true → (by ≡ seat) × (v.all ≡ log)) × (v.claims ≡ true → IsPrefix v.seen log)
 

@@ -132,7 +132,7 @@ impl<E, L: Place> Keeper<E, L> {
         }
     }
 
-    /// Shows that the log begins with the claim, however much it grew since. No event is compared. The claim is dropped.
+    /// Shows that the log begins with the claim, however much it has grown since. It consumes the claim, and compares no event.
     pub fn check(&mut self, claim: Claim<E, L>)
         ensures begins { IsPrefix claim self.old }
         ensures same { self.new ≡ self.old }
@@ -143,7 +143,7 @@ impl<E, L: Place> Keeper<E, L> {
         table.shared.load::<Checks>(seat, 0);
     }
 
-    /// The same as `check`, for a claim that stays.
+    /// The same as `check`, but the claim stays.
     pub fn compare(&mut self, claim: &mut Claim<E, L>)
         ensures begins { IsPrefix claim.old self.old }
         ensures claim { claim.new ≡ claim.old }
@@ -166,7 +166,7 @@ impl<E, L: Place> Keeper<E, L> {
         self.claim()
     }
 
-    /// The same as `renew`, for a claim that is part of a larger value.
+    /// The same as `renew`, but in place.
     pub fn renew_in_place(&mut self, claim: &mut Claim<E, L>)
         ensures begins { IsPrefix claim.old self.old }
         ensures claim { claim.new ≡ self.old }

@@ -35,7 +35,7 @@ pub trait Signer {
     fn sign(&self, text: &[u8]) -> Signature
         ensures { signs self.now text.now result };
 
-    /// Law: the scheme accepts each signature that `sign` may return.
+    /// Law: the scheme accepts each signature that `sign` may return, under the signer's key.
     ghost accepted: { (signer : Self) (text : List ℕ) (signature : Signature)
         → signs signer text signature → Self.Scheme.accepts (key signer) text signature ≡ true };
 }
