@@ -1,4 +1,4 @@
--- Lists that grow may cross to another thread, and be shared by threads, where their heads and items may.
+-- A list is Send and Sync if its head and its items are.
 use denote.RattleType.{RattleType}
 use denote.Param.Send.{IsSend, IsSync, sendable, view_send, view_sync}
 use denote.Param.SendFields.{as_row_send, as_row_sync, declared_send, declared_sync}
@@ -26,7 +26,7 @@ module _ (T : RattleType) (s : IsSend T) (y : IsSync T) where
   field_sync : IsSync (as_row (row_field T))
   field_sync = as_row_sync (row_field T) y
 
-  -- one node, where the nodes before it may
+  -- a node, if the nodes before it are
   layers : (i : node.TheKnot.the_members T) → Crosses (node.the_ring T) i
   layers = node.by_members T (Crosses (node.the_ring T)) (record {
     send = λ h hs hy. declared_send (node.the_layer T h) (as_row_send (row_field (as_row (row_field T))) field_send, (search (sendable, crosses, hs, hy) depth 30, tt));

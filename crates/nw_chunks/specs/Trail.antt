@@ -1,4 +1,4 @@
--- Items, the last first.
+-- Lists of linked nodes. Their items are given with the last one first.
 use Rattle.std.specs.Prelude.{List, [], ◌∷◌, Option}
 use Rattle.std.specs.declared.sync.Arc.{Arc}
 use Rattle.std.specs.declared.alloc.Global.{Global}
@@ -9,7 +9,7 @@ use Rattle.nw_chunks.specs.declared.trail.Node.{Node, Node', Held-Node-before, N
 abbrev pub item_of : {T : Type 0} → Node T → T
 item_of (Node' item before) = item
 
--- the item of a node, and those before it
+-- the item of a node, and the items before it
 abbrev mutual
   pub items_of : {T : Type 0} → Node T → List T
   items_of (Node' item before) = item ∷ items_before before
@@ -18,6 +18,6 @@ abbrev mutual
   items_before None' = []
   items_before (Some' p n) = items_of n
 
--- the items that end with the last node, if there is one
+-- the items up to the last node, or none if there is no node
 abbrev pub items_to : {T : Type 0} → Option (Arc (Node T) Global) → List T
 items_to last = option_map_or (λ a. items_of a.value) last []

@@ -4,10 +4,10 @@ ghost use Rattle.std.specs.Prelude.{◌≡◌, ◌<◌, length, slice_get, Some}
 use crate::trail::Link;
 use std::marker::Model;
 
-/// How many items a chunk has.
+/// The number of items in a chunk.
 pub const CHUNK: usize = 256;
 
-/// Items of a list that never change, as many as a chunk has. Contracts see the items.
+/// 256 items of a list, which never change. Contracts see the items.
 #[derive(Drop)]
 pub(crate) struct Chunk<T: Drop> {
     items: Vec<Link<T>>,

@@ -1,4 +1,4 @@
-//! Lists in chunks.
+//! Lists of chunks.
 ghost use Rattle.std.specs.Prelude.{◌≡◌, ◌+◌, ◌-◌, ◌^◌, ◌<◌, ◌==◌, ◌++◌, ◌∷◌, []};
 ghost use Rattle.std.specs.Prelude.{IfOk, length, reverse, slice_get};
 ghost use Rattle.std.specs.Option.{option_copied};
@@ -10,21 +10,21 @@ use nw_digest::{NoMemory, Shared};
 use std::alloc::Global;
 use std::marker::Model;
 
-/// The head of a list, and its full chunks. Lists that grow from it share this until they close a chunk.
+/// The head and the full chunks of a list. A list that grows from it shares this value until it closes a chunk.
 #[derive(Drop)]
 struct Root<H: Drop, T: Drop> {
     head: Shared<H>,
     full: Vec<Shared<Chunk<T>>>,
 }
 
-/// A list with a head, which never changes. One more item makes another list, which shares the head and all that came before:
-/// full chunks of 256 items, and the items behind them. Contracts see the head, the chunks, and the items behind them;
-/// `items_of` are all in order.
+/// An immutable list with a head. Adding an item makes another list, which shares the head and all earlier items: full chunks
+/// of 256 items, and the tail (the items after them). Contracts see the head, the chunks and the tail; `items_of` gives all
+/// items in order.
 #[derive(Drop)]
 pub struct Chunks<H: Drop, T: Drop> {
     root: Shared<Root<H, T>>,
-    behind: Trail<T>,
-    /// How many items are behind the full chunks.
+    tail: Trail<T>,
+    /// The number of items in the tail, below 256.
     count: usize,
 }
 
@@ -36,14 +36,14 @@ impl<H: Drop, T: Drop> Model for Chunks<H, T> {
 
     ghost coded = { coded_chunked H.code T.code };
 
-    ghost view = { λ c. chunked c.root.head c.root.full.items c.behind };
+    ghost view = { λ c. chunked c.root.head c.root.full.items c.tail };
 
-    ghost invariant = { λ c. AreChunked (chunked c.root.head c.root.full.items c.behind)
-        × (length c.behind ≡ c.count) };
+    ghost invariant = { λ c. AreChunked (chunked c.root.head c.root.full.items c.tail)
+        × (length c.tail ≡ c.count) };
 }
 
 impl<H: Drop, T: Drop> Chunks<H, T> {
-    /// The list with this head, and without items.
+    /// A list with this head, and without items. `NoMemory` if an allocation fails.
     pub fn new(alloc: Global, head: Shared<H>) -> Result<Chunks<H, T>, NoMemory>
         ensures head { IfOk result (λ c. c.head ≡ head) }
         ensures items { IfOk result (λ c. items_of c ≡ []) }
@@ -51,70 +51,72 @@ impl<H: Drop, T: Drop> Chunks<H, T> {
         let full = Vec::new(alloc);
         Ok(Chunks {
             root: Shared::new(alloc, Root { head, full })?,
-            behind: Trail::new(),
+            tail: Trail::new(),
             count: 0,
         })
     }
 
-    /// The same list, with one more owner of its root and of its last node. Its cost is the same for every list.
+    /// The same list, with one more owner of its root and of its last node. The cost does not depend on the list's length.
+    /// `NoMemory` if a count of owners is at its limit.
     pub fn try_clone(&self) -> Result<Chunks<H, T>, NoMemory>
         ensures { IfOk result (λ c. c ≡ self.now) }
     {
         Ok(Chunks {
             root: self.root.try_clone()?,
-            behind: self.behind.try_clone()?,
+            tail: self.tail.try_clone()?,
             count: self.count,
         })
     }
 
-    /// The list with one more item. It takes one node, which holds the item; every 256th item closes a chunk, which takes
-    /// room for a link to each of its items and to each chunk. A list has at most 2^32 items.
+    /// The list with one more item at its end. It allocates a node for the item. Every 256th item closes a chunk: that
+    /// allocates a link to each of its items and to each chunk. The list must have fewer than 2^32 items. `NoMemory` if an
+    /// allocation fails.
     pub fn with(&self, alloc: Global, item: T) -> Result<Chunks<H, T>, NoMemory>
         requires { length (items_of self.now) < 2 ^ 32 }
         ensures head { IfOk result (λ c. c.head ≡ self.now.head) }
         ensures items { IfOk result (λ c. items_of c ≡ items_of self.now ++ item ∷ []) }
     {
-        let behind = self.behind.with(alloc, item)?;
+        let tail = self.tail.with(alloc, item)?;
         if self.count + 1 < CHUNK {
             return Ok(Chunks {
                 root: self.root.try_clone()?,
-                behind,
+                tail,
                 count: self.count + 1,
             });
         }
         let root = self.root.get();
         let head = root.head.try_clone()?;
-        let full = with_chunk(alloc, root.full.as_slice(), &behind)?;
+        let full = with_chunk(alloc, root.full.as_slice(), &tail)?;
         Ok(Chunks {
             root: Shared::new(alloc, Root { head, full })?,
-            behind: Trail::new(),
+            tail: Trail::new(),
             count: 0,
         })
     }
 
-    /// The head, which it shares with the list that it grew from.
+    /// The head. All lists that grew from one list share it.
     pub fn head(&self) -> &H
         ensures { result.now ≡ self.now.head }
     {
         self.root.get().head.get()
     }
 
-    /// How many items it has.
+    /// The number of items, at most 2^32.
     pub fn len(&self) -> usize
         ensures { result ≡ length (items_of self.now) }
     {
         CHUNK * self.root.get().full.as_slice().len() + self.count
     }
 
-    /// Whether it has no item.
+    /// Whether the list has no items.
     pub fn is_empty(&self) -> bool
         ensures { result ≡ (length (items_of self.now) == 0) }
     {
         self.len() == 0
     }
 
-    /// The item at the index, counted from 0, or `None` where there are no more than `index`. It costs a constant number of
-    /// steps in a full chunk, and at most 255 behind the last one.
+    /// The item at the index, counted from 0, or `None` if there is none. It takes a constant number of steps in a full
+    /// chunk, and at most 255 in the tail.
     pub fn get(&self, index: usize) -> Option<&T>
         ensures { option_copied result ≡ slice_get (items_of self.now) index }
     {
@@ -126,50 +128,50 @@ impl<H: Drop, T: Drop> Chunks<H, T> {
         if place >= self.count {
             return None;
         }
-        self.behind.back(self.count - 1 - place)
+        self.tail.back(self.count - 1 - place)
     }
 
-    /// A link to each item behind the full chunks, in order: at most 255. It takes one list of memory.
+    /// A link to each item of the tail, in order: at most 255. `NoMemory` if an allocation fails.
     pub fn behind(&self, alloc: Global) -> Result<Vec<Link<T>>, NoMemory>
-        ensures { IfOk result (λ links. links.items ≡ self.now.behind) }
+        ensures { IfOk result (λ links. links.items ≡ self.now.tail) }
     {
-        self.behind.items(alloc, self.count)
+        self.tail.items(alloc, self.count)
     }
 
-    /// The item at the index, as `get` gives it, by the links that `behind` gave: it costs a constant number of steps.
-    pub fn get_by<'a>(&'a self, behind: &'a [Link<T>], index: usize) -> Option<&'a T>
-        requires { behind.now ≡ self.now.behind }
+    /// The same as `get`, in a constant number of steps, by the links that `behind` returned.
+    pub fn get_by<'a>(&'a self, tail: &'a [Link<T>], index: usize) -> Option<&'a T>
+        requires { tail.now ≡ self.now.tail }
         ensures { option_copied result ≡ slice_get (items_of self.now) index }
     {
         let chunks = self.root.get().full.as_slice().len();
         if index / CHUNK < chunks {
             return self.get(index);
         }
-        let link = behind.get(index - CHUNK * chunks)?;
+        let link = tail.get(index - CHUNK * chunks)?;
         Some(link.item())
     }
 
-    /// The last item, or `None` where it has none. Its cost is the same for every list.
+    /// The last item, or `None` if the list is empty. The cost does not depend on the list's length.
     pub fn last(&self) -> Option<&T>
         ensures { option_copied result
             ≡ slice_get (items_of self.now) (length (items_of self.now) - 1) }
     {
-        match self.behind.back(0) {
+        match self.tail.back(0) {
             Some(item) => Some(item),
             None => self.get(self.len().checked_sub(1)?),
         }
     }
 
-    /// How many links it holds: one to each full chunk, and one to each item behind them.
+    /// The number of links that the list holds: one to each full chunk, and one to each item of the tail.
     pub fn parts(&self) -> usize
-        ensures parts { result ≡ length self.now.chunks + length self.now.behind }
+        ensures parts { result ≡ length self.now.chunks + length self.now.tail }
         ensures chunked { AreChunked self.now }
     {
         self.root.get().full.as_slice().len() + self.count
     }
 }
 
-/// The chunks, each with one more owner, and one more: these items.
+/// These chunks, each with one more owner, and a new one with these items.
 fn with_chunk<T: Drop>(
     alloc: Global,
     chunks: &[Shared<Chunk<T>>],
@@ -182,7 +184,7 @@ fn with_chunk<T: Drop>(
     with_last(alloc, chunks, chunk)
 }
 
-/// The chunks, each with one more owner, and one more.
+/// These chunks, each with one more owner, and this last one.
 fn with_last<T: Drop>(
     alloc: Global,
     chunks: &[Shared<Chunk<T>>],

@@ -1,7 +1,7 @@
-//! Lists that grow at their end, and share what came before with every list that they grew from.
+//! This crate defines lists that grow at their end, and share their items with each list that they grew from.
 //!
-//! Its contract: [`Chunks`] is a list with a head, which never changes; one more item makes another list with that head, at a
-//! cost that is the same however long the list is, but for every 256th item. It stands on `nw_digest`.
+//! Its contract: [`Chunks`] is an immutable list with a head. Adding an item makes another list with the same head. The cost
+//! does not depend on the length of the list, except for every 256th item. It uses only `nw_digest`.
 #![tactic(auto)]
 
 mod chunk;

@@ -14,7 +14,7 @@ struct Node<T: Drop> {
     before: Option<Arc<Node<T>>>,
 }
 
-/// One owner of an item of a list. Contracts see the item.
+/// A link to an item of a list, which it owns together with others. Contracts see the item.
 #[derive(Drop)]
 pub struct Link<T: Drop> {
     node: Arc<Node<T>>,
@@ -37,8 +37,8 @@ impl<T: Drop> Link<T> {
     }
 }
 
-/// A list of items that never changes, and shares all but its last item with the list that it was made from. Contracts
-/// see the items, the last first.
+/// An immutable list of items, which shares all but its last item with the list that it was made from. Contracts see the
+/// items, the last one first.
 #[derive(Drop)]
 pub(crate) struct Trail<T: Drop> {
     last: Option<Arc<Node<T>>>,
@@ -73,7 +73,7 @@ impl<T: Drop> Trail<T> {
         }
     }
 
-    /// The list with one more item, which comes last.
+    /// The list with one more item at its end.
     pub(crate) fn with(&self, alloc: Global, item: T) -> Result<Trail<T>, NoMemory>
         ensures { IfOk result (λ t. t ≡ item ∷ self.now) }
     {
@@ -83,7 +83,7 @@ impl<T: Drop> Trail<T> {
         })
     }
 
-    /// The item so many places before the last one, or `None` where there is none.
+    /// The item that is this many places before the last one, or `None` if there is none.
     pub(crate) fn back(&self, places: usize) -> Option<&T>
         ensures { option_copied result ≡ slice_get self.now places }
     {
@@ -94,7 +94,7 @@ impl<T: Drop> Trail<T> {
         node.map(|node| &node.item)
     }
 
-    /// A link to each item, in order. Room for so many links is taken at once.
+    /// A link to each item, in order. `room` is the number of items; memory for that many links is allocated at once.
     pub(crate) fn items(&self, alloc: Global, room: usize) -> Result<Vec<Link<T>>, NoMemory>
         ensures { IfOk result (λ items. items.items ≡ reverse self.now) }
     {

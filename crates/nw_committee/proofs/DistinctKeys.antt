@@ -9,23 +9,23 @@ use Rattle.nw_committee.specs.declared.member.Key.{Key}
 use Rattle.nw_committee.specs.declared.member.Member.{Member}
 use Rattle.nw_committee.specs.Committee.{AreDistinct, IsEqualSize, IsCommittee, IsWeight, keys, equal_members}
 
--- ---- what a list has
+-- ---- keys in a list
 
 pub contains_none : (k : Key) → Contains [] k → ⊥
 contains_none k (i, lt, at) = omega arith
 
--- an element of a front stands in the list before its end
+-- a key among the first n of a list is at an index below n
 pub contains-take : (xs : List Key) (n : ℕ) (k : Key) → Contains (take n xs) k → (i : ℕ) × (i < n) × (i < length xs) × (get_or xs i k ≡ k)
 contains-take xs n k (i, lt, at) =
     let len = length-take n xs in
     let below : i < n = omega (arith, len, lt) in
     (i, below, omega (arith, len, lt), sym (get_or-take n xs i k below) ∙ at)
 
--- what a longer front has more is its last element
+-- a key among the first i + 1 is among the first i, or the key at i
 pub contains-more : (xs : List Key) (i : ℕ) (k : Key) → i < length xs → Contains (take (i + 1) xs) k → Contains (take i xs) k ⊎ (get_or xs i k ≡ k)
 contains-more xs i k h among = Contains-push_cases (take i xs) (get_or xs i k) k (rw (take_more xs i k h) at among)
 
--- a test of two keys says whether they are the same
+-- two keys are the same exactly if their bytes compare as equal
 pub same_key : (a b : Key) → pointwise nat_eq a.0 b.0 ≡ true → a ≡ b
 same_key a b h = let key : List ℕ → Key = λ bytes. record { 0 = bytes } in ap key ((bytes_decides a.0 b.0).0 h)
 
@@ -51,7 +51,7 @@ distinct-apart xs i k h at among distinct =
     let found = contains-take xs i k among in
     distinct found.0 i k found.1 h (found.3 ∙ sym at)
 
--- ---- what has keys
+-- ---- values with keys
 
 module _ {X : Type 0} (f : X → Key) (xs : List X) (i : ℕ) (x : X) (h : i < length xs) (is : x ≡ get_or xs i x) where
   pub at_key : (k : Key) → get_or (map f xs) i k ≡ f x
@@ -76,7 +76,7 @@ module _ {X : Type 0} (f : X → Key) (xs : List X) (i : ℕ) (x : X) (h : i < l
   pub distinct_keys-apart : Contains (map f (take i xs)) (f x) → AreDistinct (map f xs) → ⊥
   distinct_keys-apart among = distinct-apart (map f xs) i (f x) within (at_key (f x)) (rw (take-map f i xs) among)
 
--- a front that is the whole list
+-- the first i keys of a list with at most i elements are all of them
 pub whole_front : {X : Type 0} (f : X → Key) (xs : List X) (i : ℕ) → length xs ≤ i → take i (map f xs) ≡ map f xs
 whole_front f xs i h = take_all i (map f xs) (omega (arith, length-map xs f))
 
@@ -86,7 +86,7 @@ keys_of_equal : (ks : List Key) → keys (equal_members ks) ≡ ks
 keys_of_equal [] = refl
 keys_of_equal (k ∷ ks) = ap (λ (rest : List Key). k ∷ rest) (keys_of_equal ks)
 
--- keys that are taken make a committee
+-- 3f + 1 distinct keys, at most 100, make a committee of members of weight 1
 pub equal_members-committee : (ks : List Key) → IsEqualSize (length ks) → AreDistinct ks → IsCommittee (equal_members ks)
 unfolding IsEqualSize
 equal_members-committee ks (f, size, few) distinct =

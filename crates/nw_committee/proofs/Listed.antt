@@ -34,7 +34,7 @@ shared true false w = omega arith
 shared false true w = omega arith
 shared false false w = omega arith
 
--- what passes one test and what passes the other add up to what passes either and what passes both
+-- the weights that pass one test and those that pass another add up to those that pass either and those that pass both
 pub either_and_both : (s t u v : ℕ → Bool) → ((n : ℕ) → u n ≡ (s n || t n)) → ((n : ℕ) → v n ≡ (s n && t n)) → (ps : List (ℕ × Member))
     → weight_where s ps + weight_where t ps ≡ weight_where u ps + weight_where v ps
 either_and_both s t u v either both [] = refl
@@ -49,7 +49,7 @@ cond-le : (b : Bool) (w : ℕ) → cond b w 0 ≤ w
 cond-le true w = omega arith
 cond-le false w = omega arith
 
--- what passes a test weighs no more than all
+-- the members that pass a test weigh no more than all members
 pub weight_where-le : (t : ℕ → Bool) (n : ℕ) (members : List Member) → weight_where t (enumerate_from n members) ≤ total members
 weight_where-le t n [] = omega arith
 weight_where-le t n (m ∷ members) =
@@ -59,7 +59,7 @@ weight_where-none : (ps : List (ℕ × Member)) → weight_where (λ _. false) p
 weight_where-none [] = refl
 weight_where-none (p ∷ ps) = weight_where-none ps
 
--- none of the members from n on has a number below n
+-- no member of a list numbered from n on has a number below n
 weight_below : (x n : ℕ) (members : List Member) → x < n → weight_where (λ k. nat_eq x k) (enumerate_from n members) ≡ 0
 weight_below x n [] low = refl
 weight_below x n (m ∷ members) low =
@@ -97,7 +97,7 @@ kept false true true there x rest n e r h = r
 kept false true false there x rest n e r h = r ∙ h refl
 kept false false before there x rest n e r h = r
 
--- a number is in what a list has of another where it is in both
+-- a number is in the filtered list exactly if it is in both lists
 pub is_listed-filter : (one other : List ℕ) (n : ℕ) → is_listed (filter (is_listed other) one) n ≡ (is_listed one n && is_listed other n)
 is_listed-filter [] other n = refl
 is_listed-filter (x ∷ one) other n =
@@ -115,7 +115,7 @@ never_both true true h = sym (h refl)
 never_both true false h = refl
 never_both false b h = refl
 
--- one more member, not listed before, adds its weight
+-- a number that was not in the list adds the weight of its member
 pub listed_weight-push : (members : List Member) (listed : List ℕ) (x : ℕ) → is_listed listed x ≡ false
     → listed_weight members (listed ++ x ∷ []) ≡ listed_weight members listed + weight_at members x
 listed_weight-push members listed x fresh =
@@ -126,7 +126,7 @@ listed_weight-push members listed x fresh =
     let all = either_and_both (is_listed listed) (λ n. nat_eq x n) (is_listed (listed ++ x ∷ [])) (λ _. false) either both (enumerate_from 0 members) in
     omega (arith, all, weight_of_one members x, weight_where-none (enumerate_from 0 members))
 
--- a number of an ascending list is not among those before it
+-- no number of an ascending list is among those before it
 fresh_next : (listed : List ℕ) (i : ℕ) → IsStrictlyIncreasing listed → i < length listed → is_listed (take i listed) (get_or listed i 0) ≡ false
 fresh_next listed i rising h =
     list_any_none (λ q. nat_eq q (get_or listed i 0)) (take i listed) (λ k d low.
@@ -144,15 +144,15 @@ pub listed_weight-more : (members : List Member) (listed : List ℕ) (i : ℕ) �
 listed_weight-more members listed i rising h =
     rw (take_more listed i 0 h) (listed_weight-push members (take i listed) (get_or listed i 0) (fresh_next listed i rising h))
 
--- the members listed weigh no more than all
+-- the listed members weigh no more than all members
 pub listed_weight-le : (members : List Member) (listed : List ℕ) → listed_weight members listed ≤ total members
 listed_weight-le members listed = weight_where-le (is_listed listed) 0 members
 
--- no member weighs nothing
+-- an empty list has weight 0
 pub listed_weight-none : (members : List Member) → listed_weight members [] ≡ 0
 listed_weight-none members = weight_where-none (enumerate_from 0 members)
 
--- what an ascending list weighs up to some place is within the total
+-- the weight of an ascending list up to any index is at most the total
 pub listed_weight-fits : (members : List Member) (listed : List ℕ) (i : ℕ) → IsStrictlyIncreasing listed → i < length listed
     → listed_weight members (take i listed) + weight_at members (get_or listed i 0) ≤ total members
 listed_weight-fits members listed i rising h = omega (arith, listed_weight-more members listed i rising h, listed_weight-le members (take (i + 1) listed))

@@ -15,7 +15,7 @@ quorums_intersect members one other h k =
     let all = either_and_both (is_listed one) (is_listed other) either (is_listed (listed_in_both one other)) (λ n. refl) (is_listed-filter one other) (enumerate_from 0 members) in
     omega (arith, all, weight_where-le either 0 members, h, k)
 
--- members of weight 1 weigh as many as they are
+-- the total weight of members of weight 1 is their number
 pub total_of_equal : (members : List Member) → All (λ m. m.weight ≡ 1) members → total members ≡ length members
 total_of_equal [] equal = refl
 total_of_equal (m ∷ members) equal =

@@ -12,7 +12,7 @@ EqualMembersHaveTheClassicQuorum =
 abbrev pub listed_in_both : List ℕ → List ℕ → List ℕ
 listed_in_both one other = filter (is_listed other) one
 
--- two lists that reach the quorum share members whose weights add up to more than a third of the total
+-- any two lists that reach the quorum share members whose weights add up to more than a third of the total
 abbrev pub QuorumsIntersect : Type 0
 QuorumsIntersect =
     (members : List Member) (one other : List ℕ) → ReachesQuorum members one → ReachesQuorum members other

@@ -1,4 +1,4 @@
--- When two committees are the same: member by member.
+-- Equality of committees, member by member.
 use Rattle.std.specs.Prelude.{◌≡◌, ◌==◌, ◌&&◌, ℕ, Bool, true, false, List}
 use Rattle.std.specs.Cmp.{IsEquivalence, IsPartialEquivalence, decided, partial_equiv_from_equiv}
 use Rattle.std.specs.Cmp.Lexicographic.{pointwise, pointwise_decides, bytes_decides}
@@ -6,10 +6,11 @@ use Rattle.std.proofs.Common.{nat_eq, refl, ap}
 use Rattle.std.proofs.lemmas.Bool.Decides.{Decides-eqb}
 use Rattle.nw_committee.specs.declared.member.Member.{Member}
 
--- the keys and the weights are equal
+-- whether the keys and the weights of two members are equal
 abbrev pub same_member : Member → Member → Bool
 same_member a b = pointwise (λ x y. x == y) a.key.0 b.key.0 && (a.weight == b.weight)
 
+-- whether two committees have equal members in the same order
 abbrev pub same_members : List Member → List Member → Bool
 same_members = pointwise same_member
 
@@ -24,6 +25,7 @@ from_both false t h g = h
 member_of : List ℕ → ℕ → Member
 member_of key weight = record { key = record { 0 = key }; weight = weight }
 
+-- `same_member` is true exactly for equal members
 same_member_decides : (a b : Member) → (same_member a b ≡ true → a ≡ b) × (a ≡ b → same_member a b ≡ true)
 unfolding member_of
 same_member_decides a b = (
@@ -37,10 +39,11 @@ same_member_decides a b = (
       ((Decides-eqb a.weight b.weight).1 (ap (λ (m : Member). m.weight) e)),
 )
 
--- committees are the same where they are equal
+-- `same_members` is true exactly for equal lists of members
 pub same_members_decides : (a b : List Member) → (same_members a b ≡ true → a ≡ b) × (a ≡ b → same_members a b ≡ true)
 same_members_decides = pointwise_decides same_member_decides
 
+-- so it is an equivalence, also as a partial one
 pub same_members-equiv : IsEquivalence same_members
 same_members-equiv = decided same_members same_members_decides
 

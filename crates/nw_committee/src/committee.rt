@@ -12,12 +12,12 @@ use crate::{CommitteeFault, Key, Member};
 use std::alloc::{AllocError, Global};
 use std::marker::Model;
 
-/// How many members a committee has at most.
+/// The largest number of members.
 const MAX_MEMBERS: usize = 100;
-/// What a member weighs at most.
+/// The largest weight of a member.
 const MAX_WEIGHT: u32 = 1_000_000;
 
-/// The members of a mempool, numbered from 0, with distinct keys. Contracts see the list of the members.
+/// A committee: 1 to 100 members with distinct keys, numbered from 0. Contracts see the list of the members.
 #[derive(Debug, Drop)]
 pub struct Committee {
     members: Vec<Member>,
@@ -38,10 +38,13 @@ impl Model for Committee {
 }
 
 impl Committee {
-    /// The committee of members with these keys, each of weight 1.
+    /// The committee of members with these keys, each of weight 1. Member i has the key at index i.
     ///
-    /// `BadSize` exactly where their number is not one of 1, 4, 7, .., 100, else `RepeatedKey` exactly where two keys are the
-    /// same, else `NoMemory` where memory is refused.
+    /// Errors, in the order in which they are tested:
+    ///
+    /// - `BadSize` if the number of keys is not one of 1, 4, 7, .., 100;
+    /// - `RepeatedKey` if two keys are the same;
+    /// - `NoMemory` if an allocation fails.
     pub fn new(alloc: Global, keys: Vec<Key>) -> Result<Committee, CommitteeFault>
         ensures members { IfOk result (λ committee. committee ≡ equal_members keys.items) }
         ensures taken { OnOk result (IsEqualSize (vec_len keys) × AreDistinct keys.items) }
@@ -62,10 +65,13 @@ impl Committee {
         Ok(Committee::of(equal_members(alloc, &keys)?))
     }
 
-    /// The committee of these members. It takes no memory.
+    /// The committee of these members, in this order. It takes no memory.
     ///
-    /// `BadSize` exactly where their number is not 1 to 100, else `RepeatedKey` exactly where two have one key, else
-    /// `BadWeight` exactly where a weight is not 1 to 1,000,000.
+    /// Errors, in the order in which they are tested:
+    ///
+    /// - `BadSize` if the number of members is not from 1 to 100;
+    /// - `RepeatedKey` if two members have the same key;
+    /// - `BadWeight` if a weight is not from 1 to 1,000,000.
     pub fn weighted(members: Vec<Member>) -> Result<Committee, CommitteeFault>
         ensures members { IfOk result (λ committee. committee ≡ members.items) }
         ensures taken { OnOk result (IsCommittee members.items) }
@@ -88,7 +94,7 @@ impl Committee {
         Ok(Committee::of(members))
     }
 
-    /// The committee of members that are one.
+    /// The committee of these members, which are known to be one.
     fn of(members: Vec<Member>) -> Committee
         requires { IsCommittee members.items }
         ensures { result ≡ members.items }
@@ -100,7 +106,7 @@ impl Committee {
         }
     }
 
-    /// How many members there are, 1 to 100.
+    /// The number of members, 1 to 100.
     pub fn size(&self) -> usize
         ensures size { result ≡ length self.now }
         ensures committee { IsCommittee self.now }
@@ -116,7 +122,7 @@ impl Committee {
         self.total_weight
     }
 
-    /// Two thirds of the total weight, rounded down, and one more: 2f + 1 of 3f + 1 members of weight 1.
+    /// The quorum: two thirds of the total weight, rounded down, plus one. For 3f + 1 members of weight 1 it is 2f + 1.
     pub fn quorum(&self) -> u32
         ensures quorum { result ≡ quorum self.now }
         ensures committee { IsCommittee self.now }
@@ -124,7 +130,7 @@ impl Committee {
         2 * self.total_weight / 3 + 1
     }
 
-    /// The key of the member with this number, or `None` where there is no such member.
+    /// The key of the member with this number, or `None` if there is no such member.
     pub fn key(&self, author: u16) -> Option<&Key>
         ensures key { option_copied result ≡ option_map (λ m. m.key) (slice_get self.now author) }
         ensures committee { IsCommittee self.now }
@@ -134,7 +140,7 @@ impl Committee {
             .map(|member| &member.key)
     }
 
-    /// The weight of the member with this number, or `None` where there is no such member.
+    /// The weight of the member with this number, or `None` if there is no such member.
     pub fn weight(&self, author: u16) -> Option<u32>
         ensures weight { result ≡ option_map (λ m. m.weight) (slice_get self.now author) }
         ensures committee { IsCommittee self.now }
@@ -144,8 +150,8 @@ impl Committee {
             .map(|member| member.weight)
     }
 
-    /// Whether the members with these numbers, given strictly ascending, reach the quorum. Numbers of no member weigh
-    /// nothing. It takes no memory.
+    /// Whether the members with these strictly ascending numbers reach the quorum. A number without a member weighs nothing.
+    /// It takes no memory.
     pub fn reaches_quorum(&self, listed: &[u16]) -> bool
         requires { IsStrictlyIncreasing listed.now }
         ensures reached { IsTrue result ↔ ReachesQuorum self.now listed.now }
@@ -154,7 +160,7 @@ impl Committee {
         self.listed_weight(listed) >= self.quorum()
     }
 
-    /// The sum of the weights of the members with these numbers, given strictly ascending.
+    /// The sum of the weights of the members with these strictly ascending numbers.
     fn listed_weight(&self, listed: &[u16]) -> u32
         requires { IsStrictlyIncreasing listed.now }
         ensures { result ≡ listed_weight self.now listed.now }
@@ -167,7 +173,7 @@ impl Committee {
     }
 }
 
-/// Whether there are 3f + 1 members for some f, at most 100.
+/// Whether the size is 3f + 1 for some f, and at most 100.
 fn is_equal_size(size: usize) -> bool
     ensures { IsTrue result ↔ IsEqualSize size }
 {
@@ -194,7 +200,7 @@ fn total_weight(members: &[Member]) -> u32
     members.iter().map(|member| member.weight).sum()
 }
 
-/// Whether each weight is 1 to 1,000,000.
+/// Whether each weight is from 1 to 1,000,000.
 fn have_weights(members: &[Member]) -> bool
     ensures { IsTrue result ↔ All (λ m. IsWeight m.weight) members.now }
 {
@@ -211,7 +217,7 @@ impl PartialEq for Committee {
 
     ghost laws = { same_members-per };
 
-    /// Whether the keys and the weights are the same, member by member.
+    /// Whether both committees have the same keys and weights, member by member.
     fn eq(&self, other: &Committee) -> bool
         ensures eq { result ≡ same_members self.now other.now }
         ensures same { IsTrue result ↔ (self.now ≡ other.now) }

@@ -1,11 +1,11 @@
-//! Whether keys are distinct.
+//! A test for distinct keys.
 ghost use Rattle.std.specs.Prelude.{◌≡◌, ◌↔◌, map, Contains, IsTrue};
 ghost use Rattle.nw_committee.specs.declared.member.Key.{Key};
 ghost use Rattle.nw_committee.specs.Committee.{AreDistinct};
 
 use crate::{Key, Member};
 
-/// What has a key.
+/// A value with a key.
 pub(crate) trait Keyed {
     ghost key_of: { Self → Key };
 
@@ -29,7 +29,7 @@ impl Keyed for Member {
     }
 }
 
-/// Whether no two have the same key.
+/// Whether no two of the values have the same key.
 pub(crate) fn are_distinct<T: Keyed>(keyed: &[T]) -> bool
     ensures { IsTrue result ↔ AreDistinct (map T.key_of keyed.now) }
 {
@@ -41,7 +41,7 @@ pub(crate) fn are_distinct<T: Keyed>(keyed: &[T]) -> bool
     true
 }
 
-/// Whether one of them has this key.
+/// Whether one of the values has this key.
 fn has_key<T: Keyed>(keyed: &[T], key: &Key) -> bool
     ensures { IsTrue result ↔ Contains (map T.key_of keyed.now) key.now }
 {

@@ -1,20 +1,20 @@
-//! Why a committee is not made.
+//! Errors of the constructors of committees.
 use std::alloc::AllocError;
 use thiserror::Error;
 
-/// Why a committee is not made. The first that applies is answered, in the order in which the constructor names them.
+/// Why a constructor refused to make a committee. If several faults apply, it returns the one that its docs name first.
 #[derive(Clone, Copy, Debug, PartialEq, Eq, Error)]
 pub enum CommitteeFault {
-    /// The number of members is not one that the constructor takes.
+    /// The constructor does not accept this number of members.
     #[error("bad size")]
     BadSize,
-    /// Two members have one key.
+    /// Two members have the same key.
     #[error("repeated key")]
     RepeatedKey,
-    /// Memory was refused.
+    /// An allocation failed.
     #[error("out of memory")]
     NoMemory,
-    /// A weight is not 1 to 1,000,000.
+    /// A weight is not from 1 to 1,000,000.
     #[error("bad weight")]
     BadWeight,
 }

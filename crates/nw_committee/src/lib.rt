@@ -1,7 +1,7 @@
-//! Committees: the members of a mempool, their weights, and which of them reach the quorum.
+//! This crate defines committees: their members, the members' weights, and the lists of members that reach the quorum.
 //!
-//! Its contract: the quorum is two thirds of the total weight, rounded down, and one more, and a list of members reaches it
-//! where the weights of the distinct members listed add up to at least that. It stands on `nw_digest`.
+//! Its contract: the quorum is two thirds of the total weight, rounded down, plus one. A list of members reaches it if the
+//! weights of the distinct members in the list add up to at least the quorum. It uses `nw_digest` and `thiserror`.
 #![tactic(auto)]
 
 mod committee;

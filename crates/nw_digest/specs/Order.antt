@@ -1,15 +1,15 @@
--- The order of digests, and of the places that blocks take.
+-- The orders of digests and of slots.
 use Rattle.std.specs.Prelude.{ℕ}
 use Rattle.std.specs.declared.cmp.Ordering.{Ordering}
 use Rattle.std.specs.Ordering.{nat_cmp, ordering_then}
 use Rattle.std.specs.Cmp.Lexicographic.{slice_cmp}
 use Rattle.nw_digest.specs.declared.digest.Digest.{Digest}
 
--- digests in the order of their bytes
+-- digests by their bytes, in lexicographic order
 abbrev pub digest_cmp : Digest → Digest → Ordering
 digest_cmp a b = slice_cmp nat_cmp a.0 b.0
 
--- a round and an author
+-- a slot: a round and an author
 abbrev pub Slot : Type 0
 Slot = ℕ × ℕ
 

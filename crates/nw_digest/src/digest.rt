@@ -18,7 +18,7 @@ impl PartialEq for Digest {
 
     ghost laws = { on_per (λ d. d.0) (partial_equiv_from_equiv nat_list_eq_equiv) };
 
-    /// It looks at every byte, also behind the first that differs, so that a compiler can compare many at once.
+    /// Compares all bytes, also after the first difference, so that a compiler can compare many at once.
     fn eq(&self, other: &Digest) -> bool {
         let mut same = true;
         for index in 0..32 {
@@ -64,7 +64,7 @@ impl Ord for Digest {
 
     ghost matches_eq = { λ a b. texts_ties a.0 b.0 };
 
-    /// The first bytes that differ decide.
+    /// The order of the first bytes that differ.
     fn cmp(&self, other: &Digest) -> Ordering {
         for index in 0..32 {
             let (one, two) = (self.0[index], other.0[index]);

@@ -1,14 +1,14 @@
-//! What belongs to a round.
+//! Values that belong to a round.
 ghost use Rattle.std.specs.Prelude.{◌≡◌, ℕ};
 
 use crate::Round;
 
-/// What belongs to a round.
+/// A value that belongs to a round.
 pub trait InRound {
-    /// The number of its round.
+    /// The number of the value's round.
     ghost round_of: { Self → ℕ };
 
-    /// Its round.
+    /// The value's round.
     fn round(&self) -> Round
         ensures { result ≡ round_of self.now };
 }

@@ -1,7 +1,7 @@
-//! Digests, rounds, and the small types that every crate above shares.
+//! This crate defines digests, rounds, and the small types that the other crates share.
 //!
 //! Its contract: a digest is SHA-256 of the bytes, and a round is in range.
-//! It stands on the kit's `sha2` and `thiserror`.
+//! It uses the kit's `sha2` and `thiserror`.
 #![tactic(auto)]
 
 mod digest;

@@ -1,8 +1,8 @@
-//! Want of memory.
+//! The error for failed allocations.
 use std::alloc::{AllocError, AllocFailed};
 use thiserror::Error;
 
-/// Memory was refused: a collection could not grow, or a shared value could not have one more owner.
+/// An allocation failed: a collection could not grow, or a shared value could not be made or get one more owner.
 #[derive(Clone, Copy, Debug, PartialEq, Eq, Error)]
 #[error("out of memory")]
 pub struct NoMemory;

@@ -26,7 +26,7 @@ impl Round {
     /// The first round.
     pub const ZERO: Round = Round { number: 0 };
 
-    /// The round of this number, or `None` where it is over 2^48 - 1.
+    /// The round with this number, or `None` if the number is above 2^48 - 1.
     pub fn new(number: u64) -> Option<Round>
         ensures { SomeIff result (number < 2 ^ 48) number }
     {
@@ -45,7 +45,7 @@ impl Round {
         self.number
     }
 
-    /// The round before this one, or `None` where this is the first.
+    /// The round before this one, or `None` if this is the first.
     pub fn before(self) -> Option<Round>
         ensures { MatchOption result (self ≡ 0) (λ before. before + 1 ≡ self) }
     {

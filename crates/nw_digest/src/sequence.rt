@@ -1,9 +1,9 @@
-//! A list in a field.
+//! A list for a field of another type.
 ghost use Rattle.std.specs.Prelude.{◌≡◌};
 
 use std::marker::Model;
 
-/// A list that a value holds. Contracts see the elements in order, and not where they lie.
+/// A list for a field of another type. Contracts see the elements in order, but not their addresses.
 #[derive(Debug, Drop)]
 pub struct Sequence<T: Drop> {
     items: Vec<T>,

@@ -19,7 +19,7 @@ impl<T: Drop> Model for Shared<T> {
 }
 
 impl<T: Drop> Shared<T> {
-    /// The first owner of the value. The value is dropped where memory is refused.
+    /// The first owner of the value. If the allocation fails, the value is dropped.
     pub fn new(alloc: Global, value: T) -> Result<Shared<T>, NoMemory>
         ensures { IfOk result (λ s. s ≡ value) }
     {
@@ -35,7 +35,7 @@ impl<T: Drop> Shared<T> {
         &self.owner
     }
 
-    /// One more owner of the same value.
+    /// One more owner of the same value. It takes no memory, but `NoMemory` comes if the count of owners is at its limit.
     pub fn try_clone(&self) -> Result<Shared<T>, NoMemory>
         ensures { IfOk result (λ s. s ≡ self.now) }
     {

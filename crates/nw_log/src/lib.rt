@@ -1,9 +1,9 @@
-//! One log of events that only grows, and claims, each a beginning of it.
+//! This crate defines a log of events that only grows, and claims, each of which is a beginning of the log.
 //!
-//! Its contract: a [`Keeper`] knows the whole log, and a [`Claim`], which has no bytes and may cross to another thread, is a
-//! beginning of it. However much the log grew since, the keeper shows that the claim begins it. The events stand in the
-//! contracts alone: none is kept or compared, no call waits, and none takes memory but the opening. It stands on the kit's
-//! `atomic_table` alone.
+//! Its contract: a [`Keeper`] knows the whole log. A [`Claim`] is a beginning of the log; it has no bytes, and may move to
+//! another thread. However much the log has grown since, the keeper can show that the log begins with the claim. Only
+//! contracts see the events: none is stored or compared. No call waits, and only the opening takes memory. The crate uses
+//! only the kit's `atomic_table`.
 #![tactic(auto)]
 
 mod log;

@@ -1,17 +1,17 @@
-//! The log's opening, its keeper and its claims.
+//! A new log, its keeper and its claims.
 ghost use Rattle.std.specs.Prelude.{◌≡◌, ◌++◌, ◌∷◌, []};
 ghost use mathlib.Core.List.{IsPrefix};
 
-use crate::rule::{Again, Appends, Checks, OneLog, View, Whole};
+use crate::rule::{Appends, Checks, Copies, Knowledge, OneLog, Whole};
 use atomic_table::{Seat, Table};
 use std::alloc::{AllocError, Global};
 use std::marker::{Brand, Model, PhantomData};
 use std::mem;
 use std::sync::ledger::Ledger;
 
-/// A name for one log, and for the ledger that counts what is done with it, so that no token of another log fits.
+/// The name of one log and its ledger, as a type. It keeps keepers and claims of different logs apart.
 ///
-/// A function generic in such a name is called with `Brand`, for which the proof of the call picks the log that was opened.
+/// A program calls a function that is generic in such a name with `Brand`. The proof of the call says which log it names.
 pub trait Place: Ledger + Send + Sync {
     ghost use Rattle.nw_log.specs.Claims.{Name};
 
@@ -24,13 +24,13 @@ impl Place for Brand {
     ghost log = { no_log };
 }
 
-type Log<E> = Table<E, View<E>, (), OneLog, Global>;
+type Log<E> = Table<E, Knowledge<E>, (), OneLog, Global>;
 
-/// An empty log that no type stands for yet, as every value of this type is. Contracts see which log it is.
+/// A new log, which no type names yet. It has no events. Contracts see which log it is.
 #[derive(Drop)]
 pub struct Opened<E> {
     table: Log<E>,
-    seat: Seat<E, View<E>>,
+    seat: Seat<E, Knowledge<E>>,
 }
 
 impl<E> Model for Opened<E> {
@@ -45,14 +45,14 @@ impl<E> Model for Opened<E> {
 }
 
 impl<E> Opened<E> {
-    /// An empty log. It takes two blocks of a few bytes, however long the log grows, and is refused where there is no memory
-    /// for them.
+    /// A log without events. It allocates two blocks of a few bytes, which serve the log however long it grows. `AllocError`
+    /// if an allocation fails.
     pub fn new(alloc: Global) -> Result<Opened<E>, AllocError> {
         let (table, seat) = Log::of_words(alloc, &[0], &())?;
         Ok(Opened { table, seat })
     }
 
-    /// The one keeper of the log, which `L` names from here on.
+    /// The only keeper of the log. From here on, `L` names the log.
     pub fn keeper<L: Place>(self) -> Keeper<E, L>
         requires { self ≡ L.log }
         ensures { result ≡ [] }
@@ -66,14 +66,14 @@ impl<E> Opened<E> {
     }
 }
 
-/// The one who knows the whole log. Contracts see the events, the first first.
+/// The keeper of the log that `L` names: the only value that knows the whole log. Contracts see the events in order.
 ///
-/// Each of its calls is one to three atomic steps on one word, however long the log is. There is no limit on that length, nor
-/// on the number of claims.
+/// Each call takes one to three atomic steps on one word, whatever the length of the log. Neither that length nor the number
+/// of claims has a limit.
 #[derive(Drop)]
 pub struct Keeper<E, L: Place> {
     table: Log<E>,
-    seat: Seat<E, View<E>>,
+    seat: Seat<E, Knowledge<E>>,
     of: PhantomData<L>,
 }
 
@@ -88,12 +88,12 @@ impl<E, L: Place> Model for Keeper<E, L> {
     ghost invariant = { λ k. (k.table.shared.table_id ≡ L.log) × IsKeeperOf L.log k.seat };
 }
 
-/// A beginning of the log that `L` names, without bytes. Contracts see its events, the first first.
+/// A beginning of the log that `L` names. Contracts see its events in order.
 ///
-/// It may cross to another thread, and a claim that is dropped holds nothing back.
+/// A claim has no bytes, and may move to another thread. Dropping one has no effect on the log.
 #[derive(Drop)]
 pub struct Claim<E, L: Place> {
-    claimant: Seat<E, View<E>>,
+    claimant: Seat<E, Knowledge<E>>,
     of: PhantomData<L>,
 }
 
@@ -109,17 +109,17 @@ impl<E, L: Place> Model for Claim<E, L> {
 }
 
 impl<E, L: Place> Keeper<E, L> {
-    /// Adds an event behind the others. Contracts alone see it: it is neither kept nor read.
+    /// Adds an event at the end of the log. Only contracts see it: the event is neither stored nor read.
     pub fn append(&mut self, event: &E)
         ensures { self.new ≡ self.old ++ event.now ∷ [] }
     {
         let Keeper { table, seat, of: _ } = self;
         let shared = &table.shared;
-        // The word is 0 and stays so: what the step changes is what the seats know.
+        // The word is 0 and stays 0. The step only changes what the seats know.
         shared.compare_exchange_with::<Appends>(seat, 0, 0, 0, event);
     }
 
-    /// A claim of the whole log, as long as it is now.
+    /// A claim of the whole log as it is now.
     pub fn claim(&mut self) -> Claim<E, L>
         ensures claim { result ≡ self.old }
         ensures same { self.new ≡ self.old }
@@ -132,7 +132,7 @@ impl<E, L: Place> Keeper<E, L> {
         }
     }
 
-    /// The log begins with the claim, however much it grew since. No event is compared.
+    /// Shows that the log begins with the claim, however much it has grown since. It consumes the claim, and compares no event.
     pub fn check(&mut self, claim: Claim<E, L>)
         ensures begins { IsPrefix claim self.old }
         ensures same { self.new ≡ self.old }
@@ -143,20 +143,20 @@ impl<E, L: Place> Keeper<E, L> {
         table.shared.load::<Checks>(seat, 0);
     }
 
-    /// The same of a claim that stays as it is.
+    /// The same as `check`, but the claim stays.
     pub fn compare(&mut self, claim: &mut Claim<E, L>)
         ensures begins { IsPrefix claim.old self.old }
         ensures claim { claim.new ≡ claim.old }
         ensures same { self.new ≡ self.old }
     {
-        let claimant = self.table.shared.split_seat::<Again>(&mut claim.claimant);
+        let claimant = self.table.shared.split_seat::<Copies>(&mut claim.claimant);
         self.check(Claim {
             claimant,
             of: PhantomData,
         });
     }
 
-    /// A claim of the whole log in exchange for an earlier one, with which the log begins.
+    /// Exchanges a claim, with which the log begins, for a claim of the whole log as it is now.
     pub fn renew(&mut self, claim: Claim<E, L>) -> Claim<E, L>
         ensures begins { IsPrefix claim self.old }
         ensures claim { result ≡ self.old }
@@ -166,7 +166,7 @@ impl<E, L: Place> Keeper<E, L> {
         self.claim()
     }
 
-    /// The same, for a claim that lies in a larger value.
+    /// The same as `renew`, but in place.
     pub fn renew_in_place(&mut self, claim: &mut Claim<E, L>)
         ensures begins { IsPrefix claim.old self.old }
         ensures claim { claim.new ≡ self.old }

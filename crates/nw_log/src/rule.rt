@@ -2,48 +2,52 @@
 use atomic_table::{Join, Play, Split, TableRule};
 use std::collections::LinkedList;
 
-/// What a seat knows: all of the log, or a beginning of it. No value of it is made.
-pub(crate) struct View<E> {
+/// What a seat knows: the whole log, a beginning of it, or nothing. No value of this type is ever made.
+pub(crate) struct Knowledge<E> {
+    /// Whether this is the keeper's seat.
     keeps: bool,
+    /// The whole log, if it is.
     all: LinkedList<E>,
+    /// Whether the seat claims a beginning of the log.
     claims: bool,
+    /// The claimed beginning, if it does.
     seen: LinkedList<E>,
 }
 
-/// There is one log, which one seat at most knows, and with which all that is claimed begins.
+/// The rule of the table: there is one log, which at most one seat knows. It begins with each claim.
 pub(crate) struct OneLog;
 
-impl<E> TableRule<E, View<E>, ()> for OneLog {
+impl<E> TableRule<E, Knowledge<E>, ()> for OneLog {
     ghost use Rattle.std.specs.Prelude.{[]};
-    ghost use Rattle.nw_log.specs.Claims.{Kept, knower};
+    ghost use Rattle.nw_log.specs.Claims.{Kept, keeper_knows};
 
     ghost holds = { λ _ s. Kept s };
 
-    ghost first = { λ _. knower [] };
+    ghost first = { λ _. keeper_knows [] };
 }
 
 /// The step that adds an event to the log.
 pub(crate) struct Appends;
 
-impl<E> Play<E, View<E>> for Appends {
+impl<E> Play<E, Knowledge<E>> for Appends {
     ghost use Rattle.nw_log.specs.Claims.{Appended};
 
     ghost then = { Appended };
 }
 
-/// The step that holds a claim against the log.
+/// The step that compares a claim with the log.
 pub(crate) struct Checks;
 
-impl<E> Play<E, View<E>> for Checks {
+impl<E> Play<E, Knowledge<E>> for Checks {
     ghost use Rattle.nw_log.specs.Claims.{Checked};
 
     ghost then = { Checked };
 }
 
-/// How a claim of the whole log is made, and shown to its keeper.
+/// How a claim of the whole log is made, and how a claim is shown to the keeper.
 pub(crate) struct Whole;
 
-impl<E> Split<View<E>> for Whole {
+impl<E> Split<Knowledge<E>> for Whole {
     ghost use Rattle.nw_log.specs.Claims.{claim_of};
 
     ghost left = { λ v. v };
@@ -52,18 +56,18 @@ impl<E> Split<View<E>> for Whole {
 }
 
 /// How a claim is copied.
-pub(crate) struct Again;
+pub(crate) struct Copies;
 
-impl<E> Split<View<E>> for Again {
+impl<E> Split<Knowledge<E>> for Copies {
     ghost left = { λ v. v };
 
     ghost right = { λ v. v };
 }
 
-impl<E> Join<View<E>> for Whole {
-    ghost use Rattle.nw_log.specs.Claims.{shown, nobody};
+impl<E> Join<Knowledge<E>> for Whole {
+    ghost use Rattle.nw_log.specs.Claims.{with_claim, knows_nothing};
 
-    ghost both = { shown };
+    ghost both = { with_claim };
 
-    ghost spent = { nobody };
+    ghost spent = { knows_nothing };
 }

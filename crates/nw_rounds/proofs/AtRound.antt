@@ -1,4 +1,4 @@
--- The digests at a round, by the entries of its places.
+-- The digests of rounds, by the entries of their places.
 use Rattle.std.proofs.Common.{◌≡◌, ◌∙◌, ◌⊎◌, inl, inr, ℕ, ◌+◌, ◌<◌, ◌≤◌, Bool, true, false, cond, not, ◌&&◌, ◌||◌, ◌++◌, List, [], ◌∷◌, map, Bor, Option, Some, None, Result, Ok, Err, zero, suc, refl, sym, ap, subst, arith}
 use Rattle.std.specs.Prelude.{All, filter, Contains, IfOk, nat_le, slice_get}
 use Rattle.std.specs.Bool.{MatchBool}
@@ -27,12 +27,12 @@ use Rattle.nw_digest.specs.declared.digest.Digest.{Digest}
 use Rattle.nw_rounds.specs.declared.table.Table.{Table}
 use Rattle.nw_rounds.specs.declared.table.Table.TheVariants.{First, Certified}
 use Rattle.nw_digest.specs.Order.{digest_cmp, Slot}
-use Rattle.nw_rounds.specs.Slots.{AreDigestsAt, AreDigestsBetween, StandsAt, Tables}
+use Rattle.nw_rounds.specs.Slots.{AreDigestsAt, AreDigestsBetween, IsDigestAt, Tables}
 use Rattle.nw_rounds.specs.Places.{ArePlacesBetween, BeginsBelow, Place, place_cmp, table_cmp, table_of, tables_of}
 use Rattle.nw_rounds.proofs.SlotLemmas.{digests_apart, digests_total, places_apart, places_total}
 use Rattle.nw_rounds.proofs.TwoTables.{get_in, tie}
 
--- no place is before the first of a round
+-- no place of a round comes before its first place
 from_first : (author : ℕ) (t : Table) → is_le (ordering_then (nat_cmp 0 author) (table_cmp First t)) ≡ true
 from_first author First = elim author as (λ a. is_le (ordering_then (nat_cmp 0 a) Equal) ≡ true) [ zero ↦ refl | suc n ↦ rw (sym (nat_cmp_is 0 (suc n) Less (omega arith))) refl ]
 from_first author Certified = elim author as (λ a. is_le (ordering_then (nat_cmp 0 a) Less) ≡ true) [ zero ↦ refl | suc n ↦ rw (sym (nat_cmp_is 0 (suc n) Less (omega arith))) refl ]
@@ -40,7 +40,7 @@ from_first author Certified = elim author as (λ a. is_le (ordering_then (nat_cm
 sides : (a b : ℕ) → (a < b) ⊎ ((a ≡ b) ⊎ (b < a))
 sides a b = grind arith
 
--- a place is not before the first of a round exactly where its round is not lower
+-- a place comes before the first place of a round exactly if its own round is lower
 from_start : (n : ℕ) (p : Place) → is_le (place_cmp ((n, 0), First) p) ≡ leb n p.0.0
 from_start n p = by (sides n p.0.0)
   where
@@ -51,11 +51,11 @@ from_start n p = by (sides n p.0.0)
     by (inr (inl here)) =
         ap (λ r. is_le (ordering_then (ordering_then r (nat_cmp 0 p.0.1)) (table_cmp First p.1))) (sym (nat_cmp_is n p.0.0 Equal here))
         ∙ from_first p.0.1 p.1 ∙ sym (le-leb n p.0.0 (omega arith))
-    by (inr (inr behind)) =
-        ap (λ r. is_le (ordering_then (ordering_then r (nat_cmp 0 p.0.1)) (table_cmp First p.1))) (sym (nat_cmp_is n p.0.0 Greater behind))
+    by (inr (inr after)) =
+        ap (λ r. is_le (ordering_then (ordering_then r (nat_cmp 0 p.0.1)) (table_cmp First p.1))) (sym (nat_cmp_is n p.0.0 Greater after))
         ∙ sym (lt-leb n p.0.0 (omega arith))
 
--- the first place of a round is not behind that of a higher one
+-- the first place of a round does not come after that of a higher round
 pub begins_before : (a b : ℕ) → a ≤ b → is_gt (place_cmp ((a, 0), First) ((b, 0), First)) ≡ false
 begins_before a b le = by (sides a b)
   where
@@ -65,13 +65,13 @@ begins_before a b le = by (sides a b)
     by : (a < b) ⊎ ((a ≡ b) ⊎ (b < a)) → is_gt (place_cmp ((a, 0), First) ((b, 0), First)) ≡ false
     by (inl before) = rounds Less (sym (nat_cmp_is a b Less before)) refl
     by (inr (inl here)) = rounds Equal (sym (nat_cmp_is a b Equal here)) refl
-    by (inr (inr behind)) = absurd (omega (arith, le, behind))
+    by (inr (inr after)) = absurd (omega (arith, le, after))
 
--- a round from the first of these up to the second, without it
+-- whether a round is one from `from` on, below `to`
 abbrev pub is_between : ℕ → ℕ → ℕ → Bool
 is_between from to round = leb from round && not (leb to round)
 
--- the places from the first of a round to the first of another are those of the rounds between
+-- the places from the first one of `from` on, before the first one of `to`, are those of the rounds between
 pub in_rounds : (from to : ℕ) (p : Place) → range_contains place_cmp (Included ((from, 0), First)) (Excluded ((to, 0), First)) p ≡ is_between from to p.0.0
 in_rounds from to p =
     ap (λ b. b && not (is_le (place_cmp ((to, 0), First) p))) (from_start from p)
@@ -95,7 +95,7 @@ at_table : (es : List (Place × Digest)) (slot : Slot) (t : Table) → get (tabl
 at_table es slot First = get_in First slot es
 at_table es slot Certified = get_in Certified slot es
 
--- the entries from the first place of a round to the first of another
+-- the entries rs from the first place of `from` on, before the first place of `to`
 module _ (es rs : List (Place × Digest)) (from to : ℕ) (sorted : IsStrictlySortedBy place_cmp (keys_of es))
     (part : rs ≡ filter (λ e. range_contains place_cmp (Included ((from, 0), First)) (Excluded ((to, 0), First)) e.0) es) where
   there : rs ≡ filter (λ e. is_between from to e.0.0.0) es
@@ -123,31 +123,31 @@ module _ (es rs : List (Place × Digest)) (from to : ℕ) (sorted : IsStrictlySo
   }
 
 module _ (t : Tables) (from to : ℕ) (rs : List (Place × Digest)) (are : ArePlacesBetween t from to rs) where
-  abbrev Stands : Digest → Type 0
-  Stands d = (round : ℕ) × (from ≤ round) × (round < to) × StandsAt t round d
+  abbrev IsDigestIn : Digest → Type 0
+  IsDigestIn d = (round : ℕ) × (from ≤ round) × (round < to) × IsDigestAt t round d
 
-  -- a digest of a place stands at its round
-  stands : (d : Digest) → Contains (values_of rs) d → Stands d
-  stands d has =
+  -- the digest of a place is a digest of the place's round
+  of_place : (d : Digest) → Contains (values_of rs) d → IsDigestIn d
+  of_place d has =
       let entry : (p : Place) × Contains rs (p, d) = Contains-from_values_of rs d has in
       let is = (are.exactly entry.0 d).0 entry.1 in
       (entry.0.0.0, is.0, is.1, by entry.0.0.0 entry.0.0.1 entry.0.1 is.2)
     where
-      by : (r author : ℕ) (table : Table) → get (table_of t table) (r, author) ≡ Some d → StandsAt t r d
+      by : (r author : ℕ) (table : Table) → get (table_of t table) (r, author) ≡ Some d → IsDigestAt t r d
       by r author First found = (author, inl found)
       by r author Certified found = (author, inr found)
 
-  -- and the other way round
-  among : (d : Digest) → Stands d → Contains (values_of rs) d
-  among d (round, low, high, (author, inl is)) = Contains-values_of rs ((round, author), First) d ((are.exactly ((round, author), First) d).1 (low, high, is))
-  among d (round, low, high, (author, inr is)) = Contains-values_of rs ((round, author), Certified) d ((are.exactly ((round, author), Certified) d).1 (low, high, is))
+  -- and each digest of these rounds has a place
+  at_place : (d : Digest) → IsDigestIn d → Contains (values_of rs) d
+  at_place d (round, low, high, (author, inl is)) = Contains-values_of rs ((round, author), First) d ((are.exactly ((round, author), First) d).1 (low, high, is))
+  at_place d (round, low, high, (author, inr is)) = Contains-values_of rs ((round, author), Certified) d ((are.exactly ((round, author), Certified) d).1 (low, high, is))
 
-  -- a set with the digests of the places
+  -- a set with the digests of these places has exactly the digests of these rounds
   pub are_digests : (ks : List Digest) → ((d : Digest) → list_any (eq_by_cmp digest_cmp d) ks ≡ list_any (eq_by_cmp digest_cmp d) (values_of rs)) → IsStrictlySortedBy digest_cmp ks → AreDigestsBetween t from to ks
   are_digests ks same ascending = record {
     exactly = λ d. (
-      (λ has. stands d (Contains-from_any one d (values_of rs) (sym (same d) ∙ list_any-from_Contains (eq_by_cmp_equiv digests_total) d ks has))),
-      (λ is. Contains-from_any one d ks (same d ∙ list_any-from_Contains (eq_by_cmp_equiv digests_total) d (values_of rs) (among d is))),
+      (λ has. of_place d (Contains-from_any one d (values_of rs) (sym (same d) ∙ list_any-from_Contains (eq_by_cmp_equiv digests_total) d ks has))),
+      (λ is. Contains-from_any one d ks (same d ∙ list_any-from_Contains (eq_by_cmp_equiv digests_total) d (values_of rs) (at_place d is))),
     );
     ascending = ascending;
   }
@@ -155,12 +155,12 @@ module _ (t : Tables) (from to : ℕ) (rs : List (Place × Digest)) (are : ArePl
       one : (a b : Digest) → eq_by_cmp digest_cmp a b ≡ true → a ≡ b
       one a b e = digests_apart a b (tie (digest_cmp a b) e)
 
--- those of one round
+-- the digests of one round are those of the rounds from it on, below the next one
 pub at_one : (t : Tables) (round : ℕ) (ks : List Digest) → AreDigestsBetween t round (round + 1) ks → AreDigestsAt t round ks
 at_one t round ks are = record {
   exactly = λ d. (
-    (λ has. let (r, low, high, stands) = (are.exactly d).0 has in let same : r ≡ round = omega (arith, low, high) in subst (λ n. StandsAt t n d) same stands),
-    (λ stands. (are.exactly d).1 (round, omega arith, omega arith, stands)),
+    (λ has. let (r, low, high, here) = (are.exactly d).0 has in let same : r ≡ round = omega (arith, low, high) in subst (λ n. IsDigestAt t n d) same here),
+    (λ here. (are.exactly d).1 (round, omega arith, omega arith, here)),
   );
   ascending = are.ascending;
 }
@@ -169,7 +169,7 @@ pub if_ok : {T E : Type 0} (r : Result T E) {P Q : T → Type 0} → ((x : T) �
 if_ok (Ok x) f p = f x p
 if_ok (Err e) f p = p
 
--- one more digest in a set, and in a list
+-- a set and a list still have the same digests after each gets one more
 pub one_more : (ks ns ys : List Digest) (y : Digest) → ((q : Digest) → list_any (is_at (digest_cmp q)) ns ≡ cond (is_at (digest_cmp y) q) true (list_any (is_at (digest_cmp q)) ks))
     → ((d : Digest) → list_any (eq_by_cmp digest_cmp d) ks ≡ list_any (eq_by_cmp digest_cmp d) ys) → (d : Digest) → list_any (eq_by_cmp digest_cmp d) ns ≡ list_any (eq_by_cmp digest_cmp d) (ys ++ y ∷ [])
 one_more ks ns ys y put same d =
@@ -183,7 +183,7 @@ one_more ks ns ys y put same d =
     swapped false true = refl
     swapped false false = refl
 
--- the digests that a loop over entries has read
+-- the digests that a loop over entries has read, when it reads one more
 pub values_more : (es : List (Bor Place × Bor Digest)) (e : Bor Place × Bor Digest) → map (λ x. x.1.now) (es ++ e ∷ []) ≡ map (λ x. x.1.now) es ++ e.1.now ∷ []
 values_more [] e = refl
 values_more (x ∷ es) e = ap (λ rest. x.1.now ∷ rest) (values_more es e)
@@ -192,17 +192,17 @@ pub values_read : (es : List (Bor Place × Bor Digest)) → map (λ x. x.1.now) 
 values_read [] = refl
 values_read (x ∷ es) = ap (λ rest. x.1.now ∷ rest) (values_read es)
 
--- ---- what is below a round
+-- ---- entries of lower rounds
 not_less : (p q : Place) → is_gt (place_cmp p q) ≡ false → p.0.0 ≤ q.0.0
 not_less p q h = by (sides p.0.0 q.0.0)
   where
     by : (p.0.0 < q.0.0) ⊎ ((p.0.0 ≡ q.0.0) ⊎ (q.0.0 < p.0.0)) → p.0.0 ≤ q.0.0
     by (inl before) = omega arith
     by (inr (inl here)) = omega arith
-    by (inr (inr behind)) =
-        let no : true ≡ false = ap (λ r. is_gt (ordering_then (ordering_then r (nat_cmp p.0.1 q.0.1)) (table_cmp p.1 q.1))) (nat_cmp_is p.0.0 q.0.0 Greater behind) ∙ h in cc
+    by (inr (inr after)) =
+        let no : true ≡ false = ap (λ r. is_gt (ordering_then (ordering_then r (nat_cmp p.0.1 q.0.1)) (table_cmp p.1 q.1))) (nat_cmp_is p.0.0 q.0.0 Greater after) ∙ h in cc
 
--- the first entry tells whether any is of a lower round
+-- any entry belongs to a lower round exactly if the first one does
 pub first_tells : (round : ℕ) (es : List (Place × Digest)) (k : Place) (d : Digest) → slice_get es 0 ≡ Some (k, d) → All (IsLeBy place_cmp k) (keys_of es)
     → MatchBool (ltb k.0.0 round) (BeginsBelow round es) (All (λ p. round ≤ p.0.0) (keys_of es))
 first_tells round es k d first least = by (ltb k.0.0 round) refl

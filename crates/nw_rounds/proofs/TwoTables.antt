@@ -1,4 +1,4 @@
--- What each of the two maps has, by the entries of the one that holds both.
+-- The content of each table, by the entries of the one map that holds both.
 use Rattle.std.proofs.Common.{◌≡◌, ◌∙◌, ℕ, Bool, true, false, cond, ◌&&◌, List, [], ◌∷◌, Option, Some, None, refl, sym, ap}
 use Rattle.std.specs.Prelude.{filter, nat_le}
 use Rattle.std.specs.declared.cmp.Ordering.{Ordering}
@@ -44,7 +44,7 @@ tie Less e = cc
 tie Equal e = refl
 tie Greater e = cc
 
--- places tie exactly where their slots and their tables do
+-- places compare as equal exactly if their slots do and their tables are the same
 pub place_tied : (q k : Slot) (s t : Table) → is_at (place_cmp (q, s)) (k, t) ≡ (eq_by_cmp slot_cmp q k && is_table s t)
 place_tied q k s t = tied_then (slot_cmp q k) (table_cmp s t) ∙ ap (λ b. is_eq (slot_cmp q k) && b) (table_tied s t)
 
@@ -59,7 +59,7 @@ find_in t q (e ∷ es) =
     picked q e.0.0 e.1 (in_table t es) _ (is_table t e.0.1) (find_in t q es)
     ∙ ap (λ b. cond b (Some e.1) (lookup (is_at (place_cmp (q, t))) es)) (sym (place_tied q e.0.0 t e.0.1))
 
--- a map has at a slot what the entries have there
+-- a lookup in a table finds what a lookup in the entries finds
 pub get_in : (t : Table) (q : Slot) (es : List (Place × Digest)) → get (from_entries {R = slot_cmp} (in_table t es)) q ≡ lookup (is_at (place_cmp (q, t))) es
 get_in t q es = get-from_entries slots_total (in_table t es) q ∙ find_in t q es
 
@@ -69,7 +69,7 @@ itself Certified = refl
 
 module _ (m n : List (Place × Digest)) where
   module _ (k : Slot) (s : Table) (v : Digest) (is : (p : Place) → lookup (is_at (place_cmp p)) n ≡ cond (is_at (place_cmp (k, s)) p) (Some v) (lookup (is_at (place_cmp p)) m)) where
-    -- a digest is put into its own table
+    -- an insertion at a place inserts the digest into the place's table
     pub put_there : from_entries {R = slot_cmp} (in_table s n) ≡ insert (from_entries (in_table s m)) k v
     put_there = same_map slots_total slots_apart _ _ (λ q.
         get_in s q n ∙ is (q, s)
@@ -77,14 +77,14 @@ module _ (m n : List (Place × Digest)) where
         ∙ ap (cond (eq_by_cmp slot_cmp q k) (Some v)) (sym (get_in s q m))
         ∙ sym (get-insert slots_total (from_entries (in_table s m)) k v q))
 
-    -- and the other table stays
+    -- and leaves the other table as it was
     pub put_elsewhere : (t : Table) → is_table s t ≡ false → from_entries {R = slot_cmp} (in_table t n) ≡ from_entries (in_table t m)
     put_elsewhere t other = same_map slots_total slots_apart _ _ (λ q.
         get_in t q n ∙ is (q, t)
         ∙ ap (λ b. cond b (Some v) (lookup (is_at (place_cmp (q, t))) m)) (place_tied k q s t ∙ ap (λ b. eq_by_cmp slot_cmp k q && b) other ∙ and_false _)
         ∙ sym (get_in t q m))
 
-  -- without the entries of lower rounds, each map is without them
+  -- if the entries of lower rounds leave the map, they leave each table
   pub kept_in : (round : ℕ) → n ≡ filter (λ e. nat_le round e.0.0.0) m → (t : Table) → from_entries {R = slot_cmp} (in_table t n) ≡ retain_keys (from_entries (in_table t m)) (λ slot. nat_le round slot.0)
   kept_in round is t = same_map slots_total slots_apart _ _ (λ q.
       get_in t q n ∙ ap (lookup (is_at (place_cmp (q, t)))) is

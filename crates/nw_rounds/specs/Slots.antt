@@ -7,34 +7,40 @@ use Rattle.std.specs.FinMap.{FinMap, empty, get}
 use Rattle.nw_digest.specs.Order.{digest_cmp, slot_cmp}
 use Rattle.nw_digest.specs.declared.digest.Digest.{Digest}
 
--- the first digest of each slot, and the digest that is certified for it
+-- two tables of slots
 pub record Tables : Type 0 where
+  -- the first digest of each slot
   pub firsts : FinMap slot_cmp Digest
+  -- the certified digest of each slot
   pub certified : FinMap slot_cmp Digest
 
--- two empty maps
+-- tables without digests
 abbrev pub no_digests : Tables
 no_digests = record { firsts = empty; certified = empty }
 
--- the digest stands in either table at this round
-abbrev pub StandsAt : Tables → ℕ → Digest → Type 0
-StandsAt t round d = (author : ℕ) × ((get t.firsts (round, author) ≡ Some d) ⊎ (get t.certified (round, author) ≡ Some d))
+-- the digest is the first or the certified one of some slot of the round
+abbrev pub IsDigestAt : Tables → ℕ → Digest → Type 0
+IsDigestAt t round d = (author : ℕ) × ((get t.firsts (round, author) ≡ Some d) ⊎ (get t.certified (round, author) ≡ Some d))
 
--- exactly the digests that stand in either table at this round, ascending and each once
+-- the digests of the round, first ones and certified ones
 pub record AreDigestsAt (t : Tables) (round : ℕ) (digests : List Digest) : Type 0 where
-  pub exactly : (d : Digest) → Contains digests d ↔ StandsAt t round d
+  -- exactly these
+  pub exactly : (d : Digest) → Contains digests d ↔ IsDigestAt t round d
+  -- ascending, each once
   pub ascending : IsStrictlySortedBy digest_cmp digests
 
--- exactly the digests that stand in either table at a round from the first of these up to the second, without it, ascending and each once
+-- the digests of the rounds from `from` on, below `to`
 pub record AreDigestsBetween (t : Tables) (from to : ℕ) (digests : List Digest) : Type 0 where
-  pub exactly : (d : Digest) → Contains digests d ↔ ((round : ℕ) × (from ≤ round) × (round < to) × StandsAt t round d)
+  -- exactly these
+  pub exactly : (d : Digest) → Contains digests d ↔ ((round : ℕ) × (from ≤ round) × (round < to) × IsDigestAt t round d)
+  -- ascending, each once
   pub ascending : IsStrictlySortedBy digest_cmp digests
 
--- how a digest is told apart from another
+-- the code of a digest: digests with equal codes are equal
 abbrev pub coded_digest : Coded Digest
 coded_digest = code_by (List ℕ) (coded_list coded_ℕ) (λ d. d.0) (λ b. record { 0 = b }) (λ _. refl)
 
--- how two tables are told apart from others
+-- the code of two tables: tables with equal codes are equal
 abbrev pub coded_tables : Coded Tables
 coded_tables =
     code_by (FinMap slot_cmp Digest × FinMap slot_cmp Digest)

@@ -1,6 +1,6 @@
-//! The slots of the DAG: which digest came first in each, and which is certified for it.
+//! This crate keeps the first digest and the certified digest of each slot.
 //!
-//! Its contract: `Rounds` is two finite maps from a round and an author to a digest. It stands on `nw_digest` alone.
+//! Its contract: `Rounds` is two finite maps from slots (a round and an author) to digests. It uses only `nw_digest`.
 #![tactic(auto)]
 
 mod rounds;

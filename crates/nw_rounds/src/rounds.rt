@@ -1,4 +1,4 @@
-//! The digests of each slot.
+//! The table of slots.
 ghost use Rattle.std.specs.Prelude.{◌≡◌, ◌+◌, ◌<◌, ◌≤◌, ◌^◌};
 ghost use Rattle.std.specs.Prelude.{All, IfOk, OnOk, OnErr, IsNone, nat_le, length};
 ghost use Rattle.std.specs.Bool.{MatchBool};
@@ -14,13 +14,13 @@ use std::collections::btree_map::Range;
 use std::collections::{BTreeMap, BTreeSet};
 use std::marker::Model;
 
-// The number of a round, so that there is one behind the last, and an author.
+// The number of a round, and an author. A `u64` has a number after that of the last round; a `Round` does not.
 type Slot = (u64, u16);
 
-/// A slot by its round and author, and which of its two digests it is.
+/// A slot, given by its round and author, and which of its two digests is meant.
 pub type Place = (Slot, Table);
 
-/// The first digest and the certified digest of each round and author, in the memory of one allocator.
+/// The first digest and the certified digest of each slot. The memory comes from one allocator.
 ///
 /// Contracts see two finite maps.
 #[derive(Drop)]
@@ -41,7 +41,7 @@ impl<A: Allocator> Model for Rounds<A> {
 }
 
 impl<A: Allocator> Rounds<A> {
-    /// No digest in any slot. It takes no memory.
+    /// A table without digests. It takes no memory.
     pub fn new_in(alloc: A) -> Rounds<A>
         ensures { result ≡ no_digests }
     {
@@ -50,7 +50,7 @@ impl<A: Allocator> Rounds<A> {
         }
     }
 
-    /// The first digest of the round and author.
+    /// The first digest of this round and author, or `None` if there is none.
     pub fn first(&self, round: Round, author: u16) -> Option<Digest>
         ensures { result ≡ map.get self.now.firsts (round, author) }
     {
@@ -59,7 +59,7 @@ impl<A: Allocator> Rounds<A> {
             .copied()
     }
 
-    /// The digest that is certified for the round and author.
+    /// The digest that is certified for this round and author, or `None` if there is none.
     pub fn certified(&self, round: Round, author: u16) -> Option<Digest>
         ensures { result ≡ map.get self.now.certified (round, author) }
     {
@@ -68,7 +68,7 @@ impl<A: Allocator> Rounds<A> {
             .copied()
     }
 
-    /// Makes the digest the first of the round and author, where there is none. Want of memory changes nothing.
+    /// Makes this the first digest of the round and author, which must not have one yet. If an allocation fails, nothing changes.
     pub fn put_first(&mut self, round: Round, author: u16, digest: Digest) -> Result<(), NoMemory>
     where
         A: Clone,
@@ -83,8 +83,8 @@ impl<A: Allocator> Rounds<A> {
         Ok(())
     }
 
-    /// Makes the digest the one that is certified for the round and author, where there is none. Want of memory
-    /// changes nothing.
+    /// Makes this the certified digest of the round and author, which must not have one yet. If an allocation fails, nothing
+    /// changes.
     pub fn put_certified(
         &mut self,
         round: Round,
@@ -104,7 +104,7 @@ impl<A: Allocator> Rounds<A> {
         Ok(())
     }
 
-    /// The digests that stand in either table at the round, ascending and each once.
+    /// All digests of the round, first ones and certified ones, ascending and each once. `NoMemory` if an allocation fails.
     pub fn digests(&self, alloc: Global, round: Round) -> Result<Vec<Digest>, NoMemory>
         ensures { IfOk result (λ list. AreDigestsAt self.now round list.items) }
     {
@@ -112,7 +112,8 @@ impl<A: Allocator> Rounds<A> {
         Ok(found.into_iter().collect(alloc)?)
     }
 
-    /// The digests that stand in either table at this round or a lower one, ascending and each once. It costs what it gives.
+    /// All digests of this round and of lower ones, ascending and each once. `NoMemory` if an allocation fails. Its cost
+    /// depends on the number of these digests, not on that of higher rounds.
     pub fn digests_up_to(&self, alloc: Global, round: Round) -> Result<Vec<Digest>, NoMemory>
         ensures { IfOk result (λ list. AreDigestsBetween self.now 0 (round + 1) list.items) }
     {
@@ -120,7 +121,7 @@ impl<A: Allocator> Rounds<A> {
         Ok(found.into_iter().collect(alloc)?)
     }
 
-    /// The places of rounds below this one that have a digest, and their digests. It takes no memory.
+    /// The digests of all lower rounds, with their places, in the order of the places. It takes no memory.
     pub fn below(&self, round: Round) -> Range<'_, Place, Digest>
         ensures places { ArePlacesBetween self.now 0 round result }
         ensures fits { length result < 2 ^ 63 }
@@ -128,7 +129,7 @@ impl<A: Allocator> Rounds<A> {
         places_between(&self.digests, 0, round.get())
     }
 
-    /// Drops the digests of all rounds below this one. It takes no memory, and costs what it drops.
+    /// Drops the digests of all lower rounds. It takes no memory. Its cost depends on the number of dropped digests.
     pub fn drop_below(&mut self, round: Round)
         ensures firsts { self.new.firsts
             ≡ map.retain_keys self.old.firsts (λ slot. nat_le round slot.0) }
@@ -142,7 +143,7 @@ impl<A: Allocator> Rounds<A> {
     }
 }
 
-/// The digests of the places of the round.
+/// All digests of the round.
 fn digests_at<A: Allocator>(
     alloc: Global,
     digests: &BTreeMap<Place, Digest, A>,
@@ -154,7 +155,7 @@ fn digests_at<A: Allocator>(
     digests_between(alloc, digests, round, round + 1)
 }
 
-/// The digests of the places of the rounds from the first of these up to the second, without it.
+/// All digests of the rounds from `from` on, below `to`.
 fn digests_between<A: Allocator>(
     alloc: Global,
     digests: &BTreeMap<Place, Digest, A>,
@@ -172,7 +173,7 @@ fn digests_between<A: Allocator>(
     Ok(found)
 }
 
-/// The places of the rounds from the first of these up to the second, without it, and their digests.
+/// All digests of the rounds from `from` on, below `to`, with their places.
 fn places_between<A: Allocator>(
     digests: &BTreeMap<Place, Digest, A>,
     from: u64,
@@ -185,7 +186,7 @@ fn places_between<A: Allocator>(
     digests.range(((from, 0), Table::First)..((to, 0), Table::First))
 }
 
-/// Whether the first place is of a lower round. Otherwise none is.
+/// Whether the first place belongs to a lower round. If it does not, no place does.
 fn begins_below<A: Allocator>(digests: &BTreeMap<Place, Digest, A>, round: u64) -> bool
     ensures { MatchBool result (BeginsBelow round digests.now.entries)
         (All (λ place. round ≤ place.0.0) (keys digests.now)) }

@@ -1,8 +1,10 @@
-//! Which of a slot's two digests it is.
+//! The two digests of a slot.
 
-/// Which of a slot's two digests it is.
+/// Which of a slot's two digests is meant.
 #[derive(Clone, Copy, Debug, PartialEq, Eq, PartialOrd, Ord)]
 pub enum Table {
+    /// The first digest.
     First,
+    /// The certified digest.
     Certified,
 }

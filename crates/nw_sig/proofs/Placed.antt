@@ -1,9 +1,9 @@
--- Texts that are put together in an array, piece behind piece.
+-- Texts that are written into an array piece by piece.
 use Rattle.std.proofs.Common.{◌≡◌, ℕ, ◌+◌, List, [], ◌++◌, length, take, drop, arith, append-nil, length-append}
 use Rattle.std.proofs.lemmas.Grind.{common_steps}
 use borrow.Rule.Slice.PartMut.{put_mid}
 
--- the next piece stands behind the front
+-- the next piece follows the front
 pub put_next : (n k : ℕ) (front back piece : List ℕ) → length front ≡ n → put_mid n k (front ++ back) piece ≡ (front ++ piece) ++ drop k back
 put_next n k front back piece en = grind (arith, common_steps)
 

@@ -1,4 +1,4 @@
-//! A scheme for tests and demonstrations: anybody who knows the key can sign, and everybody knows it.
+//! A scheme for tests and demonstrations. It is not secure: keys are public, and everyone who knows a key can sign with it.
 ghost use Rattle.std.specs.Prelude.{◌≡◌, ◌++◌};
 ghost use Rattle.sha2.specs.Sha256.{sha256};
 ghost use Rattle.nw_sig.specs.Demo.{demo_signature, demo_accepts};
@@ -20,7 +20,7 @@ impl Scheme for DemoScheme {
     }
 }
 
-/// A signer of the demonstration scheme, which signs with its public key.
+/// A signer for the demonstration scheme. It signs with its public key.
 #[derive(Clone, Copy, Debug, PartialEq, Eq)]
 pub struct DemoSigner {
     key: Key,

@@ -1,7 +1,7 @@
-//! Signatures: the interface of a signature scheme, what is signed, and a scheme for demonstrations.
+//! This crate defines the interface of a signature scheme, the texts that are signed, and a scheme for demonstrations.
 //!
-//! Its contract: `verify` answers the function that belongs to the scheme's type, and the scheme accepts what its signers
-//! sign. It stands on `nw_digest`, `nw_codec` for signatures, `nw_committee` for keys, and `sha2` for the demonstration.
+//! Its contract: `verify` returns what the meaning of the scheme's type says, and the scheme accepts its signers' signatures.
+//! It uses `nw_digest`, `nw_codec` for signatures, `nw_committee` for keys, and `sha2` for the demonstration scheme.
 #![tactic(auto)]
 
 mod demo;

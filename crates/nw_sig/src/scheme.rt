@@ -1,4 +1,4 @@
-//! What a signature scheme and a signer are.
+//! The interfaces of signature schemes and of signers.
 ghost use Rattle.std.specs.Prelude.{◌≡◌, ℕ, List, Bool, true};
 ghost use Rattle.nw_committee.specs.declared.member.Key.{Key};
 ghost use Rattle.nw_codec.specs.declared.certificate.Signature.{Signature};
@@ -6,32 +6,36 @@ ghost use Rattle.nw_codec.specs.declared.certificate.Signature.{Signature};
 use nw_codec::Signature;
 use nw_committee::Key;
 
-/// A signature scheme. Its meaning, which signature it accepts under which key of which text, belongs to the type.
+/// A signature scheme. Its meaning belongs to the type: under which key it accepts which signature for which text.
 pub trait Scheme {
+    /// The meaning of the scheme: whether it accepts this signature for this text under this key.
     ghost accepts: { Key → List ℕ → Signature → Bool };
 
-    /// Whether the signature of the text is accepted under the key. It takes no memory.
+    /// Whether the scheme accepts the signature for the text under the key. It takes no memory.
     fn verify(key: &Key, text: &[u8], signature: &Signature) -> bool
         ensures { result ≡ accepts key.now text.now signature.now };
 }
 
-/// A member that signs. Its scheme accepts, under its key, what it signed.
+/// A member that signs. Its scheme accepts each of its signatures under its key.
 pub trait Signer {
-    /// The scheme that accepts what is signed.
+    /// The scheme that accepts the signatures.
     type Scheme: Scheme;
 
+    /// The key under which the signatures are accepted.
     ghost key: { Self → Key };
 
+    /// The signatures that `sign` may return for a text.
     ghost signs: { Self → List ℕ → Signature → Type 0 };
 
     /// The key under which the signatures are accepted.
     fn key(&self) -> Key
         ensures { result ≡ key self.now };
 
-    /// A signature of the text. It takes no memory.
+    /// A signature for the text. It takes no memory.
     fn sign(&self, text: &[u8]) -> Signature
         ensures { signs self.now text.now result };
 
+    /// Law: the scheme accepts each signature that `sign` may return, under the signer's key.
     ghost accepted: { (signer : Self) (text : List ℕ) (signature : Signature)
         → signs signer text signature → Self.Scheme.accepts (key signer) text signature ≡ true };
 }

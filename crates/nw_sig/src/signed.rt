@@ -1,4 +1,4 @@
-//! The texts that are signed, built on the stack.
+//! The texts that are signed. They are arrays, so they take no memory.
 ghost use Rattle.std.specs.Prelude.{◌≡◌, ◌++◌};
 ghost use Rattle.std.specs.Int.{to_be_bytes, w16};
 ghost use Rattle.nw_codec.specs.Grammar.{round_bytes};
@@ -6,7 +6,7 @@ ghost use Rattle.nw_sig.specs.Signed.{block_text, vote_text};
 
 use nw_digest::{Digest, Round};
 
-/// The 36 bytes that the creator of a block signs: `NWBK`, and the digest of the block.
+/// The 36 bytes that the author of a block signs: `NWBK` and the block's digest (docs/FORMATS.md).
 pub fn block_text(digest: &Digest) -> [u8; 36]
     ensures { result ≡ block_text digest.now }
 {
@@ -16,8 +16,8 @@ pub fn block_text(digest: &Digest) -> [u8; 36]
     text
 }
 
-/// The 44 bytes that a vote for a block signs: `NWVT`, the digest of the block, its round in six bytes and its author in
-/// two, highest byte first.
+/// The 44 bytes that a vote for a block signs (docs/FORMATS.md): `NWVT`, the block's digest, its round in six bytes, and its
+/// author in two. Both numbers are big-endian.
 pub fn vote_text(digest: &Digest, round: Round, author: u16) -> [u8; 44]
     ensures { result ≡ vote_text digest.now round author }
 {
@@ -28,7 +28,7 @@ pub fn vote_text(digest: &Digest, round: Round, author: u16) -> [u8; 44]
     text
 }
 
-/// The round in six bytes and the author in two.
+/// The round in six bytes and the author in two, both big-endian.
 fn slot_bytes(round: Round, author: u16) -> [u8; 8]
     ensures { result ≡ round_bytes round ++ to_be_bytes w16 author }
 {

@@ -1,4 +1,4 @@
--- The entries after a digest.
+-- The entries that follow a digest.
 use Rattle.std.proofs.Common.{◌≡◌, ◌∙◌, inl, inr, ℕ, true, false, cond, List, [], ◌∷◌, ◌++◌, Option, Some, None, refl, sym, ap, subst}
 use Rattle.std.specs.BTreeMap.{is_at}
 use Rattle.std.specs.List.Sorted.{IsStrictlySortedBy}
@@ -12,7 +12,7 @@ use Rattle.nw_digest.specs.declared.digest.Digest.{Digest}
 use Rattle.nw_digest.specs.Order.{digest_cmp}
 use Rattle.nw_trie.specs.Bits.{bit_of}
 use Rattle.nw_trie.specs.Entries.{AreEntries, EachKey, HasKey}
-use Rattle.nw_trie.specs.After.{IsLeft, after, first_entry, left_of}
+use Rattle.nw_trie.specs.After.{IsNextIn, after, first_entry, entries_from}
 use Rattle.nw_trie.proofs.Sides.{AtFork, not_left}
 use Rattle.nw_trie.proofs.Inserts.{below_all, digest_equal, digests_total}
 use Rattle.nw_trie.proofs.Grafts.{key_left}
@@ -61,7 +61,7 @@ each_after P k [] h = tt
 each_after P k (e ∷ es) h = elim (is_at (digest_cmp k) e.0) as (λ b. EachKey P (cond b es (after k es))) [ true ↦ h.1 | false ↦ each_after P k es h.1 ]
 
 module _ {V : Type 0} where
-  -- what comes after a digest is there
+  -- the entry after a digest is one of the entries
   has_after : (k : Digest) (es : List (Digest × V)) (e : Digest × V) (rest : List (Digest × V)) → after k es ≡ e ∷ rest → HasKey e.0 es
   has_after k [] e rest is = cc
   has_after k (x ∷ es) e rest is =
@@ -70,7 +70,7 @@ module _ {V : Type 0} where
         | false ↦ λ h. inr (has_after k es e rest h)
       ] is
 
-  -- what comes after the entry that comes after a digest
+  -- the entries after the next entry are the rest of those after the digest
   after_next : (k : Digest) (es : List (Digest × V)) (e : Digest × V) (rest : List (Digest × V)) → IsStrictlySortedBy digest_cmp (keys_of es) → after k es ≡ e ∷ rest → after e.0 es ≡ rest
   unfolding IsStrictlySortedBy
   after_next k [] e rest sorted is = cc
@@ -85,7 +85,7 @@ module _ {V : Type 0} where
       ] is
 
   -- an iterator begins with all entries
-  pub from_first : (es : List (Digest × V)) (next : Option (Bor Digest × Bor V)) → option_map deref_pair next ≡ first_entry es → AreEntries es → (left_of es next ≡ es) × IsLeft es next
+  pub from_first : (es : List (Digest × V)) (next : Option (Bor Digest × Bor V)) → option_map deref_pair next ≡ first_entry es → AreEntries es → (entries_from es next ≡ es) × IsNextIn es next
   from_first [] None is all = (refl, tt)
   from_first [] (Some p) is all = cc
   from_first (e ∷ es) None is all = cc
@@ -95,16 +95,16 @@ module _ {V : Type 0} where
       let rest : after p.0.now (e ∷ es) ≡ es = ap (λ b. cond b es (after p.0.now es)) (here p.0.now e.0 (sym key)) in
       ((λ i. same i ∷ rest i), (inl (sym key), all))
 
-  from_rest : (k : Digest) (es : List (Digest × V)) (rest : List (Digest × V)) → after k es ≡ rest → (next : Option (Bor Digest × Bor V)) → option_map deref_pair next ≡ first_entry rest → AreEntries es → (left_of es next ≡ rest) × IsLeft es next
+  from_rest : (k : Digest) (es : List (Digest × V)) (rest : List (Digest × V)) → after k es ≡ rest → (next : Option (Bor Digest × Bor V)) → option_map deref_pair next ≡ first_entry rest → AreEntries es → (entries_from es next ≡ rest) × IsNextIn es next
   from_rest k es [] e None is all = (refl, tt)
   from_rest k es [] e (Some p) is all = cc
   from_rest k es (x ∷ rest) e None is all = cc
   from_rest k es (x ∷ rest) e (Some p) is all =
       let same : deref_pair p ≡ x = cc in
       let there : after k es ≡ deref_pair p ∷ rest = e ∙ ap (λ y. y ∷ rest) (sym same) in
-      let behind : after p.0.now es ≡ rest = after_next k es (deref_pair p) rest all.ascending there in
-      ((λ i. same i ∷ behind i), (has_after k es (deref_pair p) rest there, all))
+      let following : after p.0.now es ≡ rest = after_next k es (deref_pair p) rest all.ascending there in
+      ((λ i. same i ∷ following i), (has_after k es (deref_pair p) rest there, all))
 
   -- and goes on with the entries after the last one
-  pub from_after : (k : Digest) (es : List (Digest × V)) (next : Option (Bor Digest × Bor V)) → option_map deref_pair next ≡ first_entry (after k es) → AreEntries es → (left_of es next ≡ after k es) × IsLeft es next
+  pub from_after : (k : Digest) (es : List (Digest × V)) (next : Option (Bor Digest × Bor V)) → option_map deref_pair next ≡ first_entry (after k es) → AreEntries es → (entries_from es next ≡ after k es) × IsNextIn es next
   from_after k es next is all = from_rest k es (after k es) refl next is all

@@ -7,7 +7,7 @@ use Rattle.std.proofs.Math.Nat.{div-div-eq-div-mul, div-mul-le_self, pow-suc}
 use lib.Dec.{eqb}
 use Rattle.nw_trie.specs.Bits.{byte_bit}
 
--- a test tells whether a number is odd
+-- if two numbers are both odd or both even, their last bits are equal
 parity : (n m : ℕ) → (n % 2 == 1) ≡ (m % 2 == 1) → n % 2 ≡ m % 2
 parity n m e =
     elim (eqb (n % 2) 1) as (λ b. eqb (n % 2) 1 ≡ b → b ≡ (m % 2 == 1) → n % 2 ≡ m % 2) [
@@ -15,7 +15,7 @@ parity n m e =
       | false ↦ λ even same. omega (arith, eqb-false (n % 2) 1 even, eqb-false (m % 2) 1 (sym same))
     ] refl e
 
--- the front of a byte before a bit, and the bit
+-- x / 2^m is the front of a byte, its first 8 - m bits; the front with one bit less is half of it
 longer_front : (x p : ℕ) → x / (p * 2) ≡ x / p / 2
 longer_front x p = sym (div-div-eq-div-mul x p 2)
 
@@ -40,7 +40,7 @@ same_byte x y hx hy same =
     let whole : x / 1 ≡ y / 1 = same_front x y 8 0 refl hx hy same in
     omega arith
 
--- of two bytes the one without the first bit at which they differ is smaller
+-- of two bytes, the one with an unset bit at the first difference is smaller
 pub smaller_byte : (x y k : ℕ) → x < 256 → y < 256 → k < 8 → ((j : ℕ) → j < k → byte_bit x j ≡ byte_bit y j) → byte_bit x k ≡ false → byte_bit y k ≡ true → x < y
 smaller_byte x y k hx hy hk same unset set =
     let m = 7 - k in

@@ -1,4 +1,4 @@
--- A digest goes down to its value.
+-- The way of a digest down to its value.
 use Rattle.std.proofs.Common.{Bor, suc, ◌≡◌, ◌∙◌, inl, inr, ℕ, ◌+◌, ◌<◌, Bool, true, false, cond, List, Option, Some, None, [], ◌∷◌, ◌++◌, Box, length, refl, sym, ap, subst, arith}
 use Rattle.std.specs.Map.{keys_of, lookup}
 use Rattle.std.specs.Prelude.{is_some}
@@ -22,7 +22,7 @@ use Rattle.nw_trie.proofs.Inserts.{below_all, digest_equal, digests_total}
 use Rattle.nw_trie.proofs.Sides.{AtFork, lookup_left, lookup_right}
 use Rattle.nw_trie.proofs.Grafts.{fits_key, key_left, key_right}
 
--- a link has one bit
+-- the bit of a link, if it is a fork
 abbrev bit_in : {V A : Type 0} → Link V A → ℕ
 bit_in Empty = 0
 bit_in (Leaf leaf) = 0
@@ -36,11 +36,11 @@ first_of P [] full h = absurd (omega (arith, full))
 first_of P (e ∷ es) full h = (e.0, h.0)
 
 module _ {V : Type 0} (k : Digest) (bit n : ℕ) (l r : List (Digest × V)) (fork : IsFork bit l r) (alike : EachKey (AgreeButLast n k) (l ++ r)) where
-  -- digests that are alike but for the last bits are parted by one of those
+  -- digests that differ only in their last bits fork at one of those
   pub parted_late : bit + n < 256 → ⊥
   parted_late low =
-      let x = first_of _ l fork.left_full (each_pair _ _ l (each_left _ l r alike) fork.unset) in
-      let y = first_of _ r fork.right_full (each_pair _ _ r (each_right _ l r alike) fork.set) in
+      let x = first_of _ l fork.left_nonempty (each_pair _ _ l (each_left _ l r alike) fork.unset) in
+      let y = first_of _ r fork.right_nonempty (each_pair _ _ r (each_right _ l r alike) fork.set) in
       let e : false ≡ true = sym x.1.1 ∙ sym (x.1.0 bit low) ∙ y.1.0 bit low ∙ y.1.1 in
       cc
 
@@ -55,7 +55,7 @@ module _ {V A : Type 0} {d : List (Digest × V)} {bit : ℕ} (s : Sides V A) (at
     key_side false h = key_left at k has (sym h)
 
     module _ (n : ℕ) (alike : EachKey (AgreeButLast (1 + n) k) d) where
-      -- a digest with the same bits up to that of the fork
+      -- a digest that has the same bits as k up to the fork's bit differs from k at most in the last n bits
       more_alike : (x : Digest) → AgreeBelow bit at.fork.front x → bit_of x bit ≡ bit_of k bit → AgreeButLast n k x
       more_alike x same there j early =
           elim (cases_lt j bit) [
@@ -75,7 +75,7 @@ copied_some None = refl
 copied_some (Some v) = refl
 
 module _ {V : Type 0} (k : Digest) where
-  -- what is found is there
+  -- if a lookup finds the digest, some entry has it
   pub has_found : (es : List (Digest × V)) → is_some (lookup (is_at (digest_cmp k)) es) ≡ true → HasKey k es
   has_found [] h = cc
   has_found (e ∷ es) h =
@@ -85,7 +85,7 @@ module _ {V : Type 0} (k : Digest) where
         | Greater ↦ λ is there. inr (has_found es there)
       ] refl h
 
-  -- another value in the place of its own
+  -- replacing the value of a digest keeps the number of entries
   pub length_replaced : (v : V) (es : List (Digest × V)) → IsStrictlySortedBy digest_cmp (keys_of es) → HasKey k es → length (insert_entry digest_cmp es k v) ≡ length es
   unfolding IsStrictlySortedBy
   length_replaced v [] sorted has = absurd has

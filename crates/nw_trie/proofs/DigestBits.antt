@@ -1,4 +1,4 @@
--- Digests by their bits.
+-- The order of digests by their bits.
 use Rattle.std.proofs.Common.{Fits, w8, ◌≡◌, ◌∙◌, ℕ, ◌+◌, ◌-◌, ◌/◌, ◌%◌, ◌<◌, true, false, List, [], ◌∷◌, suc, refl, sym, ap, arith, inl, inr, get_or, length}
 use Rattle.std.specs.declared.cmp.Ordering.TheVariants.{Less, Equal, Greater}
 use Rattle.std.specs.Ordering.{nat_cmp, ordering_then, ordering_reverse}
@@ -12,19 +12,19 @@ use Rattle.nw_digest.specs.Order.{digest_cmp}
 use Rattle.nw_trie.specs.Bits.{AgreeBelow, AreBytes, bit_of, byte_bit, list_bit}
 use Rattle.nw_trie.proofs.ByteBits.{same_byte, smaller_byte}
 
-byte_behind : (x : ℕ) (xs : List ℕ) (n : ℕ) → get_or (x ∷ xs) (n + 1) 0 ≡ get_or xs n 0
-byte_behind x xs n = rw Rattle.std.proofs.Common.add-one refl
+later_byte : (x : ℕ) (xs : List ℕ) (n : ℕ) → get_or (x ∷ xs) (n + 1) 0 ≡ get_or xs n 0
+later_byte x xs n = rw Rattle.std.proofs.Common.add-one refl
 
--- the bits behind the first byte
-behind : (x : ℕ) (xs : List ℕ) (j : ℕ) → list_bit (x ∷ xs) (j + 8) ≡ list_bit xs j
-behind x xs j =
+-- the bits after the first byte
+later_bits : (x : ℕ) (xs : List ℕ) (j : ℕ) → list_bit (x ∷ xs) (j + 8) ≡ list_bit xs j
+later_bits x xs j =
     let place : (j + 8) / 8 ≡ j / 8 + 1 = omega arith in
     let bit : (j + 8) % 8 ≡ j % 8 = omega arith in
-    rw (place, bit) (ap (λ b. byte_bit b (j % 8)) (byte_behind x xs (j / 8)))
+    rw (place, bit) (ap (λ b. byte_bit b (j % 8)) (later_byte x xs (j / 8)))
 
 -- the bits of the first byte
-first : (x : ℕ) (xs : List ℕ) (j : ℕ) → j < 8 → list_bit (x ∷ xs) j ≡ byte_bit x j
-first x xs j h =
+first_bits : (x : ℕ) (xs : List ℕ) (j : ℕ) → j < 8 → list_bit (x ∷ xs) j ≡ byte_bit x j
+first_bits x xs j h =
     let place : j / 8 ≡ 0 = omega arith in
     let bit : j % 8 ≡ j = omega arith in
     rw (place, bit) refl
@@ -38,7 +38,7 @@ less x y h = sym (nat_cmp_is x y Less h)
 equal : (x : ℕ) → nat_cmp x x ≡ Equal
 equal x = sym (nat_cmp_is x x Equal refl)
 
--- the bytes without the first bit at which they differ come first
+-- of two lists of bytes, the one with an unset bit at the first difference comes first
 pub bits_order : (xs ys : List ℕ) (i : ℕ) → AreBytes xs → AreBytes ys → ((j : ℕ) → j < i → list_bit xs j ≡ list_bit ys j) → list_bit xs i ≡ false → list_bit ys i ≡ true → slice_cmp nat_cmp xs ys ≡ Less
 bits_order [] [] i hx hy same unset set = let e : false ≡ true = sym unset ∙ set in cc
 bits_order [] (y ∷ ys) i hx hy same unset set = refl
@@ -46,19 +46,19 @@ bits_order (x ∷ xs) [] i hx hy same unset set = let e : false ≡ true = sym (
 bits_order (x ∷ xs) (y ∷ ys) i hx hy same unset set =
     elim (cases_lt i 8) [
       | inl inside ↦
-          let below : x < y = smaller_byte x y i hx.0 hy.0 inside (λ j h. sym (first x xs j (omega arith)) ∙ same j h ∙ first y ys j (omega arith)) (sym (first x xs i inside) ∙ unset) (sym (first y ys i inside) ∙ set) in
+          let below : x < y = smaller_byte x y i hx.0 hy.0 inside (λ j h. sym (first_bits x xs j (omega arith)) ∙ same j h ∙ first_bits y ys j (omega arith)) (sym (first_bits x xs i inside) ∙ unset) (sym (first_bits y ys i inside) ∙ set) in
           ap (λ o. ordering_then o (slice_cmp nat_cmp xs ys)) (less x y below)
       | inr past ↦
           let at : i - 8 + 8 ≡ i = omega arith in
-          let byte : x ≡ y = same_byte x y hx.0 hy.0 (λ j h. sym (first x xs j h) ∙ same j (omega arith) ∙ first y ys j h) in
+          let byte : x ≡ y = same_byte x y hx.0 hy.0 (λ j h. sym (first_bits x xs j h) ∙ same j (omega arith) ∙ first_bits y ys j h) in
           let unset_there : list_bit (x ∷ xs) (i - 8 + 8) ≡ false = rw at unset in
           let set_there : list_bit (y ∷ ys) (i - 8 + 8) ≡ true = rw at set in
           let rest : slice_cmp nat_cmp xs ys ≡ Less =
-          bits_order xs ys (i - 8) hx.1 hy.1 (λ j h. sym (behind x xs j) ∙ same (j + 8) (omega arith) ∙ behind y ys j) (sym (behind x xs (i - 8)) ∙ unset_there) (sym (behind y ys (i - 8)) ∙ set_there) in
+          bits_order xs ys (i - 8) hx.1 hy.1 (λ j h. sym (later_bits x xs j) ∙ same (j + 8) (omega arith) ∙ later_bits y ys j) (sym (later_bits x xs (i - 8)) ∙ unset_there) (sym (later_bits y ys (i - 8)) ∙ set_there) in
           rw byte (ap (λ o. ordering_then o (slice_cmp nat_cmp xs ys)) (equal y) ∙ rest)
     ]
 
--- the same of digests
+-- the same for digests
 pub digest_less : (a b : Digest) (i : ℕ) → AreBytes a.0 → AreBytes b.0 → AgreeBelow i a b → bit_of a i ≡ false → bit_of b i ≡ true → digest_cmp a b ≡ Less
 digest_less a b i ha hb same unset set = bits_order a.0 b.0 i ha hb same unset set
 
@@ -66,23 +66,23 @@ pub digest_greater : (a b : Digest) (i : ℕ) → AreBytes a.0 → AreBytes b.0 
 digest_greater a b i ha hb same set unset =
     nat_list_cmp_total.antisymm a.0 b.0 ∙ ap ordering_reverse (bits_order b.0 a.0 i hb ha (λ j h. sym (same j h)) unset set)
 
--- digests of the same bytes are one
+-- digests with the same bytes are equal
 pub digest_of_bytes : (a b : Digest) → a.0 ≡ b.0 → a ≡ b
 digest_of_bytes a b e = ap (λ (xs : List ℕ). let d : Digest = record { 0 = xs } in d) e
 
--- equal digests are one, and have the same bits
+-- digests that compare as equal are equal, and have the same bits
 pub one_digest : (a b : Digest) → digest_cmp a b ≡ Equal → a ≡ b
 one_digest a b e = digest_of_bytes a b (slice_cmp-IsAntisymmetric nat_cmp-IsAntisymmetric a.0 b.0 e)
 
 pub same_bits : (a b : Digest) → digest_cmp a b ≡ Equal → (j : ℕ) → bit_of a j ≡ bit_of b j
 same_bits a b e j = ap (λ d. bit_of d j) (one_digest a b e)
 
--- 32 bytes that agree at each index are the same
+-- digests with the same byte at each of 32 indices are equal
 pub same_digest : (a b : Digest) → length a.0 ≡ 32 → length b.0 ≡ 32 → ((k : ℕ) → k < 32 → get_or a.0 k 0 ≡ get_or b.0 k 0) → a ≡ b
 same_digest a b la lb same =
     digest_of_bytes a b (ext_get_or 0 a.0 b.0 (la ∙ sym lb) (λ k h. same k (omega (arith, la))))
 
--- bytes by their indices
+-- a list consists of bytes if the number at each index fits a byte
 pub bytes_from : (xs : List ℕ) → ((k : ℕ) → Fits w8 (get_or xs k 0)) → AreBytes xs
 bytes_from [] h = tt
 bytes_from (x ∷ xs) h = (omega (arith, h 0), bytes_from xs (λ k. h (suc k)))

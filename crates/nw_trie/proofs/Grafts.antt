@@ -1,4 +1,4 @@
--- A digest goes down to its place.
+-- The way of a digest down to its place, and the entries after an insertion there.
 use Rattle.std.proofs.Common.{◌≡◌, ◌∙◌, inl, inr, ℕ, ◌+◌, ◌<◌, ◌≤◌, Bool, true, false, cond, List, [], ◌∷◌, ◌++◌, Option, Some, None, Box, length, refl, sym, ap, subst, arith, length-append}
 use Rattle.std.specs.Ordering.{is_eq, match_ordering}
 use Rattle.std.specs.declared.cmp.Ordering.TheVariants.{Equal}
@@ -19,11 +19,11 @@ use Rattle.nw_trie.proofs.Keys.{each_left, each_right, each_more, each_pair, som
 use Rattle.nw_trie.proofs.Inserts.{digest_equal, entries_insert, left_fork, left_insert, right_fork, right_insert}
 use Rattle.nw_trie.proofs.Sides.{AtFork, at_Leaf}
 
--- one more bit in common
+-- digests that also share bit n agree below n + 1
 agree_more : (n : ℕ) (a b : Digest) → AgreeBelow n a b → bit_of a n ≡ bit_of b n → AgreeBelow (n + 1) a b
 agree_more n a b same bit j h = elim (cases_lt j n) [ inl before ↦ same j before | inr at ↦ let is : j ≡ n = omega arith in rw is bit ]
 
--- where all digests agree below a later bit, one that branches off differs from each of them there
+-- if all digests agree below a later bit, a digest that branches off first differs from each of them at its bit
 pub each_differ : {V : Type 0} (k front : Digest) (bit n : ℕ) (es : List (Digest × V)) → EachKey (AgreeBelow n front) es → bit ≤ n → BranchesAt k bit es → EachKey (λ x. DifferFirst bit k x) es
 each_differ k front bit n es agree low b =
     let near = some_of_each (AgreeBelow bit k) (AgreeBelow n front) es b.near agree in
@@ -37,12 +37,12 @@ differ_alone k bit Empty no_fork b = tt
 differ_alone k bit (Leaf leaf) no_fork b = each_differ k leaf.value.digest bit bit ((leaf.value.digest, leaf.value.value) ∷ []) ((λ j h. refl), tt) (omega arith) b
 differ_alone k bit (Fork at sides) no_fork b = absurd (no_fork at sides refl)
 
--- what a digest differs in from one other
+-- a digest branches off from a leaf at the first bit at which they differ
 pub branch_leaf : {V : Type 0} (k x : Digest) (v : V) (o : Option ℕ) → MatchOption o (k ≡ x) (λ bit. DifferFirst bit k x) → MatchOption o (HasKey k ((x, v) ∷ [])) (λ bit. BranchesAt k bit ((x, v) ∷ []))
 branch_leaf k x v None h = inl (sym h)
 branch_leaf k x v (Some bit) h = record { near = inl h.same; apart = ((λ agree. h.differ (agree bit (omega arith))), tt) }
 
--- both sides of a fork, one of them with the entry, where before they were d
+-- both sides of a fork after an entry is inserted in one of them; before, their entries were d
 pub record Grown {V : Type 0} (d : List (Digest × V)) (bit : ℕ) (l r : List (Digest × V)) (k : Digest) (v : V) : Type 0 where
   pub is : l ++ r ≡ insert_entry digest_cmp d k v
   pub fork : IsFork bit l r
@@ -50,7 +50,7 @@ pub record Grown {V : Type 0} (d : List (Digest × V)) (bit : ℕ) (l r : List (
 
 module _ {V : Type 0} {d : List (Digest × V)} {bit : ℕ} {l r : List (Digest × V)} (at : AtFork d bit l r) (k : Digest) where
   pub sides_shorter : (length l < length d) × (length r < length d)
-  sides_shorter = let full = at.fork.left_full in let full2 = at.fork.right_full in omega (arith, ap length at.is, length-append l r)
+  sides_shorter = let full = at.fork.left_nonempty in let full2 = at.fork.right_nonempty in omega (arith, ap length at.is, length-append l r)
 
   module _ (v : V) (fits : AgreeBelow bit at.fork.front k) (bytes : AreBytes k.0) where
     pub grown_right : (r2 : List (Digest × V)) → bit_of k bit ≡ true → r2 ≡ insert_entry digest_cmp r k v → Grown d bit l r2 k v
@@ -71,7 +71,7 @@ module _ {V : Type 0} {d : List (Digest × V)} {bit : ℕ} {l r : List (Digest �
           all = subst AreEntries (sym there) (entries_insert k v (l ++ r) bytes at.all);
         })
 
-  -- what some digest agrees with up to the bit is on the side of its own bit
+  -- if k shares the fork's bit with each digest of property P, then such a digest is on the side of k's own bit
   near_right : (P : Digest → Type 0) → ((x : Digest) → P x → bit_of k bit ≡ bit_of x bit) → bit_of k bit ≡ true → SomeKey P d → SomeKey P r
   near_right P same set h =
       elim (some_side P l r (subst (SomeKey P) at.is h)) [
@@ -111,7 +111,7 @@ module _ {V : Type 0} {d : List (Digest × V)} {bit : ℕ} {l r : List (Digest �
     pub key_left : bit_of k bit ≡ false → HasKey k l
     key_left unset = near_left (λ x. x ≡ k) (λ x e. ap (λ y. bit_of y bit) (sym e)) unset has
 
--- a digest goes down on the side of its bit, and what is put there is in its place
+-- a digest goes down on the side of its bit, and an entry inserted on that side is in its place
 module _ {V A : Type 0} {d : List (Digest × V)} {bit : ℕ} (s : Sides V A) (at : AtFork d bit s.left s.right) (k : Digest) where
   pub down_side : (n : ℕ) → bit < n → BranchesAt k n d → (set : Bool) → set ≡ bit_of k bit → (length (side_of s set) < length d) × BranchesAt k n (side_of s set)
   down_side n later b true h = ((sides_shorter at k).1, down_right at k n later b (sym h))
@@ -122,7 +122,7 @@ module _ {V A : Type 0} {d : List (Digest × V)} {bit : ℕ} (s : Sides V A) (at
   grown_side v fits bytes true h es is = grown_right at k v fits bytes es (sym h) is
   grown_side v fits bytes false h es is = grown_left at k v fits bytes es (sym h) is
 
--- the value of the one entry
+-- lookup and replacement in a leaf
 module _ {V : Type 0} (k x : Digest) (u v : V) (has : HasKey k ((x, u) ∷ [])) where
   same_key : x ≡ k
   same_key = elim has [ inl is ↦ is | inr none ↦ absurd none ]
@@ -136,7 +136,7 @@ module _ {V : Type 0} (k x : Digest) (u v : V) (has : HasKey k ((x, u) ∷ [])) 
   leaf_replaced : (x, v) ∷ [] ≡ insert_entry digest_cmp ((x, u) ∷ []) k v
   leaf_replaced = sym (ap (λ o. match_ordering o ((k, v) ∷ (x, u) ∷ []) ((x, v) ∷ []) ((x, u) ∷ (k, v) ∷ [])) ties)
 
--- the one entry of a leaf, before its value is replaced, and after
+-- the only entry of a leaf, before and after its value is replaced
 pub record AtLeaf {V : Type 0} (d : List (Digest × V)) (k x : Digest) (u v : V) : Type 0 where
   pub found : lookup (is_at (digest_cmp k)) d ≡ Some u
   pub is : (x, v) ∷ [] ≡ insert_entry digest_cmp d k v
@@ -144,10 +144,10 @@ pub record AtLeaf {V : Type 0} (d : List (Digest × V)) (k x : Digest) (u v : V)
 
 pub at_leaf : {V A : Type 0} {link : Link V A} {d : List (Digest × V)} {leaf : Box (Entry V) A} {e : Entry V} (k : Digest) (v : V)
     → entries_of link ≡ d → IsTree link → link ≡ Leaf leaf → e ≡ leaf.value → HasKey k d → AtLeaf d k e.digest e.value v
-at_leaf {V} {e = e} k v view_is good at behind has =
-    let alone = at_Leaf view_is at behind in
+at_leaf {V} {e = e} k v view_is good at unboxed has =
+    let alone = at_Leaf view_is at unboxed in
     let here = subst (HasKey k) alone has in
-    let all : AreEntries ((e.digest, e.value) ∷ []) = subst (λ (x : Entry V). AreEntries ((x.digest, x.value) ∷ [])) (sym behind) (subst IsTree at good) in
+    let all : AreEntries ((e.digest, e.value) ∷ []) = subst (λ (x : Entry V). AreEntries ((x.digest, x.value) ∷ [])) (sym unboxed) (subst IsTree at good) in
     record {
       found = ap (lookup (is_at (digest_cmp k))) alone ∙ leaf_found k e.digest e.value v here;
       is = leaf_replaced k e.digest e.value v here ∙ ap (λ es. insert_entry digest_cmp es k v) (sym alone);

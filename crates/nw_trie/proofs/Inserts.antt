@@ -1,4 +1,4 @@
--- Entries with one more, or with another value.
+-- Entries after an insertion or a replacement.
 use Rattle.std.proofs.Common.{◌≡◌, ◌∙◌, ℕ, ◌≤◌, true, false, List, [], ◌∷◌, ◌++◌, length, refl, sym, ap, arith}
 use Rattle.std.specs.List.{AllByRecursion}
 use Rattle.std.specs.List.Sorted.{IsStrictlySortedBy}
@@ -16,7 +16,7 @@ use Rattle.nw_trie.specs.Entries.{AreEntries, EachKey, IsFork}
 use Rattle.nw_trie.proofs.DigestBits.{digest_less, digest_greater}
 use Rattle.nw_trie.proofs.Keys.{each_left, each_right, each_both, each_more, each_pair, each_insert}
 
--- the laws of the order
+-- the order of digests is total
 pub digests_total : IsTotalOrder digest_cmp
 digests_total = record {
   antisymm = λ a b. nat_list_cmp_total.antisymm a.0 b.0;
@@ -33,12 +33,12 @@ pub digest_equal : (d : Digest) → digest_cmp d d ≡ Equal
 digest_equal d = itself (digest_cmp d d) (digests_total.antisymm d d)
 
 module _ {V : Type 0} where
-  -- an entry goes past those that its digest is above
+  -- an entry is inserted after the entries with smaller digests
   pub insert_past : (d : Digest) (v : V) (l r : List (Digest × V)) → EachKey (λ k. digest_cmp d k ≡ Greater) l → insert_entry digest_cmp (l ++ r) d v ≡ l ++ insert_entry digest_cmp r d v
   insert_past d v [] r h = refl
   insert_past d v (e ∷ l) r h = rw h.0 (ap (λ es. e ∷ es) (insert_past d v l r h.1))
 
-  -- and before those that it is below
+  -- and before the entries with greater digests
   pub insert_before : (d : Digest) (v : V) (l r : List (Digest × V)) → EachKey (λ k. digest_cmp d k ≡ Less) r → insert_entry digest_cmp (l ++ r) d v ≡ insert_entry digest_cmp l d v ++ r
   insert_before d v [] [] h = refl
   insert_before d v [] (e ∷ r) h = rw h.0 refl
@@ -58,7 +58,7 @@ module _ {V : Type 0} where
   below_all x [] h = tt
   below_all x (e ∷ es) h = (h.0, below_all x es h.1)
 
-  -- the digests still ascend
+  -- after an insertion the digests still ascend
   pub sorted_insert : (d : Digest) (v : V) (es : List (Digest × V)) → IsStrictlySortedBy digest_cmp (keys_of es) → IsStrictlySortedBy digest_cmp (keys_of (insert_entry digest_cmp es d v))
   unfolding IsStrictlySortedBy
   sorted_insert d v [] h = (tt, tt)
@@ -92,7 +92,7 @@ module _ {V : Type 0} where
     before_right unset = each_more _ _ (λ k h. digest_less d k bit bytes h.0 (λ j low. sym (fits j low) ∙ h.1.0 j low) unset h.1.1) r
         (each_pair _ _ r (each_right _ l r all.bytes) (each_pair _ _ r (each_right _ l r fork.agree) fork.set))
 
-    -- an insert on one side
+    -- an insertion on one side of a fork
     pub right_insert : bit_of d bit ≡ true → l ++ insert_entry digest_cmp r d v ≡ insert_entry digest_cmp (l ++ r) d v
     right_insert set = sym (insert_past d v l r (past_left set))
 
@@ -101,8 +101,8 @@ module _ {V : Type 0} where
 
     pub right_fork : bit_of d bit ≡ true → IsFork bit l (insert_entry digest_cmp r d v)
     right_fork set = record {
-      left_full = fork.left_full;
-      right_full = let full = fork.right_full in omega (arith, length_insert d v r);
+      left_nonempty = fork.left_nonempty;
+      right_nonempty = let full = fork.right_nonempty in omega (arith, length_insert d v r);
       unset = fork.unset;
       set = each_insert _ digest_cmp d v set r fork.set;
       front = fork.front;
@@ -111,8 +111,8 @@ module _ {V : Type 0} where
 
     pub left_fork : bit_of d bit ≡ false → IsFork bit (insert_entry digest_cmp l d v) r
     left_fork unset = record {
-      left_full = let full = fork.left_full in omega (arith, length_insert d v l);
-      right_full = fork.right_full;
+      left_nonempty = let full = fork.left_nonempty in omega (arith, length_insert d v l);
+      right_nonempty = fork.right_nonempty;
       unset = each_insert _ digest_cmp d v unset l fork.unset;
       set = fork.set;
       front = fork.front;

@@ -1,4 +1,4 @@
--- What holds of each digest, or of some digest, of a list of entries.
+-- Properties of each digest, or of some digest, of a list of entries.
 use Rattle.std.proofs.Common.{◌⊎◌, inl, inr, Bool, true, false, cond, List, [], ◌∷◌, ◌++◌}
 use Rattle.std.specs.Prelude.{filter}
 use Rattle.std.specs.declared.cmp.Ordering.{Ordering}
@@ -70,7 +70,7 @@ module _ {V : Type 0} where
       some_more f (e ∷ es) (inl here) = inl (f e.0 here)
       some_more f (e ∷ es) (inr there) = inr (some_more f es there)
 
-      -- one digest of which both hold
+      -- if one property holds for some digest and another for each, both hold for one digest
       pub some_of_each : (es : List (Digest × V)) → SomeKey P es → EachKey Q es → (k : Digest) × P k × Q k
       some_of_each [] h all = absurd h
       some_of_each (e ∷ es) (inl here) all = (e.0, here, all.0)

@@ -1,4 +1,4 @@
--- Entries with some taken out.
+-- Entries after a removal.
 use Rattle.std.proofs.Common.{◌≡◌, ◌∙◌, ℕ, ◌+◌, ◌<◌, Bool, true, false, cond, List, [], ◌∷◌, ◌++◌, Option, Some, length, refl, sym, ap, subst, arith}
 use Rattle.std.specs.Prelude.{filter, is_some}
 use Rattle.std.specs.List.Sorted.{IsStrictlySortedBy}
@@ -54,7 +54,7 @@ module _ {V : Type 0} where
         | false ↦ ap (λ es. e ∷ es) (remove_before test l r h)
       ]
 
-  -- a removal takes out one entry, where there is one
+  -- a removal takes out one entry, if the digest has one
   length_remove : (test : Digest → Bool) (es : List (Digest × V)) → length (remove_entry test es) + cond (is_some (lookup test es)) 1 0 ≡ length es
   length_remove test [] = refl
   length_remove test (e ∷ es) =
@@ -63,11 +63,11 @@ module _ {V : Type 0} where
         | false ↦ omega (arith, length_remove test es)
       ]
 
--- the same, by what the removal answers
+-- the same, with the value that the removal returned
 pub removed : {V : Type 0} (test : Digest → Bool) (d es new : List (Digest × V)) (value : Option V) → es ≡ d → value ≡ lookup test es → new ≡ remove_entry test es → length new + cond (is_some value) 1 0 ≡ length d
 removed test d es new value is found left = rw (left, found, ← is) (length_remove test es)
 
--- both sides of a fork, less some entries, where `rest` is what is left of all
+-- both sides of a fork after a removal; `rest` has the entries that stay
 pub record Shrunk {V : Type 0} (rest : List (Digest × V)) (bit : ℕ) (l r : List (Digest × V)) : Type 0 where
   pub is : l ++ r ≡ rest
   pub fork : 0 < length l → 0 < length r → IsFork bit l r
@@ -81,8 +81,8 @@ module _ {V : Type 0} {d : List (Digest × V)} {bit : ℕ} {l r : List (Digest �
         rw e (record {
           is = sym (ap (remove_entry (is_at (digest_cmp k))) at.is ∙ there);
           fork = λ left right. record {
-            left_full = left;
-            right_full = right;
+            left_nonempty = left;
+            right_nonempty = right;
             unset = at.fork.unset;
             set = each_remove _ _ r at.fork.set;
             front = at.fork.front;
@@ -97,8 +97,8 @@ module _ {V : Type 0} {d : List (Digest × V)} {bit : ℕ} {l r : List (Digest �
         rw e (record {
           is = sym (ap (remove_entry (is_at (digest_cmp k))) at.is ∙ there);
           fork = λ left right. record {
-            left_full = left;
-            right_full = right;
+            left_nonempty = left;
+            right_nonempty = right;
             unset = each_remove _ _ l at.fork.unset;
             set = at.fork.set;
             front = at.fork.front;
@@ -113,8 +113,8 @@ module _ {V : Type 0} {d : List (Digest × V)} {bit : ℕ} {l r : List (Digest �
       rw (el, er) (record {
         is = sym (ap (filter test) at.is ∙ there);
         fork = λ left right. record {
-          left_full = left;
-          right_full = right;
+          left_nonempty = left;
+          right_nonempty = right;
           unset = each_filter _ test l at.fork.unset;
           set = each_filter _ test r at.fork.set;
           front = at.fork.front;

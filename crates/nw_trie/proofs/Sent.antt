@@ -1,4 +1,4 @@
--- Tries may cross to another thread, and be shared by threads, where their values may and the allocator.
+-- A trie is Send and Sync if its values and its allocator are.
 use denote.RattleType.{RattleType}
 use denote.Param.Send.{Frees, IsSend, IsSync, sendable, recorded_send, recorded_sync, view_send, view_sync}
 use denote.Param.SendFields.{as_row_send, as_row_sync, declared_send, declared_sync, variants_send, variants_sync}

@@ -19,7 +19,7 @@ use Rattle.nw_trie.specs.declared.tree.Sides.{Sides}
 use Rattle.nw_trie.proofs.DigestBits.{same_bits}
 use Rattle.nw_trie.proofs.Keys.{each_left, each_right, each_both, each_more, each_pair, some_left, some_right, some_of_each}
 
--- what is known of the entries d of a tree whose link is a fork
+-- the entries d of a tree whose link is a fork
 pub record AtFork {V : Type 0} (d : List (Digest × V)) (bit : ℕ) (l r : List (Digest × V)) : Type 0 where
   pub is : d ≡ l ++ r
   pub fork : IsFork bit l r
@@ -27,18 +27,18 @@ pub record AtFork {V : Type 0} (d : List (Digest × V)) (bit : ℕ) (l r : List 
 
 pub at_Fork : {V A : Type 0} {link : Link V A} {d : List (Digest × V)} {bit : ℕ} {sides : Box (Sides V A) A} {s : Sides V A}
     → entries_of link ≡ d → IsTree link → link ≡ Fork bit sides → s ≡ sides.value → AtFork d bit s.left s.right
-at_Fork {V} {A} {bit = bit} view_is good at behind = record {
-  is = sym view_is ∙ ap entries_of at ∙ ap (λ (x : Sides V A). x.left ++ x.right) (sym behind);
-  fork = subst (λ (x : Sides V A). IsFork bit x.left x.right) (sym behind) (subst IsTree at good).0;
-  all = subst (λ (x : Sides V A). AreEntries (x.left ++ x.right)) (sym behind) (subst IsTree at good).1;
+at_Fork {V} {A} {bit = bit} view_is good at unboxed = record {
+  is = sym view_is ∙ ap entries_of at ∙ ap (λ (x : Sides V A). x.left ++ x.right) (sym unboxed);
+  fork = subst (λ (x : Sides V A). IsFork bit x.left x.right) (sym unboxed) (subst IsTree at good).0;
+  all = subst (λ (x : Sides V A). AreEntries (x.left ++ x.right)) (sym unboxed) (subst IsTree at good).1;
 }
 
 pub at_Leaf : {V A : Type 0} {link : Link V A} {d : List (Digest × V)} {leaf : Box (Entry V) A} {e : Entry V}
     → entries_of link ≡ d → link ≡ Leaf leaf → e ≡ leaf.value → d ≡ (e.digest, e.value) ∷ []
-at_Leaf {V} view_is at behind = sym view_is ∙ ap entries_of at ∙ ap (λ (x : Entry V). (x.digest, x.value) ∷ []) (sym behind)
+at_Leaf {V} view_is at unboxed = sym view_is ∙ ap entries_of at ∙ ap (λ (x : Entry V). (x.digest, x.value) ∷ []) (sym unboxed)
 
 module _ {V : Type 0} where
-  -- a look-up passes what does not match
+  -- a lookup passes the entries that do not match
   pub lookup_past : (test : Digest → Bool) (l r : List (Digest × V)) → EachKey (λ k. test k ≡ false) l → lookup test (l ++ r) ≡ lookup test r
   lookup_past test [] r h = refl
   lookup_past test (e ∷ l) r h = rw h.0 (lookup_past test l r h.1)
@@ -51,7 +51,7 @@ module _ {V : Type 0} where
   lookup_before test [] r h = none_found test r h
   lookup_before test (e ∷ l) r h = ap (cond (test e.0) (Some e.1)) (lookup_before test l r h)
 
--- a digest with another bit is another
+-- digests that differ in a bit do not compare as equal
 pub unlike : (o : Ordering) → (o ≡ Equal → ⊥) → is_eq o ≡ false
 unlike Less h = refl
 unlike Equal h = absurd (h refl)
@@ -73,7 +73,7 @@ module _ {V : Type 0} {d : List (Digest × V)} {bit : ℕ} {l r : List (Digest �
   pub lookup_left : bit_of k bit ≡ false → lookup (is_at (digest_cmp k)) l ≡ lookup (is_at (digest_cmp k)) d
   lookup_left unset = sym (ap (lookup (is_at (digest_cmp k))) at.is ∙ lookup_before _ l r (not_right unset))
 
--- where both sides agree, a digest that branches on one side is apart from the other side
+-- if both sides agree below the fork's bit, a digest that branches off on one side is apart from the other side
 apart_from_other : {V : Type 0} (d front : Digest) (bit n : ℕ) (this other : List (Digest × V)) → EachKey (AgreeBelow bit front) this → EachKey (λ k. AgreeBelow bit front k × (bit_of d bit ≡ bit_of k bit → ⊥)) other
     → BranchesAt d n this → EachKey (λ k. AgreeBelow (n + 1) d k → ⊥) other
 apart_from_other d front bit n this other here there b =

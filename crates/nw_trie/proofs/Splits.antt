@@ -1,4 +1,4 @@
--- A leaf beside all other entries.
+-- A new fork between a leaf and all other entries.
 use Rattle.std.proofs.Common.{◌≡◌, ◌∙◌, ℕ, ◌<◌, Bool, true, false, List, [], ◌∷◌, ◌++◌, None, Box, length, refl, sym, ap, subst, arith}
 use Rattle.std.specs.List.Sorted.{IsStrictlySortedBy}
 use Rattle.std.specs.Map.{lookup}
@@ -27,7 +27,7 @@ tree_entries Empty d is good = subst AreEntries is no_entries
 tree_entries (Leaf leaf) d is good = subst AreEntries is good
 tree_entries (Fork bit sides) d is good = subst AreEntries is good.1
 
--- what is neither a fork nor a leaf has no entries
+-- a link that is neither a fork nor a leaf has no entries
 pub none_there : {V A : Type 0} (link : Link V A) → ((bit : ℕ) (sides : Box (Sides V A) A) → link ≡ Fork bit sides → ⊥) → ((leaf : Box (Entry V) A) → link ≡ Leaf leaf → ⊥) → entries_of link ≡ []
 none_there Empty no_fork no_leaf = refl
 none_there (Leaf leaf) no_fork no_leaf = absurd (no_leaf leaf refl)
@@ -69,8 +69,8 @@ module _ {V : Type 0} (d : Digest) (bit : ℕ) (es : List (Digest × V)) (differ
   module _ (leaf : List (Digest × V)) (is : (v : V) × (leaf ≡ (d, v) ∷ [])) where
     pub fork_after : bit_of d bit ≡ true → IsFork bit es leaf
     fork_after on = one d leaf is (IsFork bit es) (λ v. record {
-      left_full = full;
-      right_full = omega arith;
+      left_nonempty = full;
+      right_nonempty = omega arith;
       unset = unset on;
       set = (on, tt);
       front = d;
@@ -79,8 +79,8 @@ module _ {V : Type 0} (d : Digest) (bit : ℕ) (es : List (Digest × V)) (differ
 
     pub fork_before : bit_of d bit ≡ false → IsFork bit leaf es
     fork_before off = one d leaf is (λ l. IsFork bit l es) (λ v. record {
-      left_full = omega arith;
-      right_full = full;
+      left_nonempty = omega arith;
+      right_nonempty = full;
       unset = (off, tt);
       set = set off;
       front = d;
@@ -93,11 +93,11 @@ module _ {V : Type 0} (d : Digest) (bit : ℕ) (es : List (Digest × V)) (differ
     pub entries_before : bit_of d bit ≡ false → AreEntries (leaf ++ es)
     entries_before off = one d leaf is (λ l. AreEntries (l ++ es)) (λ v. subst AreEntries (sym (before_all off v)) (entries_insert d v es bytes all))
 
--- a leaf alone
+-- a leaf's only entry is well formed
 pub leaf_entries : {V : Type 0} (e : Entry V) (d : Digest) (v : V) → AreBytes d.0 → e ≡ record { digest = d; value = v } → AreEntries ((e.digest, e.value) ∷ [])
 leaf_entries e d v bytes is = rw is (entries_insert d v [] bytes no_entries)
 
--- a digest that branches off is not there
+-- a digest that branches off has no entry
 pub absent_branch : {V : Type 0} (k : Digest) (bit : ℕ) (d es : List (Digest × V)) → es ≡ d → BranchesAt k bit es → lookup (is_at (digest_cmp k)) d ≡ None
 absent_branch k bit d es is b =
     ap (lookup (is_at (digest_cmp k))) (sym is) ∙ none_found _ es (each_more _ _ (λ x apart. unlike (digest_cmp k x) (λ e. apart (λ j h. same_bits k x e j))) es b.apart)

@@ -1,4 +1,4 @@
--- Digests with values.
+-- Entries: digests with values.
 use Rattle.std.specs.Prelude.{◌≡◌, ℕ, ◌+◌, ◌<◌, List, [], ◌∷◌, ◌++◌, ◌⊎◌, length, true, false}
 use Rattle.std.specs.List.{AllByRecursion}
 use Rattle.std.specs.List.Sorted.{IsStrictlySortedBy}
@@ -7,42 +7,57 @@ use Rattle.nw_digest.specs.declared.digest.Digest.{Digest}
 use Rattle.nw_digest.specs.Order.{digest_cmp}
 use Rattle.nw_trie.specs.Bits.{AgreeBelow, AreBytes, bit_of}
 
--- each digest has P
+-- P holds for the digest of each entry
 abbrev pub EachKey : {V : Type 0} → (Digest → Type 0) → List (Digest × V) → Type 0
 EachKey P es = AllByRecursion (λ e. P e.0) es
 
--- some digest has P
+-- P holds for the digest of some entry
 abbrev pub SomeKey : {V : Type 0} → (Digest → Type 0) → List (Digest × V) → Type 0
 SomeKey P [] = ⊥
 SomeKey P (e ∷ es) = P e.0 ⊎ SomeKey P es
 
--- the digest is one of these
+-- some entry has this digest
 abbrev pub HasKey : {V : Type 0} → Digest → List (Digest × V) → Type 0
 HasKey d es = SomeKey (λ k. k ≡ d) es
 
--- the digests ascend, and have bytes
+-- the entries of a trie
 pub record AreEntries {V : Type 0} (es : List (Digest × V)) : Type 0 where
+  -- their digests ascend strictly
   pub ascending : IsStrictlySortedBy digest_cmp (keys_of es)
+  -- each digest consists of bytes
   pub bytes : EachKey (λ d. AreBytes d.0) es
 
--- all digests agree before this bit, on the left it is not set, and on the right it is
+-- these are the two sides of a fork at this bit
 pub record IsFork {V : Type 0} (bit : ℕ) (left right : List (Digest × V)) : Type 0 where
-  pub left_full : 0 < length left
-  pub right_full : 0 < length right
+  -- the left side has entries
+  pub left_nonempty : 0 < length left
+  -- and so has the right side
+  pub right_nonempty : 0 < length right
+  -- on the left the bit is not set
   pub unset : EachKey (λ d. bit_of d bit ≡ false) left
+  -- on the right it is set
   pub set : EachKey (λ d. bit_of d bit ≡ true) right
+  -- a digest that has the common bits
   pub front : Digest
+  -- before the bit, all digests have the same bits
   pub agree : EachKey (λ d. AgreeBelow bit front d) (left ++ right)
 
--- some digest has all bits before this one in common with d, and none has it too
+-- a new digest d belongs beside the entries that share all its bits before this one
 pub record BranchesAt {V : Type 0} (d : Digest) (bit : ℕ) (es : List (Digest × V)) : Type 0 where
+  -- some entry shares all bits of d before this one
   pub near : SomeKey (AgreeBelow bit d) es
+  -- no entry shares these bits and this one too
   pub apart : EachKey (λ k. AgreeBelow (bit + 1) d k → ⊥) es
 
--- the bit parts the digests
-pub record Parts {V : Type 0} (bit : ℕ) (es : List (Digest × V)) : Type 0 where
+-- the entries are the two sides of a fork at this bit
+pub record ForksAt {V : Type 0} (bit : ℕ) (es : List (Digest × V)) : Type 0 where
+  -- a digest has this bit
   pub low : bit < 256
+  -- the entries with the bit unset
   pub left : List (Digest × V)
+  -- the entries with the bit set
   pub right : List (Digest × V)
+  -- together they are all entries
   pub is : es ≡ left ++ right
+  -- they are the sides of a fork
   pub fork : IsFork bit left right

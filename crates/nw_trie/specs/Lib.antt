@@ -3,3 +3,4 @@ pub mod Entries
 pub mod After
 pub mod Tree
 pub mod TreeFalls
+pub mod Lent

@@ -1,4 +1,4 @@
-//! The bits of a digest, the highest bit of the first byte first.
+//! The bits of a digest. Bit 0 is the highest bit of the first byte.
 ghost use Rattle.std.specs.Prelude.{◌≡◌, ◌<◌, ℕ, length};
 ghost use Rattle.std.specs.Bool.{MatchBool};
 ghost use Rattle.std.specs.Option.{MatchOption};
@@ -14,13 +14,14 @@ pub(crate) fn is_set(digest: &Digest, bit: u8) -> bool
     list_is_set(&digest.0, bit)
 }
 
-/// Says that a digest has bytes. It does nothing.
+/// Tells the prover that a digest consists of bytes. It does nothing at run time.
 pub(crate) fn note_bytes(digest: &Digest)
     ensures { AreBytes digest.now.0 }
 {
     note_list(&digest.0);
 }
 
+/// Tells the prover that a slice consists of bytes.
 fn note_list(bytes: &[u8])
     ensures { AreBytes bytes.now }
 {
@@ -36,7 +37,7 @@ fn list_is_set(bytes: &[u8], bit: u8) -> bool
     byte_is_set(bytes[(bit / 8) as usize], bit % 8)
 }
 
-/// Whether the bit of the byte is set, counted from the highest.
+/// Whether the bit of the byte is set. Bit 0 is the highest.
 fn byte_is_set(byte: u8, bit: u8) -> bool
     requires { bit < 8 }
     ensures { result ≡ byte_bit byte bit }
@@ -59,7 +60,7 @@ fn first_in_byte(a: u8, b: u8) -> u8
     7
 }
 
-/// The first bit at which the digests differ, or `None` where they are equal.
+/// The first bit at which the digests differ, or `None` if they are equal.
 pub(crate) fn first_difference(a: &Digest, b: &Digest) -> Option<u8>
     ensures { MatchOption result (a.now ≡ b.now) (λ bit. DifferFirst bit a.now b.now) }
 {

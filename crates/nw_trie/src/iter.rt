@@ -1,4 +1,4 @@
-//! The entries of a trie, one after another.
+//! An iterator over the entries of a trie.
 ghost use Rattle.std.specs.Prelude.{◌≡◌};
 ghost use Rattle.std.specs.Iterator.{YieldsFirstBy, item_count};
 ghost use Rattle.std.specs.Map.Iter.{deref_pair};
@@ -9,8 +9,8 @@ use nw_digest::Digest;
 use std::alloc::Allocator;
 use std::marker::Model;
 
-/// The entries of a trie that are left, ascending by digest. Contracts see the list of these. It takes no memory, and each
-/// step goes down the trie once.
+/// The remaining entries of a trie, ascending by digest. Contracts see the list of these entries. The iterator takes no
+/// memory, and each step goes down the trie once.
 #[derive(Drop)]
 pub struct Iter<'a, V: Drop, A: Allocator> {
     tree: &'a Tree<V, A>,
@@ -20,13 +20,13 @@ pub struct Iter<'a, V: Drop, A: Allocator> {
 impl<'a, V: Drop, A: Allocator> Model for Iter<'a, V, A> {
     ghost use Rattle.std.specs.Prelude.{List};
     ghost use Rattle.nw_digest.specs.declared.digest.Digest.{Digest};
-    ghost use Rattle.nw_trie.specs.After.{IsLeft, left_of};
+    ghost use Rattle.nw_trie.specs.After.{IsNextIn, entries_from};
 
     ghost Value = { List (Digest × V) };
 
-    ghost view = { λ i. left_of i.tree.now i.next };
+    ghost view = { λ i. entries_from i.tree.now i.next };
 
-    ghost invariant = { λ i. IsLeft i.tree.now i.next };
+    ghost invariant = { λ i. IsNextIn i.tree.now i.next };
 }
 
 impl<'a, V: Drop, A: Allocator> Iter<'a, V, A> {

@@ -1,6 +1,6 @@
-//! Digests and their values, in a critical-bit trie.
+//! This crate maps digests to values in a critical-bit trie.
 //!
-//! Its contract: [`Trie`] is a finite map from digests to values, ascending by digest. It stands on `nw_digest` alone.
+//! Its contract: [`Trie`] is a finite map from digests to values, ascending by digest. It uses only `nw_digest`.
 #![tactic(auto)]
 
 mod bits;

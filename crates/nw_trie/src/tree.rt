@@ -1,4 +1,4 @@
-//! Trees of digests.
+//! Trees of digests, without the length and the allocator of a trie.
 ghost use Rattle.std.specs.Prelude.{◌≡◌, ◌+◌, ◌<◌, [], ◌∷◌, ◌++◌, length, IfOk, IfErr};
 ghost use Rattle.std.specs.Bool.{MatchBool};
 ghost use Rattle.std.specs.Option.{MatchOption, option_copied, option_map};
@@ -23,15 +23,15 @@ use std::alloc::Allocator;
 use std::marker::Model;
 use std::mem;
 
-/// Digests with values, in the order of the digests. Contracts see the list of these.
+/// Digests with values, ascending by digest. Contracts see the list of these entries.
 #[cycle(tree)]
 #[derive(Drop)]
 pub(crate) struct Tree<V: Drop, A: Allocator> {
     link: Link<V, A>,
 }
 
-/// No digest, one digest with its value, or the digests on both sides of a bit. The bit stands beside the address of the
-/// fork, so that a look-up reads one side of a fork alone.
+/// No digest, one digest with its value, or the digests on both sides of a bit. The bit lies beside the address of the
+/// fork, so a lookup reads only one side of a fork.
 #[cycle(tree)]
 #[derive(Drop)]
 pub(crate) enum Link<V: Drop, A: Allocator> {
@@ -40,14 +40,14 @@ pub(crate) enum Link<V: Drop, A: Allocator> {
     Fork(u8, Box<Sides<V, A>, A>),
 }
 
-/// One digest with its value.
+/// A digest with its value.
 #[derive(Drop)]
 pub(crate) struct Entry<V: Drop> {
     digest: Digest,
     value: V,
 }
 
-/// The digests without a bit, and those with it.
+/// The two sides of a fork: the digests with the bit unset, and those with the bit set.
 #[cycle(tree)]
 #[derive(Drop)]
 pub(crate) struct Sides<V: Drop, A: Allocator> {
@@ -82,7 +82,7 @@ impl<V: Drop, A: Allocator> Tree<V, A> {
         Tree { link: Link::Empty }
     }
 
-    /// The digest with its value, or the value where memory is refused.
+    /// A tree with this one entry. If an allocation fails, the value comes back.
     pub(crate) fn leaf(alloc: &A, digest: Digest, value: V) -> Result<Tree<V, A>, V>
     where
         A: Clone,
@@ -101,7 +101,7 @@ impl<V: Drop, A: Allocator> Tree<V, A> {
         }
     }
 
-    /// The memory of a fork.
+    /// A box for a fork, with empty sides, or `None` if an allocation fails.
     pub(crate) fn spare(alloc: &A) -> Option<Box<Sides<V, A>, A>>
     where
         A: Clone,
@@ -111,14 +111,14 @@ impl<V: Drop, A: Allocator> Tree<V, A> {
         Box::new(alloc, Sides { left, right }).ok()
     }
 
-    /// Whether it has no digest.
+    /// Whether the tree is empty.
     pub(crate) fn is_empty(&self) -> bool
         ensures { MatchBool result (self.now ≡ []) (0 < length self.now) }
     {
         matches!(&self.link, Link::Empty)
     }
 
-    /// The value of the digest.
+    /// The value of the digest, or `None` if the tree does not have the digest.
     pub(crate) fn get(&self, digest: &Digest) -> Option<&V>
         ensures { option_copied result ≡ lookup (is_at (digest_cmp digest.now)) self.now }
     {
@@ -134,7 +134,7 @@ impl<V: Drop, A: Allocator> Tree<V, A> {
         (digest == key).then_some(value)
     }
 
-    /// The first digest, with its value.
+    /// The first entry, or `None` if the tree is empty.
     pub(crate) fn first(&self) -> Option<(&Digest, &V)>
         ensures first { option_map deref_pair result ≡ first_entry self.now }
         ensures entries { AreEntries self.now }
@@ -152,7 +152,7 @@ impl<V: Drop, A: Allocator> Tree<V, A> {
         Some((digest, value))
     }
 
-    /// The digest after this one, with its value.
+    /// The entry after that of the digest, or `None` if that is the last one.
     pub(crate) fn after(&self, digest: &Digest) -> Option<(&Digest, &V)>
         requires { HasKey digest.now self.now }
         ensures { option_map deref_pair result ≡ first_entry (after digest.now self.now) }
@@ -170,7 +170,7 @@ impl<V: Drop, A: Allocator> Tree<V, A> {
         right.first()
     }
 
-    /// The bit at which the digest first differs from the nearest of the others, or `None` where it is one of them.
+    /// The first bit at which the digest differs from the digest nearest to it, or `None` if the tree has the digest.
     pub(crate) fn branch(&self, digest: &Digest) -> Option<u8>
         requires { 0 < length self.now }
         ensures { MatchOption result (HasKey digest.now self.now)
@@ -191,7 +191,7 @@ impl<V: Drop, A: Allocator> Tree<V, A> {
         first_difference(digest, key)
     }
 
-    /// Puts the value in the place of the digest's, and hands that one back.
+    /// Replaces the value of the digest, and returns the old value.
     pub(crate) fn replace(&mut self, digest: &Digest, value: V) -> V
         requires { HasKey digest.now self.old }
         ensures old { lookup (is_at (digest_cmp digest.now)) self.old ≡ Some result }
@@ -212,7 +212,7 @@ impl<V: Drop, A: Allocator> Tree<V, A> {
         }
     }
 
-    /// Puts the leaf in its place: the digest branches off at the bit.
+    /// Puts the leaf into its place, at a new fork at this bit. `branch` gave the bit.
     pub(crate) fn graft(
         &mut self,
         digest: &Digest,
@@ -236,7 +236,7 @@ impl<V: Drop, A: Allocator> Tree<V, A> {
         self.split(digest, bit, fork, leaf);
     }
 
-    /// Puts the leaf beside all others, which its digest differs from first at the bit.
+    /// Puts the leaf beside all other entries. Its digest first differs from each of theirs at this bit.
     fn split(&mut self, digest: &Digest, bit: u8, fork: Box<Sides<V, A>, A>, leaf: Tree<V, A>)
         requires differ { EachKey (λ k. DifferFirst bit digest.now k) self.old }
         requires full { 0 < length self.old }
@@ -254,7 +254,7 @@ impl<V: Drop, A: Allocator> Tree<V, A> {
         };
     }
 
-    /// The two sides of the bit, in a fork that was made before.
+    /// A fork at this bit with these sides, in a box that was made before.
     fn forked(
         mut sides: Box<Sides<V, A>, A>,
         bit: u8,
@@ -272,7 +272,7 @@ impl<V: Drop, A: Allocator> Tree<V, A> {
 }
 
 impl<V: Drop, A: Allocator> Sides<V, A> {
-    /// The side of the digests that have the bit set, or the other side.
+    /// The side of the digests with the bit set, or the other side.
     fn side_mut(&mut self, set: bool) -> &mut Tree<V, A>
         ensures* writes_back { sem 𝓛 (follows (sides.the_row V.row A.row A.Allocator)
             (tree.the_row V.row A.row A.Allocator) self.entry.ghost_name result.ghost_name

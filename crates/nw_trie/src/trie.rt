@@ -2,13 +2,13 @@
 ghost use Rattle.std.specs.Prelude.{◌≡◌, ◌+◌, [], ◌↔◌};
 ghost use Rattle.std.specs.Prelude.{length, is_some, IsTrue, IfOk, IfErr, OnOk, OnErr};
 ghost use Rattle.std.specs.Prelude.{if◌then◌else◌, filter, nat_le};
-ghost use Rattle.std.specs.Option.{option_copied, option_copied_mut, ghost_name_of};
+ghost use Rattle.std.specs.Option.{option_copied, option_copied_mut};
 ghost use Rattle.std.specs.Map.{keys_of, lookup, remove_entry};
 ghost use Rattle.std.specs.BTreeMap.{insert_entry, is_at};
 ghost use Rattle.std.specs.List.Sorted.{IsStrictlySortedBy};
-ghost use Rattle.std.specs.Borrow.{sem, follows_if};
+ghost use Rattle.std.specs.Borrow.{sem};
 ghost use Rattle.nw_digest.specs.Order.{digest_cmp};
-ghost use Rattle.nw_trie.specs.contracts.trie.Trie.{the_row};
+ghost use Rattle.nw_trie.specs.Lent.{trie_follows_value};
 
 use crate::iter::Iter;
 use crate::tree::Tree;
@@ -16,7 +16,7 @@ use nw_digest::{Digest, InRound, NoMemory, Round};
 use std::alloc::Allocator;
 use std::marker::Model;
 
-/// A map from digests to values, in the memory of one allocator. Contracts see the entries, ascending by digest.
+/// A map from digests to values, whose memory comes from one allocator. Contracts see the entries, ascending by digest.
 #[derive(Drop)]
 pub struct Trie<V: Drop, A: Allocator> {
     tree: Tree<V, A>,
@@ -36,7 +36,7 @@ impl<V: Drop, A: Allocator> Model for Trie<V, A> {
 }
 
 impl<V: Drop, A: Allocator> Trie<V, A> {
-    /// No entries. It takes no memory.
+    /// An empty trie. It takes no memory.
     pub fn new_in(alloc: A) -> Trie<V, A>
         ensures { result ≡ [] }
     {
@@ -47,32 +47,31 @@ impl<V: Drop, A: Allocator> Trie<V, A> {
         }
     }
 
-    /// How many entries there are.
+    /// The number of entries.
     pub fn len(&self) -> usize
         ensures len { result ≡ length self.now }
     {
         self.len
     }
 
-    /// Whether there is no entry.
+    /// Whether the trie is empty.
     pub fn is_empty(&self) -> bool
         ensures { IsTrue result ↔ (length self.now ≡ 0) }
     {
         self.len == 0
     }
 
-    /// The value of the digest. A look-up goes through at most 256 forks, and compares one whole digest.
+    /// The value of the digest, or `None` if it has none. A lookup passes at most 256 forks, and compares one whole digest.
     pub fn get(&self, digest: &Digest) -> Option<&V>
         ensures value { option_copied result ≡ lookup (is_at (digest_cmp digest.now)) self.now }
     {
         self.tree.get(digest)
     }
 
-    /// The value of the digest, to be changed where it lies. What is written there is then the digest's value.
+    /// The value of the digest, for changes in place, or `None` if it has none. All other entries stay.
     pub fn get_mut(&mut self, digest: &Digest) -> Option<&mut V>
-        ensures* writes_back { sem 𝓛 (follows_if (the_row V.row A.row A.Allocator) V.row
-            self.entry.ghost_name (ghost_name_of result)
-            (insert_entry digest_cmp self.old digest.now) self.old) }
+        ensures* writes_back { sem 𝓛 (trie_follows_value V.row A.row A.Allocator self.entry
+            digest.now result) }
         ensures value { option_copied_mut result ≡ lookup (is_at (digest_cmp digest.now)) self.old }
     {
         if self.get(digest).is_none() {
@@ -89,9 +88,10 @@ impl<V: Drop, A: Allocator> Trie<V, A> {
         Iter::new(&self.tree)
     }
 
-    /// Puts the value at the digest. A value that was there is handed back, and then no memory is taken. Want of memory
-    /// hands the new value back, and changes nothing. It is answered too where there are `usize::MAX` entries, which no
-    /// memory has room for.
+    /// Sets the value of the digest, and returns its old value if it had one. Replacing a value takes no memory.
+    ///
+    /// `NoMemory` comes with the new value if an allocation fails, or if there are `usize::MAX` entries already, which no
+    /// memory has room for. Then the trie stays as it was.
     pub fn insert(&mut self, digest: Digest, value: V) -> Result<Option<V>, (NoMemory, V)>
     where
         A: Clone,
@@ -128,8 +128,9 @@ impl<V: Drop, A: Allocator> Trie<V, A> {
         }
     }
 
-    /// Puts the value at the digest. A value that was there is dropped, and the new one is where memory is refused. Want of
-    /// memory changes nothing.
+    /// Sets the value of the digest, and drops its old value if it had one.
+    ///
+    /// `NoMemory` comes when `insert` refuses. Then the new value is dropped, and the trie stays as it was.
     pub fn put(&mut self, digest: Digest, value: V) -> Result<(), NoMemory>
     where
         A: Clone,
@@ -142,7 +143,7 @@ impl<V: Drop, A: Allocator> Trie<V, A> {
         }
     }
 
-    /// Puts the value at the digest, where there is no entry.
+    /// The same as `insert`, for an empty trie.
     fn insert_first(&mut self, digest: Digest, value: V) -> Result<Option<V>, (NoMemory, V)>
     where
         A: Clone,
@@ -162,7 +163,7 @@ impl<V: Drop, A: Allocator> Trie<V, A> {
         }
     }
 
-    /// Takes the entry of the digest out, and gives its value.
+    /// Removes the entry of the digest and returns its value, or `None` if there is no such entry.
     pub fn remove(&mut self, digest: &Digest) -> Option<V>
         ensures value { result ≡ lookup (is_at (digest_cmp digest.now)) self.old }
         ensures entries { self.new ≡ remove_entry (is_at (digest_cmp digest.now)) self.old }
@@ -173,7 +174,7 @@ impl<V: Drop, A: Allocator> Trie<V, A> {
         Some(value)
     }
 
-    /// Drops the values of rounds below this one, and gives the count of them.
+    /// Drops the entries whose values belong to rounds below the floor, and returns how many were dropped.
     pub fn retain_rounds(&mut self, floor: Round) -> usize
     where
         V: InRound,

@@ -1,4 +1,4 @@
--- What each call does to the relation.
+-- The indexes and the pairs after each call.
 use Rattle.std.proofs.Common.{◌≡◌, ◌∙◌, true, false, cond, not, ◌&&◌, ◌||◌, List, [], ◌∷◌, ◌++◌, None, sym, ap, subst}
 use Rattle.std.specs.Prelude.{filter}
 use Rattle.std.specs.List.{IsDistinct, list_any}
@@ -9,121 +9,121 @@ use Rattle.std.specs.Ordering.{eq_by_cmp}
 use Rattle.std.specs.FinSet.{contains, from_list, insert}
 use Rattle.nw_digest.specs.declared.digest.Digest.{Digest}
 use Rattle.nw_waiting.specs.declared.wanted.Wanted.{Wanted}
-use Rattle.nw_waiting.specs.Index.{AreOneRelation, pairs_in}
+use Rattle.nw_waiting.specs.Index.{HaveSamePairs, pairs_in}
 use Rattle.nw_waiting.specs.Lists.{AreFilled, list_of}
 use Rattle.nw_digest.specs.Order.{digest_cmp}
-use Rattle.nw_waiting.specs.Pairs.{AreHolders, AreLacked, AreWanted, Pairs, wanted_cmp, without_holder, without_wanted}
+use Rattle.nw_waiting.specs.Pairs.{AreHolders, AreMissing, AreWanted, Pairs, wanted_cmp, without_holder, without_wanted}
 use Rattle.nw_waiting.proofs.Members.{member_added, member_removed, once_added, once_removed}
 use Rattle.nw_waiting.proofs.Orders.{digests_total, wanted_total}
-use Rattle.nw_waiting.proofs.Relation.{are_holders, are_lacked, are_wanted, contains_added, contains_in, contains_without_holder, contains_without_wanted, filled_taken, is_pair, member_taken, nobody, once_taken, one_digest, one_wanted, same_added, same_satisfied, same_unwanted, view_is}
+use Rattle.nw_waiting.proofs.Relation.{are_holders, are_missing, are_wanted, contains_added, contains_in, contains_without_holder, contains_without_wanted, filled_taken, is_pair, member_taken, nobody, once_taken, one_digest, one_wanted, same_added, same_satisfied, same_unwanted, view_is}
 
-module _ {L M : Type 0} (items : L → List Digest) (lacks : M → List Wanted) where
-  abbrev H : List (Wanted × L) → Wanted → List Digest
-  H hs w = list_of items (lookup (is_at (wanted_cmp w)) hs)
+module _ {L M : Type 0} (items : L → List Digest) (missing : M → List Wanted) where
+  abbrev holders_at : List (Wanted × L) → Wanted → List Digest
+  holders_at hs w = list_of items (lookup (is_at (wanted_cmp w)) hs)
 
-  abbrev D : List (Digest × M) → Digest → List Wanted
-  D ls h = list_of lacks (lookup (is_at (digest_cmp h)) ls)
+  abbrev missing_at : List (Digest × M) → Digest → List Wanted
+  missing_at ls h = list_of missing (lookup (is_at (digest_cmp h)) ls)
 
-  -- no lists
-  pub nothing : (hs : List (Wanted × L)) (ls : List (Digest × M)) → hs ≡ [] → ls ≡ [] → IsStrictlySortedBy wanted_cmp (keys_of hs) → AreOneRelation items lacks hs ls
+  -- empty indexes have the same pairs
+  pub nothing : (hs : List (Wanted × L)) (ls : List (Digest × M)) → hs ≡ [] → ls ≡ [] → IsStrictlySortedBy wanted_cmp (keys_of hs) → HaveSamePairs items missing hs ls
   nothing hs ls no_h no_l sorted = record {
-    same = λ w h. ap (λ es. list_any (eq_by_cmp digest_cmp h) (H es w)) no_h ∙ sym (ap (λ es. list_any (eq_by_cmp wanted_cmp w) (D es h)) no_l);
-    holders_once = λ w. subst (λ es. IsDistinct (eq_by_cmp digest_cmp) (H es w)) (sym no_h) (nobody (eq_by_cmp digest_cmp));
-    lacked_once = λ h. subst (λ es. IsDistinct (eq_by_cmp wanted_cmp) (D es h)) (sym no_l) (nobody (eq_by_cmp wanted_cmp));
+    same = λ w h. ap (λ es. list_any (eq_by_cmp digest_cmp h) (holders_at es w)) no_h ∙ sym (ap (λ es. list_any (eq_by_cmp wanted_cmp w) (missing_at es h)) no_l);
+    holders_once = λ w. subst (λ es. IsDistinct (eq_by_cmp digest_cmp) (holders_at es w)) (sym no_h) (nobody (eq_by_cmp digest_cmp));
+    missing_once = λ h. subst (λ es. IsDistinct (eq_by_cmp wanted_cmp) (missing_at es h)) (sym no_l) (nobody (eq_by_cmp wanted_cmp));
     filled = subst (λ es. AreFilled items (λ w. lookup (is_at (wanted_cmp w)) es)) (sym no_h) (λ w some. let no : false ≡ true = some in cc);
     ordered = sorted;
   }
 
-  module _ (hs : List (Wanted × L)) (ls : List (Digest × M)) (r : AreOneRelation items lacks hs ls) (s : Pairs) (view : from_list (pairs_in items hs) ≡ s) where
-    pub member : (w : Wanted) (h : Digest) → list_any (eq_by_cmp digest_cmp h) (H hs w) ≡ contains s (w, h)
+  module _ (hs : List (Wanted × L)) (ls : List (Digest × M)) (r : HaveSamePairs items missing hs ls) (s : Pairs) (view : from_list (pairs_in items hs) ≡ s) where
+    pub member : (w : Wanted) (h : Digest) → list_any (eq_by_cmp digest_cmp h) (holders_at hs w) ≡ contains s (w, h)
     member w h = sym (contains_in items hs r.ordered w h) ∙ ap (λ t. contains t (w, h)) view
 
-    pub lacking : (w : Wanted) (h : Digest) → list_any (eq_by_cmp wanted_cmp w) (D ls h) ≡ contains s (w, h)
-    lacking w h = sym (r.same w h) ∙ member w h
+    pub missing_member : (w : Wanted) (h : Digest) → list_any (eq_by_cmp wanted_cmp w) (missing_at ls h) ≡ contains s (w, h)
+    missing_member w h = sym (r.same w h) ∙ member w h
 
-    -- what is looked up
-    pub holders_of : (wanted : Wanted) (xs : List Digest) → xs ≡ H hs wanted → AreHolders s wanted xs
-    holders_of wanted xs is = subst (AreHolders s wanted) (sym is) (are_holders s wanted (H hs wanted) (member wanted) (r.holders_once wanted))
+    -- the lists that a lookup finds
+    pub holders_of : (wanted : Wanted) (xs : List Digest) → xs ≡ holders_at hs wanted → AreHolders s wanted xs
+    holders_of wanted xs is = subst (AreHolders s wanted) (sym is) (are_holders s wanted (holders_at hs wanted) (member wanted) (r.holders_once wanted))
 
-    pub lacked_of : (holder : Digest) (xs : List Wanted) → xs ≡ D ls holder → AreLacked s holder xs
-    lacked_of holder xs is = subst (AreLacked s holder) (sym is) (are_lacked s holder (D ls holder) (λ w. lacking w holder) (r.lacked_once holder))
+    pub missing_of : (holder : Digest) (xs : List Wanted) → xs ≡ missing_at ls holder → AreMissing s holder xs
+    missing_of holder xs is = subst (AreMissing s holder) (sym is) (are_missing s holder (missing_at ls holder) (λ w. missing_member w holder) (r.missing_once holder))
 
     pub wanted_of : AreWanted s (keys_of hs)
     wanted_of = are_wanted items hs s member r.filled r.ordered
 
     module _ (hs' : List (Wanted × L)) (ls' : List (Digest × M)) where
-      -- nothing changed
-      pub kept_view : ((w : Wanted) → H hs' w ≡ H hs w) → IsStrictlySortedBy wanted_cmp (keys_of hs') → from_list (pairs_in items hs') ≡ s
+      -- no list changed
+      pub kept_view : ((w : Wanted) → holders_at hs' w ≡ holders_at hs w) → IsStrictlySortedBy wanted_cmp (keys_of hs') → from_list (pairs_in items hs') ≡ s
       kept_view same sorted = view_is items hs' sorted s (λ w h. ap (list_any (eq_by_cmp digest_cmp h)) (same w) ∙ member w h)
 
-      pub kept : ((w : Wanted) → H hs' w ≡ H hs w) → ((h : Digest) → D ls' h ≡ D ls h) → AreFilled items (λ w. lookup (is_at (wanted_cmp w)) hs') → IsStrictlySortedBy wanted_cmp (keys_of hs') → AreOneRelation items lacks hs' ls'
+      pub kept : ((w : Wanted) → holders_at hs' w ≡ holders_at hs w) → ((h : Digest) → missing_at ls' h ≡ missing_at ls h) → AreFilled items (λ w. lookup (is_at (wanted_cmp w)) hs') → IsStrictlySortedBy wanted_cmp (keys_of hs') → HaveSamePairs items missing hs' ls'
       kept same_h same_l filled sorted = record {
         same = λ w h. ap (list_any (eq_by_cmp digest_cmp h)) (same_h w) ∙ r.same w h ∙ ap (list_any (eq_by_cmp wanted_cmp w)) (sym (same_l h));
         holders_once = λ w. subst (IsDistinct (eq_by_cmp digest_cmp)) (sym (same_h w)) (r.holders_once w);
-        lacked_once = λ h. subst (IsDistinct (eq_by_cmp wanted_cmp)) (sym (same_l h)) (r.lacked_once h);
+        missing_once = λ h. subst (IsDistinct (eq_by_cmp wanted_cmp)) (sym (same_l h)) (r.missing_once h);
         filled = filled;
         ordered = sorted;
       }
 
-      -- a pair is put in
-      module _ (wanted : Wanted) (holder : Digest) (absent : list_any (eq_by_cmp wanted_cmp wanted) (D ls holder) ≡ false)
-          (put_h : (q : Wanted) → H hs' q ≡ cond (eq_by_cmp wanted_cmp wanted q) (H hs q ++ holder ∷ []) (H hs q)) where
+      -- a pair is added
+      module _ (wanted : Wanted) (holder : Digest) (absent : list_any (eq_by_cmp wanted_cmp wanted) (missing_at ls holder) ≡ false)
+          (put_h : (q : Wanted) → holders_at hs' q ≡ cond (eq_by_cmp wanted_cmp wanted q) (holders_at hs q ++ holder ∷ []) (holders_at hs q)) where
         pub added_view : IsStrictlySortedBy wanted_cmp (keys_of hs') → from_list (pairs_in items hs') ≡ insert s (wanted, holder)
         added_view sorted = view_is items hs' sorted _ (λ w h.
-            member_added wanted_cmp digests_total (H hs) (H hs') wanted holder put_h w h ∙ ap (λ b. b || is_pair wanted holder w h) (member w h) ∙ contains_added s wanted w holder h)
+            member_added wanted_cmp digests_total (holders_at hs) (holders_at hs') wanted holder put_h w h ∙ ap (λ b. b || is_pair wanted holder w h) (member w h) ∙ contains_added s wanted w holder h)
 
-        once_put : (w : Wanted) → IsDistinct (eq_by_cmp digest_cmp) (H hs' w)
-        once_put = once_added wanted_cmp digests_total (H hs) (H hs') wanted holder put_h r.holders_once
-            (λ q e. r.same q holder ∙ ap (λ w. list_any (eq_by_cmp wanted_cmp w) (D ls holder)) (sym (one_wanted wanted q e)) ∙ absent)
+        once_put : (w : Wanted) → IsDistinct (eq_by_cmp digest_cmp) (holders_at hs' w)
+        once_put = once_added wanted_cmp digests_total (holders_at hs) (holders_at hs') wanted holder put_h r.holders_once
+            (λ q e. r.same q holder ∙ ap (λ w. list_any (eq_by_cmp wanted_cmp w) (missing_at ls holder)) (sym (one_wanted wanted q e)) ∙ absent)
 
-        pub added : ((q : Digest) → D ls' q ≡ cond (eq_by_cmp digest_cmp holder q) (D ls q ++ wanted ∷ []) (D ls q)) → AreFilled items (λ w. lookup (is_at (wanted_cmp w)) hs') → IsStrictlySortedBy wanted_cmp (keys_of hs')
-            → AreOneRelation items lacks hs' ls'
+        pub added : ((q : Digest) → missing_at ls' q ≡ cond (eq_by_cmp digest_cmp holder q) (missing_at ls q ++ wanted ∷ []) (missing_at ls q)) → AreFilled items (λ w. lookup (is_at (wanted_cmp w)) hs') → IsStrictlySortedBy wanted_cmp (keys_of hs')
+            → HaveSamePairs items missing hs' ls'
         added put_l filled sorted = record {
-          same = λ w h. same_added wanted w holder h _ _ _ _ (member_added wanted_cmp digests_total (H hs) (H hs') wanted holder put_h w h) (member_added digest_cmp wanted_total (D ls) (D ls') holder wanted put_l h w) (r.same w h);
+          same = λ w h. same_added wanted w holder h _ _ _ _ (member_added wanted_cmp digests_total (holders_at hs) (holders_at hs') wanted holder put_h w h) (member_added digest_cmp wanted_total (missing_at ls) (missing_at ls') holder wanted put_l h w) (r.same w h);
           holders_once = once_put;
-          lacked_once = once_added digest_cmp wanted_total (D ls) (D ls') holder wanted put_l r.lacked_once (λ q e. ap (λ d. list_any (eq_by_cmp wanted_cmp wanted) (D ls d)) (sym (one_digest holder q e)) ∙ absent);
+          missing_once = once_added digest_cmp wanted_total (missing_at ls) (missing_at ls') holder wanted put_l r.missing_once (λ q e. ap (λ d. list_any (eq_by_cmp wanted_cmp wanted) (missing_at ls d)) (sym (one_digest holder q e)) ∙ absent);
           filled = filled;
           ordered = sorted;
         }
 
-      -- the list of what is wanted is taken out
+      -- the list of a parent's holders is removed
       module _ (wanted : Wanted) (gone : (q : Wanted) → lookup (is_at (wanted_cmp q)) hs' ≡ cond (eq_by_cmp wanted_cmp wanted q) None (lookup (is_at (wanted_cmp q)) hs)) where
-        left_member : (w : Wanted) (h : Digest) → list_any (eq_by_cmp digest_cmp h) (H hs' w) ≡ (list_any (eq_by_cmp digest_cmp h) (H hs w) && not (eq_by_cmp wanted_cmp wanted w))
+        left_member : (w : Wanted) (h : Digest) → list_any (eq_by_cmp digest_cmp h) (holders_at hs' w) ≡ (list_any (eq_by_cmp digest_cmp h) (holders_at hs w) && not (eq_by_cmp wanted_cmp wanted w))
         left_member w h = member_taken wanted_cmp (eq_by_cmp digest_cmp) items (λ q. lookup (is_at (wanted_cmp q)) hs) (λ q. lookup (is_at (wanted_cmp q)) hs') wanted gone w h
 
         pub satisfied_view : IsStrictlySortedBy wanted_cmp (keys_of hs') → from_list (pairs_in items hs') ≡ without_wanted s wanted
         satisfied_view sorted = view_is items hs' sorted _ (λ w h. left_member w h ∙ ap (λ b. b && not (eq_by_cmp wanted_cmp wanted w)) (member w h) ∙ contains_without_wanted s wanted w h)
 
-        pub satisfied : (xs : List Digest) → xs ≡ H hs wanted
-            → ((h : Digest) (w : Wanted) → list_any (eq_by_cmp wanted_cmp w) (D ls' h) ≡ (list_any (eq_by_cmp wanted_cmp w) (D ls h) && not (list_any (eq_by_cmp digest_cmp h) xs && eq_by_cmp wanted_cmp w wanted)))
-            → ((h : Digest) → IsDistinct (eq_by_cmp wanted_cmp) (D ls' h)) → IsStrictlySortedBy wanted_cmp (keys_of hs') → AreOneRelation items lacks hs' ls'
+        pub satisfied : (xs : List Digest) → xs ≡ holders_at hs wanted
+            → ((h : Digest) (w : Wanted) → list_any (eq_by_cmp wanted_cmp w) (missing_at ls' h) ≡ (list_any (eq_by_cmp wanted_cmp w) (missing_at ls h) && not (list_any (eq_by_cmp digest_cmp h) xs && eq_by_cmp wanted_cmp w wanted)))
+            → ((h : Digest) → IsDistinct (eq_by_cmp wanted_cmp) (missing_at ls' h)) → IsStrictlySortedBy wanted_cmp (keys_of hs') → HaveSamePairs items missing hs' ls'
         satisfied xs is took once sorted = record {
           same = λ w h.
-              left_member w h ∙ same_satisfied wanted w h (λ v d. list_any (eq_by_cmp digest_cmp d) (H hs v)) (list_any (eq_by_cmp wanted_cmp w) (D ls h)) (r.same w h)
-              ∙ ap (λ ys. list_any (eq_by_cmp wanted_cmp w) (D ls h) && not (list_any (eq_by_cmp digest_cmp h) ys && eq_by_cmp wanted_cmp w wanted)) (sym is) ∙ sym (took h w);
+              left_member w h ∙ same_satisfied wanted w h (λ v d. list_any (eq_by_cmp digest_cmp d) (holders_at hs v)) (list_any (eq_by_cmp wanted_cmp w) (missing_at ls h)) (r.same w h)
+              ∙ ap (λ ys. list_any (eq_by_cmp wanted_cmp w) (missing_at ls h) && not (list_any (eq_by_cmp digest_cmp h) ys && eq_by_cmp wanted_cmp w wanted)) (sym is) ∙ sym (took h w);
           holders_once = once_taken wanted_cmp (eq_by_cmp digest_cmp) items (λ q. lookup (is_at (wanted_cmp q)) hs) (λ q. lookup (is_at (wanted_cmp q)) hs') wanted gone r.holders_once;
-          lacked_once = once;
+          missing_once = once;
           filled = filled_taken wanted_cmp (eq_by_cmp digest_cmp) items (λ q. lookup (is_at (wanted_cmp q)) hs) (λ q. lookup (is_at (wanted_cmp q)) hs') wanted gone r.filled;
           ordered = sorted;
         }
 
-      -- the list of a holder is taken out
-      module _ (holder : Digest) (xs : List Wanted) (is : xs ≡ D ls holder)
-          (took : (w : Wanted) (h : Digest) → list_any (eq_by_cmp digest_cmp h) (H hs' w) ≡ (list_any (eq_by_cmp digest_cmp h) (H hs w) && not (list_any (eq_by_cmp wanted_cmp w) xs && eq_by_cmp digest_cmp h holder))) where
-        rest_member : (w : Wanted) (h : Digest) → list_any (eq_by_cmp digest_cmp h) (H hs' w) ≡ (list_any (eq_by_cmp wanted_cmp w) (D ls h) && not (eq_by_cmp digest_cmp holder h))
+      -- the list of a holder's missing parents is removed
+      module _ (holder : Digest) (xs : List Wanted) (is : xs ≡ missing_at ls holder)
+          (took : (w : Wanted) (h : Digest) → list_any (eq_by_cmp digest_cmp h) (holders_at hs' w) ≡ (list_any (eq_by_cmp digest_cmp h) (holders_at hs w) && not (list_any (eq_by_cmp wanted_cmp w) xs && eq_by_cmp digest_cmp h holder))) where
+        rest_member : (w : Wanted) (h : Digest) → list_any (eq_by_cmp digest_cmp h) (holders_at hs' w) ≡ (list_any (eq_by_cmp wanted_cmp w) (missing_at ls h) && not (eq_by_cmp digest_cmp holder h))
         rest_member w h =
-            took w h ∙ ap (λ ys. list_any (eq_by_cmp digest_cmp h) (H hs w) && not (list_any (eq_by_cmp wanted_cmp w) ys && eq_by_cmp digest_cmp h holder)) is
-            ∙ same_unwanted holder h w (λ d v. list_any (eq_by_cmp wanted_cmp v) (D ls d)) (list_any (eq_by_cmp digest_cmp h) (H hs w)) (r.same w h)
+            took w h ∙ ap (λ ys. list_any (eq_by_cmp digest_cmp h) (holders_at hs w) && not (list_any (eq_by_cmp wanted_cmp w) ys && eq_by_cmp digest_cmp h holder)) is
+            ∙ same_unwanted holder h w (λ d v. list_any (eq_by_cmp wanted_cmp v) (missing_at ls d)) (list_any (eq_by_cmp digest_cmp h) (holders_at hs w)) (r.same w h)
 
         pub unwanted_view : IsStrictlySortedBy wanted_cmp (keys_of hs') → from_list (pairs_in items hs') ≡ without_holder s holder
-        unwanted_view sorted = view_is items hs' sorted _ (λ w h. rest_member w h ∙ ap (λ b. b && not (eq_by_cmp digest_cmp holder h)) (lacking w h) ∙ contains_without_holder s holder h w)
+        unwanted_view sorted = view_is items hs' sorted _ (λ w h. rest_member w h ∙ ap (λ b. b && not (eq_by_cmp digest_cmp holder h)) (missing_member w h) ∙ contains_without_holder s holder h w)
 
         pub unwanted : ((q : Digest) → lookup (is_at (digest_cmp q)) ls' ≡ cond (eq_by_cmp digest_cmp holder q) None (lookup (is_at (digest_cmp q)) ls))
-            → ((w : Wanted) → IsDistinct (eq_by_cmp digest_cmp) (H hs' w)) → AreFilled items (λ w. lookup (is_at (wanted_cmp w)) hs') → IsStrictlySortedBy wanted_cmp (keys_of hs') → AreOneRelation items lacks hs' ls'
+            → ((w : Wanted) → IsDistinct (eq_by_cmp digest_cmp) (holders_at hs' w)) → AreFilled items (λ w. lookup (is_at (wanted_cmp w)) hs') → IsStrictlySortedBy wanted_cmp (keys_of hs') → HaveSamePairs items missing hs' ls'
         unwanted gone once filled sorted = record {
-          same = λ w h. rest_member w h ∙ sym (member_taken digest_cmp (eq_by_cmp wanted_cmp) lacks (λ q. lookup (is_at (digest_cmp q)) ls) (λ q. lookup (is_at (digest_cmp q)) ls') holder gone h w);
+          same = λ w h. rest_member w h ∙ sym (member_taken digest_cmp (eq_by_cmp wanted_cmp) missing (λ q. lookup (is_at (digest_cmp q)) ls) (λ q. lookup (is_at (digest_cmp q)) ls') holder gone h w);
           holders_once = once;
-          lacked_once = once_taken digest_cmp (eq_by_cmp wanted_cmp) lacks (λ q. lookup (is_at (digest_cmp q)) ls) (λ q. lookup (is_at (digest_cmp q)) ls') holder gone r.lacked_once;
+          missing_once = once_taken digest_cmp (eq_by_cmp wanted_cmp) missing (λ q. lookup (is_at (digest_cmp q)) ls) (λ q. lookup (is_at (digest_cmp q)) ls') holder gone r.missing_once;
           filled = filled;
           ordered = sorted;
         }

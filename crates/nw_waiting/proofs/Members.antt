@@ -1,4 +1,4 @@
--- What a change of lists under keys does to their members.
+-- The members of the lists in a map after a change.
 use Rattle.std.proofs.Common.{◌≡◌, ◌∙◌, ℕ, ◌+◌, ◌<◌, length, take, get_or, Bool, true, false, cond, not, ◌&&◌, ◌||◌, List, [], ◌∷◌, ◌++◌, Some, refl, sym, ap, subst}
 use Rattle.std.specs.Prelude.{filter}
 use Rattle.std.specs.declared.cmp.Ordering.{Ordering}
@@ -26,7 +26,7 @@ either : {X : Type 0} (b : Bool) (x : X) → cond b x x ≡ x
 either true x = refl
 either false x = refl
 
--- w is written at a key
+-- the list w is written at the key k
 module _ {K L V : Type 0} {RK : K → K → Ordering} (o : IsTotalOrder RK) (items : L → List V) (es fs : List (K × L)) (k : K) (w : L)
     (put : (q : K) → lookup (is_at (RK q)) fs ≡ cond (eq_by_cmp RK k q) (Some w) (lookup (is_at (RK q)) es)) where
   abbrev at : List (K × L) → K → List V
@@ -56,7 +56,7 @@ module _ {X : Type 0} (E : X → X → Bool) (p : X → Bool) where
       ]
 
 module _ {K V : Type 0} (RK : K → K → Ordering) {RV : V → V → Ordering} (o : IsTotalOrder RV) (at new : K → List V) (k : K) (v : V) where
-  -- a value is put at the end of the list of a key
+  -- a value is appended to the list of the key
   module _ (put : (q : K) → new q ≡ cond (eq_by_cmp RK k q) (at q ++ v ∷ []) (at q)) where
     pub member_added : (q : K) (x : V) → list_any (eq_by_cmp RV x) (new q) ≡ (list_any (eq_by_cmp RV x) (at q) || (eq_by_cmp RK k q && eq_by_cmp RV x v))
     member_added q x = ap (list_any (eq_by_cmp RV x)) (put q) ∙ by (eq_by_cmp RK k q)
@@ -72,7 +72,7 @@ module _ {K V : Type 0} (RK : K → K → Ordering) {RV : V → V → Ordering} 
         by true is = IsDistinct-push (eq_by_cmp_equiv o) (at q) v (once q) (absent q is)
         by false is = once q
 
-  -- a value is taken out of the list of a key
+  -- a value is removed from the list of the key
   module _ (took : (q : K) → new q ≡ cond (eq_by_cmp RK k q) (filter (λ x. not (eq_by_cmp RV x v)) (at q)) (at q)) where
     pub member_removed : (q : K) (x : V) → list_any (eq_by_cmp RV x) (new q) ≡ (list_any (eq_by_cmp RV x) (at q) && not (eq_by_cmp RK k q && eq_by_cmp RV x v))
     member_removed q x = ap (list_any (eq_by_cmp RV x)) (took q) ∙ by (eq_by_cmp RK k q)
@@ -91,7 +91,7 @@ module _ {K V : Type 0} (RK : K → K → Ordering) {RV : V → V → Ordering} 
         by true = IsDistinct-filter (eq_by_cmp RV) _ (at q) (once q)
         by false = once q
 
--- one more key whose list has lost the value
+-- the value is removed from the list of one more key
 pub taken_more : (m i e v : Bool) → ((m && not (i && v)) && not (e && v)) ≡ (m && not ((i || (e || false)) && v))
 taken_more false i e v = refl
 taken_more true true e true = refl

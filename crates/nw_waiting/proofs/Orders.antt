@@ -1,4 +1,4 @@
--- The orders of digests, of what is wanted, and of pairs.
+-- The orders of digests, of wanted parents, and of pairs.
 use Rattle.std.proofs.Common.{◌≡◌, ℕ, List, refl, ap, true, ◌&&◌}
 use Rattle.std.specs.declared.cmp.Ordering.{Ordering}
 use Rattle.std.specs.declared.cmp.Ordering.TheVariants.{Less, Equal, Greater}
@@ -44,6 +44,6 @@ tied_then Less b = refl
 tied_then Equal b = refl
 tied_then Greater b = refl
 
--- pairs tie exactly where both parts do
+-- pairs compare as equal exactly if both parts do
 pub pair_tied : (p q : Pair) → eq_by_cmp pair_cmp p q ≡ (eq_by_cmp wanted_cmp p.0 q.0 && eq_by_cmp digest_cmp p.1 q.1)
 pair_tied p q = tied_then (wanted_cmp p.0 q.0) (digest_cmp p.1 q.1)

@@ -1,4 +1,4 @@
--- The pairs that the lists hold, and what a change of the lists does to them.
+-- The pairs in the lists, and the pairs after a change of the lists.
 use Rattle.std.proofs.Common.{◌≡◌, ◌≢◌, ◌∙◌, Bool, true, false, cond, not, ◌&&◌, ◌||◌, List, [], ◌∷◌, map, Option, Some, None, Result, Ok, Err, refl, sym, ap, subst}
 use Rattle.std.specs.Prelude.{IsSome, OnErr}
 use Rattle.std.specs.declared.cmp.Ordering.{Ordering}
@@ -19,7 +19,7 @@ use Rattle.nw_waiting.specs.declared.wanted.Wanted.{Wanted}
 use Rattle.nw_waiting.specs.Index.{pairs_in}
 use Rattle.nw_waiting.specs.Lists.{AreFilled, list_of}
 use Rattle.nw_digest.specs.Order.{digest_cmp}
-use Rattle.nw_waiting.specs.Pairs.{AreHolders, AreLacked, AreWanted, Lacks, Pair, Pairs, pair_cmp, wanted_cmp, without_holder, without_wanted}
+use Rattle.nw_waiting.specs.Pairs.{AreHolders, AreMissing, AreWanted, Lacks, Pair, Pairs, pair_cmp, wanted_cmp, without_holder, without_wanted}
 use Rattle.nw_waiting.proofs.Orders.{digests_apart, digests_total, pair_tied, pairs_apart, pairs_total, tie, wanted_apart, wanted_total}
 
 left : (a b : Bool) → (a && b) ≡ true → a ≡ true
@@ -79,17 +79,17 @@ module _ {L : Type 0} (holders : L → List Digest) where
           ap (λ found. list_any (eq_by_cmp digest_cmp h) (holders e.1) || list_any (eq_by_cmp digest_cmp h) (list_of holders found)) none ∙ or_false _
       by false is = refl
 
-  -- the set of pairs has those of the lists
+  -- the set of pairs has exactly the pairs of the lists
   pub contains_in : (es : List (Wanted × L)) → IsStrictlySortedBy wanted_cmp (keys_of es) → (w : Wanted) (h : Digest)
       → contains (from_list {R = pair_cmp} (pairs_in holders es)) (w, h) ≡ list_any (eq_by_cmp digest_cmp h) (list_of holders (lookup (is_at (wanted_cmp w)) es))
   contains_in es sorted w h = contains-from_list pairs_total (pairs_in holders es) (w, h) ∙ any_in es sorted w h
 
-  -- and is the set with those
+  -- and any set with exactly these pairs is that set
   pub view_is : (es : List (Wanted × L)) → IsStrictlySortedBy wanted_cmp (keys_of es) → (s : Pairs)
       → ((w : Wanted) (h : Digest) → list_any (eq_by_cmp digest_cmp h) (list_of holders (lookup (is_at (wanted_cmp w)) es)) ≡ contains s (w, h)) → from_list (pairs_in holders es) ≡ s
   view_is es sorted s is = same_set pairs_total pairs_apart _ s (λ p. contains_in es sorted p.0 p.1 ∙ is p.0 p.1)
 
--- whether it is this pair
+-- whether w and h are the pair of this parent and this holder
 abbrev pub is_pair : Wanted → Digest → Wanted → Digest → Bool
 is_pair wanted holder w h = eq_by_cmp wanted_cmp wanted w && eq_by_cmp digest_cmp h holder
 
@@ -105,7 +105,7 @@ turned wanted w holder h =
     swapped false true = refl
     swapped false false = refl
 
--- a pair that was put in
+-- a pair is added to both indexes
 pub same_added : (wanted w : Wanted) (holder h : Digest) (a b m n : Bool) → a ≡ (m || is_pair wanted holder w h) → b ≡ (n || (eq_by_cmp digest_cmp holder h && eq_by_cmp wanted_cmp w wanted)) → m ≡ n → a ≡ b
 same_added wanted w holder h a b m n p q is = p ∙ ap (λ x. x || is_pair wanted holder w h) is ∙ ap (λ x. n || x) (sym (turned wanted w holder h)) ∙ sym q
 
@@ -121,7 +121,7 @@ contains_added s wanted w holder h =
     swapped false true = refl
     swapped false false = refl
 
--- a pair that is there is not put in again
+-- adding a pair that is there already changes nothing
 pub insert_same : (s : Pairs) (wanted : Wanted) (holder : Digest) → contains s (wanted, holder) ≡ true → s ≡ insert s (wanted, holder)
 insert_same s wanted holder there = same_set pairs_total pairs_apart s _ (λ p. by p (eq_by_cmp pair_cmp p (wanted, holder)) refl ∙ sym (contains-insert pairs_total s (wanted, holder) p))
   where
@@ -129,13 +129,13 @@ insert_same s wanted holder there = same_set pairs_total pairs_apart s _ (λ p. 
     by p true is = ap (contains s) (pairs_apart p (wanted, holder) (tie (pair_cmp p (wanted, holder)) is)) ∙ there
     by p false is = refl
 
--- ---- what is no longer wanted, and who no longer wants
+-- ---- satisfied parents, and holders that no longer wait
 pub nobody : {X : Type 0} (E : X → X → Bool) → IsDistinct E []
 unfolding IsDistinct
 nobody E = tt
 
 module _ {K V L : Type 0} (RK : K → K → Ordering) (EV : V → V → Bool) (items : L → List V) (at new : K → Option L) (k : K) (none : (q : K) → new q ≡ cond (eq_by_cmp RK k q) None (at q)) where
-  -- the list of a key was taken out
+  -- the list of a key was removed
   pub member_taken : (q : K) (v : V) → list_any (EV v) (list_of items (new q)) ≡ (list_any (EV v) (list_of items (at q)) && not (eq_by_cmp RK k q))
   member_taken q v = ap (λ found. list_any (EV v) (list_of items found)) (none q) ∙ by (eq_by_cmp RK k q) (list_any (EV v) (list_of items (at q))) refl
     where
@@ -159,7 +159,7 @@ module _ {K V L : Type 0} (RK : K → K → Ordering) (EV : V → V → Bool) (i
       by true some = let no : false ≡ true = some in cc
       by false some = filled q some
 
--- both sides lose the same pairs
+-- both indexes lose the same pairs
 pub same_satisfied : (wanted w : Wanted) (h : Digest) (m : Wanted → Digest → Bool) (n : Bool) → m w h ≡ n
     → (m w h && not (eq_by_cmp wanted_cmp wanted w)) ≡ (n && not (m wanted h && eq_by_cmp wanted_cmp w wanted))
 same_satisfied wanted w h m n is =
@@ -208,7 +208,7 @@ pub contains_without_holder : (s : Pairs) (holder h : Digest) (w : Wanted) → (
 contains_without_holder s holder h w =
     sym (contains-retain s (λ p. not (eq_by_cmp digest_cmp holder p.1)) (w, h) (λ x e. ap (λ (p : Pair). not (eq_by_cmp digest_cmp holder p.1)) (sym (pairs_apart (w, h) x e))))
 
--- ---- what the lists are
+-- ---- the lists of holders, of missing parents, and of wanted parents
 pub are_holders : (s : Pairs) (wanted : Wanted) (xs : List Digest) → ((h : Digest) → list_any (eq_by_cmp digest_cmp h) xs ≡ contains s (wanted, h)) → IsDistinct (eq_by_cmp digest_cmp) xs → AreHolders s wanted xs
 are_holders s wanted xs is once = record {
   exactly = λ h. (
@@ -218,8 +218,8 @@ are_holders s wanted xs is once = record {
   once = once;
 }
 
-pub are_lacked : (s : Pairs) (holder : Digest) (xs : List Wanted) → ((w : Wanted) → list_any (eq_by_cmp wanted_cmp w) xs ≡ contains s (w, holder)) → IsDistinct (eq_by_cmp wanted_cmp) xs → AreLacked s holder xs
-are_lacked s holder xs is once = record {
+pub are_missing : (s : Pairs) (holder : Digest) (xs : List Wanted) → ((w : Wanted) → list_any (eq_by_cmp wanted_cmp w) xs ≡ contains s (w, holder)) → IsDistinct (eq_by_cmp wanted_cmp) xs → AreMissing s holder xs
+are_missing s holder xs is once = record {
   exactly = λ w. (
     (λ has. (sym (is w) ∙ list_any-from_Contains (eq_by_cmp_equiv wanted_total) w xs has)),
     (λ has. Contains-from_any one_wanted w xs (is w ∙ has)),

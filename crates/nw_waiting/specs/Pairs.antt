@@ -1,4 +1,4 @@
--- Pairs of what is wanted and a holder that lacks it.
+-- Pairs of a wanted parent and a holder that is missing it.
 use Rattle.std.specs.Prelude.{◌≡◌, ◌↔◌, ℕ, List, Contains, IsTrue, not, length, take, refl}
 use Rattle.std.specs.Coded.{Coded, code_by, coded×, coded_ℕ, coded_list}
 use Rattle.std.specs.declared.cmp.Ordering.{Ordering}
@@ -10,15 +10,15 @@ use Rattle.nw_digest.specs.Order.{digest_cmp}
 use Rattle.nw_digest.specs.declared.digest.Digest.{Digest}
 use Rattle.nw_waiting.specs.declared.wanted.Wanted.{Wanted}
 
--- what is wanted by round, then by author, and then by digest
+-- wanted parents by round, then by author, then by digest
 abbrev pub wanted_cmp : Wanted → Wanted → Ordering
 wanted_cmp a b = ordering_then (nat_cmp a.round b.round) (ordering_then (nat_cmp a.author b.author) (digest_cmp a.digest b.digest))
 
--- what is wanted, and a holder that lacks it
+-- a wanted parent, and a holder that is missing it
 abbrev pub Pair : Type 0
 Pair = Wanted × Digest
 
--- pairs by what is wanted, and then by holder
+-- pairs by wanted parent, then by holder
 abbrev pub pair_cmp : Pair → Pair → Ordering
 pair_cmp a b = ordering_then (wanted_cmp a.0 b.0) (digest_cmp a.1 b.1)
 
@@ -26,46 +26,52 @@ pair_cmp a b = ordering_then (wanted_cmp a.0 b.0) (digest_cmp a.1 b.1)
 abbrev pub Pairs : Type 0
 Pairs = FinSet pair_cmp
 
--- the holder lacks it
+-- the holder is missing this parent
 abbrev pub Lacks : Pairs → Digest → Wanted → Type 0
 Lacks pairs holder wanted = IsTrue (contains pairs (wanted, holder))
 
--- exactly the holders that lack it, each once
+-- the holders that are missing this parent
 pub record AreHolders (pairs : Pairs) (wanted : Wanted) (holders : List Digest) : Type 0 where
+  -- exactly these
   pub exactly : (holder : Digest) → Contains holders holder ↔ Lacks pairs holder wanted
+  -- each once
   pub once : IsDistinct (eq_by_cmp digest_cmp) holders
 
--- exactly what the holder lacks, each once
-pub record AreLacked (pairs : Pairs) (holder : Digest) (lacked : List Wanted) : Type 0 where
-  pub exactly : (wanted : Wanted) → Contains lacked wanted ↔ Lacks pairs holder wanted
-  pub once : IsDistinct (eq_by_cmp wanted_cmp) lacked
+-- the missing parents of the holder
+pub record AreMissing (pairs : Pairs) (holder : Digest) (missing : List Wanted) : Type 0 where
+  -- exactly these
+  pub exactly : (wanted : Wanted) → Contains missing wanted ↔ Lacks pairs holder wanted
+  -- each once
+  pub once : IsDistinct (eq_by_cmp wanted_cmp) missing
 
--- exactly what some holder lacks, ascending and each once
+-- the wanted parents
 pub record AreWanted (pairs : Pairs) (wanted : List Wanted) : Type 0 where
+  -- exactly those that some holder is missing
   pub exactly : (w : Wanted) → Contains wanted w ↔ ((holder : Digest) × Lacks pairs holder w)
+  -- ascending, each once
   pub ascending : IsStrictlySortedBy wanted_cmp wanted
 
--- n is how many it lacks
+-- n is the number of the holder's missing parents
 abbrev pub LacksCount : Pairs → Digest → ℕ → Type 0
-LacksCount pairs holder n = (lacked : List Wanted) × AreLacked pairs holder lacked × (length lacked ≡ n)
+LacksCount pairs holder n = (missing : List Wanted) × AreMissing pairs holder missing × (length missing ≡ n)
 
--- n is how many different ones are wanted
+-- n is the number of different wanted parents
 abbrev pub WantedCount : Pairs → ℕ → Type 0
 WantedCount pairs n = (wanted : List Wanted) × AreWanted pairs wanted × (length wanted ≡ n)
 
--- the first k of what is wanted
+-- the first k wanted parents, or all if there are fewer
 abbrev pub AreFirst : Pairs → ℕ → List Wanted → Type 0
 AreFirst pairs k first = (wanted : List Wanted) × AreWanted pairs wanted × (first ≡ take k wanted)
 
--- without the pairs of this wanted
+-- the pairs without those of this parent
 abbrev pub without_wanted : Pairs → Wanted → Pairs
 without_wanted pairs wanted = retain pairs (λ p. not (eq_by_cmp wanted_cmp wanted p.0))
 
--- without the pairs of this holder
+-- the pairs without those of this holder
 abbrev pub without_holder : Pairs → Digest → Pairs
 without_holder pairs holder = retain pairs (λ p. not (eq_by_cmp digest_cmp holder p.1))
 
--- how a pair is told apart from another
+-- the code of a pair: pairs with equal codes are equal
 abbrev pub coded_pair : Coded Pair
 coded_pair =
     code_by (ℕ × (ℕ × (List ℕ × List ℕ))) (coded× coded_ℕ (coded× coded_ℕ (coded× (coded_list coded_ℕ) (coded_list coded_ℕ))))

@@ -1,6 +1,7 @@
-//! What is waited for, and who waits for it.
+//! This crate keeps wanted parents, and the blocks that wait for them.
 //!
-//! Its contract: `Waiting` is a finite set of pairs of what is wanted and a holder that lacks it. It stands on `nw_digest` alone.
+//! Its contract: `Waiting` is a finite set of pairs: a wanted parent, and a holder (a block's digest) that is missing it. It
+//! uses only `nw_digest`.
 #![tactic(auto)]
 
 mod lists;

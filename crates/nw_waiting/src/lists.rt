@@ -1,4 +1,4 @@
-//! Lists under keys.
+//! Maps from keys to lists.
 ghost use Rattle.std.specs.Prelude.{◌≡◌, [], ◌∷◌, ◌++◌, ◌&&◌};
 ghost use Rattle.std.specs.Prelude.{OnOk, OnErr, filter, not, if◌then◌else◌};
 ghost use Rattle.std.specs.BTreeMap.{get, is_at, IsOrdered};
@@ -10,10 +10,10 @@ use nw_digest::NoMemory;
 use std::alloc::Allocator;
 use std::collections::BTreeMap;
 
-/// How many values a new list has room for.
+/// The capacity of a new list.
 const ROOM: usize = 4;
 
-/// Puts the value at the end of the list of the key.
+/// Appends the value to the list of the key. If an allocation fails, each list has the values that it had.
 pub fn add<K: Ord + Copy, V: Copy, A: Allocator + Copy>(
     lists: &mut BTreeMap<K, Vec<V, A>, A>,
     alloc: A,
@@ -37,7 +37,7 @@ pub fn add<K: Ord + Copy, V: Copy, A: Allocator + Copy>(
     Ok(())
 }
 
-/// Takes the value out of the list of the key.
+/// Removes the value from the list of the key, and drops a list that is then empty.
 fn remove<K: Ord + Drop, V: Ord + Drop, A: Allocator>(
     lists: &mut BTreeMap<K, Vec<V, A>, A>,
     key: &K,
@@ -61,13 +61,14 @@ fn remove<K: Ord + Drop, V: Ord + Drop, A: Allocator>(
     }
 }
 
+/// Removes each copy of the value from the list.
 fn drop_value<V: Ord + Drop, A: Allocator>(list: &mut Vec<V, A>, value: &V)
     ensures { list.new.items ≡ filter (λ x. not (eq_by_cmp V.cmp x value.now)) list.old.items }
 {
     list.retain(|other| other != value);
 }
 
-/// Takes the value out of the lists of these keys.
+/// Removes the value from the lists of these keys.
 pub fn remove_from_each<K: Ord + Drop, V: Ord + Drop, A: Allocator>(
     lists: &mut BTreeMap<K, Vec<V, A>, A>,
     keys: &[K],

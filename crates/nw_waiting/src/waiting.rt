@@ -1,4 +1,4 @@
-//! Pairs of what is wanted and a holder that lacks it.
+//! The table of wanted parents.
 ghost use Rattle.std.specs.Prelude.{◌≡◌, IfOk, OnOk, OnErr, take};
 ghost use Rattle.std.specs.BTreeMap.{keys};
 ghost use Rattle.std.specs.FinSet as set;
@@ -12,14 +12,15 @@ use std::alloc::{AllocError, Allocator, Global};
 use std::collections::BTreeMap;
 use std::marker::Model;
 
-/// What is wanted, and the holders that lack it, in the memory of one allocator. Contracts see the set of pairs.
+/// Wanted parents, and the holders (digests of blocks) that are missing them. The memory comes from one allocator. Contracts
+/// see the set of these pairs.
 #[derive(Drop)]
 pub struct Waiting<A: Allocator> {
     alloc: A,
-    /// The holders that lack it, by what is wanted.
+    /// For each wanted parent, the holders that are missing it.
     holders: BTreeMap<Wanted, Vec<Digest, A>, A>,
-    /// What it lacks, by holder. Refused memory may leave an empty list.
-    lacked: BTreeMap<Digest, Vec<Wanted, A>, A>,
+    /// For each holder, its missing parents. A failed allocation may leave an empty list.
+    missing: BTreeMap<Digest, Vec<Wanted, A>, A>,
 }
 
 impl<A: Allocator> Model for Waiting<A> {
@@ -30,42 +31,42 @@ impl<A: Allocator> Model for Waiting<A> {
 
     ghost coded = { set.code coded_pair };
 
-    ghost use Rattle.nw_waiting.specs.Index.{AreOneRelation, pairs_in};
+    ghost use Rattle.nw_waiting.specs.Index.{HaveSamePairs, pairs_in};
 
     ghost view = { λ w. set.from_list (pairs_in (λ v. v.items) w.holders.entries) };
 
     ghost invariant = { λ w.
-        AreOneRelation (λ v. v.items) (λ v. v.items) w.holders.entries w.lacked.entries };
+        HaveSamePairs (λ v. v.items) (λ v. v.items) w.holders.entries w.missing.entries };
 }
 
 impl<A: Allocator + Copy> Waiting<A> {
-    /// Nobody lacks anything. It takes no memory.
+    /// The empty table. It takes no memory.
     pub fn new_in(alloc: A) -> Waiting<A>
         ensures { result ≡ set.empty }
     {
         Waiting {
             alloc,
             holders: BTreeMap::new(alloc),
-            lacked: BTreeMap::new(alloc),
+            missing: BTreeMap::new(alloc),
         }
     }
 
-    /// Lets the holder lack it. Nothing changes where it lacks it already, or where memory is refused.
+    /// Records that the holder is missing this parent. If that is recorded already or an allocation fails, nothing changes.
     pub fn want(&mut self, wanted: Wanted, holder: Digest) -> Result<(), NoMemory>
         ensures added { OnOk result (self.new ≡ set.insert self.old (wanted, holder)) }
         ensures unchanged { OnErr result (self.new ≡ self.old) }
     {
-        let lacked = self.lacked.entry(holder)?.or_insert(Vec::new(self.alloc));
-        if has(lacked, &wanted) {
+        let missing = self.missing.entry(holder)?.or_insert(Vec::new(self.alloc));
+        if has(missing, &wanted) {
             return Ok(());
         }
-        lacked.reserve(1)?;
+        missing.reserve(1)?;
         add(&mut self.holders, self.alloc, wanted, holder)?;
-        lacked.push_reserved(wanted);
+        missing.push_reserved(wanted);
         Ok(())
     }
 
-    /// Lets nobody lack it any more, and gives the holders that did, each once. It takes no memory.
+    /// Removes the parent from the table, and returns the holders that were missing it, each once. It takes no memory.
     pub fn satisfy(&mut self, wanted: &Wanted) -> Vec<Digest, A>
         ensures holders { AreHolders self.old wanted.now result.items }
         ensures rest { self.new ≡ without_wanted self.old wanted.now }
@@ -73,37 +74,37 @@ impl<A: Allocator + Copy> Waiting<A> {
         let Some(holders) = self.holders.remove(wanted) else {
             return Vec::new(self.alloc);
         };
-        remove_from_each(&mut self.lacked, &holders, wanted);
+        remove_from_each(&mut self.missing, &holders, wanted);
         holders
     }
 
-    /// Lets the holder lack nothing any more. It takes no memory.
+    /// Removes all missing parents of the holder. It takes no memory.
     pub fn unwant(&mut self, holder: Digest)
         ensures { self.new ≡ without_holder self.old holder }
     {
-        if let Some(lacked) = self.lacked.remove(&holder) {
-            remove_from_each(&mut self.holders, &lacked, &holder);
+        if let Some(missing) = self.missing.remove(&holder) {
+            remove_from_each(&mut self.holders, &missing, &holder);
         }
     }
 
-    /// How much the holder lacks. It takes no memory.
+    /// The number of the holder's missing parents. It takes no memory.
     pub fn lacks(&self, holder: Digest) -> usize
         ensures { LacksCount self.now holder result }
     {
-        match self.lacked.get(&holder) {
+        match self.missing.get(&holder) {
             None => 0,
-            Some(lacked) => lacked.len(),
+            Some(missing) => missing.len(),
         }
     }
 
-    /// How many different ones are wanted. It takes no memory.
+    /// The number of different wanted parents. It takes no memory.
     pub fn count(&self) -> usize
         ensures { WantedCount self.now result }
     {
         self.holders.len()
     }
 
-    /// The first `most` of what is wanted, ascending.
+    /// The first `most` wanted parents, ascending, or all if there are fewer. `NoMemory` if an allocation fails.
     pub fn first_wanted(&self, alloc: Global, most: u16) -> Result<Vec<Wanted>, NoMemory>
         ensures { IfOk result (λ list. AreFirst self.now most list.items) }
     {
@@ -111,7 +112,7 @@ impl<A: Allocator + Copy> Waiting<A> {
     }
 }
 
-/// The first `most` keys.
+/// The first `most` keys, or all if there are fewer.
 fn first_keys<A: Allocator>(
     alloc: Global,
     holders: &BTreeMap<Wanted, Vec<Digest, A>, A>,

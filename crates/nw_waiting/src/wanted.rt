@@ -1,8 +1,8 @@
-//! What is waited for.
+//! Wanted parents.
 
 use nw_digest::{Digest, Round};
 
-/// What is waited for: the block of this digest, with this author and of this round. Ordered by these fields.
+/// A wanted parent: the block with this round, author and digest. Ordered by these fields.
 #[derive(Clone, Copy, Debug, PartialEq, Eq, PartialOrd, Ord)]
 pub struct Wanted {
     pub round: Round,

@@ -1,7 +1,7 @@
-//! Tests of what the tables of a store are made of: tries, slots, waiting holders, lists that share their past, and claims of a log.
+//! This crate tests the parts of a store's tables and histories: tries, slots, wanted parents, lists in chunks, and claims of a log.
 //!
-//! Its contract: it has tests alone, and no store stands on it. Tries, slots and waiting holders are given many steps drawn by a seeded
-//! generator, beside an ordered map or set of std; a trie stands also in the memory of another allocator.
+//! It has only tests. Tries, slots and wanted parents take many random steps from a seeded generator, and must answer like an
+//! ordered map or set of std. A trie is also tested with another allocator.
 #![tactic(auto)]
 
 #[cfg(test)]

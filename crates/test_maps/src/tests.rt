@@ -1,4 +1,4 @@
-//! Random calls beside ordered maps and sets, and what these do not reach.
+//! Random calls, compared with ordered maps and sets, and cases that random calls do not reach.
 use nw_digest::{Digest, NoMemory, Round};
 use rand_core::utils::NextWord;
 use rand_pcg::Pcg32;
@@ -11,7 +11,7 @@ mod rounds;
 mod trie;
 mod waiting;
 
-/// A digest that begins and ends with these bytes.
+/// A digest with this first and this last byte, and zeros between.
 fn digest(first: u8, last: u8) -> Digest {
     let mut bytes = [0; 32];
     bytes[0] = first;
@@ -19,7 +19,7 @@ fn digest(first: u8, last: u8) -> Digest {
     Digest(bytes)
 }
 
-/// The round of this number, which is below 2^48.
+/// The round with this number, which is below 2^48.
 fn round(number: u64) -> Result<Round, NoMemory> {
     Round::new(number).ok_or(NoMemory)
 }

@@ -1,7 +1,7 @@
-//! The way down to a value that is to be changed.
+//! The way down to a value that the caller may change.
 //!
-//! No function here calls itself, since no proof is generated for a `&mut` that a recursion hands out. How many steps are
-//! left is part of a type.
+//! The kit generates no proof for a `&mut` that a recursive function returns. So no function here calls itself: the number of
+//! steps that are left is part of a type.
 ghost use Rattle.std.specs.Prelude.{◌≡◌, ◌+◌, ◌<◌, ℕ, Some, length};
 ghost use Rattle.std.specs.Option.{MatchOption};
 ghost use Rattle.std.specs.Borrow.{sem, follows};
@@ -9,7 +9,7 @@ ghost use Rattle.std.specs.Map.{lookup};
 ghost use Rattle.std.specs.BTreeMap.{insert_entry, is_at};
 ghost use Rattle.nw_digest.specs.Order.{digest_cmp};
 ghost use Rattle.nw_trie.specs.Bits.{AgreeButLast};
-ghost use Rattle.nw_trie.specs.Entries.{EachKey, HasKey, Parts};
+ghost use Rattle.nw_trie.specs.Entries.{EachKey, HasKey, ForksAt};
 ghost use Rattle.nw_trie.specs.Tree.{side_of, with_side};
 ghost use Rattle.nw_trie.specs.contracts.tree.Tree.{the_row as tree_row};
 ghost use Rattle.nw_trie.specs.contracts.tree.Sides.{the_row as sides_row};
@@ -20,7 +20,7 @@ use nw_digest::Digest;
 use std::alloc::Allocator;
 use std::marker::PhantomData;
 
-/// The rest of the way to a value, in a tree whose digests differ in their last `bits` bits alone.
+/// The rest of the way to a value, in a tree whose digests differ only in their last `bits` bits.
 pub(crate) trait Way {
     ghost bits: { ℕ };
 
@@ -32,7 +32,7 @@ pub(crate) trait Way {
         ensures value { lookup (is_at (digest_cmp digest.now)) tree.old ≡ Some result.now };
 }
 
-/// Steps from fork to fork, before the rest of a way.
+/// Steps from fork to fork, followed by the rest of a way.
 pub(crate) trait Steps {
     ghost bits: { ℕ };
 
@@ -47,16 +47,16 @@ pub(crate) trait Steps {
         ensures value { lookup (is_at (digest_cmp digest.now)) tree.old ≡ Some result.now };
 }
 
-/// No fork is left.
+/// The end of the way: no fork is left.
 pub(crate) struct End;
 
-/// Steps, and the rest of the way.
+/// First these steps, then the rest of the way.
 pub(crate) struct Then<S: Steps, W: Way>(PhantomData<(S, W)>);
 
-/// One step.
+/// One step, from a fork to one of its sides.
 pub(crate) struct Step;
 
-/// Twice as many steps.
+/// The same steps, twice.
 pub(crate) struct Twice<S: Steps>(PhantomData<S>);
 
 type Four<S> = Twice<Twice<S>>;
@@ -128,9 +128,9 @@ impl<V: Drop, A: Allocator> Tree<V, A> {
         Whole::value_mut::<V, A, End>(self, digest)
     }
 
-    /// The bit of its first fork.
+    /// The bit of the tree's first fork, or `None` if it has no fork.
     fn first_bit(&self) -> Option<u8>
-        ensures { MatchOption result (length self.now < 2) (λ bit. Parts bit self.now) }
+        ensures { MatchOption result (length self.now < 2) (λ bit. ForksAt bit self.now) }
     {
         match &self.link {
             Link::Fork(bit, _) => Some(*bit),
@@ -138,7 +138,7 @@ impl<V: Drop, A: Allocator> Tree<V, A> {
         }
     }
 
-    /// The value of the only digest.
+    /// The value of the digest, which is the only one in the tree.
     fn only_value_mut(&mut self, digest: &Digest) -> &mut V
         requires key { HasKey digest.now self.old }
         requires alone { length self.old < 2 }
@@ -152,7 +152,7 @@ impl<V: Drop, A: Allocator> Tree<V, A> {
         }
     }
 
-    /// The value of the digest, on its side of the fork.
+    /// The value of the digest, found on its side of the first fork.
     fn side_value_mut<W: Way>(&mut self, digest: &Digest) -> &mut V
         requires key { HasKey digest.now self.old }
         requires fork { 1 < length self.old }
@@ -173,7 +173,7 @@ impl<V: Drop, A: Allocator> Tree<V, A> {
 }
 
 impl<V: Drop, A: Allocator> Sides<V, A> {
-    /// The value of the digest, on that side.
+    /// The value of the digest, found on the side for this value of the bit.
     fn value_mut<W: Way>(&mut self, set: bool, digest: &Digest) -> &mut V
         requires key { HasKey digest.now (side_of self.old set) }
         requires alike { EachKey (AgreeButLast W.bits digest.now) (side_of self.old set) }

@@ -1,4 +1,4 @@
-//! What is taken out of a tree.
+//! Removal of entries from a tree.
 ghost use Rattle.std.specs.Prelude.{◌≡◌, ◌+◌, ◌<◌, ◌^◌, length, filter, nat_le};
 ghost use Rattle.std.specs.Map.{lookup, remove_entry};
 ghost use Rattle.std.specs.BTreeMap.{is_at};
@@ -13,7 +13,7 @@ use std::alloc::Allocator;
 use std::mem;
 
 impl<V: Drop, A: Allocator> Tree<V, A> {
-    /// Takes the digest out, with its value.
+    /// Removes the digest and returns its value, or `None` if the tree does not have the digest.
     pub(crate) fn remove(&mut self, digest: &Digest) -> Option<V>
         ensures value { result ≡ lookup (is_at (digest_cmp digest.now)) self.old }
         ensures entries { self.new ≡ remove_entry (is_at (digest_cmp digest.now)) self.old }
@@ -31,7 +31,7 @@ impl<V: Drop, A: Allocator> Tree<V, A> {
         value
     }
 
-    /// The same, where there is no fork.
+    /// The same, for a tree without forks.
     fn remove_leaf(&mut self, digest: &Digest) -> Option<V>
         requires { length self.old < 2 }
         ensures value { result ≡ lookup (is_at (digest_cmp digest.now)) self.old }
@@ -46,7 +46,7 @@ impl<V: Drop, A: Allocator> Tree<V, A> {
         }
     }
 
-    /// Drops what is of a lower round, and gives the count of it.
+    /// Drops the values of rounds below the floor, and returns how many were dropped.
     #[tactic(auto, using(crate::proofs::Splits::tree_entries))]
     pub(crate) fn retain_rounds(&mut self, floor: Round) -> usize
     where
@@ -76,7 +76,7 @@ impl<V: Drop, A: Allocator> Tree<V, A> {
     }
 }
 
-/// Puts the other side in the place of a fork that has lost one.
+/// Replaces a fork that lost one side by its other side.
 fn drop_empty_side<V: Drop, A: Allocator>(link: &mut Link<V, A>)
     requires { IsNearlyTree link.old }
     ensures tree { IsTree link.new }

@@ -1,9 +1,9 @@
-//! Lists that share their past.
+//! Lists that share their earlier items.
 use super::*;
 use nw_chunks::Chunks;
 use nw_digest::Shared;
 
-/// The list of the numbers below `count`, made one by one, whose head is `count`.
+/// The list of the numbers below `count`, added one by one, with `count` as its head.
 fn numbers(alloc: Global, count: u32) -> Result<Chunks<u32, u32>, NoMemory> {
     let mut list = Chunks::new(alloc, Shared::new(alloc, count)?)?;
     for number in 0..count {
@@ -15,7 +15,7 @@ fn numbers(alloc: Global, count: u32) -> Result<Chunks<u32, u32>, NoMemory> {
     Ok(list)
 }
 
-/// Whether the list has the numbers below `count`, and no others, and `count` for its head.
+/// Whether the list has exactly the numbers below `count`, and `count` as its head.
 fn has_numbers(alloc: Global, list: &Chunks<u32, u32>, count: u32) -> Result<bool, NoMemory> {
     let behind = list.behind(alloc)?;
     for index in [0, 1, 254, 255, 256, 257, 511, 512, 513] {

@@ -3,7 +3,7 @@ use super::*;
 use nw_rounds::Rounds;
 use std::collections::{BTreeMap, BTreeSet};
 
-/// Makes the digest the first of the slot, where it has none. Whether it had none.
+/// Makes the digest the first one of the slot if the slot has none. Returns whether it had none.
 fn put_first(
     rounds: &mut Rounds<Global>,
     slot: (Round, u16),
@@ -16,7 +16,7 @@ fn put_first(
     Ok(true)
 }
 
-/// Certifies the digest for the slot, where none is. Whether none was.
+/// Certifies the digest for the slot if none is certified. Returns whether none was.
 fn put_certified(
     rounds: &mut Rounds<Global>,
     slot: (Round, u16),
@@ -29,10 +29,10 @@ fn put_certified(
     Ok(true)
 }
 
-/// The digests of rounds and authors, the first ones and those that are certified.
+/// Digests by round, author, and whether they are certified ones or first ones.
 type Slots = BTreeMap<(u64, u16, bool), Digest>;
 
-/// Whether the digests of the round are those of the map, ascending and each once.
+/// Whether the table lists the map's digests of the round, ascending and each once.
 fn are_listed(
     alloc: Global,
     rounds: &Rounds<Global>,
@@ -49,7 +49,7 @@ fn are_listed(
     Ok(rounds.digests(alloc, round)?.as_slice() == expected.as_slice())
 }
 
-/// Takes the step that the word names, in 64 slots and with 8 digests, and gives whether the answers are equal.
+/// Takes the step that the word selects, on one of 64 slots with one of 8 digests. Returns whether the answers are equal.
 fn step(
     alloc: Global,
     rounds: &mut Rounds<Global>,
@@ -83,7 +83,7 @@ fn step(
 }
 
 #[test]
-fn random_steps_of_slots_answer_as_ordered_maps(rt: HostRuntime) {
+fn slots_match_an_ordered_map_over_random_steps(rt: HostRuntime) {
     let mut rounds = Rounds::new_in(rt.alloc());
     let mut slots = BTreeMap::new(rt.alloc());
     let mut random = Pcg32::new(1, 1);

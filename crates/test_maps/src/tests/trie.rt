@@ -5,7 +5,7 @@ use nw_digest::InRound;
 use nw_trie::Trie;
 use std::collections::BTreeMap;
 
-/// The entries of a trie, in the memory of any allocator.
+/// The entries of a trie with any allocator.
 fn entries<A: Allocator>(
     alloc: Global,
     trie: &Trie<u64, A>,
@@ -17,7 +17,7 @@ fn entries<A: Allocator>(
     Ok(seen)
 }
 
-/// Whether one of three inserts is refused in this heap. It then hands its value back, and the entries are as before.
+/// Whether one of three inserts is refused in this heap. If so, it must return its value and leave the entries as they were.
 fn is_refused(rt: &impl Abort, alloc: Global, heap: &LocalHeap) -> Result<bool, NoMemory> {
     let all = [(digest(0, 0), 1), (digest(0, 1), 2), (digest(128, 0), 3)];
     let mut trie = Trie::new_in(heap);
@@ -44,14 +44,14 @@ fn a_trie_of_three_keys_in_small_regions(rt: HostRuntime) {
     }
 }
 
-/// One of 1024 digests, whose first bytes and last bytes are often equal.
+/// One of 1,024 digests, many of which share their first or their last bytes.
 fn random_digest(word: u32) -> Digest {
     let mut key = digest((word % 4) as u8, (word / 64 % 16) as u8);
     key.0[1] = (word / 4 % 16) as u8;
     key
 }
 
-/// Takes the step that the word names, with this value, and gives whether the answers are equal.
+/// Takes the step that the word selects, with this value. Returns whether the answers are equal.
 fn step(
     trie: &mut Trie<u64, Global>,
     map: &mut BTreeMap<Digest, u64>,
@@ -68,7 +68,7 @@ fn step(
 }
 
 #[test]
-fn random_steps_answer_as_an_ordered_map(rt: HostRuntime) {
+fn a_trie_matches_an_ordered_map_over_random_steps(rt: HostRuntime) {
     let mut trie = Trie::new_in(rt.alloc());
     let mut map = BTreeMap::new(rt.alloc());
     let mut random = Pcg32::new(1, 1);
@@ -83,7 +83,7 @@ fn random_steps_answer_as_an_ordered_map(rt: HostRuntime) {
     assert_eq!(rt; in_order.len(), map.len());
 }
 
-/// The digest with this bit alone.
+/// The digest with only this bit set.
 fn one_bit(bit: u8) -> Digest {
     let mut bytes = [0; 32];
     bytes[(bit / 8) as usize] = 128 >> (bit % 8);
@@ -91,7 +91,7 @@ fn one_bit(bit: u8) -> Digest {
 }
 
 #[test]
-fn a_value_behind_256_forks_is_changed(rt: HostRuntime) {
+fn a_value_below_256_forks_is_changed(rt: HostRuntime) {
     let mut trie = Trie::new_in(rt.alloc());
     assert!(rt; trie.insert(digest(0, 0), 1u64) == Ok(None));
     for bit in 0..=255u8 {
@@ -107,7 +107,7 @@ fn a_value_behind_256_forks_is_changed(rt: HostRuntime) {
     assert!(rt; trie.get_mut(&digest(0, 3)).is_none());
 }
 
-/// A value of a round.
+/// A value that belongs to a round.
 #[derive(Clone, Copy, Debug, PartialEq, Eq)]
 struct OfRound(Round);
 
@@ -120,7 +120,7 @@ impl InRound for OfRound {
 }
 
 #[test]
-fn what_is_below_a_round_is_dropped_and_counted(rt: HostRuntime) {
+fn values_of_lower_rounds_are_dropped_and_counted(rt: HostRuntime) {
     let rounds = [0, 3, 1, 2].map(|number| OfRound(Round::new(number).unwrap_or(Round::ZERO)));
     let mut trie = Trie::new_in(rt.alloc());
     for (first, value) in rounds.iter().enumerate() {

@@ -1,12 +1,12 @@
-//! What holders wait for.
+//! Wanted parents and the holders that are missing them.
 use super::*;
 use nw_waiting::{Waiting, Wanted};
 use std::collections::BTreeSet;
 
-/// What is wanted, with who lacks it.
+/// Wanted parents, each with a holder that is missing it.
 type Pairs = BTreeSet<(Wanted, Digest)>;
 
-/// What is wanted in the pairs, ascending and each once.
+/// The wanted parents of the pairs, ascending and each once.
 fn wanted_in(alloc: Global, pairs: &Pairs) -> Result<Vec<Wanted>, NoMemory> {
     let mut wanted = BTreeSet::new(alloc);
     for pair in pairs {
@@ -15,7 +15,7 @@ fn wanted_in(alloc: Global, pairs: &Pairs) -> Result<Vec<Wanted>, NoMemory> {
     Ok(wanted.into_iter().collect(alloc)?)
 }
 
-/// Satisfies it in both, and gives whether its holders are the same.
+/// Satisfies the parent in both. Returns whether both had the same holders.
 fn satisfy_in_both(
     alloc: Global,
     waiting: &mut Waiting<Global>,
@@ -34,7 +34,7 @@ fn satisfy_in_both(
     Ok(holders.as_slice() == expected.as_slice())
 }
 
-/// Whether the first ones that are wanted are the same, and as many are wanted and lacked by the holder.
+/// Whether both have the same first wanted parents, and the same numbers of wanted parents and of the holder's missing ones.
 fn are_same(
     alloc: Global,
     waiting: &Waiting<Global>,
@@ -42,10 +42,10 @@ fn are_same(
     holder: Digest,
     most: u16,
 ) -> Result<bool, NoMemory> {
-    let mut lacked = 0usize;
+    let mut missing = 0usize;
     for pair in pairs {
         if pair.1 == holder {
-            lacked = lacked.saturating_add(1);
+            missing = missing.saturating_add(1);
         }
     }
     let mut expected = wanted_in(alloc, pairs)?;
@@ -54,12 +54,12 @@ fn are_same(
     Ok(
         waiting.first_wanted(alloc, most)?.as_slice() == expected.as_slice()
             && waiting.count() == count
-            && waiting.lacks(holder) == lacked,
+            && waiting.lacks(holder) == missing,
     )
 }
 
-/// What is wanted, one of 64, and a holder, one of 8.
-fn drawn(word: u32) -> Result<(Wanted, Digest), NoMemory> {
+/// One of 64 wanted parents, and one of 8 holders.
+fn random_pair(word: u32) -> Result<(Wanted, Digest), NoMemory> {
     let wanted = Wanted {
         round: round(u64::from(word % 8))?,
         author: (word / 8 % 2) as u16,
@@ -68,14 +68,14 @@ fn drawn(word: u32) -> Result<(Wanted, Digest), NoMemory> {
     Ok((wanted, digest((word / 64 % 8) as u8, 0)))
 }
 
-/// Takes the step that the word names, and gives whether the answers are equal.
+/// Takes the step that the word selects. Returns whether the answers are equal.
 fn step(
     alloc: Global,
     waiting: &mut Waiting<Global>,
     pairs: &mut Pairs,
     word: u32,
 ) -> Result<bool, NoMemory> {
-    let (wanted, holder) = drawn(word)?;
+    let (wanted, holder) = random_pair(word)?;
     let mut answered = true;
     match word / 512 % 64 {
         0 => {
@@ -93,7 +93,7 @@ fn step(
 }
 
 #[test]
-fn random_steps_of_holders_answer_as_an_ordered_set(rt: HostRuntime) {
+fn wanted_parents_match_an_ordered_set_over_random_steps(rt: HostRuntime) {
     let mut waiting = Waiting::new_in(rt.alloc());
     let mut pairs = BTreeSet::new(rt.alloc());
     let mut random = Pcg32::new(1, 1);

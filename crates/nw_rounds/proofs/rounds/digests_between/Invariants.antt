@@ -6,7 +6,7 @@ use Rattle.nw_digest.specs.declared.digest.Digest.{Digest}
 use Rattle.nw_digest.specs.Order.{digest_cmp}
 use Rattle.nw_rounds.proofs.rounds.digests_between.Given as goal
 
--- the digests so far
+-- the set has the digests read so far, ascending
 abbrev pub invariant-loop-place : goal.invariant-loop-place
 invariant-loop-place g l =
     IsStrictlySortedBy digest_cmp l.found.keys

@@ -1,4 +1,4 @@
--- Two halves, one behind the other.
+-- Two halves, one after the other.
 use Rattle.std.proofs.Common.{ℕ, List, refl, ap, ◌∙◌}
 use Rattle.nw_codec.specs.declared.certificate.Signature.{Signature}
 use Rattle.nw_sig.proofs.Placed.{put_last}

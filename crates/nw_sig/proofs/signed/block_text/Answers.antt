@@ -1,4 +1,4 @@
--- Two pieces, one behind the other.
+-- Two pieces, one after the other.
 use Rattle.std.proofs.Common.{refl}
 use Rattle.std.specs.Prelude.{codes}
 use Rattle.nw_sig.proofs.Placed.{put_last}

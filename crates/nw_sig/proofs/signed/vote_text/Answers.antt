@@ -1,4 +1,4 @@
--- Three pieces, one behind the other.
+-- Three pieces, one after the other.
 use Rattle.std.proofs.Common.{refl, sym, ◌∙◌, append_assoc, ◌++◌}
 use Rattle.std.specs.Prelude.{codes}
 use Rattle.std.specs.Int.{to_be_bytes, w16}

@@ -5,7 +5,7 @@ use Rattle.std.specs.Ordering.{eq_by_cmp}
 use Rattle.nw_waiting.specs.Lists.{AreFilled, list_of}
 use Rattle.nw_waiting.proofs.lists.remove_from_each.Given as goal
 
--- the value is out of the lists of the keys so far
+-- the value is removed from the lists of the keys read so far
 abbrev pub invariant-loop-key : goal.invariant-loop-key
 invariant-loop-key g l =
     ((q : _) (v : _) → list_any (eq_by_cmp g.V.Ord.cmp v) (list_of (λ list. list.items) (get g.K.Ord.cmp l.lists q))

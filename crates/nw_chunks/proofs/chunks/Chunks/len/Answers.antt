@@ -7,18 +7,18 @@ pub overflow_mul-result : goal.overflow_mul-result
 overflow_mul-result g c =
     let full = c.self.inside.root.full.items in
     let chunks : length c.as_slice.result.now ≡ length full = ap length (c.as_slice.ensures.value ∙ ap (λ r. r.full.items) c.get.ensures) in
-    let count : 256 * length full + length c.self.inside.behind ≡ length (items_of (chunked c.self.inside.root.head full c.self.inside.behind)) = items_count _ _ _ c.self.invariant.0 in
-    let small : length (items_of (chunked c.self.inside.root.head full c.self.inside.behind)) ≤ 2 ^ 32 = c.self.invariant.0.small in
-    let counted : length c.self.inside.behind ≡ c.self.inside.count = c.self.invariant.1 in
+    let count : 256 * length full + length c.self.inside.tail ≡ length (items_of (chunked c.self.inside.root.head full c.self.inside.tail)) = items_count _ _ _ c.self.invariant.0 in
+    let small : length (items_of (chunked c.self.inside.root.head full c.self.inside.tail)) ≤ 2 ^ 32 = c.self.invariant.0.small in
+    let counted : length c.self.inside.tail ≡ c.self.inside.count = c.self.invariant.1 in
     omega arith
 
 pub overflow_add-result : goal.overflow_add-result
 overflow_add-result g c =
     let full = c.self.inside.root.full.items in
     let chunks : length c.as_slice.result.now ≡ length full = ap length (c.as_slice.ensures.value ∙ ap (λ r. r.full.items) c.get.ensures) in
-    let count : 256 * length full + length c.self.inside.behind ≡ length (items_of (chunked c.self.inside.root.head full c.self.inside.behind)) = items_count _ _ _ c.self.invariant.0 in
-    let small : length (items_of (chunked c.self.inside.root.head full c.self.inside.behind)) ≤ 2 ^ 32 = c.self.invariant.0.small in
-    let counted : length c.self.inside.behind ≡ c.self.inside.count = c.self.invariant.1 in
+    let count : 256 * length full + length c.self.inside.tail ≡ length (items_of (chunked c.self.inside.root.head full c.self.inside.tail)) = items_count _ _ _ c.self.invariant.0 in
+    let small : length (items_of (chunked c.self.inside.root.head full c.self.inside.tail)) ≤ 2 ^ 32 = c.self.invariant.0.small in
+    let counted : length c.self.inside.tail ≡ c.self.inside.count = c.self.invariant.1 in
     omega arith
 
 pub returns : goal.returns

@@ -1,4 +1,4 @@
--- The total is a hundred million at most.
+-- The total is at most a hundred million.
 use Rattle.std.proofs.Common.{arith}
 use Rattle.nw_committee.proofs.Weights.{total-le}
 use Rattle.nw_committee.proofs.committee.Committee.of.Goals as goal

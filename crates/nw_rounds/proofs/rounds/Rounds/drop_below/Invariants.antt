@@ -3,7 +3,7 @@ use Rattle.std.specs.Prelude.{filter, nat_le}
 use Rattle.std.specs.BTreeMap.{btree_map_len}
 use Rattle.nw_rounds.proofs.rounds.Rounds.drop_below.Given as goal
 
--- the entries that are to stay are still there
+-- no entry of the round or a higher one has been dropped
 abbrev pub invariant-loop-self : goal.invariant-loop-self
 invariant-loop-self g l = filter (λ e. nat_le l.round e.0.0.0) l.self-inside.digests.entries ≡ filter (λ e. nat_le l.round e.0.0.0) l.initial.self-inside.digests.entries
 

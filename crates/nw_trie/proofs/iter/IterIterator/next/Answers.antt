@@ -1,19 +1,19 @@
 use Rattle.std.proofs.Common.{◌∙◌, ◌∷◌, sym, ap, arith, length, subst}
 use Rattle.std.specs.Map.Iter.{deref_pair}
-use Rattle.nw_trie.specs.After.{IsLeft, left_of}
+use Rattle.nw_trie.specs.After.{IsNextIn, entries_from}
 use Rattle.nw_trie.proofs.After.{from_after}
 use Rattle.nw_trie.proofs.iter.IterIterator.next.Goals as goal
 
 pub invariant_of-self : goal.invariant_of-self
 invariant_of-self g c =
-    let left = subst (IsLeft c.self.inside.tree.now) c.in_ok-digest.was c.self.invariant in
+    let left = subst (IsNextIn c.self.inside.tree.now) c.in_ok-digest.was c.self.invariant in
     (from_after c.in_ok-digest.digest.now c.self.inside.tree.now c.after-self-inside.result c.after-self-inside.ensures left.1).1
 
 pub returns-clause-steps : goal.returns-clause-steps
 returns-clause-steps g c =
-    let left = subst (IsLeft c.self.inside.tree.now) c.in_ok-digest.was c.self.invariant in
+    let left = subst (IsNextIn c.self.inside.tree.now) c.in_ok-digest.was c.self.invariant in
     let rest = (from_after c.in_ok-digest.digest.now c.self.inside.tree.now c.after-self-inside.result c.after-self-inside.ensures left.1).0 in
-    sym c.self.view_is ∙ ap (left_of c.self.inside.tree.now) c.in_ok-digest.was ∙ ap (λ es. deref_pair (c.in_ok-digest.digest, c.in_ok-digest.value) ∷ es) (sym rest)
+    sym c.self.view_is ∙ ap (entries_from c.self.inside.tree.now) c.in_ok-digest.was ∙ ap (λ es. deref_pair (c.in_ok-digest.digest, c.in_ok-digest.value) ∷ es) (sym rest)
 
 pub returns-clause-goes : goal.returns-clause-goes
 returns-clause-goes g c =

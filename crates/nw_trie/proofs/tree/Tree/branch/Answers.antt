@@ -10,7 +10,7 @@ pub loop-near-preserved-then-is_set : goal.loop-near-preserved-then-is_set
 loop-near-preserved-then-is_set g c =
     let fork = at_Fork c.near.view_is c.near.invariant c.in-Fork.is c.deref.ensures in
     record {
-      full = fork.fork.right_full;
+      full = fork.fork.right_nonempty;
       led = λ o h. c.loop-near.invariant.led o (branch_right fork c.args.digest.now o (sym c.is_set.ensures.bit ∙ c.if-is_set.true) h);
     }
 
@@ -18,7 +18,7 @@ pub loop-near-preserved : goal.loop-near-preserved
 loop-near-preserved g c =
     let fork = at_Fork c.near.view_is c.near.invariant c.in-Fork.is c.deref.ensures in
     record {
-      full = fork.fork.left_full;
+      full = fork.fork.left_nonempty;
       led = λ o h. c.loop-near.invariant.led o (branch_left fork c.args.digest.now o (sym c.is_set.ensures.bit ∙ c.if-is_set.false) h);
     }
 
