@@ -96,8 +96,7 @@ is_full bounds entries = nat_le bounds.blocks entries
 abbrev pub is_open : State → Slot → Bool
 is_open s slot = not (is_some (get s.firsts slot))
 
--- the reply to a write of the block b under d: the tests are made from top to bottom. Equivocates has the rival as its value, if there is
--- one; the last line has the replies if there is none
+-- the reply to a write of the block b under d: the first of these whose test holds
 abbrev pub write_reply : Bounds → State → Digest → Block → WriteReply
 write_reply bounds s d b =
     if is_collected s b.round then write.Collected s.floor
@@ -105,6 +104,7 @@ write_reply bounds s d b =
     else if is_held_block s d b then write.Held
     else if is_held s d then write.Clash
     else if is_certified_elsewhere s d (block_slot b) then write.Misfit
+    -- Equivocates with the rival if there is one; otherwise the last line
     else option_map_or write.Equivocates (rival s d (block_slot b))
     (if is_full bounds (len s.blocks) then write.Full else write.Stored (is_open s (block_slot b)))
 
@@ -128,8 +128,7 @@ is_certified_for s slot d = option_map_or (λ c. is_slot (certificate_slot c) sl
 abbrev pub certified_digest : State → Slot → Option Digest
 certified_digest s slot = find (is_certified_for s slot) (keys s.certificates)
 
--- the reply to the certificate c: the tests are made from top to bottom. Conflict has the certified digest of the slot as its value, if
--- there is one; the last line has the replies if there is none
+-- the reply to the certificate c: the first of these whose test holds
 abbrev pub certify_reply : Bounds → State → Certificate → CertifyReply
 certify_reply bounds s c =
     if is_collected s c.round then certify.Collected s.floor
@@ -137,6 +136,7 @@ certify_reply bounds s c =
     else if is_certified_for s (certificate_slot c) c.digest then certify.Already
     else if is_certified s c.digest then certify.Misfit
     else if is_held_elsewhere s c.digest (certificate_slot c) then certify.Misfit
+    -- Conflict with the slot's certified digest if there is one; otherwise the last line
     else option_map_or certify.Conflict (certified_digest s (certificate_slot c))
     (if is_full bounds (len s.certificates) then certify.Full else certify.Certified)
 

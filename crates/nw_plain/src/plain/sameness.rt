@@ -1,4 +1,4 @@
-//! Whether two stores are the same.
+//! Comparisons of stores.
 ghost use Rattle.std.specs.Prelude.{◌≡◌, ◌↔◌, IsTrue};
 ghost use Rattle.std.specs.FinMap as map;
 ghost use Rattle.nw_digest.specs.Order.{digest_cmp, slot_cmp};
@@ -10,7 +10,7 @@ use nw_digest::{Digest, Round, Shared};
 use std::collections::BTreeMap;
 
 impl Plain {
-    /// Whether it is as a new store: nothing is held, and the garbage round is 0.
+    /// Whether its state is the opening state: three empty maps, and garbage round 0.
     pub(crate) fn is_opening(&self) -> bool
         ensures { IsTrue result ↔ self.now.state ≡ opening }
     {
@@ -27,7 +27,7 @@ impl Plain {
         self.firsts.len()
     }
 
-    /// Whether the other store has the same state and the same bounds. It takes no memory, and compares each entry once.
+    /// Whether the two stores have the same state and the same bounds. Allocates nothing, and compares each entry once.
     pub(crate) fn is_same(&self, other: &Plain) -> bool
         ensures { IsTrue result ↔ self.now ≡ other.now }
     {
