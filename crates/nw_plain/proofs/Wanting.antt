@@ -28,7 +28,7 @@ use Rattle.nw_model.specs.Missing.{IsNamedBy, IsWanted, Wants, AreExactly}
 use Rattle.nw_model.proofs.Maps.{digests_total, get_lookup}
 use Rattle.nw_model.proofs.Kept.{same_digest}
 use Rattle.nw_model.proofs.Listed.{contains_first, contains_later, contains_cases, contains_none}
-use Rattle.nw_plain.specs.Added.{Adds, Lacks}
+use Rattle.nw_plain.specs.Added.{Adds, NamesMissing}
 
 -- ---- one key more
 
@@ -94,7 +94,7 @@ module _ {A X : Type 0} (Q : A → X → Type 0) where
 -- ---- a reference
 
 -- a block above the garbage round wants what its references lack
-pub of_references : (s : State) (b : Block) (old new : List Wanted) → s.floor < b.round → Adds (Of (Lacks s b.round) b.parents) old new → Adds (Wants s b) old new
+pub of_references : (s : State) (b : Block) (old new : List Wanted) → s.floor < b.round → Adds (Of (NamesMissing s b.round) b.parents) old new → Adds (Wants s b) old new
 of_references s b old new above adds w = (
   λ among. elim ((adds w).0 among) [ inl here ↦ inl here | inr (r, in_parents, lacks) ↦ inr (above, r, in_parents, lacks.0, lacks.1) ],
   λ h. (adds w).1 (elim h [ inl here ↦ inl here | inr (high, r, in_parents, lacks, named) ↦ inr (r, in_parents, (lacks, named)) ]),
@@ -105,7 +105,7 @@ wanted_apart v w e = one_wanted v w (ap is_eq e)
 
 -- what a reference that is not satisfied lacks is the one name that it has
 pub lacks_one : (s : State) (round : ℕ) (r : Ref) (before : ℕ) → before + 1 ≡ round → (IsSatisfied s round r → ⊥) → (old : List Wanted)
-    → Adds (Lacks s round r) old (insert_key wanted_cmp old (record { round = before; author = r.author; digest = r.digest }))
+    → Adds (NamesMissing s round r) old (insert_key wanted_cmp old (record { round = before; author = r.author; digest = r.digest }))
 lacks_one s round r before is lacks old x = (
   λ among. elim ((with_key wanted_cmp wanted_apart old name x).0 among) [
     | inl here ↦ inl here

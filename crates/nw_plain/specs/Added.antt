@@ -11,5 +11,5 @@ abbrev pub Adds : {A : Type 0} → (A → Type 0) → List A → List A → Type
 Adds {A} P old new = (x : A) → Contains new x ↔ (Contains old x ⊎ P x)
 
 -- the reference r of a block of this round is not satisfied, and names the parent w
-abbrev pub Lacks : State → ℕ → Ref → Wanted → Type 0
-Lacks s round r w = (IsSatisfied s round r → ⊥) × IsNamedBy round r w
+abbrev pub NamesMissing : State → ℕ → Ref → Wanted → Type 0
+NamesMissing s round r w = (IsSatisfied s round r → ⊥) × IsNamedBy round r w

@@ -33,7 +33,8 @@ pub struct Plain {
     /// The certified digest of each round and author.
     certified: BTreeMap<(Round, u16), Digest>,
     floor: Round,
-    most: u32,
+    /// The largest number of held blocks, and separately of certificates.
+    limit: u32,
     window: u32,
     alloc: Global,
 }
@@ -48,7 +49,7 @@ impl Model for Plain {
     ghost coded = { coded_tables };
 
     ghost view = { λ p. record {
-      bounds = record { blocks = p.most; window = p.window };
+      bounds = record { blocks = p.limit; window = p.window };
       state = record {
         blocks = map.from_entries p.blocks.entries;
         certificates = map.from_entries p.certificates.entries;
@@ -83,7 +84,7 @@ impl Plain {
             firsts: BTreeMap::new(alloc),
             certified: BTreeMap::new(alloc),
             floor: Round::ZERO,
-            most: blocks,
+            limit: blocks,
             window,
             alloc,
         }
@@ -171,7 +172,7 @@ impl Plain {
         if let Some(first) = self.rival(digest, block) {
             return WriteReply::Equivocates(first);
         }
-        if self.held() >= self.most as usize {
+        if self.block_count() >= self.limit as usize {
             return WriteReply::Full;
         }
         WriteReply::Stored {
@@ -239,7 +240,7 @@ impl Plain {
         self.firsts.get(&(round, author)).copied()
     }
 
-    fn held(&self) -> usize
+    fn block_count(&self) -> usize
         ensures { result ≡ map.len self.now.state.blocks }
     {
         self.blocks.len()

@@ -50,7 +50,7 @@ impl Plain {
         if let Some(other) = self.certified_digest(slot) {
             return CertifyReply::Conflict(other);
         }
-        if self.kept() >= self.most as usize {
+        if self.certificate_count() >= self.limit as usize {
             return CertifyReply::Full;
         }
         CertifyReply::Certified
@@ -86,7 +86,7 @@ impl Plain {
         )
     }
 
-    pub(super) fn kept(&self) -> usize
+    pub(super) fn certificate_count(&self) -> usize
         ensures { result ≡ map.len self.now.state.certificates }
     {
         self.certificates.len()

@@ -20,12 +20,12 @@ impl Plain {
             return CollectReply::NotHigher(self.floor);
         }
         CollectReply::Raised {
-            dropped: self.held_below(round),
+            dropped: self.blocks_below(round),
         }
     }
 
     /// How many held blocks are of rounds below this one.
-    fn held_below(&self, round: Round) -> u64
+    fn blocks_below(&self, round: Round) -> u64
         ensures { result
             ≡ map.len self.now.state.blocks - map.len (raised self.now.state round).blocks }
     {

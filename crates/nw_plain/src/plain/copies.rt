@@ -26,7 +26,7 @@ impl Plain {
             firsts: self.firsts.clone()?,
             certified: self.certified.clone()?,
             floor: self.floor,
-            most: self.most,
+            limit: self.limit,
             window: self.window,
             alloc,
         })

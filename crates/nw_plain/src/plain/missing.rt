@@ -4,7 +4,7 @@ ghost use Rattle.std.specs.List.Sorted.{IsStrictlySortedBy};
 ghost use Rattle.nw_waiting.specs.Pairs.{wanted_cmp};
 ghost use Rattle.nw_model.specs.Paths.{IsSatisfied};
 ghost use Rattle.nw_model.specs.Missing.{AreCounts, AreExactly, AreFirstWanted, IsWanted, Wants};
-ghost use Rattle.nw_plain.specs.Added.{Adds, Lacks};
+ghost use Rattle.nw_plain.specs.Added.{Adds, NamesMissing};
 
 use super::Plain;
 use nw_codec::{Block, Ref};
@@ -29,8 +29,8 @@ impl Plain {
     {
         Ok(Counts {
             floor: self.floor,
-            blocks: self.held() as u64,
-            certificates: self.kept() as u64,
+            blocks: self.block_count() as u64,
+            certificates: self.certificate_count() as u64,
             complete: self.complete_blocks()?.len() as u64,
             wanted: self.wanted()?.len() as u64,
         })
@@ -94,7 +94,7 @@ impl Plain {
     ) -> Result<(), NoMemory>
         requires { before + 1 ≡ round }
         ensures added { OnOk result
-            (Adds (Lacks self.now.state round reference.now) wanted.old.keys wanted.new.keys) }
+            (Adds (NamesMissing self.now.state round reference.now) wanted.old.keys wanted.new.keys) }
         ensures ordered { IsStrictlySortedBy wanted_cmp wanted.old.keys
             → IsStrictlySortedBy wanted_cmp wanted.new.keys }
     {

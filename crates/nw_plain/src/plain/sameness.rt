@@ -14,14 +14,14 @@ impl Plain {
     pub(crate) fn is_opening(&self) -> bool
         ensures { IsTrue result ↔ self.now.state ≡ opening }
     {
-        if self.held() > 0 || self.kept() > 0 {
+        if self.block_count() > 0 || self.certificate_count() > 0 {
             return false;
         }
-        self.voted() == 0 && self.floor.get() == 0
+        self.first_count() == 0 && self.floor.get() == 0
     }
 
     /// How many rounds and authors have a first digest.
-    fn voted(&self) -> usize
+    fn first_count(&self) -> usize
         ensures { result ≡ map.len self.now.state.firsts }
     {
         self.firsts.len()
@@ -31,7 +31,7 @@ impl Plain {
     pub(crate) fn is_same(&self, other: &Plain) -> bool
         ensures { IsTrue result ↔ self.now ≡ other.now }
     {
-        self.most == other.most
+        self.limit == other.limit
             && self.window == other.window
             && self.floor == other.floor
             && are_same_blocks(&self.blocks, &other.blocks)
