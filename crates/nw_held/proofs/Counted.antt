@@ -33,7 +33,7 @@ use Rattle.nw_held.specs.Collection.{counts_at}
 use Rattle.nw_held.proofs.Filtered.{filter_was, filter_has}
 use Rattle.nw_held.proofs.HeldRaised.{certified_slot}
 use Rattle.nw_held.proofs.Opening.{none_once}
-use Rattle.nw_held.proofs.Shelves.{both_counts, count_kept}
+use Rattle.nw_held.proofs.Dropped.{both_counts, count_kept}
 
 is_lower : (a b : ℕ) → a < b → nat_lt a b ≡ true
 is_lower a b h = grind arith
@@ -124,7 +124,7 @@ module _ (blocks : List (Digest × Block)) (certificates : List (Digest × Certi
   home_counted d b there low = by (get s.certificates d) refl
     where
       by : (found : Option Certificate) → get s.certificates d ≡ found → Contains counted ((block_slot b, table_for found), d)
-      by None is = elim (held.named d b there) [
+      by None is = elim (held.listed d b there) [
         | inl first ↦ filter_has test places ((block_slot b, First), d) ((are.exactly (block_slot b, First) d).1 (omega arith, low, first)) (ap (λ found. not (is_some found)) is)
         | inr certified ↦ let (c, at, here) = (held.kept.indexed (block_slot b) d).0 certified in absurd (some_none c (sym at ∙ is))
       ]

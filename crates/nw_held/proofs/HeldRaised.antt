@@ -15,9 +15,9 @@ use Rattle.nw_model.proofs.Complete.{one_block}
 use Rattle.nw_model.proofs.Maps.{get_lookup, digests_total}
 use Rattle.nw_model.proofs.Raised.{is_kept, kept_raised, slots_from, slot_is_kept, slot_was_there, was_there}
 use Rattle.nw_held.specs.Held.{IsHeld, state_of}
-use Rattle.nw_held.specs.Shelf.{DropsBelow}
+use Rattle.nw_held.specs.Dropping.{DropsBelow}
 use Rattle.nw_held.specs.Collection.{AreUpTo}
-use Rattle.nw_held.proofs.Shelves.{dropped_is, count_fewer}
+use Rattle.nw_held.proofs.Dropped.{dropped_is, count_fewer}
 
 module _ (blocks stay : List (Digest × Block)) (certificates kept : List (Digest × Certificate)) (slots after : Tables) (floor round : ℕ) (held : IsHeld blocks certificates slots floor)
     (low : List Digest) (up_to : AreUpTo (state_of blocks certificates slots floor) round low)
@@ -38,9 +38,9 @@ module _ (blocks stay : List (Digest × Block)) (certificates kept : List (Diges
   pub held_raised : IsHeld stay kept after round
   held_raised = record {
     kept = subst (λ (t : State). IsKept t after.certified) (sym same_raised) (subst (λ m. IsKept (raised s round) m) (sym index) (kept_raised s slots.certified round held.kept));
-    named = λ d b at.
+    listed = λ d b at.
         let was = was_there (λ (x : Block). x.round) round (from_entries blocks) d b (subst (λ m. get m d ≡ Some b) blocks_are at) in
-        elim (held.named d b was.0) [
+        elim (held.listed d b was.0) [
           | inl first ↦ inl (subst (λ m. get m (block_slot b) ≡ Some d) (sym firsts) (slot_is_kept round slots.firsts (block_slot b) was.1 ∙ first))
           | inr certified ↦ inr (subst (λ m. get m (block_slot b) ≡ Some d) (sym index) (slot_is_kept round slots.certified (block_slot b) was.1 ∙ certified))
         ];
@@ -69,7 +69,7 @@ module _ (blocks : List (Digest × Block)) (certificates : List (Digest × Certi
   -- the digests of the slots of this round and those below
   pub gathered : (round : ℕ) (listed : List Digest) → AreDigestsBetween slots 0 (round + 1) listed → AreUpTo (state_of blocks certificates slots floor) round listed
   gathered round listed between = record {
-    blocks = λ d b at low. (between.exactly d).1 (b.round, omega arith, omega (arith, low), (b.author, held.named d b at));
+    blocks = λ d b at low. (between.exactly d).1 (b.round, omega arith, omega (arith, low), (b.author, held.listed d b at));
     certificates = λ d c at low. (between.exactly d).1 (c.round, omega arith, omega (arith, low), (c.author, inr ((held.kept.indexed (certificate_slot c) d).1 (c, at, refl))));
     only = λ d b among there.
         let (r, from, low, (author, stands)) = (between.exactly d).0 among in

@@ -20,7 +20,7 @@ use Rattle.nw_model.specs.Sound.{IsKept}
 use Rattle.nw_model.proofs.Kept.{kept_written, index_with_certificate, sound_with_certificate, index_answers, after_insert, after_slot, at_insert, at_slot, still_insert, still_slot}
 use Rattle.nw_model.proofs.Sames.{same_digest_decides}
 use Rattle.nw_model.proofs.Maps.{put_entries, digests_total, digests_apart}
-use Rattle.nw_held.specs.Held.{IsHeld, IsNamed, state_of}
+use Rattle.nw_held.specs.Held.{IsHeld, IsListed, state_of}
 
 pub absent : {A : Type 0} (found : Option A) → IsNone found → found ≡ None
 absent None h = refl
@@ -82,7 +82,7 @@ module _ (blocks more : List (Digest × Block)) (certificates : List (Digest × 
     at_new : get (from_entries {R = digest_cmp} more) d ≡ Some b
     at_new = subst (λ m. get m d ≡ Some b) (sym puts) (at_insert (from_entries blocks) d b)
 
-    certified : (found : Option Certificate) → get (from_entries {R = digest_cmp} certificates) d ≡ found → IsSome found → IsNamed after d b
+    certified : (found : Option Certificate) → get (from_entries {R = digest_cmp} certificates) d ≡ found → IsSome found → IsListed after d b
     certified None is some = absurd cc
     certified (Some c) is some = inr ((kept.indexed (block_slot b) d).1 (c, is, sym (kept.sound.one_slot d b c at_new is)))
 
@@ -106,9 +106,9 @@ module _ (blocks more : List (Digest × Block)) (certificates : List (Digest × 
     pub block_held : IsHeld more certificates after floor
     block_held = record {
       kept = kept;
-      named = λ e x at. elim (after_insert (from_entries blocks) d b e x (subst (λ m. get m e ≡ Some x) puts at)) [
-        | inl new ↦ subst (λ y. IsNamed after e y) new.1 (subst (λ q. IsNamed after q b) (sym new.0) new_is)
-        | inr old ↦ elim (held.named e x old) [ inl was ↦ inl (voting.1 (block_slot x) e was) | inr was ↦ inr (subst (λ m. get m (block_slot x) ≡ Some e) (sym same) was) ]
+      listed = λ e x at. elim (after_insert (from_entries blocks) d b e x (subst (λ m. get m e ≡ Some x) puts at)) [
+        | inl new ↦ subst (λ y. IsListed after e y) new.1 (subst (λ q. IsListed after q b) (sym new.0) new_is)
+        | inr old ↦ elim (held.listed e x old) [ inl was ↦ inl (voting.1 (block_slot x) e was) | inr was ↦ inr (subst (λ m. get m (block_slot x) ≡ Some e) (sym same) was) ]
       ];
       voted = λ slot e at. elim (voting.2 slot e at) [
         | inl new ↦ (b, subst (λ q. get (from_entries {R = digest_cmp} more) q ≡ Some b) new.1 at_new, sym new.0)
@@ -120,7 +120,7 @@ module _ (blocks more : List (Digest × Block)) (certificates : List (Digest × 
       certificates_ordered = held.certificates_ordered;
     }
       where
-        new_is : IsNamed after d b
+        new_is : IsListed after d b
         new_is = elim voting.0 [ inl is ↦ inl is | inr some ↦ certified (get (from_entries {R = digest_cmp} certificates) d) refl some ]
 
 -- a certificate more
@@ -138,7 +138,7 @@ certificate_held blocks certificates more slots after floor c held none first fi
         sound = record { own_digest = new.own_digest; one_slot = new.one_slot; one_certificate = new.one_certificate; blocks_kept = new.blocks_kept; certificates_kept = new.certificates_kept };
         indexed = index_with_certificate s slots.certified c held.kept.indexed none (index_answers s slots.certified (certificate_slot c) held.kept.indexed ∙ first);
       });
-      named = λ d b at. elim (held.named d b at) [
+      listed = λ d b at. elim (held.listed d b at) [
         | inl was ↦ inl (subst (λ m. get m (block_slot b) ≡ Some d) (sym firsts) was)
         | inr was ↦ inr (subst (λ m. get m (block_slot b) ≡ Some d) (sym index) (still_slot slots.certified (certificate_slot c) c.digest (block_slot b) d vacant was))
       ];

@@ -23,7 +23,7 @@ use Rattle.nw_model.proofs.Kept.{same_digest}
 use Rattle.nw_model.proofs.Listed.{contains_cases, contains_none}
 use Rattle.nw_model.proofs.Maps.{digests_total, digests_apart, get_lookup, len_sorted}
 use Rattle.nw_model.proofs.Raised.{at_round, filtered_round}
-use Rattle.nw_held.specs.Shelf.{IsBelow, DropsBelow}
+use Rattle.nw_held.specs.Dropping.{IsBelow, DropsBelow}
 
 none_some : {X : Type 0} (x : X) → None ≡ Some x → ⊥
 none_some x e = cc
