@@ -1,4 +1,4 @@
--- What is held after a collection.
+-- The tables after a collection.
 use Rattle.std.proofs.Common.{◌≡◌, ℕ, ◌+◌, ◌≤◌, List, Some, Result, Ok, Err, refl, sym, ap, ◌∙◌, subst, arith, inl, inr}
 use Rattle.std.specs.Prelude.{IfOk}
 use Rattle.std.specs.FinMap.{get, len, from_entries}
@@ -55,18 +55,18 @@ module _ (blocks stay : List (Digest × Block)) (certificates kept : List (Diges
   pub fewer_raised : len (from_entries {R = digest_cmp} stay) ≤ len (from_entries {R = digest_cmp} blocks)
   fewer_raised = subst (λ n. n ≤ len (from_entries {R = digest_cmp} blocks)) (sym (ap len blocks_are)) (count_fewer (λ (b : Block). b.round) round blocks held.blocks_ordered)
 
--- ---- what the slots list
+-- ---- the digests of the slots
 
 module _ (blocks : List (Digest × Block)) (certificates : List (Digest × Certificate)) (slots : Tables) (floor : ℕ) (held : IsHeld blocks certificates slots floor) where
-  -- a certificate and the block under its digest are of one slot
+  -- a certificate and the block under its digest have the same slot
   pub certified_slot : (slot : Slot) (d : Digest) (b : Block) → get slots.certified slot ≡ Some d → get (from_entries {R = digest_cmp} blocks) d ≡ Some b → block_slot b ≡ slot
   certified_slot slot d b at there = let (c, is, here) = (held.kept.indexed slot d).0 at in held.kept.sound.one_slot d b c there is ∙ here
 
-  -- so are a vote and the block under its digest
+  -- so do a first digest and the block under it
   voted_slot : (slot : Slot) (d : Digest) (b : Block) → get slots.firsts slot ≡ Some d → get (from_entries {R = digest_cmp} blocks) d ≡ Some b → block_slot b ≡ slot
   voted_slot slot d b at there = let (x, is, here) = held.voted slot d at in ap block_slot (one_block b x there is) ∙ here
 
-  -- the digests of the slots of this round and those below
+  -- the digests of the slots of this round and of lower rounds
   pub gathered : (round : ℕ) (listed : List Digest) → AreDigestsBetween slots 0 (round + 1) listed → AreUpTo (state_of blocks certificates slots floor) round listed
   gathered round listed between = record {
     blocks = λ d b at low. (between.exactly d).1 (b.round, omega arith, omega (arith, low), (b.author, held.listed d b at));

@@ -1,4 +1,4 @@
--- What is held with one more block or certificate.
+-- The tables after one more block or certificate.
 use Rattle.std.proofs.Common.{◌≡◌, ◌⊎◌, ℕ, ◌≤◌, true, false, not, Bool, List, [], ◌∷◌, Option, Some, None, IsNone, IsSome, is_some, cond, refl, ap, sym, ◌∙◌, subst, inl, inr}
 use Rattle.std.specs.Option.{option_and_then}
 use Rattle.std.specs.declared.cmp.Ordering.{Ordering}
@@ -29,7 +29,7 @@ absent (Some a) h = cc
 none_some : {X : Type 0} (x : X) → Some x ≡ None → ⊥
 none_some x e = cc
 
--- what was put where nothing was, and is taken out again
+-- a value that is inserted at a free digest and removed again
 pub taken_back : {V : Type 0} (es : List (Digest × V)) (d : Digest) (v : V) → lookup (is_at (digest_cmp d)) es ≡ None → remove_entry (is_at (digest_cmp d)) (insert_entry digest_cmp es d v) ≡ es
 taken_back [] d v none = ap (λ b. cond b [] ((d, v) ∷ [])) ((eq_by_cmp_equiv digests_total).refl d)
 taken_back (e ∷ es) d v none = by (digest_cmp d e.0) refl none (taken_back es d v)
@@ -44,12 +44,12 @@ taken_back (e ∷ es) d v none = by (digest_cmp d e.0) refl none (taken_back es 
         ap (λ b. cond b (insert_entry digest_cmp es d v) (e ∷ remove_entry (is_at (digest_cmp d)) (insert_entry digest_cmp es d v))) here
         ∙ ap (λ xs. e ∷ xs) (rest (sym (ap (λ b. cond b (Some e.1) (lookup (is_at (digest_cmp d)) es)) here) ∙ at))
 
--- with a vote, the slot has no first digest
+-- if there is a vote, the slot has no first digest
 pub vacant_first : (found : Option Digest) → true ≡ not (is_some found) → found ≡ None
 vacant_first None e = refl
 vacant_first (Some d) e = absurd cc
 
--- without a vote, the slot has this digest first, or it is certified
+-- if there is no vote, the slot has this first digest, or the digest is certified
 pub known_first : (s : State) (d : Digest) (slot : Slot) → rival s d slot ≡ None → false ≡ not (is_some (get s.firsts slot)) → (get s.firsts slot ≡ Some d) ⊎ IsSome (get s.certificates d)
 known_first s d slot alone voted = by (get s.certificates d) refl (get s.firsts slot) refl
   where
@@ -65,7 +65,7 @@ known_first s d slot alone voted = by (get s.certificates d) refl (get s.firsts 
         (sym (ap (λ c. cond (is_some c) None (option_and_then (λ x. cond (is_digest x d) None (Some x)) (get s.firsts slot))) is ∙ ap (λ f. option_and_then (λ x. cond (is_digest x d) None (Some x)) f) at) ∙ alone) in
         inl (at ∙ ap Some here)
 
--- a block more
+-- one more block
 module _ (blocks more : List (Digest × Block)) (certificates : List (Digest × Certificate)) (slots after : Tables) (floor : ℕ) (d : Digest) (b : Block) (vote : Bool) (put : more ≡ insert_entry digest_cmp blocks d b)
     (firsts : after.firsts ≡ cond vote (insert slots.firsts (block_slot b) d) slots.firsts) where
   puts : from_entries {R = digest_cmp} more ≡ insert (from_entries blocks) d b
@@ -86,7 +86,7 @@ module _ (blocks more : List (Digest × Block)) (certificates : List (Digest × 
     certified None is some = absurd cc
     certified (Some c) is some = inr ((kept.indexed (block_slot b) d).1 (c, is, sym (kept.sound.one_slot d b c at_new is)))
 
-    -- the block's digest is named, what was first is so still, and nothing else is but that digest
+    -- the new digest is listed, each first digest stays, and no other digest becomes first
     abbrev Votes : FinMap slot_cmp Digest → Type 0
     Votes m = ((get m (block_slot b) ≡ Some d) ⊎ IsSome (get (from_entries {R = digest_cmp} certificates) d))
         × ((slot : Slot) (e : Digest) → get slots.firsts slot ≡ Some e → get m slot ≡ Some e)
@@ -123,7 +123,7 @@ module _ (blocks more : List (Digest × Block)) (certificates : List (Digest × 
         new_is : IsListed after d b
         new_is = elim voting.0 [ inl is ↦ inl is | inr some ↦ certified (get (from_entries {R = digest_cmp} certificates) d) refl some ]
 
--- a certificate more
+-- one more certificate
 pub certificate_held : (blocks : List (Digest × Block)) (certificates more : List (Digest × Certificate)) (slots after : Tables) (floor : ℕ) (c : Certificate)
     → IsHeld blocks certificates slots floor → get (from_entries {R = digest_cmp} certificates) c.digest ≡ None → certified_digest (state_of blocks certificates slots floor) (certificate_slot c) ≡ None
     → is_elsewhere block_slot (get (from_entries {R = digest_cmp} blocks) c.digest) (certificate_slot c) ≡ false → floor ≤ c.round
