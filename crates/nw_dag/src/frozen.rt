@@ -26,8 +26,8 @@ pub(crate) fn freeze(
         generations.old.blocks }
     ensures all { OnOk result
         (AreFrozen held.now.state waits.old.lacking generations.new.blocks) }
-    ensures frozen { AreFrozenExcept held.now.state waits.old.lacking waits.new.completions.fresh.items
-        generations.new.blocks }
+    ensures frozen { AreFrozenExcept held.now.state waits.old.lacking
+        waits.new.completions.fresh.items generations.new.blocks }
     ensures unmet { waits.new.unmet ≡ waits.old.unmet }
     ensures lacking { waits.new.lacking ≡ waits.old.lacking }
     ensures pending { waits.new.completions.pending ≡ waits.old.completions.pending }
@@ -93,7 +93,8 @@ fn held_blocks(
     held: &Held,
     digests: &[Digest],
 ) -> Result<Trie<Shared<Block>, Global>, NoMemory>
-    ensures { IfOk result (λ trie. AreHeldUnder held.now.state digests.now (map.from_entries trie)) }
+    ensures { IfOk result
+        (λ trie. AreHeldUnder held.now.state digests.now (map.from_entries trie)) }
 {
     let mut trie = Trie::new_in(alloc);
     for digest in digests {

@@ -48,9 +48,11 @@ impl Waits {
     /// `NoMemory` if allocation fails. Then the holder may lack it in one set only.
     fn want(&mut self, held: &Held, wanted: Wanted, holder: Digest) -> Result<(), NoMemory>
         ensures unmet { OnOk result
-            (LacksAlso (IsMet held.now.state) (λ w. w ≡ wanted) holder self.old.unmet self.new.unmet) }
+            (LacksAlso (IsMet held.now.state) (λ w. w ≡ wanted) holder
+            self.old.unmet self.new.unmet) }
         ensures lacking { OnOk result
-            (LacksAlso (λ w. IsMet held.now.state w × IsReady held.now.state self.old.lacking w.digest)
+            (LacksAlso (λ w. IsMet held.now.state w
+            × IsReady held.now.state self.old.lacking w.digest)
             (λ w. w ≡ wanted) holder self.old.lacking self.new.lacking) }
         ensures same_unmet { AreSameExcept holder self.old.unmet self.new.unmet }
         ensures same_lacking { AreSameExcept holder self.old.lacking self.new.lacking }
@@ -80,7 +82,8 @@ impl Waits {
         ensures unmet { OnOk result (LacksAlso (IsMet held.now.state)
             (IsNamedAmong (round + 1) references.now) holder self.old.unmet self.new.unmet) }
         ensures lacking { OnOk result
-            (LacksAlso (λ w. IsMet held.now.state w × IsReady held.now.state self.old.lacking w.digest)
+            (LacksAlso (λ w. IsMet held.now.state w
+            × IsReady held.now.state self.old.lacking w.digest)
             (IsNamedAmong (round + 1) references.now) holder self.old.lacking self.new.lacking) }
         ensures same_unmet { AreSameExcept holder self.old.unmet self.new.unmet }
         ensures same_lacking { AreSameExcept holder self.old.lacking self.new.lacking }
@@ -109,7 +112,8 @@ impl Waits {
             (λ w. (held.now.state.floor < block.now.round) × IsNamedAmong block.now.round
             block.now.parents w) holder self.old.unmet self.new.unmet) }
         ensures lacking { OnOk result
-            (LacksAlso (λ w. IsMet held.now.state w × IsReady held.now.state self.old.lacking w.digest)
+            (LacksAlso (λ w. IsMet held.now.state w
+            × IsReady held.now.state self.old.lacking w.digest)
             (λ w. (held.now.state.floor < block.now.round) × IsNamedAmong block.now.round
             block.now.parents w) holder self.old.lacking self.new.lacking) }
         ensures completions { self.new.completions ≡ self.old.completions }

@@ -33,7 +33,8 @@ impl Waits {
 
     /// Lists the digests that are ready.
     fn add_ready(&mut self, held: &Held, digests: &[Digest])
-        requires tally { IsTally held.now.state self.old.lacking digests.now self.old.completions.pending }
+        requires tally { IsTally held.now.state self.old.lacking digests.now
+            self.old.completions.pending }
         requires once { IsDistinct (eq_by_cmp digest_cmp) digests.now }
         ensures unmet { self.new.unmet ≡ self.old.unmet }
         ensures lacking { self.new.lacking ≡ self.old.lacking }
@@ -70,7 +71,8 @@ impl Waits {
         ensures settled { IsSettled held.now.state self.new.unmet self.new.lacking
             self.new.completions.pending }
         ensures grown { Grows held.now.state (IsReady held.now.state self.old.lacking)
-            self.old.lacking self.new.lacking self.old.completions.fresh.items self.new.completions.fresh.items }
+            self.old.lacking self.new.lacking
+            self.old.completions.fresh.items self.new.completions.fresh.items }
     {
         for place in first..self.completions.most() {
             match self.completions.get(place) {

@@ -8,7 +8,8 @@ ghost use Rattle.nw_dag.specs.Lacking.{IsReady};
 ghost use Rattle.nw_dag.specs.Changes.{Adds};
 ghost use Rattle.nw_dag.specs.Frozen.{Grows};
 ghost use Rattle.nw_dag.specs.Settled.{IsTally, IsSettled};
-ghost use Rattle.nw_dag.specs.Collection.{AreReleased, StandsButLacks, IsCompleteBelow, HasCompleteBelow, IsCollecting};
+ghost use Rattle.nw_dag.specs.Collection.{AreReleased, StandsButLacks};
+ghost use Rattle.nw_dag.specs.Collection.{IsCompleteBelow, HasCompleteBelow, IsCollecting};
 
 use super::Waits;
 use crate::completions::{is_ready, lacks_nothing};
@@ -76,12 +77,13 @@ impl Waits {
     /// Updates the sets after the garbage round was raised. The holders are the digests of rounds up to it, and `dropped` is the number of
     /// dropped blocks that were not complete. Blocks that become complete by this are listed and promoted. Allocates nothing.
     pub(crate) fn collect(&mut self, held: &Held, holders: &[Digest], dropped: usize)
-        requires { IsCollecting held.now.state self.old.unmet self.old.lacking self.old.completions.pending
-            holders.now dropped }
+        requires { IsCollecting held.now.state self.old.unmet self.old.lacking
+            self.old.completions.pending holders.now dropped }
         ensures settled { IsSettled held.now.state self.new.unmet self.new.lacking
             self.new.completions.pending }
         ensures grown { Grows held.now.state (IsReady held.now.state self.old.lacking)
-            self.old.lacking self.new.lacking self.old.completions.fresh.items self.new.completions.fresh.items }
+            self.old.lacking self.new.lacking
+            self.old.completions.fresh.items self.new.completions.fresh.items }
     {
         self.completions.drop_pending(dropped);
         let first = self.completions.listed();

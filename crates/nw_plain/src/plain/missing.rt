@@ -94,7 +94,8 @@ impl Plain {
     ) -> Result<(), NoMemory>
         requires { before + 1 ≡ round }
         ensures added { OnOk result
-            (Adds (NamesMissing self.now.state round reference.now) wanted.old.keys wanted.new.keys) }
+            (Adds (NamesMissing self.now.state round reference.now)
+            wanted.old.keys wanted.new.keys) }
         ensures ordered { IsStrictlySortedBy wanted_cmp wanted.old.keys
             → IsStrictlySortedBy wanted_cmp wanted.new.keys }
     {
