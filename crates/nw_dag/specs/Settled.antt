@@ -2,19 +2,18 @@
 --
 -- A write or a certificate for the digest d goes through these records, in this order:
 --
--- 1. IsSettled holds before the call, as between any two calls.
--- 2. IsSettledWithout: the block or the certificate is added to the state, but d does not count as standing yet. This adds d to IsSettled,
---    and excepts it: the parent d is still unmet, and d is not listed.
---    If d does not stand even now, or still lacks a parent, this is IsSettled again at once, for the new state.
--- 3. IsCascading: d is ready, listed, and due. This adds the list of digests that are due for promotion.
--- 4. Each promotion takes the first due digest. The blocks that it makes ready become due in turn. While they are found one by one, IsTally
---    keeps the count of the pending blocks: it has the count without the sets.
+-- 1. IsSettled: as between any two calls, the sets of missing parents, the list of ready digests and the count of pending blocks are right.
+-- 2. IsSettledWithout: the block or the certificate of d is added to the state, but the sets and the list do not count d as standing yet.
+--    This record adds the digest d. `Waits::arrive` starts here. If d does not stand even now, or still lacks a parent, stage 5 follows.
+-- 3. IsCascading: d is ready, listed, and due for promotion. This record adds the list of due digests. `Waits::cascade` starts here.
+-- 4. IsTally: a due digest is promoted, and the digests that become ready by this are listed one by one. This record has only the list and
+--    the count, without the sets. After each promotion, IsCascading holds again, with these digests due too.
 -- 5. IsSettled: no digest is due any longer.
 --
--- A collection starts with IsSettled of the state before (IsCollecting), releases holders under IsTally, and goes on from 3 with the
--- digests that became ready by that.
+-- A collection starts from IsSettled of the earlier state (IsCollecting), releases holders under IsTally, and continues with stage 3: the
+-- digests that became ready by this are due.
 --
--- IsSettling is what IsCascading and IsSettled share. AreListed and ArePending are parts of all of them.
+-- IsSettling is the part that IsCascading and IsSettled share. Each stage has AreListed and ArePending.
 use Rattle.std.specs.Prelude.{◌≡◌, ℕ, ◌+◌, List, [], ◌∷◌, ◌++◌, All, Contains, length}
 use Rattle.std.specs.List.{IsDistinct}
 use Rattle.std.specs.Ordering.{eq_by_cmp}
