@@ -71,14 +71,14 @@ module _ (s t : State) (d : Digest) (old mid new : Pairs) (start fresh more : Li
       ])
       (λ x ready among. subst (λ xs. Contains xs x) (sym grown.begins.1) (Contains-append_left fresh grown.begins.0 x (kept x among ready)))
 
--- each complete block is frozen
+-- if each ready block is frozen, any digests may be listed
 pub frozen_all : (s : State) (lacking : Pairs) (fresh : List Digest) (blocks : FinMap digest_cmp Block) → AreFrozen s lacking blocks → AreFrozenExcept s lacking fresh blocks
 frozen_all s lacking fresh blocks are = record {
   only = λ d b kept at. (are d b kept).0 at;
   each = λ d b kept held. inl ((are d b kept).1 held);
 }
 
--- after each complete block is frozen, no digest needs to be listed
+-- if no digest is listed, each ready block is frozen
 pub frozen_none : (s : State) (lacking : Pairs) (fresh : List Digest) (blocks : FinMap digest_cmp Block) → AreFrozenExcept s lacking fresh blocks → length fresh ≡ 0 → AreFrozen s lacking blocks
 frozen_none s lacking [] blocks was none = λ d b kept. (was.only d b kept, λ held. elim (was.each d b kept held) [ inl there ↦ there | inr among ↦ absurd (contains_none d among) ])
 frozen_none s lacking (x ∷ xs) blocks was none = absurd (omega (arith, none))

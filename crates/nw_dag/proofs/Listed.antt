@@ -21,7 +21,7 @@ use Rattle.nw_dag.proofs.Once.{once_none, once_one, once_both}
 
 -- ---- numbers of listed digests
 
--- one more digest is listed
+-- two lists of ready digests can be joined if they have no common digest
 pub listed_both : (s : State) (lacking : Pairs) (complete more : List Digest) → AreListed s lacking complete → AreListed s lacking more → ((x : Digest) → Contains more x → Contains complete x → ⊥) → AreListed s lacking (complete ++ more)
 listed_both s lacking complete more listed and apart = record {
   ready = All-append (IsReady s lacking) complete more listed.ready and.ready;

@@ -141,7 +141,7 @@ cascaded s unmet met old new fresh more pending left place d far lt same step mo
     subst (λ (m : Pairs). IsCascading s m new (drop (place + 1) more) left) (sym same)
     (subst (λ xs. IsCascading s unmet new xs left) (sym due) (next_due s unmet old new e rest fresh more pending left (subst (λ xs. IsCascading s unmet old xs pending) (drop_more fresh place d lt) far) step most))
 
--- the growth since the tables of the start
+-- at the start nothing has grown
 pub grown_same : (s : State) (lacking : Pairs) (fresh : List Digest) → Grows s (IsReady s lacking) lacking lacking fresh fresh
 grown_same s lacking fresh = record { still = λ x ready. ready; begins = begins_same fresh; listed = λ x ready. inl ready }
 
