@@ -1,4 +1,4 @@
--- What is lacked after one more block stands.
+-- The parents that blocks lack after one more digest stands.
 use Rattle.std.proofs.Common.{◌≡◌, ◌↔◌, ◌⊎◌, List, [], ◌∷◌, refl, sym, subst, inl, inr}
 use Rattle.std.specs.Prelude.{Contains}
 use Rattle.std.proofs.lemmas.List.Elements.{All-weaker, All-contains}
@@ -10,28 +10,28 @@ use Rattle.nw_model.specs.State.{State}
 use Rattle.nw_model.specs.Paths.{IsStanding}
 use Rattle.nw_model.proofs.Listed.{contains_cases, contains_first, contains_none}
 use Rattle.nw_held.specs.Standing.{Stands, IsMet, named_as}
-use Rattle.nw_dag.specs.Lacking.{Names, IsReady, IsPromoted, AreLacking, AreUnmet, AreUnmetBut}
+use Rattle.nw_dag.specs.Lacking.{Names, IsReady, IsPromoted, AreLacking, AreUnmet, AreUnmetWithout}
 use Rattle.nw_dag.specs.Settled.{AreListed}
 use Rattle.nw_dag.proofs.Pairs.{without_wanted_lacks}
 use Rattle.nw_dag.proofs.Cascade.{met_under}
 
--- t is s, where d does not stand; the other digests stand in both or in none
+-- d does not stand in s, and each other digest stands in both states or in neither
 pub record Arrives (s t : State) (d : Digest) : Type 0 where
   pub absent : Stands s d → ⊥
   pub others : (x : Digest) (b : Block) → (x ≡ d → ⊥) → IsStanding t x b ↔ IsStanding s x b
 
--- what each block lacks of the parents that it names in t, as they are in s
+-- each block lacks the parents that it names in t, as they stand in s
 pub record AreLackingSince (s t : State) (d : Digest) (old new : Pairs) : Type 0 where
   pub each : (h : Digest) (w : Wanted) → Names t h w → Lacks new h w ⊎ (IsMet s w × IsReady s old w.digest)
   pub only : (h : Digest) (w : Wanted) → Lacks new h w → Names t h w × (IsMet s w → IsReady s old w.digest → ⊥)
   pub same : (h : Digest) (w : Wanted) → (h ≡ d → ⊥) → Lacks new h w ↔ Lacks old h w
 
 module _ (s t : State) (d : Digest) (arrives : Arrives s t d) where
-  -- what was met is met
+  -- a parent that was met still is
   met_still : (w : Wanted) → IsMet s w → IsMet t w
   met_still w (b, stands, author, round) = (b, (arrives.others w.digest b (λ same. arrives.absent (subst (λ q. Stands s q) same (b, stands)))).1 stands, author, round)
 
-  -- what is met and is not d was met
+  -- a parent that is met and is not d was met before
   met_before : (w : Wanted) → IsMet t w → (w.digest ≡ d → ⊥) → IsMet s w
   met_before w (b, stands, author, round) other = (b, (arrives.others w.digest b other).0 stands, author, round)
 
@@ -55,7 +55,7 @@ module _ (s t : State) (d : Digest) (arrives : Arrives s t d) where
         let other = not_d x promoted in
         ((promoted.0.0.0, (arrives.others x promoted.0.0.0 other).0 promoted.0.0.1), λ w lacks. promoted.0.1 w ((since.same x w other).1 lacks))
 
-    -- what is ready and is not d was ready
+    -- a ready digest other than d was ready before
     pub ready_was : (x : Digest) → (x ≡ d → ⊥) → IsReady t new x → IsReady s old x
     ready_was x other ready = ((ready.0.0, (arrives.others x ready.0.0 other).0 ready.0.1), λ w lacks. ready.1 w ((since.same x w other).1 lacks))
 
@@ -75,31 +75,31 @@ module _ (s t : State) (d : Digest) (arrives : Arrives s t d) where
     pub listed_apart : (complete : List Digest) → AreListed s old complete → Contains complete d → ⊥
     listed_apart complete listed among = arrives.absent (All-contains (IsReady s old) complete d listed.ready among).0
 
-  -- what was not met in s is what is not met in t but for d
-  pub unmet_arrived : (new : Pairs) → ((h : Digest) (w : Wanted) → Lacks new h w ↔ (Names t h w × (IsMet s w → ⊥))) → AreUnmetBut t d new
+  -- the unmet parents of s are the unmet ones of t without counting d
+  pub unmet_arrived : (new : Pairs) → ((h : Digest) (w : Wanted) → Lacks new h w ↔ (Names t h w × (IsMet s w → ⊥))) → AreUnmetWithout t d new
   unmet_arrived new since h w = (
-    λ lacks. let both = (since h w).0 lacks in (both.0, λ met other. both.1 (met_before w met other)),
-    λ (names, unmet). (since h w).1 (names, λ met. unmet (met_still w met) (λ same. arrives.absent (subst (λ q. Stands s q) same (met.0, met.1)))),
+    λ lacks. let both = (since h w).0 lacks in (both.0, λ (met, other). both.1 (met_before w met other)),
+    λ (names, unmet). (since h w).1 (names, λ met. unmet (met_still w met, λ same. arrives.absent (subst (λ q. Stands s q) same (met.0, met.1)))),
   )
 
--- nobody lacks d any more, which stands
-pub met_now : (t : State) (d : Digest) (b : Block) (old new : Pairs) → IsStanding t d b → AreUnmetBut t d old → new ≡ without_wanted old (named_as d b) → AreUnmet t new
+-- d stands, and no block lacks it any longer
+pub met_now : (t : State) (d : Digest) (b : Block) (old new : Pairs) → IsStanding t d b → AreUnmetWithout t d old → new ≡ without_wanted old (named_as d b) → AreUnmet t new
 met_now t d b old new stands since is h w = (
   λ lacks.
       let was = (without_wanted_lacks old (named_as d b) w h).0 (subst (λ (m : Pairs). Lacks m h w) is lacks) in
       let both = (since h w).0 was.0 in
-      (both.0, λ met. both.1 met (λ here. was.1 (sym (met_under t d b w stands.0 met here)))),
+      (both.0, λ met. both.1 (met, λ here. was.1 (sym (met_under t d b w stands.0 met here)))),
   λ (names, unmet). subst (λ (m : Pairs). Lacks m h w) (sym is) ((without_wanted_lacks old (named_as d b) w h).1 (
-    (since h w).1 (names, λ met other. unmet met),
+    (since h w).1 (names, λ without. unmet without.0),
     λ same. unmet (subst (λ (v : Wanted). IsMet t v) same (b, stands, refl, refl)),
   )),
 )
 
 -- d does not stand
-pub met_not_yet : (t : State) (d : Digest) (old : Pairs) → (Stands t d → ⊥) → AreUnmetBut t d old → AreUnmet t old
+pub met_not_yet : (t : State) (d : Digest) (old : Pairs) → (Stands t d → ⊥) → AreUnmetWithout t d old → AreUnmet t old
 met_not_yet t d old not_yet since h w = (
-  λ lacks. let both = (since h w).0 lacks in (both.0, λ met. both.1 met (λ same. not_yet (subst (λ q. Stands t q) same (met.0, met.1)))),
-  λ (names, unmet). (since h w).1 (names, λ met other. unmet met),
+  λ lacks. let both = (since h w).0 lacks in (both.0, λ met. both.1 (met, λ same. not_yet (subst (λ q. Stands t q) same (met.0, met.1)))),
+  λ (names, unmet). (since h w).1 (names, λ without. unmet without.0),
 )
 
 -- d is not ready, so nothing is due

@@ -1,4 +1,4 @@
--- What is lacked after one more block was promoted.
+-- The parents that blocks lack after one more promotion.
 use Rattle.std.proofs.Common.{◌≡◌, ◌⊎◌, List, ◌∷◌, ◌++◌, Some, refl, ap, sym, ◌∙◌, subst, inl, inr}
 use Rattle.std.specs.Prelude.{Contains}
 use Rattle.std.specs.FinMap.{get}
@@ -19,7 +19,7 @@ use Rattle.nw_dag.proofs.Pairs.{without_wanted_lacks, lacks_or_not, wanted_or_no
 same_wanted : (w : Wanted) (e : Digest) (b : Block) → w.digest ≡ e → w.author ≡ b.author → w.round ≡ b.round → w ≡ named_as e b
 same_wanted w e b digest author round = λ i. record { round = round i; author = author i; digest = digest i }
 
--- what is met under e is named as its block
+-- a parent that is met under e is named as e's block
 pub met_under : (s : State) (e : Digest) (b : Block) (w : Wanted) → get s.blocks e ≡ Some b → IsMet s w → w.digest ≡ e → w ≡ named_as e b
 met_under s e b w held (p, stands, author, round) same =
     let here : p ≡ b = one_block p b (ap (get s.blocks) (sym same) ∙ stands.0) held in
@@ -54,7 +54,7 @@ module _ (s : State) (e : Digest) (old new : Pairs) (complete more rest : List D
   e_promoted : IsPromoted s new due e
   e_promoted = (still_ready e ready_e, not_due e ready_e once)
 
-  -- what is promoted now and is another was promoted before
+  -- another digest that is promoted now was promoted before
   before : (x : Digest) → IsPromoted s new due x → (x ≡ e → ⊥) → IsPromoted s old (e ∷ rest) x
   before x promoted other = elim (lacks_or_not old x v) [
     | inl lacked ↦ absurd (promoted.1 (Contains-append_right rest step.added x ((step.exactly x).1 (lacked, promoted.0))))

@@ -26,7 +26,7 @@ use Rattle.nw_dag.specs.Changes.{Adds}
 use Rattle.nw_dag.specs.Frozen.{Grows}
 use Rattle.nw_dag.specs.Settled.{AreListed, IsTally, IsSettling, IsCascading, IsSettled}
 use Rattle.nw_held.specs.Collection.{AreUpTo}
-use Rattle.nw_dag.specs.Collection.{AreWithout, IsStuck, IsLost, LostCount, IsCollecting}
+use Rattle.nw_dag.specs.Collection.{AreReleased, StandsButLacks, IsCompleteBelow, HasCompleteBelow, IsCollecting}
 use Rattle.nw_held.proofs.Filtered.{filter_was, filter_has, distinct_filter}
 use Rattle.nw_dag.proofs.Listed.{listed_fits, most_left}
 use Rattle.nw_dag.proofs.Lists.{begins_more}
@@ -34,9 +34,9 @@ use Rattle.nw_dag.proofs.Once.{among_or_not, no_longer, once_both, once_keys}
 use Rattle.nw_dag.proofs.Releasing.{released}
 use Rattle.nw_dag.proofs.Raising.{held_stands, ready_cases, unmet_raised, lacking_raised}
 
--- ---- what is listed
+-- ---- listed digests
 
--- what is held, and was listed
+-- the listed digests whose blocks are still held
 abbrev pub kept : State → List Digest → List Digest
 kept s complete = filter (λ d. is_some (get s.blocks d)) complete
 
@@ -63,7 +63,7 @@ module _ (s : State) (round : ℕ) (unmet lacking : Pairs) (complete holders : L
       let b = is_held (get t.blocks x) held in
       (held_stands s round sound higher holders are x b.0 b.1 ready.0, ready.1)
 
-  -- what was listed, and is held, is ready still
+  -- a listed digest is still ready if its block is held
   pub kept_listed : AreListed t lacking (kept t complete)
   kept_listed = record {
     ready = λ k d lt. ready_kept _ (All-filter (λ d. is_some (get t.blocks d)) (IsReady s lacking) complete settled.listed.ready k d lt) (filter_passes (λ d. is_some (get t.blocks d)) complete k d lt);
@@ -73,8 +73,8 @@ module _ (s : State) (round : ℕ) (unmet lacking : Pairs) (complete holders : L
   abbrev gone : List Digest
   gone = filter (λ d. not (is_some (get t.blocks d))) complete
 
-  -- what was listed, and is held no more, is lost
-  gone_lost : (x : Digest) → Contains gone x → Contains holders x × IsLost s lacking round x
+  -- a listed digest is complete below the round if its block is no longer held
+  gone_lost : (x : Digest) → Contains gone x → Contains holders x × IsCompleteBelow s lacking round x
   gone_lost x among =
       let was = filter_was (λ d. not (is_some (get t.blocks d))) complete x among in
       let ready = All-contains (IsReady s lacking) complete x settled.listed.ready was.0 in
@@ -85,7 +85,7 @@ module _ (s : State) (round : ℕ) (unmet lacking : Pairs) (complete holders : L
       ] in
       (are.blocks x b ready.0.1.0 (omega (arith, low)), (ready, (b, ready.0.1.0, low)))
 
-  lost_gone : (x : Digest) → IsLost s lacking round x → Contains gone x
+  lost_gone : (x : Digest) → IsCompleteBelow s lacking round x → Contains gone x
   lost_gone x (ready, (b, at, low)) = filter_has (λ d. not (is_some (get t.blocks d))) complete x (settled.all x ready) (none_held (get t.blocks x) refl)
     where
       none_held : (found : Option Block) → get t.blocks x ≡ found → not (is_some found) ≡ true
@@ -94,8 +94,8 @@ module _ (s : State) (round : ℕ) (unmet lacking : Pairs) (complete holders : L
           let was = was_there (λ (y : Block). y.round) round s.blocks x c is in
           absurd (let same = one_block b c at was.0 in omega (arith, low, was.1, ap (λ (y : Block). y.round) same))
 
-  -- so many are listed still
-  pub kept_count : (lost : ℕ) → LostCount s lacking round holders lost → length (kept t complete) + lost ≡ length complete
+  -- the number of digests that are still listed
+  pub kept_count : (lost : ℕ) → HasCompleteBelow s lacking round holders lost → length (kept t complete) + lost ≡ length complete
   kept_count lost (xs, adds, counts) =
       let both = length-filter_both (λ d. is_some (get t.blocks d)) (λ d. not (is_some (get t.blocks d))) (λ d. refl) complete in
       let once = distinct_filter (λ d. not (is_some (get t.blocks d))) (eq_by_cmp digest_cmp) complete settled.listed.once in
@@ -103,7 +103,7 @@ module _ (s : State) (round : ℕ) (unmet lacking : Pairs) (complete holders : L
       let many = no_longer adds.added gone adds.once (λ x among. lost_gone x ((adds.exactly x).0 among).1) in
       omega (arith, both, few, many, ap (λ (ys : List Digest). length ys) adds.are, counts)
 
-  module _ (met new : Pairs) (fresh more : List Digest) (met_without : AreWithout holders unmet met) (without : AreWithout holders lacking new) (adds : Adds (IsStuck t lacking) holders fresh more) where
+  module _ (met new : Pairs) (fresh more : List Digest) (met_without : AreReleased holders unmet met) (without : AreReleased holders lacking new) (adds : Adds (StandsButLacks t lacking) holders fresh more) where
     all_listed : (x : Digest) → IsReady t new x → Contains (kept t complete ++ adds.added) x
     all_listed x ready = elim (among_or_not adds.added x) [
       | inl added ↦ Contains-append_right (kept t complete) adds.added x added
@@ -113,7 +113,7 @@ module _ (s : State) (round : ℕ) (unmet lacking : Pairs) (complete holders : L
           Contains-append_left (kept t complete) adds.added x here
     ]
 
-    -- what became ready is due
+    -- the digests that became ready are due
     pub settling : IsSettling t met new (kept t complete ++ adds.added) adds.added
     settling = record {
       standing = unmet_raised s round sound higher holders are unmet met settled.standing met_without;
@@ -122,10 +122,10 @@ module _ (s : State) (round : ℕ) (unmet lacking : Pairs) (complete holders : L
       all = all_listed;
     }
 
--- ---- how much is dropped
+-- ---- numbers of dropped blocks
 
--- at least what is lost
-pub lost_fits : (s : State) (lacking : Pairs) (round : ℕ) (holders : List Digest) (lost : ℕ) → LostCount s lacking round holders lost → len (raised s round).blocks + lost ≤ len s.blocks
+-- at least the complete blocks below the round are dropped
+pub lost_fits : (s : State) (lacking : Pairs) (round : ℕ) (holders : List Digest) (lost : ℕ) → HasCompleteBelow s lacking round holders lost → len (raised s round).blocks + lost ≤ len s.blocks
 lost_fits s lacking round holders lost (xs, adds, counts) =
     let few = no_longer (keys t.blocks ++ adds.added) (keys s.blocks) (once_both (keys t.blocks) adds.added (once_keys t.blocks) adds.once apart) within in
     omega (arith, few, length-append (keys t.blocks) adds.added, sized t.blocks, sized s.blocks, ap (λ (ys : List Digest). length ys) adds.are, counts)
@@ -156,7 +156,7 @@ lost_fits s lacking round holders lost (xs, adds, counts) =
       | inr lost ↦ let (ready, (b, at, low)) = ((adds.exactly x).0 lost).1 in key s.blocks x b at
     ]
 
--- ---- the same, in the words of the contract
+-- ---- the same, in terms of the contract
 
 module _ (s : State) (unmet lacking : Pairs) (pending : ℕ) (holders : List Digest) (dropped : ℕ) (far : IsCollecting s unmet lacking pending holders dropped) where
   abbrev was : IsSettling far.before unmet lacking far.settled.complete []
@@ -174,7 +174,7 @@ module _ (s : State) (unmet lacking : Pairs) (pending : ℕ) (holders : List Dig
   fits : length still ≤ len s.blocks
   fits = subst (λ (t : State). length still ≤ len t.blocks) (sym far.raised) (listed_fits (raised far.before s.floor) lacking still listed)
 
-  -- no more were dropped than were pending
+  -- at most as many blocks were dropped as were pending
   pub dropped_fits : dropped ≤ pending
   dropped_fits = omega (arith, far.counts, far.settled.counts, counted, fits)
 
@@ -186,11 +186,11 @@ module _ (s : State) (unmet lacking : Pairs) (pending : ℕ) (holders : List Dig
     counts = omega (arith, is, far.counts, far.settled.counts, counted, fits, ap (λ (t : State). len t.blocks) far.raised);
   })
 
-  pub collected : (met new : Pairs) (fresh more : List Digest) (mid left place : ℕ) → mid ≡ pending - dropped → AreWithout holders unmet met → AreWithout holders lacking new → Adds (IsStuck s lacking) holders fresh more
+  pub collected : (met new : Pairs) (fresh more : List Digest) (mid left place : ℕ) → mid ≡ pending - dropped → AreReleased holders unmet met → AreReleased holders lacking new → Adds (StandsButLacks s lacking) holders fresh more
       → length more + left ≡ length fresh + mid → place ≡ length fresh → IsCascading s met new (drop place more) left
-  collected met new fresh more mid left place is met_without without adds most at = subst (λ (t : State). Adds (IsStuck t lacking) holders fresh more → IsCascading t met new (drop place more) left) (sym far.raised) go adds
+  collected met new fresh more mid left place is met_without without adds most at = subst (λ (t : State). Adds (StandsButLacks t lacking) holders fresh more → IsCascading t met new (drop place more) left) (sym far.raised) go adds
     where
-      go : Adds (IsStuck (raised far.before s.floor) lacking) holders fresh more → IsCascading (raised far.before s.floor) met new (drop place more) left
+      go : Adds (StandsButLacks (raised far.before s.floor) lacking) holders fresh more → IsCascading (raised far.before s.floor) met new (drop place more) left
       go stuck = subst (λ xs. IsCascading (raised far.before s.floor) met new xs left) (sym (ap (drop place) stuck.are ∙ drop_at fresh stuck.added place (sym at))) (record {
         front = still;
         settling = settling far.before s.floor unmet lacking far.settled.complete holders far.sound far.higher far.up_to was met new fresh more met_without without stuck;
@@ -199,7 +199,7 @@ module _ (s : State) (unmet lacking : Pairs) (pending : ℕ) (holders : List Dig
 
 -- the garbage round of a settled store was raised
 pub collecting : (before s : State) (round : ℕ) (unmet lacking : Pairs) (pending : ℕ) (low holders : List Digest) (lost dropped : ℕ) → s ≡ raised before round → IsSound before → IsSettled before unmet lacking pending
-    → before.floor < round → AreUpTo before round low → holders ≡ low → LostCount before lacking round low lost → dropped + lost + len s.blocks ≡ len before.blocks → IsCollecting s unmet lacking pending holders dropped
+    → before.floor < round → AreUpTo before round low → holders ≡ low → HasCompleteBelow before lacking round low lost → dropped + lost + len s.blocks ≡ len before.blocks → IsCollecting s unmet lacking pending holders dropped
 collecting before s round unmet lacking pending low holders lost dropped is sound settled higher up_to same are_lost counts =
     subst (λ (t : State). IsCollecting t unmet lacking pending holders dropped) (sym is) (record {
       before = before;
@@ -209,12 +209,12 @@ collecting before s round unmet lacking pending low holders lost dropped is soun
       raised = refl;
       up_to = subst (AreUpTo before round) (sym same) up_to;
       lost = lost;
-      are_lost = subst (λ xs. LostCount before lacking round xs lost) (sym same) are_lost;
+      are_lost = subst (λ xs. HasCompleteBelow before lacking round xs lost) (sym same) are_lost;
       counts = subst (λ (t : State). dropped + lost + len t.blocks ≡ len before.blocks) is counts;
     })
 
--- what grew since the holders were released
-pub grown_collected : (s : State) (old mid new : Pairs) (holders fresh listed more : List Digest) → AreWithout holders old mid → Adds (IsStuck s old) holders fresh listed → Grows s (IsReady s mid) mid new listed more → Grows s (IsReady s old) old new fresh more
+-- the growth since the holders were released
+pub grown_collected : (s : State) (old mid new : Pairs) (holders fresh listed more : List Digest) → AreReleased holders old mid → Adds (StandsButLacks s old) holders fresh listed → Grows s (IsReady s mid) mid new listed more → Grows s (IsReady s old) old new fresh more
 grown_collected s old mid new holders fresh listed more without adds grown = record {
   still = λ x ready. grown.still x (ready.0, λ w lacks. ready.1 w ((without x w).0 lacks).0);
   begins = begins_more fresh listed more (adds.added, adds.are) grown.begins;
@@ -224,7 +224,7 @@ grown_collected s old mid new holders fresh listed more without adds grown = rec
       | inr apart ↦ inl (
         was.0,
         λ w lacks. elim (among_or_not holders x) [
-          | inl holder ↦ apart ((adds.exactly x).1 (holder, (was.0, λ nothing. nothing w lacks)))
+          | inl holder ↦ apart ((adds.exactly x).1 (holder, (was.0, (w, lacks))))
           | inr free ↦ was.1 w ((without x w).1 (lacks, free))
         ],
       )

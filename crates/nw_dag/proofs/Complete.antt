@@ -1,4 +1,4 @@
--- Where nothing is due, the blocks that are ready are the complete ones.
+-- If nothing is due, the ready digests are exactly the complete ones.
 use Rattle.std.proofs.Common.{◌≡◌, ◌↔◌, ℕ, ◌+◌, ◌-◌, ◌<◌, zero, suc, [], get_or, refl, sym, ◌∙◌, subst, arith, inl, inr}
 use Rattle.std.specs.Prelude.{Contains}
 use Rattle.std.proofs.lemmas.Bool.{cases_lt}
@@ -17,11 +17,11 @@ use Rattle.nw_held.specs.Standing.{IsMet}
 use Rattle.nw_dag.specs.Lacking.{IsReady, AreLacking}
 use Rattle.nw_model.specs.Missing.{IsNamedBy}
 
--- what a reference names
+-- the parent that a reference names
 abbrev pub named_by : ℕ → Ref → Wanted
 named_by round r = record { round = round - 1; author = r.author; digest = r.digest }
 
--- what is named is met where the reference is satisfied
+-- a parent is met exactly if the reference that names it is satisfied
 pub met_from_satisfied : (s : State) (round : ℕ) (r : Ref) (w : Wanted) → IsNamedBy round r w → IsSatisfied s round r → IsMet s w
 met_from_satisfied s round r w (before, author, digest) (p, stands, same, next) =
     (p, subst (λ q. IsStanding s q p) (sym digest) stands, same ∙ sym author, omega (arith, before, next))

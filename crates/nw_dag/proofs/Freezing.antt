@@ -1,4 +1,4 @@
--- What is frozen, and what views of it show.
+-- Frozen blocks, and the states that views of them show.
 use Rattle.std.proofs.Common.{◌≡◌, ◌⊎◌, ℕ, Bool, true, false, cond, List, [], ◌∷◌, ◌++◌, Option, Some, None, IsSome, get_or, length, refl, ap, sym, ◌∙◌, subst, arith, inl, inr}
 use Rattle.std.specs.Prelude.{Contains}
 use Rattle.std.specs.Option.{option_or}
@@ -23,25 +23,25 @@ use Rattle.nw_generation.specs.Seen.{IsOver}
 use Rattle.nw_held.specs.Standing.{Stands}
 use Rattle.nw_dag.specs.Lacking.{IsReady}
 use Rattle.nw_dag.specs.Settled.{IsSettled}
-use Rattle.nw_dag.specs.Frozen.{IsHeldReady, AreOf, AreFrozen, AreFrozenBut, AreKept, Grows}
+use Rattle.nw_dag.specs.Frozen.{IsHeldReady, AreHeldUnder, AreFrozen, AreFrozenExcept, AreAllOrFrom, Grows}
 use Rattle.nw_dag.proofs.Arrival.{Arrives, AreLackingSince, ready_still, ready_was}
 use Rattle.nw_dag.proofs.Complete.{ready_complete}
 
 none_some : {X : Type 0} (x : X) → None ≡ Some x → ⊥
 none_some x e = cc
 
--- ---- what is frozen as the store goes on
+-- ---- frozen blocks as the store continues
 
-pub frozen_opening : (lacking : Pairs) → AreFrozenBut opening lacking [] empty
+pub frozen_opening : (lacking : Pairs) → AreFrozenExcept opening lacking [] empty
 frozen_opening lacking = record {
   only = λ d b kept at. absurd (none_some b (sym (get-empty digest_cmp d) ∙ at));
   each = λ d b kept (ready, at). absurd (none_some b (sym (get-empty digest_cmp d) ∙ at));
 }
 
--- what is frozen stays so where nothing of it changes, and what becomes ready is listed
-pub frozen_still : (s t : State) (old new : Pairs) (fresh more : List Digest) (blocks : FinMap digest_cmp Block) → AreFrozenBut s old fresh blocks → t.floor ≡ s.floor
+-- the frozen blocks stay right if the blocks do not change and each newly ready digest is listed
+pub frozen_still : (s t : State) (old new : Pairs) (fresh more : List Digest) (blocks : FinMap digest_cmp Block) → AreFrozenExcept s old fresh blocks → t.floor ≡ s.floor
     → ((x : Digest) → IsReady s old x → IsReady t new x × (get t.blocks x ≡ get s.blocks x)) → ((x : Digest) → IsReady t new x → IsReady s old x ⊎ Contains more x)
-    → ((x : Digest) → IsReady s old x → Contains fresh x → Contains more x) → AreFrozenBut t new more blocks
+    → ((x : Digest) → IsReady s old x → Contains fresh x → Contains more x) → AreFrozenExcept t new more blocks
 frozen_still s t old new fresh more blocks was floor same cases kept = record {
   only = λ d b high at. let before = was.only d b (omega (arith, high, floor)) at in (let now = same d before.0 in (now.0, now.1 ∙ before.1));
   each = λ d b high (ready, at). elim (cases d ready) [
@@ -50,19 +50,19 @@ frozen_still s t old new fresh more blocks was floor same cases kept = record {
   ];
 }
 
--- fewer are listed, but each that is ready
-pub frozen_fewer : (s : State) (lacking : Pairs) (fresh more : List Digest) (blocks : FinMap digest_cmp Block) → AreFrozenBut s lacking fresh blocks → ((x : Digest) → Contains fresh x → IsReady s lacking x → Contains more x)
-    → AreFrozenBut s lacking more blocks
+-- fewer digests are listed, but still each ready one
+pub frozen_fewer : (s : State) (lacking : Pairs) (fresh more : List Digest) (blocks : FinMap digest_cmp Block) → AreFrozenExcept s lacking fresh blocks → ((x : Digest) → Contains fresh x → IsReady s lacking x → Contains more x)
+    → AreFrozenExcept s lacking more blocks
 frozen_fewer s lacking fresh more blocks was kept = record {
   only = was.only;
   each = λ d b high held. elim (was.each d b high held) [ inl frozen ↦ inl frozen | inr among ↦ inr (kept d among held.0) ];
 }
 
 module _ (s t : State) (d : Digest) (old mid new : Pairs) (start fresh more : List Digest) (blocks : FinMap digest_cmp Block) (arrives : Arrives s t d) (since : AreLackingSince s t d old mid)
-    (others : (x : Digest) → (x ≡ d → ⊥) → get t.blocks x ≡ get s.blocks x) (floor : t.floor ≡ s.floor) (was : AreFrozenBut s old start blocks) (kept : (x : Digest) → Contains start x → IsReady s old x → Contains fresh x)
+    (others : (x : Digest) → (x ≡ d → ⊥) → get t.blocks x ≡ get s.blocks x) (floor : t.floor ≡ s.floor) (was : AreFrozenExcept s old start blocks) (kept : (x : Digest) → Contains start x → IsReady s old x → Contains fresh x)
     (grown : Grows t (λ x. IsReady t mid x × (x ≡ d → ⊥)) mid new fresh more) where
-  -- one block more stands
-  pub frozen_arrived : AreFrozenBut t new more blocks
+  -- one more digest stands
+  pub frozen_arrived : AreFrozenExcept t new more blocks
   frozen_arrived = frozen_still s t old new start more blocks was floor
       (λ x ready. (grown.still x (ready_still s t d arrives old mid since x ready), others x (λ same. arrives.absent (subst (λ q. Stands s q) same ready.0))))
       (λ x ready. elim (grown.listed x ready) [
@@ -71,20 +71,20 @@ module _ (s t : State) (d : Digest) (old mid new : Pairs) (start fresh more : Li
       ])
       (λ x ready among. subst (λ xs. Contains xs x) (sym grown.begins.1) (Contains-append_left fresh grown.begins.0 x (kept x among ready)))
 
--- all is frozen
-pub frozen_all : (s : State) (lacking : Pairs) (fresh : List Digest) (blocks : FinMap digest_cmp Block) → AreFrozen s lacking blocks → AreFrozenBut s lacking fresh blocks
+-- if each ready block is frozen, any digests may be listed
+pub frozen_all : (s : State) (lacking : Pairs) (fresh : List Digest) (blocks : FinMap digest_cmp Block) → AreFrozen s lacking blocks → AreFrozenExcept s lacking fresh blocks
 frozen_all s lacking fresh blocks are = record {
   only = λ d b kept at. (are d b kept).0 at;
   each = λ d b kept held. inl ((are d b kept).1 held);
 }
 
--- no block is listed
-pub frozen_none : (s : State) (lacking : Pairs) (fresh : List Digest) (blocks : FinMap digest_cmp Block) → AreFrozenBut s lacking fresh blocks → length fresh ≡ 0 → AreFrozen s lacking blocks
+-- if no digest is listed, each ready block is frozen
+pub frozen_none : (s : State) (lacking : Pairs) (fresh : List Digest) (blocks : FinMap digest_cmp Block) → AreFrozenExcept s lacking fresh blocks → length fresh ≡ 0 → AreFrozen s lacking blocks
 frozen_none s lacking [] blocks was none = λ d b kept. (was.only d b kept, λ held. elim (was.each d b kept held) [ inl there ↦ there | inr among ↦ absurd (contains_none d among) ])
 frozen_none s lacking (x ∷ xs) blocks was none = absurd (omega (arith, none))
 
--- what is below the garbage round goes
-pub frozen_above : (s : State) (lacking : Pairs) (fresh : List Digest) (all kept : FinMap digest_cmp Block) → AreFrozenBut s lacking fresh all → kept ≡ from_round (λ (b : Block). b.round) s.floor all → AreFrozenBut s lacking fresh kept
+-- blocks below the garbage round are removed
+pub frozen_above : (s : State) (lacking : Pairs) (fresh : List Digest) (all kept : FinMap digest_cmp Block) → AreFrozenExcept s lacking fresh all → kept ≡ from_round (λ (b : Block). b.round) s.floor all → AreFrozenExcept s lacking fresh kept
 frozen_above s lacking fresh all kept was is = record {
   only = λ d b high at. was.only d b high (was_there (λ (x : Block). x.round) s.floor all d b (ap (λ (m : FinMap digest_cmp Block). get m d) (sym is) ∙ at)).0;
   each = λ d b high held. elim (was.each d b high held) [
@@ -93,13 +93,13 @@ frozen_above s lacking fresh all kept was is = record {
   ];
 }
 
--- all is kept, or what is not below the garbage round
-pub frozen_kept : (s : State) (lacking : Pairs) (fresh : List Digest) (all kept : FinMap digest_cmp Block) → AreFrozenBut s lacking fresh all → AreKept s.floor all kept → AreFrozenBut s lacking fresh kept
-frozen_kept s lacking fresh all kept was (inl same) = subst (AreFrozenBut s lacking fresh) (sym same) was
+-- all blocks are kept, or those from the garbage round on
+pub frozen_kept : (s : State) (lacking : Pairs) (fresh : List Digest) (all kept : FinMap digest_cmp Block) → AreFrozenExcept s lacking fresh all → AreAllOrFrom s.floor all kept → AreFrozenExcept s lacking fresh kept
+frozen_kept s lacking fresh all kept was (inl same) = subst (AreFrozenExcept s lacking fresh) (sym same) was
 frozen_kept s lacking fresh all kept was (inr above) = frozen_above s lacking fresh all kept was above
 
--- one generation more
-pub frozen_over : (s : State) (lacking : Pairs) (fresh : List Digest) (older newer blocks : FinMap digest_cmp Block) → AreFrozenBut s lacking fresh older → ((d : Digest) → Contains fresh d → IsReady s lacking d) → AreOf s fresh newer
+-- one more generation
+pub frozen_over : (s : State) (lacking : Pairs) (fresh : List Digest) (older newer blocks : FinMap digest_cmp Block) → AreFrozenExcept s lacking fresh older → ((d : Digest) → Contains fresh d → IsReady s lacking d) → AreHeldUnder s fresh newer
     → IsOver newer older blocks → AreFrozen s lacking blocks
 frozen_over s lacking fresh older newer blocks was ready are over d b kept = (λ at. down (get newer d) (get older d) refl refl (sym (over d) ∙ at), up)
   where
@@ -119,7 +119,7 @@ frozen_over s lacking fresh older newer blocks was ready are over d b kept = (λ
       | inr among ↦ ap (λ f. option_or f (get older d)) ((are d b).1 (among, held.1))
     ]
 
--- one generation over none
+-- one generation on top of none
 pub over_nothing : (newer older both : FinMap digest_cmp Block) → older ≡ empty → IsOver newer older both → both ≡ newer
 over_nothing newer older both none over = same_map digests_total digests_apart both newer (λ d.
     over d ∙ ap (option_or (get newer d)) (ap (λ (m : FinMap digest_cmp Block). get m d) none ∙ get-empty digest_cmp d) ∙ alone (get newer d))
@@ -128,9 +128,9 @@ over_nothing newer older both none over = same_map digests_total digests_apart b
     alone None = refl
     alone (Some b) = refl
 
--- ---- the blocks that are held under digests
+-- ---- the blocks held under digests
 
--- a value stays where another is written, or the same
+-- a value stays if another digest, or the same value, is inserted
 stays : (m : FinMap digest_cmp Block) (k : Digest) (v : Block) (q : Digest) (x : Block) → get m q ≡ Some x → (q ≡ k → v ≡ x) → get (insert m k v) q ≡ Some x
 stays m k v q x at same = get-insert digests_total m k v q ∙ by (eq_by_cmp digest_cmp q k) refl
   where
@@ -138,11 +138,11 @@ stays m k v q x at same = get-insert digests_total m k v q ∙ by (eq_by_cmp dig
     by true e = ap Some (same (same_digest q k e))
     by false e = at
 
-pub held_none : (s : State) → AreOf s [] empty
+pub held_none : (s : State) → AreHeldUnder s [] empty
 held_none s d b = (λ at. absurd (none_some b (sym (get-empty digest_cmp d) ∙ at)), λ held. absurd (contains_none d held.0))
 
--- a digest more, under which a block is held
-pub held_more : (s : State) (xs : List Digest) (old new : FinMap digest_cmp Block) (d : Digest) (b : Block) → AreOf s xs old → get s.blocks d ≡ Some b → new ≡ insert old d b → AreOf s (xs ++ d ∷ []) new
+-- one more digest, under which a block is held
+pub held_more : (s : State) (xs : List Digest) (old new : FinMap digest_cmp Block) (d : Digest) (b : Block) → AreHeldUnder s xs old → get s.blocks d ≡ Some b → new ≡ insert old d b → AreHeldUnder s (xs ++ d ∷ []) new
 held_more s xs old new d b are at put q c = (
   λ found. elim (after_insert old d b q c (ap (λ (m : FinMap digest_cmp Block). get m q) (sym put) ∙ found)) [
     | inl here ↦ (subst (Contains (xs ++ d ∷ [])) (sym here.0) (Contains-append_right xs (d ∷ []) d (contains_first d [])), ap (get s.blocks) here.0 ∙ at ∙ ap Some here.1)
@@ -157,8 +157,8 @@ held_more s xs old new d b are at put q c = (
   ],
 )
 
--- a digest more, under which none is held
-pub held_same : (s : State) (xs : List Digest) (old new : FinMap digest_cmp Block) (d : Digest) → AreOf s xs old → get s.blocks d ≡ None → new ≡ old → AreOf s (xs ++ d ∷ []) new
+-- one more digest, under which no block is held
+pub held_same : (s : State) (xs : List Digest) (old new : FinMap digest_cmp Block) (d : Digest) → AreHeldUnder s xs old → get s.blocks d ≡ None → new ≡ old → AreHeldUnder s (xs ++ d ∷ []) new
 held_same s xs old new d are lacks same q c = (
   λ found. let held = (are q c).0 (ap (λ (m : FinMap digest_cmp Block). get m q) (sym same) ∙ found) in (Contains-append_left xs (d ∷ []) q held.0, held.1),
   λ (among, held). ap (λ (m : FinMap digest_cmp Block). get m q) same ∙ elim (Contains-append_cases xs (d ∷ []) q among) [
@@ -170,7 +170,7 @@ held_same s xs old new d are lacks same q c = (
   ],
 )
 
--- ---- what a view of it shows
+-- ---- the state that a view shows
 
 pub shown : (s : State) (unmet lacking : Pairs) (pending : ℕ) (v : Frozen) → IsSound s → IsSettled s unmet lacking pending → v.floor ≡ s.floor → AreFrozen s lacking v.blocks → Shows v s
 shown s unmet lacking pending v sound settled floor are = record {

@@ -1,4 +1,4 @@
--- What is complete, listed once.
+-- Lists of ready digests, each listed once.
 use Rattle.std.proofs.Common.{◌≡◌, ℕ, zero, suc, ◌+◌, ◌<◌, ◌≤◌, List, [], ◌∷◌, ◌++◌, length, get_or, Result, Ok, Err, is_ok, cond, is_some, refl, ap, sym, ◌∙◌, subst, arith, inl, inr, append_assoc, append-nil, length-append}
 use Rattle.std.specs.Prelude.{Contains, IsOk, All}
 use Rattle.std.specs.Cmp.{eq_by_cmp_equiv}
@@ -19,16 +19,16 @@ use Rattle.nw_dag.specs.Changes.{Adds}
 use Rattle.nw_dag.specs.Settled.{AreListed, IsTally}
 use Rattle.nw_dag.proofs.Once.{once_none, once_one, once_both}
 
--- ---- how many are listed
+-- ---- numbers of listed digests
 
--- more are listed
+-- two lists of ready digests can be joined if they have no common digest
 pub listed_both : (s : State) (lacking : Pairs) (complete more : List Digest) → AreListed s lacking complete → AreListed s lacking more → ((x : Digest) → Contains more x → Contains complete x → ⊥) → AreListed s lacking (complete ++ more)
 listed_both s lacking complete more listed and apart = record {
   ready = All-append (IsReady s lacking) complete more listed.ready and.ready;
   once = once_both complete more listed.once and.once apart;
 }
 
--- no more are listed than are held
+-- at most as many digests are listed as blocks are held
 pub listed_fits : (s : State) (lacking : Pairs) (complete : List Digest) → AreListed s lacking complete → length complete ≤ len s.blocks
 listed_fits s lacking complete listed =
     let few = length-le_from_is_member (eq_by_cmp_equiv digests_total) complete (keys s.blocks) listed.once (λ q any.
@@ -36,7 +36,7 @@ listed_fits s lacking complete listed =
     sym (contains_key-keys s.blocks q) ∙ ap is_some ready.0.1.0) in
     omega (arith, few, length-map (entries s.blocks) (λ (e : Digest × Block). e.0), len-entries s.blocks)
 
--- one is listed alone
+-- a list of one digest
 pub listed_one : (s : State) (lacking : Pairs) (d : Digest) → IsReady s lacking d → AreListed s lacking (d ∷ [])
 listed_one s lacking d ready = record { ready = λ k x lt. subst (IsReady s lacking) (only d x k lt) ready; once = once_one d }
   where
@@ -56,9 +56,9 @@ pub pushed : {T E : Type 0} (r : Result T E) (items more same : List Digest) →
 pushed (Ok x) items more same ok is = is
 pushed (Err e) items more same ok is = cc
 
--- ---- those that are ready
+-- ---- ready digests
 
--- one was looked at, and added
+-- one digest was tested, and added
 pub one_added : (P : Digest → Type 0) (d : Digest) (old new : List Digest) → P d → new ≡ old ++ d ∷ [] → Adds P (d ∷ []) old new
 one_added P d old new has is = record {
   added = d ∷ [];
@@ -67,7 +67,7 @@ one_added P d old new has is = record {
   exactly = λ x. (λ among. (among, elim (contains_cases d [] x among) [ inl here ↦ subst P here has | inr there ↦ absurd (contains_none x there) ]), λ both. both.0);
 }
 
--- or not added
+-- one digest was tested, and not added
 pub one_left : (P : Digest → Type 0) (d : Digest) (old : List Digest) → (P d → ⊥) → Adds P (d ∷ []) old old
 one_left P d old fails = record {
   added = [];
@@ -79,7 +79,7 @@ one_left P d old fails = record {
   );
 }
 
--- after one more was looked at, which is another
+-- one more digest was tested, which is another one
 pub adds_more : (P : Digest → Type 0) (xs : List Digest) (d : Digest) (a b c : List Digest) → (Contains xs d → ⊥) → Adds P xs a b → Adds P (d ∷ []) b c → Adds P (xs ++ d ∷ []) a c
 adds_more P xs d a b c other one two = record {
   added = one.added ++ two.added;
@@ -103,16 +103,16 @@ adds_more P xs d a b c other one two = record {
 pub adds_none : (P : Digest → Type 0) (old : List Digest) → Adds P [] old old
 adds_none P old = record { added = []; are = sym (append-nil old); once = once_none; exactly = λ x. (λ among. absurd (contains_none x among), λ both. absurd (contains_none x both.0)) }
 
--- ---- those that were added are pending no more
+-- ---- added digests are no longer pending
 
--- all that was added has P
+-- each added digest has P
 pub added_all : {P : Digest → Type 0} {digests old new : List Digest} → (adds : Adds P digests old new) → All P adds.added
 added_all {P} adds = λ k d lt. ((adds.exactly (get_or adds.added k d)).0 (Contains-get_or adds.added k d lt)).1
 
 pub most_left : {P : Digest → Type 0} {digests old new : List Digest} (adds : Adds P digests old new) (pending left : ℕ) → length new + left ≡ length old + pending → length adds.added + left ≡ pending
 most_left {old = old} adds pending left most = omega (arith, most, ap (λ (xs : List Digest). length xs) adds.are, length-append old adds.added)
 
--- the next is pending, where it is ready
+-- the next digest is pending if it is ready
 pub pending_next : (s : State) (lacking : Pairs) (digests seen old new : List Digest) (pending left : ℕ) (d : Digest) → IsTally s lacking digests pending → Adds (IsReady s lacking) seen old new → ((x : Digest) → Contains seen x → Contains digests x)
     → length new + left ≡ length old + pending → Contains digests d → (Contains seen d → ⊥) → IsReady s lacking d → 0 < left
 pending_next s lacking digests seen old new pending left d tally adds within most among other ready =

@@ -1,4 +1,4 @@
--- What is wanted is what is not met.
+-- The wanted parents are the unmet ones.
 use Rattle.std.proofs.Common.{ℕ, List}
 use Rattle.nw_waiting.specs.Pairs.{Pairs, AreFirst, AreWanted, WantedCount, wanted_cmp}
 use Rattle.nw_waiting.specs.declared.wanted.Wanted.{Wanted}

@@ -1,4 +1,4 @@
--- Lists in which no digest stands twice.
+-- Lists without repeated digests.
 use Rattle.std.proofs.Common.{◌≡◌, ◌⊎◌, ◌≤◌, Bool, true, false, List, [], ◌∷◌, ◌++◌, map, length, refl, sym, ◌∙◌, subst, inl, inr, append_assoc, append-nil}
 use Rattle.std.specs.Prelude.{◌&&◌, T, Contains}
 use Rattle.std.specs.List.{IsDistinct, AllByRecursion, list_any}
@@ -46,7 +46,7 @@ among_or_not xs x = by (list_any (same x) xs) refl
     by true e = inl (Contains-from_any same_digest x xs e)
     by false e = inr (λ among. true_false (sym (list_any-from_Contains (eq_by_cmp_equiv digests_total) x xs among) ∙ e))
 
--- the first does not stand behind itself
+-- the first digest is not among the others
 pub first_once : (x : Digest) (xs : List Digest) → IsOnce (x ∷ xs) → Contains xs x → ⊥
 first_once x xs once among =
     true_false (sym ((eq_by_cmp_equiv digests_total).refl x) ∙ All-contains (λ y. same x y ≡ false) xs x (All-from_recursion (λ y. same x y ≡ false) xs (IsDistinct-head same x xs once)) among)
@@ -54,7 +54,7 @@ first_once x xs once among =
 pub once_push : (xs : List Digest) (x : Digest) → IsOnce xs → (Contains xs x → ⊥) → IsOnce (xs ++ x ∷ [])
 once_push xs x once apart = IsDistinct-push (eq_by_cmp_equiv digests_total) xs x once (is_false (list_any (same x) xs) (λ any. apart (Contains-from_any same_digest x xs any)))
 
--- two lists that share nothing
+-- two lists with no common digest can be joined
 pub once_both : (xs ys : List Digest) → IsOnce xs → IsOnce ys → ((x : Digest) → Contains ys x → Contains xs x → ⊥) → IsOnce (xs ++ ys)
 once_both xs [] one two apart = subst IsOnce (sym (append-nil xs)) one
 once_both xs (y ∷ ys) one two apart =
@@ -64,12 +64,12 @@ once_both xs (y ∷ ys) one two apart =
       | inr here ↦ elim (contains_cases y [] x here) [ inl is ↦ first_once y ys two (subst (Contains ys) (sym is) later) | inr none ↦ contains_none x none ]
     ]))
 
--- the end of such a list
+-- the end of such a list has no repeated digests
 pub once_back : (xs ys : List Digest) → IsOnce (xs ++ ys) → IsOnce ys
 once_back [] ys once = once
 once_back (x ∷ xs) ys once = once_back xs ys (IsDistinct-tail same x (xs ++ ys) once)
 
--- the keys of a map
+-- the keys of a map do not repeat
 conj : (a b : Bool) → T (a && b) → T a × T b
 conj true b h = (tt, h)
 conj false b h = absurd h
@@ -90,7 +90,7 @@ rising (e ∷ es) h = let two = conj (below_all digest_cmp e.0 es) (is_sorted di
 pub once_keys : {X : Type 0} (m : FinMap digest_cmp X) → IsOnce (keys m)
 once_keys m = rising (entries m) (entries_sorted m)
 
--- it is no longer than a list with all its digests
+-- it is not longer than a list with all its digests
 pub no_longer : (xs ys : List Digest) → IsOnce xs → ((x : Digest) → Contains xs x → Contains ys x) → length xs ≤ length ys
 no_longer xs ys once within = length-le_from_is_member (eq_by_cmp_equiv digests_total) xs ys once
     (λ q any. list_any-from_Contains (eq_by_cmp_equiv digests_total) q ys (within q (Contains-from_any same_digest q xs any)))

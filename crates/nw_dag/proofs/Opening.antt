@@ -1,4 +1,4 @@
--- A store in which nothing is.
+-- The opening state.
 use Rattle.std.proofs.Common.{◌≡◌, true, false, [], Some, None, sym, ◌∙◌, arith}
 use Rattle.std.specs.FinMap.{get-empty, len-empty}
 use Rattle.std.specs.FinSet.{empty, contains-empty}

@@ -1,4 +1,4 @@
--- Which pairs a set has after a change.
+-- The pairs of a set after a change.
 use Rattle.std.proofs.Common.{◌≡◌, ◌↔◌, ◌⊎◌, ℕ, Bool, true, false, not, ◌&&◌, ◌||◌, refl, ap, sym, ◌∙◌, subst, inl, inr}
 use Rattle.std.specs.Ordering.{nat_cmp, eq_by_cmp, ordering_then}
 use Rattle.std.specs.Cmp.{IsTotalOrder, eq_by_cmp_equiv}
@@ -70,7 +70,7 @@ true_not : (a : Bool) → not a ≡ true → a ≡ true → ⊥
 true_not true n is = cc
 true_not false n is = cc
 
--- ---- one pair more
+-- ---- one more pair
 
 pub lacks_more : (s : Pairs) (v w : Wanted) (h d : Digest) → Lacks (insert s (v, h)) d w → ((w ≡ v) × (d ≡ h)) ⊎ Lacks s d w
 lacks_more s v w h d lacks =
@@ -85,7 +85,7 @@ lacks_new s v h = contains-insert pairs_total s (v, h) (v, h) ∙ ap (λ b. b ||
 pub lacks_still : (s : Pairs) (v w : Wanted) (h d : Digest) → Lacks s d w → Lacks (insert s (v, h)) d w
 lacks_still s v w h d lacks = contains-insert pairs_total s (v, h) (w, d) ∙ or_right (eq_by_cmp pair_cmp (w, d) (v, h)) (contains s (w, d)) lacks
 
--- ---- what is no longer wanted, and who no longer wants
+-- ---- removing all pairs of a parent, or of a holder
 
 at_wanted : (s : Pairs) (v w : Wanted) (d : Digest) → contains (without_wanted s v) (w, d) ≡ (contains s (w, d) && not (eq_by_cmp wanted_cmp v w))
 at_wanted s v w d = contains-retain s (λ p. not (eq_by_cmp wanted_cmp v p.0)) (w, d) (λ x e. ap (λ (p : Pair). not (eq_by_cmp wanted_cmp v p.0)) (sym (pairs_apart (w, d) x e)))

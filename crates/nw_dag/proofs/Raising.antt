@@ -1,4 +1,4 @@
--- What is lacked after a collection.
+-- The parents that blocks lack after a collection.
 use Rattle.std.proofs.Common.{◌≡◌, ◌↔◌, ◌⊎◌, ℕ, ◌<◌, ◌≤◌, List, [], Option, Some, None, IsSome, refl, ap, sym, subst, arith, inl, inr}
 use Rattle.std.specs.Prelude.{Contains}
 use Rattle.std.specs.FinMap.{get}
@@ -19,7 +19,7 @@ use Rattle.nw_model.proofs.Listed.{contains_none}
 use Rattle.nw_held.specs.Standing.{Stands, IsMet}
 use Rattle.nw_dag.specs.Lacking.{Names, IsReady, IsPromoted, AreLacking, AreUnmet}
 use Rattle.nw_held.specs.Collection.{AreUpTo}
-use Rattle.nw_dag.specs.Collection.{AreWithout, IsStuck}
+use Rattle.nw_dag.specs.Collection.{AreReleased, StandsButLacks}
 
 some_certificate : (found : Option Certificate) → IsSome found → (c : Certificate) × (found ≡ Some c)
 some_certificate (Some c) h = (c, refl)
@@ -40,11 +40,11 @@ module _ (s : State) (round : ℕ) (sound : IsSound s) (higher : s.floor < round
       let c = some_certificate (get t.certificates d) some in
       is_there (get s.certificates d) c.0 (was_there (λ (x : Certificate). x.round) round s.certificates d c.0 c.1).0
 
-  -- what stands now stood
+  -- a digest that stands now stood before
   pub stood : (d : Digest) (b : Block) → IsStanding t d b → IsStanding s d b
   stood d b stands = ((was_held d b stands.0).0, was_certified d stands.1)
 
-  -- what stood, and is not below the round, stands
+  -- a digest that stood still stands, if its block is not below the round
   pub still_stands : (d : Digest) (b : Block) → IsStanding s d b → round ≤ b.round → IsStanding t d b
   still_stands d b stands high =
       let c = some_certificate (get s.certificates d) stands.1 in
@@ -53,7 +53,7 @@ module _ (s : State) (round : ℕ) (sound : IsSound s) (higher : s.floor < round
         is_there (get t.certificates d) c.0 (is_kept (λ (x : Certificate). x.round) round s.certificates d c.0 c.1 (omega (arith, same, high))),
       )
 
-  -- what stood, and is held, stands
+  -- a digest that stood still stands, if its block is held
   pub held_stands : (d : Digest) (b : Block) → get t.blocks d ≡ Some b → Stands s d → Stands t d
   held_stands d b at (x, stands) =
       let was = was_held d b at in
@@ -70,7 +70,7 @@ module _ (s : State) (round : ℕ) (sound : IsSound s) (higher : s.floor < round
   low_holder : (d : Digest) (b : Block) → get s.blocks d ≡ Some b → Contains holders d → b.round ≤ round
   low_holder d b at among = are.only d b among at
 
-  -- who names a parent now named it, and is no holder
+  -- a block that names a parent now named it before, and is no holder
   named : (d : Digest) (w : Wanted) → Names t d w → Names s d w × (Contains holders d → ⊥) × (round ≤ w.round)
   named d w (b, at, above, among) =
       let was = was_held d b at in
@@ -86,8 +86,8 @@ module _ (s : State) (round : ℕ) (sound : IsSound s) (higher : s.floor < round
     | inr low ↦ absurd (apart (are.blocks d b at low))
   ]
 
-  -- the parents that do not stand
-  pub unmet_raised : (old new : Pairs) → AreUnmet s old → AreWithout holders old new → AreUnmet t new
+  -- the unmet parents
+  pub unmet_raised : (old new : Pairs) → AreUnmet s old → AreReleased holders old new → AreUnmet t new
   unmet_raised old new since without d w = (
     λ lacks.
         let both = (without d w).0 lacks in
@@ -98,16 +98,16 @@ module _ (s : State) (round : ℕ) (sound : IsSound s) (higher : s.floor < round
         (without d w).1 ((since d w).1 (was.0, λ met. unmet (met_still w was.2 met)), was.1),
   )
 
-  module _ (old new : Pairs) (without : AreWithout holders old new) where
-    -- what was ready, and stands, is ready
+  module _ (old new : Pairs) (without : AreReleased holders old new) where
+    -- a digest that was ready and still stands is still ready
     pub ready_still : (x : Digest) → Stands t x → IsReady s old x → IsReady t new x
     ready_still x stands ready = (stands, λ w lacks. ready.1 w ((without x w).0 lacks).0)
 
-    -- what is ready, and did not lack anything, was ready
+    -- a ready digest that lacked nothing was ready before
     pub ready_before : (x : Digest) → IsReady t new x → ((w : Wanted) → Lacks old x w → ⊥) → IsReady s old x
     ready_before x ready nothing = ((ready.0.0, stood x ready.0.0 ready.0.1), nothing)
 
-    -- what is ready and is no holder lacked nothing
+    -- a ready digest that is no holder lacked nothing
     nothing_lacked : (x : Digest) → IsReady t new x → (Contains holders x → ⊥) → (w : Wanted) → Lacks old x w → ⊥
     nothing_lacked x ready apart w lacks = ready.1 w ((without x w).1 (lacks, apart))
 
@@ -117,18 +117,18 @@ module _ (s : State) (round : ℕ) (sound : IsSound s) (higher : s.floor < round
       | inr low ↦ inl (are.blocks x b (stood x b stands).0 low)
     ]
 
-    module _ (due : List Digest) (exactly : (x : Digest) → Contains due x ↔ (Contains holders x × IsStuck t old x)) where
+    module _ (due : List Digest) (exactly : (x : Digest) → Contains due x ↔ (Contains holders x × StandsButLacks t old x)) where
       promoted_still : (x : Digest) → Stands t x → IsPromoted s old [] x → IsPromoted t new due x
-      promoted_still x stands promoted = (ready_still x stands promoted.0, λ among. ((exactly x).0 among).1.1 promoted.0.1)
+      promoted_still x stands promoted = (ready_still x stands promoted.0, λ among. let lacks = ((exactly x).0 among).1.1 in promoted.0.1 lacks.0 lacks.1)
 
-      -- what is promoted now lacked nothing
+      -- a digest that is promoted now lacked nothing
       lacked_nothing : (x : Digest) → IsPromoted t new due x → (w : Wanted) → Lacks old x w → ⊥
       lacked_nothing x promoted w lacks = elim (holder_or_not x promoted.0.0) [
-        | inl holder ↦ promoted.1 ((exactly x).1 (holder, (promoted.0.0, λ nothing. nothing w lacks)))
+        | inl holder ↦ promoted.1 ((exactly x).1 (holder, (promoted.0.0, (w, lacks))))
         | inr apart ↦ nothing_lacked x promoted.0 apart w lacks
       ]
 
-      -- the parents that do not stand or were not promoted
+      -- the parents that are not met or not promoted
       pub lacking_raised : AreLacking s old [] → AreLacking t new due
       lacking_raised far = record {
         each = λ d w names.
@@ -145,6 +145,6 @@ module _ (s : State) (round : ℕ) (sound : IsSound s) (higher : s.floor < round
             );
       }
 
-      -- what is ready was ready, or is due
+      -- a ready digest was ready before, or is due
       pub ready_cases : (x : Digest) → IsReady t new x → (Contains due x → ⊥) → IsReady s old x
       ready_cases x ready apart = ready_before x ready (lacked_nothing x (ready, apart))

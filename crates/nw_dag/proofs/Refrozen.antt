@@ -1,4 +1,4 @@
--- What is frozen after a collection.
+-- Frozen blocks after a collection.
 use Rattle.std.proofs.Common.{ℕ, ◌<◌, List, subst, sym, arith, inl, inr}
 use Rattle.std.specs.Prelude.{Contains}
 use Rattle.std.specs.FinMap.{FinMap}
@@ -13,16 +13,16 @@ use Rattle.nw_model.specs.Sound.{IsSound}
 use Rattle.nw_model.proofs.Raised.{was_there, is_kept}
 use Rattle.nw_held.specs.Collection.{AreUpTo}
 use Rattle.nw_dag.specs.Lacking.{IsReady}
-use Rattle.nw_dag.specs.Frozen.{AreFrozenBut, Grows}
+use Rattle.nw_dag.specs.Frozen.{AreFrozenExcept, Grows}
 use Rattle.nw_dag.proofs.Raising.{held_stands, stood}
 
 module _ (s : State) (round : ℕ) (sound : IsSound s) (higher : s.floor < round) (holders : List Digest) (are : AreUpTo s round holders) (old new : Pairs) (fresh more : List Digest) (blocks : FinMap digest_cmp Block)
-    (was : AreFrozenBut s old fresh blocks) (grown : Grows (raised s round) (IsReady (raised s round) old) old new fresh more) where
+    (was : AreFrozenExcept s old fresh blocks) (grown : Grows (raised s round) (IsReady (raised s round) old) old new fresh more) where
   abbrev t : State
   t = raised s round
 
-  -- what is frozen and still held stays frozen
-  pub frozen_raised : AreFrozenBut t new more blocks
+  -- a frozen block that is still held stays frozen
+  pub frozen_raised : AreFrozenExcept t new more blocks
   frozen_raised = record {
     only = λ d b kept at.
         let before = was.only d b (omega (arith, kept, higher)) at in

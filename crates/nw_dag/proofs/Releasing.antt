@@ -1,4 +1,4 @@
--- Holders that lack nothing any more.
+-- Holders that are released: they lack nothing from then on.
 use Rattle.std.proofs.Common.{◌≡◌, ℕ, ◌+◌, ◌<◌, List, [], ◌∷◌, ◌++◌, length, get_or, take, true, false, ap, sym, ◌∙◌, subst, arith, inl, inr, length-append, length-take}
 use Rattle.std.specs.Prelude.{Contains}
 use Rattle.std.specs.List.{IsDistinct}
@@ -14,35 +14,35 @@ use Rattle.nw_digest.specs.Order.{digest_cmp}
 use Rattle.nw_model.specs.State.{State}
 use Rattle.nw_model.proofs.Listed.{contains_cases, contains_first, contains_none}
 use Rattle.nw_model.proofs.Maps.{digests_total}
-use Rattle.nw_dag.specs.Lacking.{IsReady}
+use Rattle.nw_dag.specs.Lacking.{LacksNothing, LacksSomething, IsReady}
 use Rattle.nw_dag.specs.Changes.{Adds}
 use Rattle.nw_dag.specs.Settled.{AreListed, IsTally}
-use Rattle.nw_dag.specs.Collection.{AreWithout, IsStuck}
+use Rattle.nw_dag.specs.Collection.{AreReleased, StandsButLacks}
 use Rattle.nw_dag.proofs.Pairs.{without_holder_lacks}
 use Rattle.nw_dag.proofs.Listed.{adds_more, listed_both, most_left, one_left, pending_left}
 
 -- ---- one holder
 
--- what is listed stays ready
+-- listed digests stay ready
 pub listed_without : (s : State) (old new : Pairs) (holder : Digest) (complete : List Digest) → new ≡ without_holder old holder → AreListed s old complete → AreListed s new complete
 listed_without s old new holder complete is listed = record {
   ready = All-weaker (IsReady s old) (IsReady s new) (λ x ready. (ready.0, λ w lacks. ready.1 w ((without_holder_lacks old holder x w).0 (subst (λ (m : Pairs). Lacks m x w) is lacks)).0)) complete listed.ready;
   once = listed.once;
 }
 
--- what lacks something is not listed
-pub lacking_apart : (s : State) (lacking : Pairs) (complete : List Digest) (holder : Digest) → AreListed s lacking complete → (((w : Wanted) → Lacks lacking holder w → ⊥) → ⊥) → Contains complete holder → ⊥
-lacking_apart s lacking complete holder listed lacks among = lacks (All-contains (IsReady s lacking) complete holder listed.ready among).1
+-- a digest that lacks a parent is not listed
+pub lacking_apart : (s : State) (lacking : Pairs) (complete : List Digest) (holder : Digest) → AreListed s lacking complete → LacksSomething lacking holder → Contains complete holder → ⊥
+lacking_apart s lacking complete holder listed lacks among = (All-contains (IsReady s lacking) complete holder listed.ready among).1 lacks.0 lacks.1
 
--- it lacked something, and is listed where it stands
-pub stuck_added : (s : State) (old new : Pairs) (holder : Digest) (complete more : List Digest) → new ≡ without_holder old holder → (((w : Wanted) → Lacks old holder w → ⊥) → ⊥)
-    → Adds (IsReady s new) (holder ∷ []) complete more → Adds (IsStuck s old) (holder ∷ []) complete more
+-- the holder lacked a parent, and is listed if it stands
+pub stuck_added : (s : State) (old new : Pairs) (holder : Digest) (complete more : List Digest) → new ≡ without_holder old holder → LacksSomething old holder
+    → Adds (IsReady s new) (holder ∷ []) complete more → Adds (StandsButLacks s old) (holder ∷ []) complete more
 stuck_added s old new holder complete more is lacks adds = record {
   added = adds.added;
   are = adds.are;
   once = adds.once;
   exactly = λ x. (
-    λ among. let both = (adds.exactly x).0 among in (both.0, (both.1.0, subst (λ d. ((w : Wanted) → Lacks old d w → ⊥) → ⊥) (itself x both.0) lacks)),
+    λ among. let both = (adds.exactly x).0 among in (both.0, (both.1.0, subst (LacksSomething old) (itself x both.0) lacks)),
     λ both. (adds.exactly x).1 (both.0, (both.1.0, λ w still. ((without_holder_lacks old holder x w).0 (subst (λ (m : Pairs). Lacks m x w) is still)).1 (itself x both.0))),
   );
 }
@@ -50,16 +50,16 @@ stuck_added s old new holder complete more is lacks adds = record {
     itself : (x : Digest) → Contains (holder ∷ []) x → holder ≡ x
     itself x among = elim (contains_cases holder [] x among) [ inl same ↦ same | inr none ↦ absurd (contains_none x none) ]
 
--- it lacked nothing
-pub none_stuck : (s : State) (lacking : Pairs) (holder : Digest) (complete : List Digest) → ((w : Wanted) → Lacks lacking holder w → ⊥) → Adds (IsStuck s lacking) (holder ∷ []) complete complete
-none_stuck s lacking holder complete nothing = one_left (IsStuck s lacking) holder complete (λ stuck. stuck.1 nothing)
+-- the holder lacked nothing
+pub none_stuck : (s : State) (lacking : Pairs) (holder : Digest) (complete : List Digest) → LacksNothing lacking holder → Adds (StandsButLacks s lacking) (holder ∷ []) complete complete
+none_stuck s lacking holder complete nothing = one_left (StandsButLacks s lacking) holder complete (λ both. nothing both.1.0 both.1.1)
 
 -- ---- one holder after another
 
-pub without_none : (old : Pairs) → AreWithout [] old old
+pub without_none : (old : Pairs) → AreReleased [] old old
 without_none old h w = (λ lacks. (lacks, contains_none h), λ both. both.0)
 
-pub without_more : (holders : List Digest) (d : Digest) (a b c : Pairs) → AreWithout holders a b → c ≡ without_holder b d → AreWithout (holders ++ d ∷ []) a c
+pub without_more : (holders : List Digest) (d : Digest) (a b c : Pairs) → AreReleased holders a b → c ≡ without_holder b d → AreReleased (holders ++ d ∷ []) a c
 without_more holders d a b c first is h w = (
   λ lacks.
       let last = (without_holder_lacks b d h w).0 (subst (λ (m : Pairs). Lacks m h w) is lacks) in
@@ -71,7 +71,7 @@ without_more holders d a b c first is h w = (
   )),
 )
 
--- the next is another than those before
+-- the next holder is not among those before
 pub not_before : (xs : List Digest) (i : ℕ) (d : Digest) → i < length xs → IsDistinct (eq_by_cmp digest_cmp) xs → Contains (take i xs) (get_or xs i d) → ⊥
 not_before xs i d lt once (k, below, at) =
     let x = get_or xs i d in
@@ -84,28 +84,28 @@ not_before xs i d lt once (k, below, at) =
     wrong : true ≡ false → ⊥
     wrong e = cc
 
--- what another lacked is what it lacked before
-pub stuck_more : (s : State) (holders : List Digest) (d : Digest) (old mid : Pairs) (a b c : List Digest) → AreWithout holders old mid → (Contains holders d → ⊥) → Adds (IsStuck s old) holders a b
-    → Adds (IsStuck s mid) (d ∷ []) b c → Adds (IsStuck s old) (holders ++ d ∷ []) a c
-stuck_more s holders d old mid a b c without apart adds last = adds_more (IsStuck s old) holders d a b c apart adds (record {
+-- releasing other holders does not change what the next one lacks
+pub stuck_more : (s : State) (holders : List Digest) (d : Digest) (old mid : Pairs) (a b c : List Digest) → AreReleased holders old mid → (Contains holders d → ⊥) → Adds (StandsButLacks s old) holders a b
+    → Adds (StandsButLacks s mid) (d ∷ []) b c → Adds (StandsButLacks s old) (holders ++ d ∷ []) a c
+stuck_more s holders d old mid a b c without apart adds last = adds_more (StandsButLacks s old) holders d a b c apart adds (record {
   added = last.added;
   are = last.are;
   once = last.once;
   exactly = λ x. (
     λ among.
         let both = (last.exactly x).0 among in
-        (both.0, (both.1.0, λ nothing. both.1.1 (λ w lacks. nothing w ((without x w).0 lacks).0))),
-    λ both. (last.exactly x).1 (both.0, (both.1.0, λ nothing. both.1.1 (λ w lacks. nothing w ((without x w).1 (lacks, λ among. apart (subst (Contains holders) (sym (itself x both.0)) among)))))),
+        (both.0, (both.1.0, (both.1.1.0, ((without x both.1.1.0).0 both.1.1.1).0))),
+    λ both. (last.exactly x).1 (both.0, (both.1.0, (both.1.1.0, (without x both.1.1.0).1 (both.1.1.1, λ among. apart (subst (Contains holders) (sym (itself x both.0)) among))))),
   );
 })
   where
     itself : (x : Digest) → Contains (d ∷ []) x → d ≡ x
     itself x among = elim (contains_cases d [] x among) [ inl same ↦ same | inr none ↦ absurd (contains_none x none) ]
 
--- ---- how many are pending
+-- ---- numbers of pending blocks
 
--- what lacked something is pending
-pub stuck_pending : (s : State) (old new : Pairs) (holder : Digest) (pending : ℕ) → new ≡ without_holder old holder → (((w : Wanted) → Lacks old holder w → ⊥) → ⊥) → IsTally s old [] pending → IsReady s new holder → 0 < pending
+-- a holder that lacked a parent is pending
+pub stuck_pending : (s : State) (old new : Pairs) (holder : Digest) (pending : ℕ) → new ≡ without_holder old holder → LacksSomething old holder → IsTally s old [] pending → IsReady s new holder → 0 < pending
 stuck_pending s old new holder pending is lacks tally ready = pending_left s new (holder ∷ []) pending holder (record {
   complete = tally.complete;
   listed = listed_without s old new holder tally.complete is tally.listed;
@@ -116,21 +116,21 @@ stuck_pending s old new holder pending is lacks tally ready = pending_left s new
   counts = tally.counts;
 }) (contains_first holder []) ready
 
-module _ (s : State) (old new : Pairs) (holders complete fresh more : List Digest) (without : AreWithout holders old new) (adds : Adds (IsStuck s old) holders fresh more) (listed : AreListed s old complete) where
+module _ (s : State) (old new : Pairs) (holders complete fresh more : List Digest) (without : AreReleased holders old new) (adds : Adds (StandsButLacks s old) holders fresh more) (listed : AreListed s old complete) where
   still : (x : Digest) → IsReady s old x → IsReady s new x
   still x ready = (ready.0, λ w lacks. ready.1 w ((without x w).0 lacks).0)
 
   freed : (x : Digest) → Contains adds.added x → IsReady s new x
   freed x among = let both = (adds.exactly x).0 among in (both.1.0, λ w lacks. ((without x w).0 lacks).1 both.0)
 
-  -- what was listed, and what was stuck, are ready now
+  -- the listed digests, and those that stood but lacked a parent, are ready now
   pub released : AreListed s new (complete ++ adds.added)
   released = listed_both s new complete adds.added
       (record { ready = All-weaker (IsReady s old) (IsReady s new) still complete listed.ready; once = listed.once })
       (record { ready = λ k d lt. freed (get_or adds.added k d) (Contains-get_or adds.added k d lt); once = adds.once })
-      (λ x among before. ((adds.exactly x).0 among).1.1 (All-contains (IsReady s old) complete x listed.ready before).1)
+      (λ x among before. let lacks = ((adds.exactly x).0 among).1.1 in (All-contains (IsReady s old) complete x listed.ready before).1 lacks.0 lacks.1)
 
-pub tally_released : (s : State) (old new : Pairs) (holders fresh more : List Digest) (pending left : ℕ) → AreWithout holders old new → Adds (IsStuck s old) holders fresh more → length more + left ≡ length fresh + pending → IsTally s old [] pending → IsTally s new [] left
+pub tally_released : (s : State) (old new : Pairs) (holders fresh more : List Digest) (pending left : ℕ) → AreReleased holders old new → Adds (StandsButLacks s old) holders fresh more → length more + left ≡ length fresh + pending → IsTally s old [] pending → IsTally s new [] left
 tally_released s old new holders fresh more pending left without adds most tally = record {
   complete = tally.complete ++ adds.added;
   listed = released s old new holders tally.complete fresh more without adds tally.listed;

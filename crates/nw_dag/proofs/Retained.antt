@@ -1,4 +1,4 @@
--- What is left of a list, where a closure tells what stays.
+-- The rest of a list after `retain` with a closure.
 use Rattle.std.proofs.Common.{◌≡◌, ◌↔◌, Bool, true, false, List, [], ◌∷◌, length, refl, subst, sym, arith, inl, inr}
 use Rattle.std.specs.Prelude.{Contains}
 use Rattle.std.specs.List.{items_where_true}
@@ -36,7 +36,7 @@ module _ {X F : Type 0} (R : F → X → Bool → F → Type 0) (P : X → Type 
         ],
       )
 
-  -- exactly those with P are left
+  -- exactly the digests with P are left
   pub retained : (xs ys : List X) → IsFiltered R f xs ys → (x : X) → Contains ys x ↔ (Contains xs x × P x)
   retained xs ys k x =
       let all = told k.0 xs k.1 k.2 k.3 x in (

@@ -1,4 +1,4 @@
--- The tables of a store may cross to another thread.
+-- The tables of a store may be sent to another thread.
 use denote.Param.Send.{IsSend, sendable, view_send}
 use denote.Param.SendFields.{declared_send}
 use Rattle.std.proofs.Crossing.{crosses}
@@ -7,14 +7,14 @@ use Rattle.nw_generation.proofs.generations.Generations.TheSendSync as generatio
 use Rattle.nw_held.proofs.Sent.{held_send}
 use Rattle.nw_dag.specs.contracts.dag.Dag as dag
 use Rattle.nw_dag.specs.contracts.dag.Dag.TheInside as dag_inside
-use Rattle.nw_dag.specs.contracts.roll.Roll as roll
+use Rattle.nw_dag.specs.contracts.completions.Completions as completions
 use Rattle.nw_dag.specs.contracts.waits.Waits as waits
 
-roll_send : IsSend roll.the_row
-roll_send = declared_send roll.the_type (search (sendable, crosses) depth 30, (search (sendable, crosses) depth 30, tt))
+completions_send : IsSend completions.the_row
+completions_send = declared_send completions.the_type (search (sendable, crosses) depth 30, (search (sendable, crosses) depth 30, tt))
 
 waits_send : IsSend waits.the_row
-waits_send = declared_send waits.the_type (search (sendable, crosses, waiting.the_send) depth 30, (search (sendable, crosses, waiting.the_send) depth 30, (roll_send, tt)))
+waits_send = declared_send waits.the_type (search (sendable, crosses, waiting.the_send) depth 30, (search (sendable, crosses, waiting.the_send) depth 30, (completions_send, tt)))
 
 pub dag_send : IsSend dag.the_row
 dag_send = view_send dag_inside.the_row _ _ _ _ (declared_send dag_inside.the_type (held_send, (waits_send, (generations.the_send, tt))))

@@ -1,4 +1,4 @@
--- Distinct digests, put in order.
+-- Sorting distinct digests.
 use Rattle.std.proofs.Common.{◌≡◌, ◌↔◌, ◌+◌, Bool, true, false, List, [], ◌∷◌, length, Option, Some, None, is_some, cond, refl, ap, sym, ◌∙◌, subst, inl, inr, add-one}
 use Rattle.std.specs.Prelude.{Contains}
 use Rattle.std.specs.List.{IsDistinct}
@@ -82,7 +82,7 @@ in_order (d ∷ xs) once =
     one_more d xs (λ among. true_false (sym ((eq_by_cmp_equiv digests_total).refl d) ∙ All-contains (λ y. eq_by_cmp digest_cmp d y ≡ false) xs d others among))
     (in_order xs (IsDistinct-tail (eq_by_cmp digest_cmp) d xs once))
 
--- as many digests have P as are listed once
+-- the number of digests with P is the length of a list of them without repetition
 pub count_of : (P : Digest → Type 0) (xs : List Digest) → IsDistinct (eq_by_cmp digest_cmp) xs → ((x : Digest) → Contains xs x ↔ P x) → HasCount digest_cmp P (length xs)
 count_of P xs once are =
     let o = in_order xs once in (

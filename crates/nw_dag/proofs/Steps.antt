@@ -12,10 +12,10 @@ use Rattle.nw_waiting.specs.Pairs.{Pairs, Lacks, AreHolders, without_wanted}
 use Rattle.nw_model.specs.State.{State}
 use Rattle.nw_model.proofs.Listed.{contains_cases, contains_first, contains_none}
 use Rattle.nw_held.specs.Standing.{Stands, named_as}
-use Rattle.nw_dag.specs.Lacking.{IsReady, AreUnmet, AreUnmetBut}
+use Rattle.nw_dag.specs.Lacking.{IsReady, AreUnmet, AreUnmetWithout}
 use Rattle.nw_dag.specs.Changes.{Adds, Promotes}
 use Rattle.nw_dag.specs.Frozen.{Grows}
-use Rattle.nw_dag.specs.Settled.{AreListed, IsTally, IsSettling, IsCascading, IsSettled, IsSettledBut}
+use Rattle.nw_dag.specs.Settled.{AreListed, IsTally, IsSettling, IsCascading, IsSettled, IsSettledWithout}
 use Rattle.nw_dag.proofs.Pairs.{without_wanted_lacks, lacks_or_not, same_or_not}
 use Rattle.nw_dag.proofs.Cascade.{promoted}
 use Rattle.nw_dag.proofs.Arrival.{met_now, met_not_yet, not_ready_yet}
@@ -23,30 +23,30 @@ use Rattle.nw_dag.proofs.Listed.{listed_one, listed_both, pending_left}
 use Rattle.nw_dag.proofs.Lists.{begins_same, begins_more}
 use Rattle.nw_dag.proofs.Once.{first_once, once_back}
 
--- ---- one block is promoted
+-- ---- one promotion
 
--- what names a block that is held
+-- the name of a held block
 pub name_is : (d : Digest) (found : Option Block) (w : Wanted) → Some w ≡ option_map (named_as d) found → (b : Block) × (found ≡ Some b) × (w ≡ named_as d b)
 name_is d (Some b) w e = (b, refl, cc)
 name_is d None w e = absurd cc
 
--- what was ready still is
+-- a digest that was ready still is
 ready_fewer : (s : State) (old new : Pairs) (v : Wanted) → new ≡ without_wanted old v → (x : Digest) → IsReady s old x → IsReady s new x
 ready_fewer s old new v is x ready = (ready.0, λ w lacks. ready.1 w ((without_wanted_lacks old v w x).0 (subst (λ (m : Pairs). Lacks m x w) is lacks)).0)
 
 pub listed_fewer : (s : State) (old new : Pairs) (v : Wanted) (complete : List Digest) → new ≡ without_wanted old v → AreListed s old complete → AreListed s new complete
 listed_fewer s old new v complete is listed = record { ready = All-weaker (IsReady s old) (IsReady s new) (ready_fewer s old new v is) complete listed.ready; once = listed.once }
 
--- what lacks something is not listed
+-- a digest that lacks a parent is not listed
 pub holders_apart : (s : State) (old : Pairs) (v : Wanted) (complete holders : List Digest) → AreListed s old complete → AreHolders old v holders → (x : Digest) → Contains holders x → Contains complete x → ⊥
 holders_apart s old v complete holders listed are x among before = (All-contains (IsReady s old) complete x listed.ready before).1 v ((are.exactly x).0 among)
 
--- what is ready was ready, or lacked it
+-- a ready digest was ready before, or lacked the promoted block
 ready_before : (s : State) (old new : Pairs) (v : Wanted) → new ≡ without_wanted old v → (x : Digest) → IsReady s new x → (Lacks old x v → ⊥) → IsReady s old x
 ready_before s old new v is x ready never =
     (ready.0, λ w lacks. ready.1 w (subst (λ (m : Pairs). Lacks m x w) (sym is) ((without_wanted_lacks old v w x).1 (lacks, λ same. never (subst (λ (y : Wanted). Lacks old x y) (sym same) lacks)))))
 
--- nobody lacks it any more, and those of its holders that are ready now are added
+-- no block lacks the promoted block any longer, and its holders that became ready are added
 pub promotes : (s : State) (e : Digest) (old new : Pairs) (v : Wanted) (complete more holders : List Digest) → Some v ≡ option_map (named_as e) (get s.blocks e) → AreHolders old v holders
     → new ≡ without_wanted old v → Adds (IsReady s new) holders complete more → Promotes s e old new complete more
 promotes s e old new v complete more holders name are is adds =
@@ -64,7 +64,7 @@ promotes s e old new v complete more holders name are is adds =
       );
     }
 
--- those that lacked it are no part of the tally
+-- the holders that lacked it are not among the listed ones
 pub tally_fewer : (s : State) (old new : Pairs) (v : Wanted) (pending : ℕ) (holders : List Digest) → new ≡ without_wanted old v → AreHolders old v holders → IsTally s old [] pending → IsTally s new holders pending
 tally_fewer s old new v pending holders is are tally = record {
   complete = tally.complete;
@@ -112,7 +112,7 @@ module _ (s : State) (unmet old new : Pairs) (e : Digest) (rest fresh more : Lis
     | inr never ↦ Contains-append_left was step.added x (far.settling.all x (ready_before s old new (named_as e step.block) step.lost x ready never))
   ]
 
-  -- the next is due
+  -- the next digest is due
   pub next_due : IsCascading s unmet new (rest ++ step.added) left
   next_due = record {
     front = far.front ++ e ∷ [];
@@ -125,7 +125,7 @@ module _ (s : State) (unmet old new : Pairs) (e : Digest) (rest fresh more : Lis
     counts = omega (arith, far.counts, ap (λ (xs : List Digest). length xs) longer, length-append was step.added, ap (λ (xs : List Digest). length xs) step.are, length-append fresh step.added, most);
   }
 
-  -- what is ready now was ready, or is listed
+  -- a digest that is ready now was ready before, or is listed
   pub ready_cases : (x : Digest) → IsReady s new x → IsReady s old x ⊎ Contains more x
   ready_cases x ready = elim (lacks_or_not old x (named_as e step.block)) [
     | inl lacked ↦ inr (subst (λ xs. Contains xs x) (sym step.are) (Contains-append_right fresh step.added x ((step.exactly x).1 (lacked, ready))))
@@ -141,7 +141,7 @@ cascaded s unmet met old new fresh more pending left place d far lt same step mo
     subst (λ (m : Pairs). IsCascading s m new (drop (place + 1) more) left) (sym same)
     (subst (λ xs. IsCascading s unmet new xs left) (sym due) (next_due s unmet old new e rest fresh more pending left (subst (λ xs. IsCascading s unmet old xs pending) (drop_more fresh place d lt) far) step most))
 
--- the tables as they were, and what grew since
+-- at the start nothing has grown
 pub grown_same : (s : State) (lacking : Pairs) (fresh : List Digest) → Grows s (IsReady s lacking) lacking lacking fresh fresh
 grown_same s lacking fresh = record { still = λ x ready. ready; begins = begins_same fresh; listed = λ x ready. inl ready }
 
@@ -158,21 +158,21 @@ grown_more s P first old new start fresh more e grown step = record {
   ];
 }
 
--- nothing is left
+-- no digest is left
 pub none_due : (s : State) (unmet lacking : Pairs) (fresh : List Digest) (pending place : ℕ) → IsCascading s unmet lacking (drop place fresh) pending → length fresh ≤ place → IsSettled s unmet lacking pending
 none_due s unmet lacking fresh pending place far past =
     let end = subst (λ xs. IsCascading s unmet lacking xs pending) (drop_all place fresh past) far in
     record { complete = end.front ++ []; settling = end.settling; counts = end.counts }
 
--- ---- one block stands
+-- ---- one digest stands
 
-pub met_by_name : (s : State) (d : Digest) (v : Wanted) (old new : Pairs) → Some v ≡ option_map (named_as d) (get s.blocks d) → Stands s d → AreUnmetBut s d old → new ≡ without_wanted old v → AreUnmet s new
+pub met_by_name : (s : State) (d : Digest) (v : Wanted) (old new : Pairs) → Some v ≡ option_map (named_as d) (get s.blocks d) → Stands s d → AreUnmetWithout s d old → new ≡ without_wanted old v → AreUnmet s new
 met_by_name s d v old new name stands but is =
     let (b, held, same) = name_is d (get s.blocks d) v name in
     met_now s d b old new (held, stands.1.1) but (is ∙ ap (without_wanted old) same)
 
--- it does not stand, or lacks something
-pub not_standing : (s : State) (d : Digest) (unmet lacking : Pairs) (pending : ℕ) → (Stands s d → ⊥) → IsSettledBut s d unmet lacking pending → IsSettled s unmet lacking pending
+-- it does not stand, or lacks a parent
+pub not_standing : (s : State) (d : Digest) (unmet lacking : Pairs) (pending : ℕ) → (Stands s d → ⊥) → IsSettledWithout s d unmet lacking pending → IsSettled s unmet lacking pending
 not_standing s d unmet lacking pending never far = record {
   complete = far.complete;
   settling = record {
@@ -184,7 +184,7 @@ not_standing s d unmet lacking pending never far = record {
   counts = far.counts;
 }
 
-pub not_ready : (s : State) (d : Digest) (unmet met lacking : Pairs) (pending : ℕ) → (IsReady s lacking d → ⊥) → AreUnmet s met → IsSettledBut s d unmet lacking pending → IsSettled s met lacking pending
+pub not_ready : (s : State) (d : Digest) (unmet met lacking : Pairs) (pending : ℕ) → (IsReady s lacking d → ⊥) → AreUnmet s met → IsSettledWithout s d unmet lacking pending → IsSettled s met lacking pending
 not_ready s d unmet met lacking pending never standing far = record {
   complete = far.complete;
   settling = record {
@@ -205,7 +205,7 @@ grown_none s d lacking fresh never = record {
 }
 
 -- it is ready, and due
-pub pending_but : (s : State) (d : Digest) (unmet lacking : Pairs) (pending : ℕ) → IsSettledBut s d unmet lacking pending → IsReady s lacking d → 0 < pending
+pub pending_but : (s : State) (d : Digest) (unmet lacking : Pairs) (pending : ℕ) → IsSettledWithout s d unmet lacking pending → IsReady s lacking d → 0 < pending
 pending_but s d unmet lacking pending far ready = pending_left s lacking (d ∷ []) pending d (record {
   complete = far.complete;
   listed = far.listed;
@@ -214,7 +214,7 @@ pending_but s d unmet lacking pending far ready = pending_left s lacking (d ∷ 
 }) (contains_first d []) ready
 
 pub now_ready : (s : State) (d : Digest) (unmet met lacking : Pairs) (fresh more : List Digest) (pending left place : ℕ) → AreUnmet s met → IsReady s lacking d → more ≡ fresh ++ d ∷ [] → left ≡ pending - 1 → place ≡ length fresh
-    → IsSettledBut s d unmet lacking pending → IsCascading s met lacking (drop place more) left
+    → IsSettledWithout s d unmet lacking pending → IsCascading s met lacking (drop place more) left
 now_ready s d unmet met lacking fresh more pending left place standing ready is one at far =
     let lt = pending_but s d unmet lacking pending far ready in
     subst (λ xs. IsCascading s met lacking xs left) (sym (ap (drop place) is ∙ drop_at fresh (d ∷ []) place (sym at))) (record {
@@ -232,7 +232,7 @@ now_ready s d unmet met lacking fresh more pending left place standing ready is 
       counts = omega (arith, far.counts, length_push far.complete d, one, lt);
     })
 
--- what grew since d was listed
+-- the growth since d was listed
 pub grown_from : (s : State) (d : Digest) (old new : Pairs) (fresh listed more : List Digest) → listed ≡ fresh ++ d ∷ [] → Grows s (IsReady s old) old new listed more → Grows s (λ x. IsReady s old x × (x ≡ d → ⊥)) old new fresh more
 grown_from s d old new fresh listed more is grown = record {
   still = grown.still;

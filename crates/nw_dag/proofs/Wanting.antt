@@ -1,4 +1,4 @@
--- What a holder lacks after one more reference was looked at.
+-- The parents that a holder lacks after one more reference is tested.
 use Rattle.std.proofs.Common.{◌≡◌, ◌↔◌, ℕ, List, [], ◌∷◌, ◌++◌, length, Bool, true, false, Result, Ok, Err, sym, ◌∙◌, subst, arith, inl, inr}
 use Rattle.std.specs.Prelude.{Contains, OnOk, OnErr, IsTrue, nat_eq}
 use Rattle.std.specs.FinSet.{insert}
@@ -10,15 +10,15 @@ use Rattle.nw_waiting.specs.Pairs.{Pairs, Lacks, LacksCount}
 use Rattle.nw_model.specs.State.{State}
 use Rattle.nw_model.proofs.Listed.{contains_first, contains_none}
 use Rattle.nw_held.specs.Standing.{Stands}
-use Rattle.nw_dag.specs.Lacking.{IsNamedAmong, IsReady}
+use Rattle.nw_dag.specs.Lacking.{IsNamedAmong, LacksNothing, LacksSomething, IsReady}
 use Rattle.nw_model.specs.Missing.{IsNamedBy}
-use Rattle.nw_dag.specs.Changes.{AreSameBut, Wants}
+use Rattle.nw_dag.specs.Changes.{AreSameExcept, LacksAlso}
 use Rattle.nw_dag.proofs.Pairs.{lacks_more, lacks_new, lacks_still}
 
--- ---- how much is lacked
+-- ---- counts
 
--- none is lacked where the count is 0
-pub lacks_zero : (pairs : Pairs) (d : Digest) (n : ℕ) → LacksCount pairs d n → IsTrue (nat_eq n 0) ↔ ((w : Wanted) → Lacks pairs d w → ⊥)
+-- no parent is lacked exactly if the count is 0
+pub lacks_zero : (pairs : Pairs) (d : Digest) (n : ℕ) → LacksCount pairs d n → IsTrue (nat_eq n 0) ↔ LacksNothing pairs d
 lacks_zero pairs d n (all, are, counts) = (
   λ zero w lacks. none all (counts ∙ nothing n zero) w ((are.exactly w).1 lacks),
   λ never. empty all n counts (λ w among. never w ((are.exactly w).0 among)),
@@ -35,6 +35,20 @@ lacks_zero pairs d n (all, are, counts) = (
     empty [] n e never = grind (arith, e)
     empty (x ∷ xs) n e never = absurd (never x (contains_first x xs))
 
+-- some parent is lacked if the count is not 0
+pub lacks_some : (pairs : Pairs) (d : Digest) (n : ℕ) → LacksCount pairs d n → nat_eq n 0 ≡ false → LacksSomething pairs d
+lacks_some pairs d n (all, are, counts) fails = first all counts (λ w among. (are.exactly w).0 among)
+  where
+    first : (xs : List Wanted) → length xs ≡ n → ((w : Wanted) → Contains xs w → Lacks pairs d w) → LacksSomething pairs d
+    first [] e from = absurd (not_zero (lacks_nowhere n e) fails)
+    first (x ∷ xs) e from = (x, from x (contains_first x xs))
+
+    lacks_nowhere : (n : ℕ) → 0 ≡ n → nat_eq n 0 ≡ true
+    lacks_nowhere n e = grind (arith, e)
+
+    not_zero : {b : Bool} → b ≡ true → b ≡ false → ⊥
+    not_zero yes no = cc
+
 -- a test that fails refutes what it decides
 pub refuted : (b : Bool) (P : Type 0) → IsTrue b ↔ P → b ≡ false → P → ⊥
 refuted b P decides fails p = let yes : b ≡ true = decides.1 p in cc
@@ -46,25 +60,25 @@ on_ok (Err e) p = tt
 -- ---- one pair
 
 -- nothing changed
-pub same_itself : (holder : Digest) (pairs : Pairs) → AreSameBut holder pairs pairs
+pub same_itself : (holder : Digest) (pairs : Pairs) → AreSameExcept holder pairs pairs
 same_itself holder pairs h w other = (λ lacks. lacks, λ lacks. lacks)
 
-pub same_through : (holder : Digest) (a b c : Pairs) → AreSameBut holder a b → AreSameBut holder b c → AreSameBut holder a c
+pub same_through : (holder : Digest) (a b c : Pairs) → AreSameExcept holder a b → AreSameExcept holder b c → AreSameExcept holder a c
 same_through holder a b c one two h w other = (λ lacks. (one h w other).0 ((two h w other).0 lacks), λ lacks. (two h w other).1 ((one h w other).1 lacks))
 
-pub same_inserted : (holder : Digest) (v : Wanted) (old new : Pairs) → new ≡ insert old (v, holder) → AreSameBut holder old new
+pub same_inserted : (holder : Digest) (v : Wanted) (old new : Pairs) → new ≡ insert old (v, holder) → AreSameExcept holder old new
 same_inserted holder v old new is h w other = (
   λ lacks. elim (lacks_more old v w holder h (subst (λ (m : Pairs). Lacks m h w) is lacks)) [ inl more ↦ absurd (other more.1) | inr was ↦ was ],
   λ lacks. subst (λ (m : Pairs). Lacks m h w) (sym is) (lacks_still old v w holder h lacks),
 )
 
--- either way
-pub same_either : {E : Type 0} (r : Result (Unit {0}) E) (holder : Digest) (v : Wanted) (old new : Pairs) → OnOk r (new ≡ insert old (v, holder)) → OnErr r (new ≡ old) → AreSameBut holder old new
+-- whether the insertion succeeded or failed
+pub same_either : {E : Type 0} (r : Result (Unit {0}) E) (holder : Digest) (v : Wanted) (old new : Pairs) → OnOk r (new ≡ insert old (v, holder)) → OnErr r (new ≡ old) → AreSameExcept holder old new
 same_either (Ok x) holder v old new ok err = same_inserted holder v old new ok
-same_either (Err e) holder v old new ok err = subst (λ (m : Pairs). AreSameBut holder old m) (sym err) (same_itself holder old)
+same_either (Err e) holder v old new ok err = subst (λ (m : Pairs). AreSameExcept holder old m) (sym err) (same_itself holder old)
 
--- what has no Q is lacked
-pub wants_inserted : (Q : Wanted → Type 0) (v : Wanted) (holder : Digest) (old new : Pairs) → (Q v → ⊥) → new ≡ insert old (v, holder) → Wants Q (λ w. w ≡ v) holder old new
+-- a parent without Q is lacked
+pub wants_inserted : (Q : Wanted → Type 0) (v : Wanted) (holder : Digest) (old new : Pairs) → (Q v → ⊥) → new ≡ insert old (v, holder) → LacksAlso Q (λ w. w ≡ v) holder old new
 wants_inserted Q v holder old new lacks_it is = record {
   each = λ w named. inl (subst (λ (m : Pairs). Lacks m holder w) (sym is) (subst (λ (x : Wanted). Lacks (insert old (v, holder)) holder x) (sym named) (lacks_new old v holder)));
   only = λ h w lacks. elim (lacks_more old v w holder h (subst (λ (m : Pairs). Lacks m h w) is lacks)) [
@@ -74,11 +88,11 @@ wants_inserted Q v holder old new lacks_it is = record {
   still = λ h w lacks. subst (λ (m : Pairs). Lacks m h w) (sym is) (lacks_still old v w holder h lacks);
 }
 
-pub wants_on_ok : {E : Type 0} (r : Result (Unit {0}) E) (Q : Wanted → Type 0) (v : Wanted) (holder : Digest) (old new : Pairs) → (Q v → ⊥) → OnOk r (new ≡ insert old (v, holder)) → OnOk r (Wants Q (λ w. w ≡ v) holder old new)
+pub wants_on_ok : {E : Type 0} (r : Result (Unit {0}) E) (Q : Wanted → Type 0) (v : Wanted) (holder : Digest) (old new : Pairs) → (Q v → ⊥) → OnOk r (new ≡ insert old (v, holder)) → OnOk r (LacksAlso Q (λ w. w ≡ v) holder old new)
 wants_on_ok (Ok x) Q v holder old new lacks_it is = wants_inserted Q v holder old new lacks_it is
 wants_on_ok (Err e) Q v holder old new lacks_it is = tt
 
--- ---- one reference more
+-- ---- one more reference
 
 named_once : (round : ℕ) (r : Ref) (v w : Wanted) → IsNamedBy round r v → IsNamedBy round r w → w ≡ v
 named_once round r v w one other =
@@ -88,7 +102,7 @@ named_once round r v w one other =
     λ i. record { round = before i; author = author i; digest = digest i }
 
 pub wants_more : (Q R : Wanted → Type 0) (round : ℕ) (xs : List Ref) (r : Ref) (v : Wanted) (holder : Digest) (a b c : Pairs) → IsNamedBy round r v → (R v → Q v) → (Q v → R v)
-    → Wants Q (IsNamedAmong round xs) holder a b → Wants R (λ w. w ≡ v) holder b c → Wants Q (IsNamedAmong round (xs ++ r ∷ [])) holder a c
+    → LacksAlso Q (IsNamedAmong round xs) holder a b → LacksAlso R (λ w. w ≡ v) holder b c → LacksAlso Q (IsNamedAmong round (xs ++ r ∷ [])) holder a c
 wants_more Q R round xs r v holder a b c by_r down up one two = record {
   each = λ w (x, among, named). elim (Contains-push_cases xs r x among) [
     | inl before ↦ elim (one.each w (x, before, named)) [ inl lacks ↦ inl (two.still holder w lacks) | inr q ↦ inr q ]
@@ -106,9 +120,9 @@ wants_more Q R round xs r v holder a b c by_r down up one two = record {
   still = λ h w lacks. two.still h w (one.still h w lacks);
 }
 
--- what is ready stays so, where only one that does not stand lacks more
-pub ready_same : (s : State) (holder x : Digest) (a b : Pairs) → AreSameBut holder a b → (Stands s holder → ⊥) → IsReady s a x → IsReady s b x
+-- ready digests stay ready, if only a digest that does not stand lacks more
+pub ready_same : (s : State) (holder x : Digest) (a b : Pairs) → AreSameExcept holder a b → (Stands s holder → ⊥) → IsReady s a x → IsReady s b x
 ready_same s holder x a b same absent ready = (ready.0, λ w lacks. ready.1 w ((same x w (λ here. absent (subst (λ q. Stands s q) here ready.0))).0 lacks))
 
-pub ready_back : (s : State) (holder x : Digest) (a b : Pairs) → AreSameBut holder a b → (Stands s holder → ⊥) → IsReady s b x → IsReady s a x
+pub ready_back : (s : State) (holder x : Digest) (a b : Pairs) → AreSameExcept holder a b → (Stands s holder → ⊥) → IsReady s b x → IsReady s a x
 ready_back s holder x a b same absent ready = (ready.0, λ w lacks. ready.1 w ((same x w (λ here. absent (subst (λ q. Stands s q) here ready.0))).1 lacks))

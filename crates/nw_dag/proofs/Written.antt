@@ -1,4 +1,4 @@
--- The tables after a block was written, or a certificate kept.
+-- The tables after a block or a certificate is added.
 use Rattle.std.proofs.Common.{◌≡◌, ◌⊎◌, ℕ, ◌+◌, ◌<◌, Bool, true, false, [], Option, Some, None, IsSome, is_some, cond, refl, ap, sym, ◌∙◌, subst, arith, inl, inr}
 use Rattle.std.specs.Ordering.{eq_by_cmp}
 use Rattle.std.specs.FinMap.{FinMap, get, insert, len, get-insert, len-insert}
@@ -18,8 +18,8 @@ use Rattle.nw_model.proofs.Maps.{digests_total}
 use Rattle.nw_model.proofs.Replayed.{past, is_certified}
 use Rattle.nw_held.specs.Standing.{IsMet}
 use Rattle.nw_dag.specs.Lacking.{Names, IsNamedAmong, IsReady, AreUnmet, AreLacking}
-use Rattle.nw_dag.specs.Changes.{AreSameBut, Wants}
-use Rattle.nw_dag.specs.Settled.{IsSettling, IsSettled, IsSettledBut}
+use Rattle.nw_dag.specs.Changes.{AreSameExcept, LacksAlso}
+use Rattle.nw_dag.specs.Settled.{IsSettling, IsSettled, IsSettledWithout}
 use Rattle.nw_dag.proofs.Pairs.{pairs_apart, pairs_total, without_holder_lacks}
 use Rattle.nw_dag.proofs.Arrival.{Arrives, AreLackingSince, arrived, listed_arrived, listed_apart, ready_was, unmet_arrived}
 
@@ -30,7 +30,7 @@ pub none_is : {X : Type 0} (found : Option X) → found ≡ None → IsSome foun
 none_is (Some x) e some = some_none x e
 none_is None e some = cc
 
--- another digest has what it had
+-- other digests keep their values
 pub get_other : {X : Type 0} (m : FinMap digest_cmp X) (k : Digest) (v : X) (q : Digest) → (q ≡ k → ⊥) → get (insert m k v) q ≡ get m q
 get_other m k v q other = get-insert digests_total m k v q ∙ by (eq_by_cmp digest_cmp q k) refl
   where
@@ -38,7 +38,7 @@ get_other m k v q other = get-insert digests_total m k v q ∙ by (eq_by_cmp dig
     by true e = absurd (other (same_digest q k e))
     by false e = refl
 
--- ---- a block more
+-- ---- one more block
 
 module _ (s : State) (d : Digest) (b : Block) (vote : Bool) (absent : get s.blocks d ≡ None) where
   abbrev t : State
@@ -59,7 +59,7 @@ module _ (s : State) (d : Digest) (b : Block) (vote : Bool) (absent : get s.bloc
     );
   }
 
-  -- what names it now named it, or is the new block
+  -- a block that names a parent now named it before, or is the new block
   names_cases : (h : Digest) (w : Wanted) → Names t h w → ((h ≡ d) × named w) ⊎ Names s h w
   names_cases h w (x, at, above, among) = elim (after_insert s.blocks d b h x at) [
     | inl new ↦ inl (new.0, subst (λ (y : Block). (s.floor < y.round) × IsNamedAmong y.round y.parents w) (sym new.1) (above, among))
@@ -72,8 +72,8 @@ module _ (s : State) (d : Digest) (b : Block) (vote : Bool) (absent : get s.bloc
   names_new : (h : Digest) (w : Wanted) → h ≡ d → named w → Names t h w
   names_new h w same (above, among) = (b, ap (get (insert s.blocks d b)) same ∙ at_insert s.blocks d b, above, among)
 
-  -- what each block lacks now
-  pub since_written : (lacking after : Pairs) → AreLacking s lacking [] → Wants (λ w. IsMet s w × IsReady s lacking w.digest) named d lacking after → AreLackingSince s t d lacking after
+  -- the parents that each block lacks now
+  pub since_written : (lacking after : Pairs) → AreLacking s lacking [] → LacksAlso (λ w. IsMet s w × IsReady s lacking w.digest) named d lacking after → AreLackingSince s t d lacking after
   since_written lacking after promoted wants = record {
     each = λ h w names. elim (names_cases h w names) [
       | inl (same, is) ↦ elim (wants.each w is) [ inl lacks ↦ inl (subst (λ q. Lacks after q w) (sym same) lacks) | inr has ↦ inr has ]
@@ -89,9 +89,9 @@ module _ (s : State) (d : Digest) (b : Block) (vote : Bool) (absent : get s.bloc
     );
   }
 
-  -- what it lacks is known
-  pub written : (unmet lacking met after : Pairs) (pending more : ℕ) → IsSettled s unmet lacking pending → Wants (IsMet s) named d unmet met
-      → Wants (λ w. IsMet s w × IsReady s lacking w.digest) named d lacking after → more ≡ pending + 1 → IsSettledBut t d met after more
+  -- the tables are settled, without counting the new block
+  pub written : (unmet lacking met after : Pairs) (pending more : ℕ) → IsSettled s unmet lacking pending → LacksAlso (IsMet s) named d unmet met
+      → LacksAlso (λ w. IsMet s w × IsReady s lacking w.digest) named d lacking after → more ≡ pending + 1 → IsSettledWithout t d met after more
   written unmet lacking met after pending more known wants_met wants one_more = record {
     complete = known.complete;
     standing = unmet_arrived s t d block_arrives met (λ h w. (
@@ -117,7 +117,7 @@ module _ (s : State) (d : Digest) (b : Block) (vote : Bool) (absent : get s.bloc
       since : AreLackingSince s t d lacking after
       since = since_written lacking after settled.promoted wants
 
--- ---- a certificate more
+-- ---- one more certificate
 
 module _ (s : State) (c : Certificate) (absent : get s.certificates c.digest ≡ None) where
   pub certificate_arrives : Arrives s (with_certificate s c) c.digest
@@ -136,7 +136,7 @@ module _ (s : State) (c : Certificate) (absent : get s.certificates c.digest ≡
     same = λ h w other. (λ lacks. lacks, λ lacks. lacks);
   }
 
-  pub certified : (unmet lacking : Pairs) (pending : ℕ) → IsSettled s unmet lacking pending → IsSettledBut (with_certificate s c) c.digest unmet lacking pending
+  pub certified : (unmet lacking : Pairs) (pending : ℕ) → IsSettled s unmet lacking pending → IsSettledWithout (with_certificate s c) c.digest unmet lacking pending
   certified unmet lacking pending known =
       let settled = known.settling in
       let since = since_certified lacking settled.promoted in
@@ -150,7 +150,7 @@ module _ (s : State) (c : Certificate) (absent : get s.certificates c.digest ≡
         counts = known.counts;
       }
 
--- ---- a write that was refused memory
+-- ---- a write with a failed allocation
 
 same_truth : (a b : Bool) → (a ≡ true → b ≡ true) → (b ≡ true → a ≡ true) → a ≡ b
 same_truth true true f g = refl
@@ -158,8 +158,8 @@ same_truth true false f g = sym (f refl)
 same_truth false true f g = g refl
 same_truth false false f g = refl
 
--- what is lacked is as it was, once the holder lacks nothing
-pub forgotten : (holder : Digest) (old new : Pairs) → AreSameBut holder old new → ((w : Wanted) → Lacks old holder w → ⊥) → without_holder new holder ≡ old
+-- the set is as before after the holder is forgotten
+pub forgotten : (holder : Digest) (old new : Pairs) → AreSameExcept holder old new → ((w : Wanted) → Lacks old holder w → ⊥) → without_holder new holder ≡ old
 forgotten holder old new same nothing = same_set pairs_total pairs_apart (without_holder new holder) old (λ q.
     same_truth (contains (without_holder new holder) q) (contains old q)
     (λ lacks. let both = (without_holder_lacks new holder q.1 q.0).0 lacks in (same q.1 q.0 (λ here. both.1 (sym here))).0 both.0)
@@ -172,15 +172,15 @@ nothing_unmet s d unmet absent are w lacks = let names = ((are d w).0 lacks).0 i
 pub nothing_lacking : (s : State) (d : Digest) (lacking : Pairs) → get s.blocks d ≡ None → AreLacking s lacking [] → (w : Wanted) → Lacks lacking d w → ⊥
 nothing_lacking s d lacking absent are w lacks = let names = (are.only d w lacks).0 in some_none names.0 (sym names.1 ∙ absent)
 
--- what the holder wants is no change but to the holder
-pub wants_same : (Q P : Wanted → Type 0) (holder : Digest) (old new : Pairs) → Wants Q P holder old new → AreSameBut holder old new
+-- recording what the holder lacks changes only the holder's pairs
+pub wants_same : (Q P : Wanted → Type 0) (holder : Digest) (old new : Pairs) → LacksAlso Q P holder old new → AreSameExcept holder old new
 wants_same Q P holder old new wants h w other = (λ lacks. elim (wants.only h w lacks) [ inl was ↦ was | inr (here, name, none) ↦ absurd (other here) ], λ lacks. wants.still h w lacks)
 
 nothing : (found : Option Certificate) → is_some found ≡ false → found ≡ None
 nothing None e = refl
 nothing (Some c) e = absurd cc
 
--- a certificate is kept only where none stands under its digest
+-- a certificate is kept only if its digest is not certified
 pub certified_anew : (bounds : Bounds) (s : State) (c : Certificate) → certify_reply bounds s c ≡ certify.Certified → get s.certificates c.digest ≡ None
 certified_anew bounds s c is =
     let low = past is_certified _ (certify.Collected s.floor) _ certify.Certified refl refl is in

@@ -1,4 +1,4 @@
--- What one step on the tables changes.
+-- Changes of the tables by the single steps of a call.
 use Rattle.std.specs.Prelude.{◌≡◌, ◌↔◌, ◌⊎◌, List, ◌++◌, Some, Contains}
 use Rattle.std.specs.List.{IsDistinct}
 use Rattle.std.specs.Ordering.{eq_by_cmp}
@@ -12,29 +12,43 @@ use Rattle.nw_model.specs.State.{State}
 use Rattle.nw_held.specs.Standing.{named_as}
 use Rattle.nw_dag.specs.Lacking.{IsReady}
 
--- only what the holder lacks differs
-abbrev pub AreSameBut : Digest → Pairs → Pairs → Type 0
-AreSameBut holder old new = (h : Digest) (w : Wanted) → (h ≡ holder → ⊥) → Lacks new h w ↔ Lacks old h w
+-- the sets have the same pairs, except those of the holder
+abbrev pub AreSameExcept : Digest → Pairs → Pairs → Type 0
+AreSameExcept holder old new = (h : Digest) (w : Wanted) → (h ≡ holder → ⊥) → Lacks new h w ↔ Lacks old h w
 
--- the holder lacks also what is named and has no Q; nothing else changes
-pub record Wants (Q named : Wanted → Type 0) (holder : Digest) (old new : Pairs) : Type 0 where
+-- the holder now also lacks the named parents without Q, and nothing else changes
+pub record LacksAlso (Q named : Wanted → Type 0) (holder : Digest) (old new : Pairs) : Type 0 where
+  -- the holder lacks each named parent, unless the parent has Q
   pub each : (w : Wanted) → named w → Lacks new holder w ⊎ Q w
+  -- each new pair is of the holder and of a named parent without Q
   pub only : (h : Digest) (w : Wanted) → Lacks new h w → Lacks old h w ⊎ ((h ≡ holder) × named w × (Q w → ⊥))
+  -- each old pair is still there
   pub still : (h : Digest) (w : Wanted) → Lacks old h w → Lacks new h w
 
--- those of the digests with P are added at the end, each once
+-- new is old, followed by those of the digests that have P
 pub record Adds (P : Digest → Type 0) (digests old new : List Digest) : Type 0 where
+  -- the added digests
   pub added : List Digest
+  -- they follow the old ones
   pub are : new ≡ old ++ added
+  -- none is added twice
   pub once : IsDistinct (eq_by_cmp digest_cmp) added
+  -- they are exactly the digests with P
   pub exactly : (x : Digest) → Contains added x ↔ (Contains digests x × P x)
 
--- nobody lacks the block under e any more, and what lacked it and is ready now is added at the end, each once
+-- the digest e is promoted: no block lacks e's block any longer, and the blocks that thereby became ready are added to the list
 pub record Promotes (s : State) (e : Digest) (old new : Pairs) (fresh more : List Digest) : Type 0 where
+  -- the block under e
   pub block : Block
+  -- it is held
   pub held : get s.blocks e ≡ Some block
+  -- the pairs of e's block are removed
   pub lost : new ≡ without_wanted old (named_as e block)
+  -- the added digests
   pub added : List Digest
+  -- they follow the listed ones
   pub are : more ≡ fresh ++ added
+  -- none is added twice
   pub once : IsDistinct (eq_by_cmp digest_cmp) added
+  -- they are exactly those that lacked e's block and are ready now
   pub exactly : (x : Digest) → Contains added x ↔ (Lacks old x (named_as e block) × IsReady s new x)

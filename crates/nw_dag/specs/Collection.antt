@@ -1,4 +1,4 @@
--- What lacks something after a collection.
+-- Changes of the tables by a collection.
 use Rattle.std.specs.Prelude.{◌≡◌, ◌↔◌, ℕ, ◌+◌, ◌<◌, List, [], Some, Contains, length}
 use Rattle.std.specs.FinMap.{get, len}
 use Rattle.nw_digest.specs.declared.digest.Digest.{Digest}
@@ -10,34 +10,43 @@ use Rattle.nw_model.specs.Step.{raised}
 use Rattle.nw_model.specs.Sound.{IsSound}
 use Rattle.nw_held.specs.Standing.{Stands}
 use Rattle.nw_held.specs.Collection.{AreUpTo}
-use Rattle.nw_dag.specs.Lacking.{IsReady}
+use Rattle.nw_dag.specs.Lacking.{LacksSomething, IsReady}
 use Rattle.nw_dag.specs.Changes.{Adds}
 use Rattle.nw_dag.specs.Settled.{IsSettled}
 
--- these holders lack nothing any more, and nothing else changes
-abbrev pub AreWithout : List Digest → Pairs → Pairs → Type 0
-AreWithout holders old new = (h : Digest) (w : Wanted) → Lacks new h w ↔ (Lacks old h w × (Contains holders h → ⊥))
+-- the holders are released: they no longer lack anything, and nothing else changes
+abbrev pub AreReleased : List Digest → Pairs → Pairs → Type 0
+AreReleased holders old new = (h : Digest) (w : Wanted) → Lacks new h w ↔ (Lacks old h w × (Contains holders h → ⊥))
 
--- d stands, and lacks something
-abbrev pub IsStuck : State → Pairs → Digest → Type 0
-IsStuck s lacking d = Stands s d × (((w : Wanted) → Lacks lacking d w → ⊥) → ⊥)
+-- d stands, but lacks some parent
+abbrev pub StandsButLacks : State → Pairs → Digest → Type 0
+StandsButLacks s lacking d = Stands s d × LacksSomething lacking d
 
--- a block of a round below this one is held under d, and ready
-abbrev pub IsLost : State → Pairs → ℕ → Digest → Type 0
-IsLost s lacking round d = IsReady s lacking d × ((b : Block) × (get s.blocks d ≡ Some b) × (b.round < round))
+-- d is ready, and its block is of a round below this one
+abbrev pub IsCompleteBelow : State → Pairs → ℕ → Digest → Type 0
+IsCompleteBelow s lacking round d = IsReady s lacking d × ((b : Block) × (get s.blocks d ≡ Some b) × (b.round < round))
 
--- so many of these digests are lost when the round is raised to this one
-abbrev pub LostCount : State → Pairs → ℕ → List Digest → ℕ → Type 0
-LostCount s lacking round digests count = (lost : List Digest) × Adds (IsLost s lacking round) digests [] lost × (length lost ≡ count)
+-- `count` of the digests are ready with blocks of rounds below this one
+abbrev pub HasCompleteBelow : State → Pairs → ℕ → List Digest → ℕ → Type 0
+HasCompleteBelow s lacking round digests count = (lost : List Digest) × Adds (IsCompleteBelow s lacking round) digests [] lost × (length lost ≡ count)
 
--- the garbage round of a settled store was raised: these are the holders of rounds up to it, and so many pending blocks were dropped
+-- the garbage round was raised, but the sets and the count of pending blocks are still those of the state before
 pub record IsCollecting (s : State) (unmet lacking : Pairs) (pending : ℕ) (holders : List Digest) (dropped : ℕ) : Type 0 where
+  -- the state before the collection
   pub before : State
+  -- it was sound
   pub sound : IsSound before
+  -- the sets and the count of pending blocks are right for it
   pub settled : IsSettled before unmet lacking pending
+  -- the garbage round is higher now
   pub higher : before.floor < s.floor
+  -- the state is the one before, raised to the new garbage round
   pub raised : s ≡ raised before s.floor
+  -- the holders are the digests of rounds up to the new garbage round
   pub up_to : AreUpTo before s.floor holders
+  -- the number of dropped blocks that were complete
   pub lost : ℕ
-  pub are_lost : LostCount before lacking s.floor holders lost
+  -- these are the complete blocks of the holders below the new garbage round
+  pub are_lost : HasCompleteBelow before lacking s.floor holders lost
+  -- the other dropped blocks were pending, and there are `dropped` of them
   pub counts : dropped + lost + len s.blocks ≡ len before.blocks

@@ -1,4 +1,7 @@
--- What held blocks lack.
+-- Which blocks lack which parents.
+--
+-- A store keeps two sets of pairs of a block and a parent that it lacks (Pairs): `unmet` has the parents that do not stand, and `lacking`
+-- has the parents that are not complete.
 use Rattle.std.specs.Prelude.{◌≡◌, ◌↔◌, ℕ, ◌<◌, ◌⊎◌, List, Some, Contains}
 use Rattle.std.specs.FinMap.{get}
 use Rattle.nw_digest.specs.declared.digest.Digest.{Digest}
@@ -10,31 +13,45 @@ use Rattle.nw_model.specs.State.{State}
 use Rattle.nw_model.specs.Missing.{IsNamedBy}
 use Rattle.nw_held.specs.Standing.{Stands, IsMet}
 
--- one of these references of a block of this round names it
+-- one of these references of a block of this round names the parent w
 abbrev pub IsNamedAmong : ℕ → List Ref → Wanted → Type 0
 IsNamedAmong round refs w = (r : Ref) × Contains refs r × IsNamedBy round r w
 
--- the block under d is of a round above the garbage round, and one of its references names w
+-- the block under d is above the garbage round, and one of its references names the parent w
 abbrev pub Names : State → Digest → Wanted → Type 0
 Names s d w = (b : Block) × (get s.blocks d ≡ Some b) × (s.floor < b.round) × IsNamedAmong b.round b.parents w
 
--- d stands and lacks nothing
-abbrev pub IsReady : State → Pairs → Digest → Type 0
-IsReady s lacking d = Stands s d × ((w : Wanted) → Lacks lacking d w → ⊥)
+-- d lacks no parent
+abbrev pub LacksNothing : Pairs → Digest → Type 0
+LacksNothing lacking d = (w : Wanted) → Lacks lacking d w → ⊥
 
--- d is ready, and not due
+-- d lacks some parent
+abbrev pub LacksSomething : Pairs → Digest → Type 0
+LacksSomething lacking d = (w : Wanted) × Lacks lacking d w
+
+-- d is ready: it stands, and lacks no parent
+abbrev pub IsReady : State → Pairs → Digest → Type 0
+IsReady s lacking d = Stands s d × LacksNothing lacking d
+
+-- d is promoted: it is ready, and not among the digests that are still due for promotion
 abbrev pub IsPromoted : State → Pairs → List Digest → Digest → Type 0
 IsPromoted s lacking due d = IsReady s lacking d × (Contains due d → ⊥)
 
--- what d lacks are exactly the parents that it names and that do not stand
+-- each block lacks exactly the parents that it names and that are not met
 abbrev pub AreUnmet : State → Pairs → Type 0
 AreUnmet s unmet = (d : Digest) (w : Wanted) → Lacks unmet d w ↔ (Names s d w × (IsMet s w → ⊥))
 
--- the same, where this digest counts as one that does not stand
-abbrev pub AreUnmetBut : State → Digest → Pairs → Type 0
-AreUnmetBut s but unmet = (d : Digest) (w : Wanted) → Lacks unmet d w ↔ (Names s d w × (IsMet s w → (w.digest ≡ but → ⊥) → ⊥))
+-- the parent w is met without counting d: it is met, and its digest is not d
+abbrev pub IsMetWithout : State → Digest → Wanted → Type 0
+IsMetWithout s d w = IsMet s w × (w.digest ≡ d → ⊥)
 
--- what d lacks are exactly the parents that it names and that do not stand or were not promoted
+-- each block lacks exactly the parents that it names and that are not met without counting d
+abbrev pub AreUnmetWithout : State → Digest → Pairs → Type 0
+AreUnmetWithout s d unmet = (h : Digest) (w : Wanted) → Lacks unmet h w ↔ (Names s h w × (IsMetWithout s d w → ⊥))
+
+-- each block lacks exactly the parents that it names and that are not met or not promoted
 pub record AreLacking (s : State) (lacking : Pairs) (due : List Digest) : Type 0 where
+  -- a block lacks each parent that it names, unless the parent is met and promoted
   pub each : (d : Digest) (w : Wanted) → Names s d w → Lacks lacking d w ⊎ (IsMet s w × IsPromoted s lacking due w.digest)
+  -- a block names each parent that it lacks, and the parent is not met or not promoted
   pub only : (d : Digest) (w : Wanted) → Lacks lacking d w → Names s d w × (IsMet s w → IsPromoted s lacking due w.digest → ⊥)

@@ -9,7 +9,7 @@ mod calls;
 mod causal;
 mod taking;
 
-use crate::roll::is_ready;
+use crate::completions::is_ready;
 use crate::waits::Waits;
 use nw_codec::{Block, Certificate};
 use nw_digest::{Digest, NoMemory, Sequence, Shared};
@@ -20,21 +20,21 @@ use nw_waiting::Wanted;
 use std::alloc::Global;
 use std::marker::Model;
 
-/// How much the tables take.
+/// The bounds of the tables.
 #[derive(Clone, Copy, Debug, PartialEq, Eq)]
 pub struct DagLimits {
-    /// How many blocks are held at most, and as many certificates.
+    /// The largest number of held blocks, and separately of certificates.
     pub blocks: u32,
-    /// How many rounds are taken from the garbage round on.
+    /// The number of rounds, from the garbage round on, whose blocks and certificates are accepted.
     pub window: u32,
 }
 
-/// The tables of a store. Contracts see its state, and the bounds under which it takes its steps.
+/// The tables of a store. Contracts see its state and its bounds.
 #[derive(Drop)]
 pub struct Dag {
     held: Held,
     waits: Waits,
-    /// The blocks that were complete at the last view.
+    /// The frozen blocks: those that were complete at the last view.
     generations: Generations,
 }
 
@@ -49,11 +49,11 @@ impl Model for Dag {
     ghost view = { λ d. d.held };
 
     ghost invariant = { λ d. AreTables d.held.state d.waits.unmet d.waits.lacking
-        d.waits.roll.fresh.items d.waits.roll.pending d.generations.blocks };
+        d.waits.completions.fresh.items d.waits.completions.pending d.generations.blocks };
 }
 
 impl Dag {
-    /// An empty store, with garbage round 0. It takes no memory.
+    /// An empty store with garbage round 0. Allocates nothing.
     pub fn new(alloc: Global, limits: DagLimits) -> Dag
         ensures { result ≡ record {
           bounds = record { blocks = limits.blocks; window = limits.window };
@@ -67,22 +67,22 @@ impl Dag {
         }
     }
 
-    /// Whether the block under the digest is complete: it is held and certified, and so are its ancestors down to the
-    /// garbage round. It looks at no other block.
+    /// Whether the digest is complete: it stands, and each ancestor above the garbage round has all its references satisfied. This looks
+    /// up no other digest.
     pub fn is_complete(&self, digest: &Digest) -> bool
         ensures { IsTrue result ↔ IsComplete self.now.state digest.now }
     {
         is_ready(&self.held, &self.waits.lacking, *digest)
     }
 
-    /// The block that is held under the digest.
+    /// The block that is held under the digest, if there is one. `NoMemory` if it has too many owners.
     pub fn read(&self, digest: &Digest) -> Result<Option<Shared<Block>>, NoMemory>
         ensures { IfOk result (λ found. found ≡ map.get self.now.state.blocks digest.now) }
     {
         self.held.block(digest).map(Shared::try_clone).transpose()
     }
 
-    /// The certificate that is kept for the digest.
+    /// The certificate that is kept for the digest, if there is one. `NoMemory` if it has too many owners.
     pub fn certificate(&self, digest: &Digest) -> Result<Option<Shared<Certificate>>, NoMemory>
         ensures { IfOk result (λ found. found ≡ map.get self.now.state.certificates digest.now) }
     {
@@ -92,16 +92,16 @@ impl Dag {
             .transpose()
     }
 
-    /// The first `most` of the parents that are wanted, strictly ascending by round, author and digest. Want of memory
-    /// changes nothing.
+    /// The first `most` wanted parents, or all if there are fewer, strictly ascending by round, author and digest. `NoMemory` if
+    /// allocation fails.
     pub fn missing(&self, alloc: Global, most: u16) -> Result<Sequence<Wanted>, NoMemory>
         ensures { IfOk result (AreFirstWanted self.now.state most) }
     {
         Ok(Sequence::new(self.waits.unmet.first_wanted(alloc, most)?))
     }
 
-    /// How much is kept, how many blocks are complete and how many parents are wanted. It takes no memory, and looks at no
-    /// block.
+    /// The garbage round, and how many blocks, certificates, complete blocks and wanted parents there are. Allocates nothing, and goes
+    /// through no blocks.
     pub fn status(&self) -> Counts
         ensures { AreCounts self.now.state result }
     {
@@ -109,7 +109,7 @@ impl Dag {
             floor: self.held.floor(),
             blocks: self.held.blocks() as u64,
             certificates: self.held.certificates() as u64,
-            complete: (self.held.blocks() - self.waits.roll.pending) as u64,
+            complete: (self.held.blocks() - self.waits.completions.pending) as u64,
             wanted: self.waits.unmet.count() as u64,
         }
     }

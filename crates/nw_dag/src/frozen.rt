@@ -1,8 +1,8 @@
-//! The complete blocks that are frozen, of which views are made.
+//! Frozen blocks: generations of complete blocks, which views share.
 ghost use Rattle.std.specs.Prelude.{◌≡◌, ◌<◌, ◌≤◌, IfOk, OnOk, OnErr};
 ghost use Rattle.std.specs.FinMap as map;
 ghost use Rattle.nw_model.specs.Step.{from_round};
-ghost use Rattle.nw_dag.specs.Frozen.{AreFrozen, AreFrozenBut, AreKept, AreOf};
+ghost use Rattle.nw_dag.specs.Frozen.{AreFrozen, AreFrozenExcept, AreAllOrFrom, AreHeldUnder};
 
 use crate::waits::Waits;
 use nw_codec::Block;
@@ -12,31 +12,32 @@ use nw_held::Held;
 use nw_trie::Trie;
 use std::alloc::Global;
 
-/// Freezes the blocks that became complete since the last view, as one more generation, or none where none did, and lists them
-/// no more. Where there are as many generations as there may be, some of them become one first. Want of memory changes nothing
-/// but that what was collected is listed no more.
+/// Freezes the blocks that became complete since the last view as one more generation, and empties their list. If there are no such
+/// blocks, no generation is added. If there are [`MOST_PARTS`] generations already, some of them become one first.
+///
+/// `NoMemory` if allocation fails. Then only collected blocks may have been removed from the list.
 pub(crate) fn freeze(
     generations: &mut Generations,
     alloc: Global,
     held: &Held,
     waits: &mut Waits,
 ) -> Result<(), NoMemory>
-    requires { AreFrozenBut held.now.state waits.old.lacking waits.old.roll.fresh.items
+    requires { AreFrozenExcept held.now.state waits.old.lacking waits.old.completions.fresh.items
         generations.old.blocks }
     ensures all { OnOk result
         (AreFrozen held.now.state waits.old.lacking generations.new.blocks) }
-    ensures frozen { AreFrozenBut held.now.state waits.old.lacking waits.new.roll.fresh.items
-        generations.new.blocks }
+    ensures frozen { AreFrozenExcept held.now.state waits.old.lacking
+        waits.new.completions.fresh.items generations.new.blocks }
     ensures unmet { waits.new.unmet ≡ waits.old.unmet }
     ensures lacking { waits.new.lacking ≡ waits.old.lacking }
-    ensures pending { waits.new.roll.pending ≡ waits.old.roll.pending }
+    ensures pending { waits.new.completions.pending ≡ waits.old.completions.pending }
     ensures unchanged { OnErr result (generations.new ≡ generations.old) }
 {
-    waits.roll.drop_stale(held, &waits.lacking);
-    if waits.roll.listed() == 0 {
+    waits.completions.drop_stale(held, &waits.lacking);
+    if waits.completions.listed() == 0 {
         return Ok(());
     }
-    let fresh = freeze_held(alloc, held, waits.roll.fresh.as_slice())?;
+    let fresh = freeze_held(alloc, held, waits.completions.fresh.as_slice())?;
     if generations.parts() == MOST_PARTS {
         let mut all = fewer(generations, alloc, held.floor())?;
         all.push(fresh)?;
@@ -44,15 +45,15 @@ pub(crate) fn freeze(
     } else {
         generations.push(fresh)?;
     }
-    waits.roll.clear();
+    waits.completions.clear();
     Ok(())
 }
 
-/// What the generations have, in fewer of them. Where all become one, it has only blocks that are not below the round.
+/// The blocks of the generations, in fewer generations. If all become one, blocks below the round are left out.
 fn fewer(generations: &Generations, alloc: Global, round: Round) -> Result<Generations, NoMemory>
     requires { 2 ≤ generations.now.parts }
     ensures blocks { IfOk result
-        (λ fewer. AreKept round generations.now.blocks fewer.blocks) }
+        (λ fewer. AreAllOrFrom round generations.now.blocks fewer.blocks) }
     ensures parts { IfOk result (λ fewer. fewer.parts < generations.now.parts) }
 {
     match generations.first_small() {
@@ -61,8 +62,7 @@ fn fewer(generations: &Generations, alloc: Global, round: Round) -> Result<Gener
     }
 }
 
-/// What the generations have that is not below the round, as one generation. It costs what they have, and looks at nothing that
-/// is held.
+/// The blocks of the generations from this round on, as one generation. The cost grows with the frozen blocks only.
 pub(crate) fn as_one(
     generations: &Generations,
     alloc: Global,
@@ -77,9 +77,9 @@ pub(crate) fn as_one(
     Ok(one)
 }
 
-/// The generation of the blocks that are held under these digests.
+/// A generation of the blocks held under these digests.
 fn freeze_held(alloc: Global, held: &Held, digests: &[Digest]) -> Result<Generation, NoMemory>
-    ensures { IfOk result (AreOf held.now.state digests.now) }
+    ensures { IfOk result (AreHeldUnder held.now.state digests.now) }
 {
     match nw_generation::freeze(alloc, held_blocks(alloc, held, digests)?) {
         Ok(generation) => Ok(generation),
@@ -87,13 +87,14 @@ fn freeze_held(alloc: Global, held: &Held, digests: &[Digest]) -> Result<Generat
     }
 }
 
-/// The blocks that are held under these digests.
+/// The blocks held under these digests.
 fn held_blocks(
     alloc: Global,
     held: &Held,
     digests: &[Digest],
 ) -> Result<Trie<Shared<Block>, Global>, NoMemory>
-    ensures { IfOk result (λ trie. AreOf held.now.state digests.now (map.from_entries trie)) }
+    ensures { IfOk result
+        (λ trie. AreHeldUnder held.now.state digests.now (map.from_entries trie)) }
 {
     let mut trie = Trie::new_in(alloc);
     for digest in digests {

@@ -1,12 +1,13 @@
-//! The tables of a store: what is held, what that lacks, and what of it is complete and frozen.
+//! This crate is the certified DAG of a store: it tracks which blocks are complete and which parents are missing, and freezes complete
+//! blocks for views.
 //!
-//! Its contract: the calls of [`Dag`] are the steps of the table of `nw_model`. It stands on `nw_held` for what is held, on
-//! `nw_waiting` for what is lacked and by whom, and on `nw_trie` and `nw_generation` for what is frozen.
+//! Its contract: each call of [`Dag`] takes the step of the table of `nw_model`. It keeps the state with `nw_held`, the missing parents
+//! with `nw_waiting`, and the frozen blocks with `nw_trie` and `nw_generation`.
 #![tactic(auto)]
 
+mod completions;
 mod dag;
 mod frozen;
-mod roll;
 mod waits;
 
 pub use dag::{Dag, DagLimits};

@@ -1,58 +1,62 @@
-//! What held blocks lack, and which are complete.
+//! Missing parents of the held blocks, and which blocks are complete.
 ghost use Rattle.std.specs.Prelude.{◌≡◌, ◌<◌, ◌+◌, [], OnOk, OnErr};
 ghost use Rattle.std.specs.FinSet as set;
-ghost use Rattle.nw_waiting.specs.Pairs.{Lacks, without_holder};
+ghost use Rattle.nw_waiting.specs.Pairs.{without_holder};
 ghost use Rattle.nw_held.specs.Standing.{Stands, IsMet};
-ghost use Rattle.nw_dag.specs.Lacking.{IsReady, IsNamedAmong};
+ghost use Rattle.nw_dag.specs.Lacking.{IsReady, IsNamedAmong, LacksNothing};
 ghost use Rattle.nw_model.specs.Missing.{IsNamedBy};
-ghost use Rattle.nw_dag.specs.Changes.{AreSameBut, Wants};
+ghost use Rattle.nw_dag.specs.Changes.{AreSameExcept, LacksAlso};
 
 mod cascade;
 mod collection;
 
-use crate::roll::{Roll, lacks_nothing};
+use crate::completions::{Completions, lacks_nothing};
 use nw_codec::{Block, Ref};
 use nw_digest::{Digest, NoMemory, Round};
 use nw_held::Held;
 use nw_waiting::{Waiting, Wanted};
 use std::alloc::Global;
 
-/// What held blocks lack, and which are complete.
+/// Which held blocks lack which parents, and which blocks are complete.
 #[derive(Drop)]
 pub(crate) struct Waits {
     /// The parents that do not stand, and the blocks that name them.
     pub(crate) unmet: Waiting<Global>,
     /// The parents that are not complete, and the blocks that name them.
     pub(crate) lacking: Waiting<Global>,
-    /// The blocks that lack nothing, and stand.
-    pub(crate) roll: Roll,
+    /// The blocks that became complete last, and the number of those that are not complete.
+    pub(crate) completions: Completions,
 }
 
 impl Waits {
-    /// Nothing is lacked. It takes no memory.
+    /// No block lacks a parent. Allocates nothing.
     pub(crate) fn new(alloc: Global) -> Waits
         ensures unmet { result.unmet ≡ set.empty }
         ensures lacking { result.lacking ≡ set.empty }
-        ensures fresh { result.roll.fresh.items ≡ [] }
-        ensures pending { result.roll.pending ≡ 0 }
+        ensures fresh { result.completions.fresh.items ≡ [] }
+        ensures pending { result.completions.pending ≡ 0 }
     {
         Waits {
             unmet: Waiting::new_in(alloc),
             lacking: Waiting::new_in(alloc),
-            roll: Roll::new(alloc),
+            completions: Completions::new(alloc),
         }
     }
 
-    /// Lets the holder lack it, where it does not stand or is not complete. Want of memory may leave that half done.
+    /// Records that the holder lacks the parent, if the parent does not stand or is not complete.
+    ///
+    /// `NoMemory` if allocation fails. Then the holder may lack it in one set only.
     fn want(&mut self, held: &Held, wanted: Wanted, holder: Digest) -> Result<(), NoMemory>
         ensures unmet { OnOk result
-            (Wants (IsMet held.now.state) (λ w. w ≡ wanted) holder self.old.unmet self.new.unmet) }
+            (LacksAlso (IsMet held.now.state) (λ w. w ≡ wanted) holder
+            self.old.unmet self.new.unmet) }
         ensures lacking { OnOk result
-            (Wants (λ w. IsMet held.now.state w × IsReady held.now.state self.old.lacking w.digest)
+            (LacksAlso (λ w. IsMet held.now.state w
+            × IsReady held.now.state self.old.lacking w.digest)
             (λ w. w ≡ wanted) holder self.old.lacking self.new.lacking) }
-        ensures same_unmet { AreSameBut holder self.old.unmet self.new.unmet }
-        ensures same_lacking { AreSameBut holder self.old.lacking self.new.lacking }
-        ensures roll { self.new.roll ≡ self.old.roll }
+        ensures same_unmet { AreSameExcept holder self.old.unmet self.new.unmet }
+        ensures same_lacking { AreSameExcept holder self.old.lacking self.new.lacking }
+        ensures completions { self.new.completions ≡ self.old.completions }
     {
         if !held.is_met(&wanted) {
             self.unmet.want(wanted, holder)?;
@@ -64,8 +68,9 @@ impl Waits {
         }
     }
 
-    /// Lets the holder lack what these references name, in this round, where it does not stand or is not complete. Want
-    /// of memory may leave that half done.
+    /// Records which parents the holder lacks: those that these references name in this round, and that do not stand or are not complete.
+    ///
+    /// `NoMemory` if allocation fails. Then only some of them may be recorded.
     fn want_each(
         &mut self,
         held: &Held,
@@ -74,14 +79,15 @@ impl Waits {
         holder: Digest,
     ) -> Result<(), NoMemory>
         requires absent { Stands held.now.state holder → ⊥ }
-        ensures unmet { OnOk result (Wants (IsMet held.now.state)
+        ensures unmet { OnOk result (LacksAlso (IsMet held.now.state)
             (IsNamedAmong (round + 1) references.now) holder self.old.unmet self.new.unmet) }
         ensures lacking { OnOk result
-            (Wants (λ w. IsMet held.now.state w × IsReady held.now.state self.old.lacking w.digest)
+            (LacksAlso (λ w. IsMet held.now.state w
+            × IsReady held.now.state self.old.lacking w.digest)
             (IsNamedAmong (round + 1) references.now) holder self.old.lacking self.new.lacking) }
-        ensures same_unmet { AreSameBut holder self.old.unmet self.new.unmet }
-        ensures same_lacking { AreSameBut holder self.old.lacking self.new.lacking }
-        ensures roll { self.new.roll ≡ self.old.roll }
+        ensures same_unmet { AreSameExcept holder self.old.unmet self.new.unmet }
+        ensures same_lacking { AreSameExcept holder self.old.lacking self.new.lacking }
+        ensures completions { self.new.completions ≡ self.old.completions }
     {
         for reference in references {
             self.want(held, named_by(reference, round), holder)?;
@@ -89,8 +95,10 @@ impl Waits {
         Ok(())
     }
 
-    /// Lets the holder, which lacks nothing, lack the parents of this block of its that do not stand or are not complete,
-    /// where the block is above the garbage round. Want of memory changes nothing.
+    /// Records which parents of its block the holder lacks: those that do not stand or are not complete. A block that is not above the
+    /// garbage round lacks none. Before the call, the holder lacks nothing.
+    ///
+    /// `NoMemory` if allocation fails. Then nothing changes.
     pub(crate) fn want_parents(
         &mut self,
         held: &Held,
@@ -98,16 +106,17 @@ impl Waits {
         holder: Digest,
     ) -> Result<(), NoMemory>
         requires absent { Stands held.now.state holder → ⊥ }
-        requires unmet { (w : Wanted) → Lacks self.old.unmet holder w → ⊥ }
-        requires lacking { (w : Wanted) → Lacks self.old.lacking holder w → ⊥ }
-        ensures unmet { OnOk result (Wants (IsMet held.now.state)
+        requires unmet { LacksNothing self.old.unmet holder }
+        requires lacking { LacksNothing self.old.lacking holder }
+        ensures unmet { OnOk result (LacksAlso (IsMet held.now.state)
             (λ w. (held.now.state.floor < block.now.round) × IsNamedAmong block.now.round
             block.now.parents w) holder self.old.unmet self.new.unmet) }
         ensures lacking { OnOk result
-            (Wants (λ w. IsMet held.now.state w × IsReady held.now.state self.old.lacking w.digest)
+            (LacksAlso (λ w. IsMet held.now.state w
+            × IsReady held.now.state self.old.lacking w.digest)
             (λ w. (held.now.state.floor < block.now.round) × IsNamedAmong block.now.round
             block.now.parents w) holder self.old.lacking self.new.lacking) }
-        ensures roll { self.new.roll ≡ self.old.roll }
+        ensures completions { self.new.completions ≡ self.old.completions }
         ensures unchanged { OnErr result
             ((self.new.unmet ≡ self.old.unmet) × (self.new.lacking ≡ self.old.lacking)) }
     {
@@ -124,18 +133,18 @@ impl Waits {
         Ok(())
     }
 
-    /// Lets the holder lack nothing any more.
+    /// Forgets which parents the holder lacks: it lacks nothing from now on.
     pub(crate) fn forget(&mut self, holder: Digest)
         ensures unmet { self.new.unmet ≡ without_holder self.old.unmet holder }
         ensures lacking { self.new.lacking ≡ without_holder self.old.lacking holder }
-        ensures roll { self.new.roll ≡ self.old.roll }
+        ensures completions { self.new.completions ≡ self.old.completions }
     {
         self.unmet.unwant(holder);
         self.lacking.unwant(holder);
     }
 }
 
-/// What the reference names, in this round.
+/// The parent that the reference names, in this round.
 fn named_by(reference: &Ref, round: Round) -> Wanted
     ensures { IsNamedBy (round + 1) reference.now result }
 {

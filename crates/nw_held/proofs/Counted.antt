@@ -1,4 +1,4 @@
--- How many blocks a collection drops.
+-- The number of blocks that a collection drops.
 use Rattle.std.proofs.Common.{◌≡◌, ℕ, ◌-◌, ◌<◌, Bool, true, false, not, cond, List, [], ◌∷◌, filter, length, Option, Some, None, IsSome, is_some, refl, ap, sym, ◌∙◌, subst, arith, inl, inr}
 use Rattle.std.specs.Prelude.{Contains, nat_lt}
 use Rattle.std.specs.List.{IsDistinct, AllByRecursion}
@@ -33,7 +33,7 @@ use Rattle.nw_held.specs.Collection.{counts_at}
 use Rattle.nw_held.proofs.Filtered.{filter_was, filter_has}
 use Rattle.nw_held.proofs.HeldRaised.{certified_slot}
 use Rattle.nw_held.proofs.Opening.{none_once}
-use Rattle.nw_held.proofs.Shelves.{both_counts, count_kept}
+use Rattle.nw_held.proofs.Dropped.{both_counts, count_kept}
 
 is_lower : (a b : ℕ) → a < b → nat_lt a b ≡ true
 is_lower a b h = grind arith
@@ -48,7 +48,7 @@ is_held : (found : Option Block) → is_some found ≡ true → (b : Block) × (
 is_held (Some b) e = (b, refl)
 is_held None e = cc
 
--- the table in which a digest is counted that has this certificate
+-- the table in which a digest with this certificate, if any, is counted
 abbrev table_for : Option Certificate → Table
 table_for None = First
 table_for (Some c) = Certified
@@ -59,7 +59,7 @@ not_certified (Some c) e = cc
 
 -- ---- the digests of places
 
--- what is under no other entry is not told to be equal to their values
+-- a value that no other entry has does not compare equal to theirs
 no_other : (d : Digest) (es : List (Place × Digest)) → ((p : Place) → Contains es (p, d) → ⊥) → AllByRecursion (λ y. eq_by_cmp digest_cmp d y ≡ false) (values_of es)
 no_other d [] none = tt
 no_other d (e ∷ es) none = (
@@ -78,7 +78,7 @@ key_among (e ∷ es) p d among = elim (contains_cases e es (p, d) among) [
   | inr later ↦ contains_later e.0 (keys_of es) p (key_among es p d later)
 ]
 
--- digests of places stand once where each has one place
+-- the digests of places do not repeat if each digest has only one place
 digests_once : (es : List (Place × Digest)) → IsDistinct (eq_by_cmp place_cmp) (keys_of es) → ((p q : Place) (d : Digest) → Contains es (p, d) → Contains es (q, d) → p ≡ q) → IsDistinct (eq_by_cmp digest_cmp) (values_of es)
 digests_once [] once one = none_once
 digests_once (e ∷ es) once one =
@@ -103,7 +103,7 @@ module _ (blocks : List (Digest × Block)) (certificates : List (Digest × Certi
   abbrev home : Digest → Block → Place
   home d b = (block_slot b, table_for (get s.certificates d))
 
-  -- what is counted has its block there
+  -- a counted digest has its block's place
   at_home : (p : Place) (d : Digest) → Contains counted (p, d) → (b : Block) × (get s.blocks d ≡ Some b) × (b.round < round) × (p ≡ home d b)
   at_home (slot, First) d among =
       let both = filter_was test places ((slot, First), d) among in
@@ -119,12 +119,12 @@ module _ (blocks : List (Digest × Block)) (certificates : List (Digest × Certi
       let (c, kept, at) = (held.kept.indexed slot d).0 is.2 in
       (b, there, omega (arith, is.1, ap (λ (q : Slot). q.0) here), λ i. (sym here i, table_for (sym kept i)))
 
-  -- and the other way round
+  -- and the converse
   home_counted : (d : Digest) (b : Block) → get s.blocks d ≡ Some b → b.round < round → Contains counted (home d b, d)
   home_counted d b there low = by (get s.certificates d) refl
     where
       by : (found : Option Certificate) → get s.certificates d ≡ found → Contains counted ((block_slot b, table_for found), d)
-      by None is = elim (held.named d b there) [
+      by None is = elim (held.listed d b there) [
         | inl first ↦ filter_has test places ((block_slot b, First), d) ((are.exactly (block_slot b, First) d).1 (omega arith, low, first)) (ap (λ found. not (is_some found)) is)
         | inr certified ↦ let (c, at, here) = (held.kept.indexed (block_slot b) d).0 certified in absurd (some_none c (sym at ∙ is))
       ]
@@ -150,7 +150,7 @@ module _ (blocks : List (Digest × Block)) (certificates : List (Digest × Certi
   at_dropped : (q : Digest) → lookup (is_at (digest_cmp q)) dropped ≡ option_filter is_dropped (lookup (is_at (digest_cmp q)) blocks)
   at_dropped q = lookup-filter-values (eq_by_cmp_equiv digests_total) is_dropped q blocks (IsDistinct-from_sorted digest_cmp (keys_of blocks) held.blocks_ordered)
 
-  -- a counted digest is of a block that is dropped
+  -- a counted digest is that of a dropped block
   listed_drops : (q : Digest) → Contains low q → IsSome (lookup (is_at (digest_cmp q)) dropped)
   listed_drops q among =
       let entry = Contains-from_values_of counted q among in
@@ -158,7 +158,7 @@ module _ (blocks : List (Digest × Block)) (certificates : List (Digest × Certi
       let lower : nat_lt b.round round ≡ true = is_lower b.round round below in
       subst IsSome (sym (at_dropped q ∙ ap (option_filter is_dropped) (sym (get_lookup digests_total blocks q) ∙ at) ∙ ap (λ t. cond t (Some b) None) lower)) refl
 
-  -- and the other way round
+  -- and the converse
   dropped_listed : (q : Digest) → IsSome (lookup (is_at (digest_cmp q)) dropped) → Contains low q
   dropped_listed q some = by (lookup (is_at (digest_cmp q)) blocks) refl (subst IsSome (at_dropped q) some)
     where
@@ -178,6 +178,6 @@ module _ (blocks : List (Digest × Block)) (certificates : List (Digest × Certi
       (dropped_listed q (IsSome-lookup_from_Contains (eq_by_cmp_equiv digests_total) q dropped (Contains-from_any same_digest q (keys_of dropped) any)))) in
       omega (arith, up, down, length-keys_of dropped, length-values_of counted)
 
-  -- as many as are dropped
+  -- the count is the number of dropped blocks
   pub dropped_count : length counted ≡ len (from_entries {R = digest_cmp} blocks) - len (raised s round).blocks
   dropped_count = omega (arith, listed_count, both_counts (λ (b : Block). b.round) round blocks, count_kept (λ (b : Block). b.round) round blocks held.blocks_ordered, len_sorted digests_total blocks held.blocks_ordered)

@@ -1,4 +1,4 @@
--- What is left of a list.
+-- The rest of a list after a filter.
 use Rattle.std.proofs.Common.{◌≡◌, Bool, true, false, cond, List, [], ◌∷◌, filter, refl, sym, ◌∙◌, subst, inl, inr}
 use Rattle.std.specs.Prelude.{Contains}
 use Rattle.std.specs.List.{IsDistinct, AllByRecursion}
@@ -9,7 +9,7 @@ true_false : true ≡ false → ⊥
 true_false e = cc
 
 module _ {X : Type 0} (p : X → Bool) where
-  -- what passes is there, and passes
+  -- each element of the rest is in the list and passes
   pub filter_was : (xs : List X) (x : X) → Contains (filter p xs) x → Contains xs x × (p x ≡ true)
   filter_was [] x among = absurd (contains_none x among)
   filter_was (y ∷ ys) x among = by (p y) refl among (filter_was ys x)
@@ -21,7 +21,7 @@ module _ {X : Type 0} (p : X → Bool) where
       ]
       by false is here rest = let both = rest here in (contains_later y ys x both.0, both.1)
 
-  -- and the other way round
+  -- and the converse
   pub filter_has : (xs : List X) (x : X) → Contains xs x → p x ≡ true → Contains (filter p xs) x
   filter_has [] x among passes = absurd (contains_none x among)
   filter_has (y ∷ ys) x among passes = by (p y) refl (filter_has ys x)
@@ -44,7 +44,7 @@ module _ {X : Type 0} (p : X → Bool) where
       by true rest = (all.0, rest)
       by false rest = rest
 
-  -- what stands once stands once where some go
+  -- a list without repetition stays so if some elements are removed
   pub distinct_filter : (e : X → X → Bool) (xs : List X) → IsDistinct e xs → IsDistinct e (filter p xs)
   distinct_filter e [] once = once
   distinct_filter e (y ∷ ys) once = by (p y) (distinct_filter e ys (IsDistinct-tail e y ys once))

@@ -1,4 +1,4 @@
--- What is held after a collection.
+-- The tables after a collection.
 use Rattle.std.proofs.Common.{◌≡◌, ℕ, ◌+◌, ◌≤◌, List, Some, Result, Ok, Err, refl, sym, ap, ◌∙◌, subst, arith, inl, inr}
 use Rattle.std.specs.Prelude.{IfOk}
 use Rattle.std.specs.FinMap.{get, len, from_entries}
@@ -15,9 +15,9 @@ use Rattle.nw_model.proofs.Complete.{one_block}
 use Rattle.nw_model.proofs.Maps.{get_lookup, digests_total}
 use Rattle.nw_model.proofs.Raised.{is_kept, kept_raised, slots_from, slot_is_kept, slot_was_there, was_there}
 use Rattle.nw_held.specs.Held.{IsHeld, state_of}
-use Rattle.nw_held.specs.Shelf.{DropsBelow}
+use Rattle.nw_held.specs.Dropping.{DropsBelow}
 use Rattle.nw_held.specs.Collection.{AreUpTo}
-use Rattle.nw_held.proofs.Shelves.{dropped_is, count_fewer}
+use Rattle.nw_held.proofs.Dropped.{dropped_is, count_fewer}
 
 module _ (blocks stay : List (Digest × Block)) (certificates kept : List (Digest × Certificate)) (slots after : Tables) (floor round : ℕ) (held : IsHeld blocks certificates slots floor)
     (low : List Digest) (up_to : AreUpTo (state_of blocks certificates slots floor) round low)
@@ -38,9 +38,9 @@ module _ (blocks stay : List (Digest × Block)) (certificates kept : List (Diges
   pub held_raised : IsHeld stay kept after round
   held_raised = record {
     kept = subst (λ (t : State). IsKept t after.certified) (sym same_raised) (subst (λ m. IsKept (raised s round) m) (sym index) (kept_raised s slots.certified round held.kept));
-    named = λ d b at.
+    listed = λ d b at.
         let was = was_there (λ (x : Block). x.round) round (from_entries blocks) d b (subst (λ m. get m d ≡ Some b) blocks_are at) in
-        elim (held.named d b was.0) [
+        elim (held.listed d b was.0) [
           | inl first ↦ inl (subst (λ m. get m (block_slot b) ≡ Some d) (sym firsts) (slot_is_kept round slots.firsts (block_slot b) was.1 ∙ first))
           | inr certified ↦ inr (subst (λ m. get m (block_slot b) ≡ Some d) (sym index) (slot_is_kept round slots.certified (block_slot b) was.1 ∙ certified))
         ];
@@ -55,21 +55,21 @@ module _ (blocks stay : List (Digest × Block)) (certificates kept : List (Diges
   pub fewer_raised : len (from_entries {R = digest_cmp} stay) ≤ len (from_entries {R = digest_cmp} blocks)
   fewer_raised = subst (λ n. n ≤ len (from_entries {R = digest_cmp} blocks)) (sym (ap len blocks_are)) (count_fewer (λ (b : Block). b.round) round blocks held.blocks_ordered)
 
--- ---- what the slots list
+-- ---- the digests of the slots
 
 module _ (blocks : List (Digest × Block)) (certificates : List (Digest × Certificate)) (slots : Tables) (floor : ℕ) (held : IsHeld blocks certificates slots floor) where
-  -- a certificate and the block under its digest are of one slot
+  -- a certificate and the block under its digest have the same slot
   pub certified_slot : (slot : Slot) (d : Digest) (b : Block) → get slots.certified slot ≡ Some d → get (from_entries {R = digest_cmp} blocks) d ≡ Some b → block_slot b ≡ slot
   certified_slot slot d b at there = let (c, is, here) = (held.kept.indexed slot d).0 at in held.kept.sound.one_slot d b c there is ∙ here
 
-  -- so are a vote and the block under its digest
+  -- so do a first digest and the block under it
   voted_slot : (slot : Slot) (d : Digest) (b : Block) → get slots.firsts slot ≡ Some d → get (from_entries {R = digest_cmp} blocks) d ≡ Some b → block_slot b ≡ slot
   voted_slot slot d b at there = let (x, is, here) = held.voted slot d at in ap block_slot (one_block b x there is) ∙ here
 
-  -- the digests of the slots of this round and those below
+  -- the digests of the slots of this round and of lower rounds
   pub gathered : (round : ℕ) (listed : List Digest) → AreDigestsBetween slots 0 (round + 1) listed → AreUpTo (state_of blocks certificates slots floor) round listed
   gathered round listed between = record {
-    blocks = λ d b at low. (between.exactly d).1 (b.round, omega arith, omega (arith, low), (b.author, held.named d b at));
+    blocks = λ d b at low. (between.exactly d).1 (b.round, omega arith, omega (arith, low), (b.author, held.listed d b at));
     certificates = λ d c at low. (between.exactly d).1 (c.round, omega arith, omega (arith, low), (c.author, inr ((held.kept.indexed (certificate_slot c) d).1 (c, at, refl))));
     only = λ d b among there.
         let (r, from, low, (author, stands)) = (between.exactly d).0 among in

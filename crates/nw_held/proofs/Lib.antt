@@ -1,6 +1,6 @@
 pub mod Opening
 pub mod Puts
-pub mod Shelves
+pub mod Dropped
 pub mod Filtered
 pub mod HeldRaised
 pub mod Sent

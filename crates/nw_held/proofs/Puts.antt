@@ -1,4 +1,4 @@
--- What is held with one more block or certificate.
+-- The tables after one more block or certificate.
 use Rattle.std.proofs.Common.{◌≡◌, ◌⊎◌, ℕ, ◌≤◌, true, false, not, Bool, List, [], ◌∷◌, Option, Some, None, IsNone, IsSome, is_some, cond, refl, ap, sym, ◌∙◌, subst, inl, inr}
 use Rattle.std.specs.Option.{option_and_then}
 use Rattle.std.specs.declared.cmp.Ordering.{Ordering}
@@ -20,7 +20,7 @@ use Rattle.nw_model.specs.Sound.{IsKept}
 use Rattle.nw_model.proofs.Kept.{kept_written, index_with_certificate, sound_with_certificate, index_answers, after_insert, after_slot, at_insert, at_slot, still_insert, still_slot}
 use Rattle.nw_model.proofs.Sames.{same_digest_decides}
 use Rattle.nw_model.proofs.Maps.{put_entries, digests_total, digests_apart}
-use Rattle.nw_held.specs.Held.{IsHeld, IsNamed, state_of}
+use Rattle.nw_held.specs.Held.{IsHeld, IsListed, state_of}
 
 pub absent : {A : Type 0} (found : Option A) → IsNone found → found ≡ None
 absent None h = refl
@@ -29,7 +29,7 @@ absent (Some a) h = cc
 none_some : {X : Type 0} (x : X) → Some x ≡ None → ⊥
 none_some x e = cc
 
--- what was put where nothing was, and is taken out again
+-- a value that is inserted at a free digest and removed again
 pub taken_back : {V : Type 0} (es : List (Digest × V)) (d : Digest) (v : V) → lookup (is_at (digest_cmp d)) es ≡ None → remove_entry (is_at (digest_cmp d)) (insert_entry digest_cmp es d v) ≡ es
 taken_back [] d v none = ap (λ b. cond b [] ((d, v) ∷ [])) ((eq_by_cmp_equiv digests_total).refl d)
 taken_back (e ∷ es) d v none = by (digest_cmp d e.0) refl none (taken_back es d v)
@@ -44,12 +44,12 @@ taken_back (e ∷ es) d v none = by (digest_cmp d e.0) refl none (taken_back es 
         ap (λ b. cond b (insert_entry digest_cmp es d v) (e ∷ remove_entry (is_at (digest_cmp d)) (insert_entry digest_cmp es d v))) here
         ∙ ap (λ xs. e ∷ xs) (rest (sym (ap (λ b. cond b (Some e.1) (lookup (is_at (digest_cmp d)) es)) here) ∙ at))
 
--- with a vote, the slot has no first digest
+-- if there is a vote, the slot has no first digest
 pub vacant_first : (found : Option Digest) → true ≡ not (is_some found) → found ≡ None
 vacant_first None e = refl
 vacant_first (Some d) e = absurd cc
 
--- without a vote, the slot has this digest first, or it is certified
+-- if there is no vote, the slot has this first digest, or the digest is certified
 pub known_first : (s : State) (d : Digest) (slot : Slot) → rival s d slot ≡ None → false ≡ not (is_some (get s.firsts slot)) → (get s.firsts slot ≡ Some d) ⊎ IsSome (get s.certificates d)
 known_first s d slot alone voted = by (get s.certificates d) refl (get s.firsts slot) refl
   where
@@ -65,7 +65,7 @@ known_first s d slot alone voted = by (get s.certificates d) refl (get s.firsts 
         (sym (ap (λ c. cond (is_some c) None (option_and_then (λ x. cond (is_digest x d) None (Some x)) (get s.firsts slot))) is ∙ ap (λ f. option_and_then (λ x. cond (is_digest x d) None (Some x)) f) at) ∙ alone) in
         inl (at ∙ ap Some here)
 
--- a block more
+-- one more block
 module _ (blocks more : List (Digest × Block)) (certificates : List (Digest × Certificate)) (slots after : Tables) (floor : ℕ) (d : Digest) (b : Block) (vote : Bool) (put : more ≡ insert_entry digest_cmp blocks d b)
     (firsts : after.firsts ≡ cond vote (insert slots.firsts (block_slot b) d) slots.firsts) where
   puts : from_entries {R = digest_cmp} more ≡ insert (from_entries blocks) d b
@@ -82,11 +82,11 @@ module _ (blocks more : List (Digest × Block)) (certificates : List (Digest × 
     at_new : get (from_entries {R = digest_cmp} more) d ≡ Some b
     at_new = subst (λ m. get m d ≡ Some b) (sym puts) (at_insert (from_entries blocks) d b)
 
-    certified : (found : Option Certificate) → get (from_entries {R = digest_cmp} certificates) d ≡ found → IsSome found → IsNamed after d b
+    certified : (found : Option Certificate) → get (from_entries {R = digest_cmp} certificates) d ≡ found → IsSome found → IsListed after d b
     certified None is some = absurd cc
     certified (Some c) is some = inr ((kept.indexed (block_slot b) d).1 (c, is, sym (kept.sound.one_slot d b c at_new is)))
 
-    -- the block's digest is named, what was first is so still, and nothing else is but that digest
+    -- the new digest is listed, each first digest stays, and no other digest becomes first
     abbrev Votes : FinMap slot_cmp Digest → Type 0
     Votes m = ((get m (block_slot b) ≡ Some d) ⊎ IsSome (get (from_entries {R = digest_cmp} certificates) d))
         × ((slot : Slot) (e : Digest) → get slots.firsts slot ≡ Some e → get m slot ≡ Some e)
@@ -106,9 +106,9 @@ module _ (blocks more : List (Digest × Block)) (certificates : List (Digest × 
     pub block_held : IsHeld more certificates after floor
     block_held = record {
       kept = kept;
-      named = λ e x at. elim (after_insert (from_entries blocks) d b e x (subst (λ m. get m e ≡ Some x) puts at)) [
-        | inl new ↦ subst (λ y. IsNamed after e y) new.1 (subst (λ q. IsNamed after q b) (sym new.0) new_is)
-        | inr old ↦ elim (held.named e x old) [ inl was ↦ inl (voting.1 (block_slot x) e was) | inr was ↦ inr (subst (λ m. get m (block_slot x) ≡ Some e) (sym same) was) ]
+      listed = λ e x at. elim (after_insert (from_entries blocks) d b e x (subst (λ m. get m e ≡ Some x) puts at)) [
+        | inl new ↦ subst (λ y. IsListed after e y) new.1 (subst (λ q. IsListed after q b) (sym new.0) new_is)
+        | inr old ↦ elim (held.listed e x old) [ inl was ↦ inl (voting.1 (block_slot x) e was) | inr was ↦ inr (subst (λ m. get m (block_slot x) ≡ Some e) (sym same) was) ]
       ];
       voted = λ slot e at. elim (voting.2 slot e at) [
         | inl new ↦ (b, subst (λ q. get (from_entries {R = digest_cmp} more) q ≡ Some b) new.1 at_new, sym new.0)
@@ -120,10 +120,10 @@ module _ (blocks more : List (Digest × Block)) (certificates : List (Digest × 
       certificates_ordered = held.certificates_ordered;
     }
       where
-        new_is : IsNamed after d b
+        new_is : IsListed after d b
         new_is = elim voting.0 [ inl is ↦ inl is | inr some ↦ certified (get (from_entries {R = digest_cmp} certificates) d) refl some ]
 
--- a certificate more
+-- one more certificate
 pub certificate_held : (blocks : List (Digest × Block)) (certificates more : List (Digest × Certificate)) (slots after : Tables) (floor : ℕ) (c : Certificate)
     → IsHeld blocks certificates slots floor → get (from_entries {R = digest_cmp} certificates) c.digest ≡ None → certified_digest (state_of blocks certificates slots floor) (certificate_slot c) ≡ None
     → is_elsewhere block_slot (get (from_entries {R = digest_cmp} blocks) c.digest) (certificate_slot c) ≡ false → floor ≤ c.round
@@ -138,7 +138,7 @@ certificate_held blocks certificates more slots after floor c held none first fi
         sound = record { own_digest = new.own_digest; one_slot = new.one_slot; one_certificate = new.one_certificate; blocks_kept = new.blocks_kept; certificates_kept = new.certificates_kept };
         indexed = index_with_certificate s slots.certified c held.kept.indexed none (index_answers s slots.certified (certificate_slot c) held.kept.indexed ∙ first);
       });
-      named = λ d b at. elim (held.named d b at) [
+      listed = λ d b at. elim (held.listed d b at) [
         | inl was ↦ inl (subst (λ m. get m (block_slot b) ≡ Some d) (sym firsts) was)
         | inr was ↦ inr (subst (λ m. get m (block_slot b) ≡ Some d) (sym index) (still_slot slots.certified (certificate_slot c) c.digest (block_slot b) d vacant was))
       ];

@@ -1,4 +1,4 @@
--- What is held may cross to another thread.
+-- The tables of a state may be sent to another thread.
 use denote.RattleType.{RattleType}
 use denote.Param.Send.{IsSend, IsSync, sendable, view_send}
 use denote.Param.SendFields.{declared_send}
@@ -17,7 +17,7 @@ use Rattle.nw_rounds.proofs.rounds.Rounds.TheSendSync as rounds
 use Rattle.nw_held.specs.contracts.held.Held as held
 use Rattle.nw_held.specs.contracts.held.Held.TheInside as held_inside
 
--- so may a trie of shared values that may
+-- a trie of shared values may be sent if the values may
 shared_send : (V : RattleType) → IsSend V → IsSync V → IsSend (trie.the_row (owner.the_row V) global.the_row ghosts)
 shared_send V value_send value_sync =
     trie_send (owner.the_row V) global.the_row ghosts (owner_crosses.the_send V value_send value_sync) (owner_crosses.the_sync V value_send value_sync) send sync frees

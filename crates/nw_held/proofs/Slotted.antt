@@ -1,4 +1,4 @@
--- What stands by the slots of a store.
+-- The slots of a store tell which digests stand.
 use Rattle.std.proofs.Common.{◌≡◌, ℕ, List, Option, Some, None, IsSome, refl, sym, ap, ◌∙◌, subst}
 use Rattle.std.specs.Bool.{Decides}
 use Rattle.std.specs.Option.{option_eq}
@@ -18,7 +18,7 @@ use Rattle.nw_held.proofs.HeldRaised.{certified_slot}
 is_there : {X : Type 0} (found : Option X) (x : X) → found ≡ Some x → IsSome found
 is_there found x e = subst IsSome (sym e) refl
 
--- a digest that is found is told from another
+-- a found digest is compared with another
 pub named_decides : (found : Option Digest) (d : Digest) → Decides (option_eq same_digest found (Some d)) (found ≡ Some d)
 named_decides None d = (λ e. absurd cc, λ e. absurd cc)
 named_decides (Some x) d = (λ e. ap Some ((same_digest_decides x d).0 e), λ e. (same_digest_decides x d).1 cc)
@@ -31,11 +31,11 @@ module _ (blocks : List (Digest × Block)) (certificates : List (Digest × Certi
   abbrev s : State
   s = state_of blocks certificates slots floor
 
-  -- what is first of its slot is held
+  -- a first digest is held
   pub first_held : get slots.firsts (w.round, w.author) ≡ Some w.digest → IsSome (get s.blocks w.digest)
   first_held first = let (b, there, here) = held.voted (w.round, w.author) w.digest first in is_there (get s.blocks w.digest) b there
 
-  -- what is held and certified for its slot stands there
+  -- a digest that is held, and certified for a slot, stands with a block of that slot
   pub met : get slots.certified (w.round, w.author) ≡ Some w.digest → IsSome (get s.blocks w.digest) → IsMet s w
   met certified some =
       let (c, is, here) = (held.kept.indexed (w.round, w.author) w.digest).0 certified in
@@ -43,7 +43,7 @@ module _ (blocks : List (Digest × Block)) (certificates : List (Digest × Certi
       let slot = certified_slot blocks certificates slots floor held (w.round, w.author) w.digest b certified there in
       (b, (there, is_there (get s.certificates w.digest) c is), ap (λ (q : Slot). q.1) slot, ap (λ (q : Slot). q.0) slot)
 
-  -- what stands is held, and certified for its slot
+  -- a digest that stands is held, and certified for its block's slot
   pub met_certified : IsMet s w → get slots.certified (w.round, w.author) ≡ Some w.digest
   met_certified (b, (there, some), author, round) =
       let (c, is) = which (get s.certificates w.digest) some in

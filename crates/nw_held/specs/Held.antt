@@ -1,4 +1,4 @@
--- What a store holds, and how.
+-- How the tables of a store represent its state.
 use Rattle.std.specs.Prelude.{◌≡◌, ℕ, ◌⊎◌, List, Some}
 use Rattle.std.specs.List.Sorted.{IsStrictlySortedBy}
 use Rattle.std.specs.Map.{keys_of}
@@ -11,18 +11,23 @@ use Rattle.nw_digest.specs.Order.{digest_cmp, Slot}
 use Rattle.nw_model.specs.State.{State, block_slot}
 use Rattle.nw_model.specs.Sound.{IsKept}
 
--- the state that these entries and slots are
+-- the state with these blocks, certificates, first digests and garbage round
 abbrev pub state_of : List (Digest × Block) → List (Digest × Certificate) → Tables → ℕ → State
 state_of blocks certificates slots floor = record { blocks = from_entries blocks; certificates = from_entries certificates; firsts = slots.firsts; floor = floor }
 
--- d is the first digest of the block's slot, or the one that is certified for it
-abbrev pub IsNamed : Tables → Digest → Block → Type 0
-IsNamed slots d b = (get slots.firsts (block_slot b) ≡ Some d) ⊎ (get slots.certified (block_slot b) ≡ Some d)
+-- d is the first digest of the block's slot, or the certified digest of that slot
+abbrev pub IsListed : Tables → Digest → Block → Type 0
+IsListed slots d b = (get slots.firsts (block_slot b) ≡ Some d) ⊎ (get slots.certified (block_slot b) ≡ Some d)
 
--- the state is one that a legal history may reach, the slots name what is certified and what is held, what is first of a slot is held, and the entries stand in order
+-- the invariant of the tables of a store
 pub record IsHeld (blocks : List (Digest × Block)) (certificates : List (Digest × Certificate)) (slots : Tables) (floor : ℕ) : Type 0 where
+  -- the state is sound, and the slots have exactly the certified digests
   pub kept : IsKept (state_of blocks certificates slots floor) slots.certified
-  pub named : (d : Digest) (b : Block) → get (from_entries {R = digest_cmp} blocks) d ≡ Some b → IsNamed slots d b
+  -- each held block is listed at its slot, as its first or its certified digest
+  pub listed : (d : Digest) (b : Block) → get (from_entries {R = digest_cmp} blocks) d ≡ Some b → IsListed slots d b
+  -- under the first digest of a slot, a block of that slot is held
   pub voted : (slot : Slot) (d : Digest) → get slots.firsts slot ≡ Some d → (b : Block) × (get (from_entries {R = digest_cmp} blocks) d ≡ Some b) × (block_slot b ≡ slot)
+  -- the blocks ascend strictly by digest
   pub blocks_ordered : IsStrictlySortedBy digest_cmp (keys_of blocks)
+  -- the certificates ascend strictly by digest
   pub certificates_ordered : IsStrictlySortedBy digest_cmp (keys_of certificates)

@@ -1,4 +1,4 @@
 pub mod Held
-pub mod Shelf
+pub mod Dropping
 pub mod Standing
 pub mod Collection

@@ -1,4 +1,4 @@
-//! What a store holds.
+//! The blocks, certificates and slots of one state.
 ghost use Rattle.std.specs.Prelude.{◌≡◌, ◌↔◌, ◌≤◌};
 ghost use Rattle.std.specs.Prelude.{OnOk, OnErr, IfSome, IsSome, IsNone, Some, None, IsTrue, false, not};
 ghost use Rattle.std.specs.Prelude.{is_some};
@@ -12,8 +12,8 @@ ghost use Rattle.nw_model.specs.Step.{certified_digest, is_elsewhere, rival, wit
 ghost use Rattle.nw_model.specs.Step.{with_certificate};
 
 mod collection;
+mod dropping;
 mod replies;
-mod shelf;
 
 use nw_codec::{Block, Certificate};
 use nw_digest::{Digest, NoMemory, Round, Shared};
@@ -23,8 +23,7 @@ use nw_waiting::Wanted;
 use std::alloc::Global;
 use std::marker::Model;
 
-/// The blocks, the certificates and the digests of each slot, and the bounds under which more is taken. Contracts see the
-/// state, and the bounds.
+/// The blocks, certificates and slots of one state, with the bounds of a store. Contracts see the state and the bounds.
 #[derive(Drop)]
 pub struct Held {
     blocks: Trie<Shared<Block>, Global>,
@@ -32,7 +31,8 @@ pub struct Held {
     /// The first and the certified digest of each round and author.
     slots: Rounds<Global>,
     floor: Round,
-    most: u32,
+    /// The largest number of held blocks, and separately of certificates.
+    limit: u32,
     window: u32,
     alloc: Global,
 }
@@ -46,7 +46,7 @@ impl Model for Held {
     ghost coded = { coded_tables };
 
     ghost view = { λ h. record {
-      bounds = record { blocks = h.most; window = h.window };
+      bounds = record { blocks = h.limit; window = h.window };
       state = state_of h.blocks h.certificates h.slots h.floor;
     } };
 
@@ -54,9 +54,9 @@ impl Model for Held {
 }
 
 impl Held {
-    /// Nothing, with garbage round 0. It takes no memory.
+    /// The opening state: three empty maps, and garbage round 0. Allocates nothing.
     ///
-    /// At most `blocks` blocks and as many certificates are taken, of `window` rounds from the garbage round on.
+    /// The bounds are `blocks` blocks and `blocks` certificates, of `window` rounds from the garbage round on.
     pub fn new(alloc: Global, blocks: u32, window: u32) -> Held
         ensures { result ≡ record {
           bounds = record { blocks = blocks; window = window };
@@ -68,7 +68,7 @@ impl Held {
             certificates: Trie::new_in(alloc),
             slots: Rounds::new_in(alloc),
             floor: Round::ZERO,
-            most: blocks,
+            limit: blocks,
             window,
             alloc,
         }
@@ -81,7 +81,7 @@ impl Held {
         self.floor
     }
 
-    /// The block that is held under the digest, or `None` where none is.
+    /// The block that is held under the digest, if there is one.
     pub fn block(&self, digest: &Digest) -> Option<&Shared<Block>>
         ensures value { option_copied result ≡ map.get self.now.state.blocks digest.now }
         ensures sound { IsSound self.now.state }
@@ -96,7 +96,7 @@ impl Held {
         self.block(digest).is_some()
     }
 
-    /// The certificate that is kept for the digest, or `None` where none is.
+    /// The certificate that is kept for the digest, if there is one.
     pub fn certificate(&self, digest: &Digest) -> Option<&Shared<Certificate>>
         ensures value { option_copied result ≡ map.get self.now.state.certificates digest.now }
         ensures sound { IsSound self.now.state }
@@ -104,14 +104,14 @@ impl Held {
         self.certificates.get(digest)
     }
 
-    /// The first digest of the round and author.
+    /// The first digest of the round and author, if there is one.
     fn first(&self, round: Round, author: u16) -> Option<Digest>
         ensures { result ≡ map.get self.now.state.firsts (round, author) }
     {
         self.slots.first(round, author)
     }
 
-    /// The digest that is certified for the round and author.
+    /// The certified digest of the round and author, if there is one.
     fn certified(&self, round: Round, author: u16) -> Option<Digest>
         ensures { result ≡ certified_digest self.now.state (round, author) }
     {
@@ -133,8 +133,8 @@ impl Held {
         self.certificates.len()
     }
 
-    /// What names the block under the digest where it stands, that is, where it is held and certified; else `None`. A digest
-    /// that is not certified takes one look-up.
+    /// The name of the block under the digest, if the digest stands: its block is held, and it is certified. Otherwise `None`. If the
+    /// digest is not certified, this takes one look-up.
     pub fn standing(&self, digest: &Digest) -> Option<Wanted>
         ensures stands { IsSome result ↔ Stands self.now.state digest.now }
         ensures name { IfSome result (λ name. Some name
@@ -145,8 +145,8 @@ impl Held {
         self.name(*digest)
     }
 
-    /// Whether what is wanted stands, of that round and author. A block of another round or author does not count. The slot
-    /// is looked up, and the block only where it is not the first of its slot.
+    /// Whether the wanted digest stands, with a block of the wanted round and author. This looks up the slot. It looks up the block only
+    /// if the digest is not the first of its slot.
     pub fn is_met(&self, wanted: &Wanted) -> bool
         ensures { IsTrue result ↔ IsMet self.now.state wanted.now }
     {
@@ -156,7 +156,7 @@ impl Held {
                 || self.holds(&wanted.digest))
     }
 
-    /// What names the block that is held under the digest, or `None` where none is.
+    /// The name of the block that is held under the digest, if there is one: its round, author and digest.
     pub fn name(&self, digest: Digest) -> Option<Wanted>
         ensures { result ≡ option_map (named_as digest) (map.get self.now.state.blocks digest) }
     {
@@ -168,8 +168,10 @@ impl Held {
         })
     }
 
-    /// Puts the block under the digest, which is the first of the block's slot where there is a vote. It is for a write
-    /// whose reply is `Stored` with this vote. It is refused for want of memory alone, and then nothing changes.
+    /// Adds the block under the digest, for a write whose reply is `Stored` with this vote. If `vote` is set, the digest becomes the
+    /// first of the block's slot.
+    ///
+    /// `NoMemory` if allocation fails. Then nothing changes.
     pub fn put_block(
         &mut self,
         digest: Digest,
@@ -198,8 +200,9 @@ impl Held {
         Ok(())
     }
 
-    /// Keeps the certificate. It is for one whose reply is `Certified`. It is refused for want of memory alone, and then
-    /// nothing changes.
+    /// Adds the certificate, for one whose reply is `Certified`.
+    ///
+    /// `NoMemory` if allocation fails. Then nothing changes.
     pub fn put_certificate(&mut self, certificate: Shared<Certificate>) -> Result<(), NoMemory>
         requires absent { IsNone (map.get self.old.state.certificates certificate.digest) }
         requires open { certified_digest self.old.state (certificate_slot certificate) ≡ None }

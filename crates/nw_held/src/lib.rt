@@ -1,8 +1,8 @@
-//! What a store holds: blocks, certificates and the slots of each round, of one state.
+//! This crate keeps the blocks, certificates and slots of one state, and finds the replies that depend only on these.
 //!
-//! Its contract: a [`Held`] is a state of the table of `nw_model` with the bounds of its steps, from which the reply of each
-//! write, certificate and collection is read, and which takes in what a step adds or drops. It stands on `nw_digest` and
-//! `nw_codec` for the values, on `nw_trie` and `nw_rounds` for its tables, and on `nw_waiting` for the name of a block.
+//! Its contract: a [`Held`] is a state of the table of `nw_model`, with its bounds. It finds the reply to each write, certificate and
+//! collection, and adds and drops entries as the step says. It takes its values from `nw_digest` and `nw_codec`, its tables from
+//! `nw_trie` and `nw_rounds`, and the names of blocks from `nw_waiting`.
 #![tactic(auto)]
 
 mod held;

@@ -1,4 +1,4 @@
--- The ancestors of a block are found round by round.
+-- The search for the ancestors of a block goes round by round.
 use Rattle.std.proofs.Common.{◌≡◌, ◌⊎◌, ℕ, ◌+◌, ◌<◌, ◌≤◌, true, List, [], ◌∷◌, ◌++◌, Some, None, length, refl, ap, sym, ◌∙◌, subst, arith, inl, inr}
 use Rattle.std.specs.Prelude.{Contains, ◌==◌}
 use Rattle.std.specs.FinMap.{FinMap, get, insert}
@@ -13,11 +13,11 @@ use Rattle.nw_model.proofs.Complete.{one_block}
 use Rattle.nw_model.proofs.Kept.{after_slot, at_slot}
 use Rattle.nw_model.proofs.Finding.{under_more, none_some}
 
--- the block under e is of the round that is reached once the counter, which starts at the floor, has got there
+-- the block under e is of the round that the search has reached. The counter starts at the floor and counts its rounds
 abbrev pub IsAt : Frozen → ℕ → ℕ → Digest → Type 0
 IsAt v counter end e = (b : Block) × (get v.blocks e ≡ Some b) × (b.round + counter ≡ end + v.floor)
 
--- what was found are ancestors of d, and each of them is in the frontier, or its parents were found
+-- only ancestors of d are found, and each of them is in the frontier, or its parents are found
 pub record Explores (v : Frozen) (d : Digest) (found : FinMap slot_cmp Digest) (frontier : List Digest) (counter end : ℕ) : Type 0 where
   pub under : AreUnder v found
   pub only : (slot : Slot) (e : Digest) → get found slot ≡ Some e → IsAncestorIn v d e
@@ -26,12 +26,12 @@ pub record Explores (v : Frozen) (d : Digest) (found : FinMap slot_cmp Digest) (
   pub reached : (e : Digest) → Contains frontier e → IsAncestorIn v d e
   pub whole : (slot : Slot) (e : Digest) → get found slot ≡ Some e → Contains frontier e ⊎ ((f : Digest) → IsParentIn v e f → IsFound v found f)
 
--- a path to a digest goes on to its parents
+-- a path to a digest continues to its parents
 path_on : (v : Frozen) (d e f : Digest) (path : List Digest) → IsPathIn v d path e → IsParentIn v e f → (b : Block) × IsThere v f b → IsPathIn v d (path ++ f ∷ []) f
 path_on v d e f [] (there, same) parent last = (subst (λ q. IsParentIn v q f) (sym same) parent, (last, refl))
 path_on v d e f (next ∷ path) (step, on) parent last = (step, path_on v next e f path on parent last)
 
--- the block of a parent, which is of the round before
+-- the block of a parent is of the preceding round
 parent_block : (v : Frozen) (d e : Digest) (b : Block) → IsClosed v → get v.blocks d ≡ Some b → IsParentIn v d e → (p : Block) × (get v.blocks e ≡ Some p) × (p.round + 1 ≡ b.round) × (v.floor < b.round)
 parent_block v d e b closed at (c, r, at_c, above, among, same) =
     let one : c ≡ b = one_block c b at_c at in
@@ -46,7 +46,7 @@ ancestor_on v d e f b closed at (path, on) parent =
     let above : v.floor < b.round = p.3 in
     (path ++ f ∷ [], path_on v d e f path on parent (p.0, (p.1, omega (arith, before, above))))
 
--- at first only the block itself is found
+-- at the start only the block itself is found
 pub explores_first : (v : Frozen) (d : Digest) (b : Block) (empty : FinMap slot_cmp Digest) → IsThere v d b → ((slot : Slot) → get empty slot ≡ None)
     → Explores v d (insert empty (block_slot b) d) (d ∷ []) v.floor b.round
 explores_first v d b empty there none = record {
@@ -73,14 +73,14 @@ explores_first v d b empty there none = record {
       | inr same ↦ same
     ]
 
--- the frontier's blocks are above the floor as long as the counter is below its end
+-- the frontier's blocks are above the floor while the counter is below its end
 pub explores_above : (v : Frozen) (d : Digest) (found : FinMap slot_cmp Digest) (frontier : List Digest) (counter end : ℕ) → Explores v d found frontier counter end → counter < end → AreAbove v frontier
 explores_above v d found frontier counter end now lt k x within =
     let at = now.level _ (Contains-get_or frontier k x within) in
     let round : at.0.round + counter ≡ end + v.floor = at.2 in
     (at.0, at.1, omega (arith, round, lt))
 
--- once the parents of the frontier's blocks are found, those that were not found before are the frontier
+-- after the parents of the frontier's blocks are found, the newly found ones are the frontier
 pub explores_on : (v : Frozen) (d : Digest) (found new : FinMap slot_cmp Digest) (frontier parents : List Digest) (counter end : ℕ)
     → IsClosed v → Explores v d found frontier counter end → Finds v (IsParentOfAny v frontier) found new [] parents → Explores v d new parents (counter + 1) end
 explores_on v d found new frontier parents counter end closed now finds = record {
@@ -121,7 +121,7 @@ explores_on v d found new frontier parents counter end closed now finds = record
         let before : q.0.round + 1 ≡ at.0.round = q.2 in
         (q.0, q.1, omega (arith, round, before))
 
--- where no block of the frontier is above the floor, all ancestors are found
+-- if no block of the frontier is above the floor, all ancestors are found
 all_found : (v : Frozen) (d : Digest) (found : FinMap slot_cmp Digest) (frontier : List Digest) (counter end : ℕ) → Explores v d found frontier counter end
     → ((e f : Digest) → Contains frontier e → IsParentIn v e f → ⊥) → Reaches v d found
 all_found v d found frontier counter end now last = record {
@@ -137,7 +137,7 @@ all_found v d found frontier counter end now last = record {
       | inr all ↦ all next parent
     ]) on
 
--- at the end of the rounds
+-- all ancestors are found when the counter is at its end
 pub reaches_floor : (v : Frozen) (d : Digest) (found : FinMap slot_cmp Digest) (frontier : List Digest) (counter end : ℕ) → Explores v d found frontier counter end → end ≤ counter → Reaches v d found
 reaches_floor v d found frontier counter end now done = all_found v d found frontier counter end now (λ e f among parent.
     let at = now.level e among in
@@ -146,10 +146,10 @@ reaches_floor v d found frontier counter end now done = all_found v d found fron
     let above : v.floor < parent.0.round = parent.3 in
     omega (arith, done, round, above, ap (λ (x : Block). x.round) one))
 
--- where the frontier is empty
+-- and when the frontier is empty
 pub reaches_early : (v : Frozen) (d : Digest) (found : FinMap slot_cmp Digest) (frontier : List Digest) (counter end : ℕ) → Explores v d found frontier counter end → length frontier ≡ 0 → Reaches v d found
 reaches_early v d found frontier counter end now empty = all_found v d found frontier counter end now (λ e f (k, lt, at) parent. omega (arith, lt, empty))
 
--- what a test for 0 says
+-- a test for 0 decides whether the number is 0
 pub none_left : (n : ℕ) → true ≡ (n == 0) → n ≡ 0
 none_left n e = grind arith

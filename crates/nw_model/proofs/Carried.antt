@@ -1,4 +1,4 @@
--- What is held stays, but for what a collection drops.
+-- Calls keep the entries of a state, except those that a collection drops.
 use Rattle.std.proofs.Common.{◌≡◌, ℕ, ◌≤◌, Bool, false, List, [], ◌∷◌, Option, Some, None, is_some, refl, arith}
 use Rattle.std.specs.FinMap.{get}
 use Rattle.nw_digest.specs.declared.digest.Digest.{Digest}
@@ -21,7 +21,7 @@ use Rattle.nw_model.proofs.Raised.{is_kept}
 use Rattle.nw_model.proofs.Replayed.{past, is_stored, is_certified}
 use Rattle.nw_model.proofs.Firsts.{higher}
 
--- the garbage round does not fall, and what is not below it is held as before
+-- from s to t, the garbage round does not fall, and entries that are not below the new one are kept
 pub record Carries (s t : State) : Type 0 where
   pub floor : s.floor ≤ t.floor
   pub blocks : (d : Digest) (b : Block) → get s.blocks d ≡ Some b → t.floor ≤ b.round → get t.blocks d ≡ Some b
@@ -48,7 +48,7 @@ none_is : {X : Type 0} (found : Option X) → is_some found ≡ false → found 
 none_is None e = refl
 none_is (Some x) e = absurd cc
 
--- a block is stored only where none is held under its digest
+-- a block is stored only if none is held under its digest
 pub stored_anew : (bounds : Bounds) (s : State) (d : Digest) (b : Block) (vote : Bool) → write_reply bounds s d b ≡ write.Stored vote → get s.blocks d ≡ None
 stored_anew bounds s d b vote is =
     let low = past is_stored _ (write.Collected s.floor) _ (write.Stored vote) refl refl is in
@@ -57,7 +57,7 @@ stored_anew bounds s d b vote is =
     let clash = past is_stored (is_some (get s.blocks d)) write.Clash _ (write.Stored vote) refl refl held.1 in
     none_is (get s.blocks d) clash.0
 
--- a certificate is kept only where none stands under its digest
+-- a certificate is kept only if its digest is not certified
 certified_anew : (bounds : Bounds) (s : State) (c : Certificate) → certify_reply bounds s c ≡ certify.Certified → get s.certificates c.digest ≡ None
 certified_anew bounds s c is =
     let low = past is_certified _ (certify.Collected s.floor) _ certify.Certified refl refl is in
@@ -90,7 +90,7 @@ carries_after_collect s round (collect.Raised dropped) is = record {
 }
 carries_after_collect s round (collect.NotHigher floor) is = carries_itself s
 
--- each call carries a state on
+-- each call carries its entries over to the next state
 pub carries_after : (bounds : Bounds) (s : State) (asked : Call) → Carries s (after bounds s asked)
 carries_after bounds s (call.Write d b) = carries_after_write bounds s d b (write_reply bounds s d b) refl
 carries_after bounds s (call.Certify c) = carries_after_certify bounds s c (certify_reply bounds s c) refl

@@ -1,4 +1,4 @@
--- Which blocks are complete: those of the garbage round, and those whose parents are.
+-- Complete blocks are those of the garbage round, and those whose parents are complete.
 use Rattle.std.proofs.Common.{◌≡◌, ◌↔◌, ◌⊎◌, ℕ, ◌+◌, ◌<◌, ◌≤◌, true, false, List, [], ◌∷◌, Option, Some, None, IsSome, is_some, IsTrue, nat_eq, All, get_or, refl, ap, sym, ◌∙◌, subst, arith, inl, inr}
 use Rattle.std.specs.Prelude.{Contains}
 use Rattle.std.specs.Ordering.{nat_cmp, is_le}
@@ -13,7 +13,7 @@ use Rattle.nw_model.specs.Paths.{IsStanding, IsSatisfied, IsParent, IsPath, IsCo
 use Rattle.nw_model.specs.Sound.{IsSound}
 use Rattle.nw_model.specs.View.{Frozen, HasParent, IsClosed, Shows, AreComplete}
 
--- one block stands under a digest
+-- at most one block stands under a digest
 pub one_block : {found : Option Block} (b c : Block) → found ≡ Some b → found ≡ Some c → b ≡ c
 one_block b c e f = cc
 
@@ -30,7 +30,7 @@ parents_complete s d b whole stands above k r lt =
     let satisfied = whole.whole d b ([], ((b, stands), refl)) stands above k r lt in
     (satisfied, parent_complete s d (get_or b.parents k r).digest whole (b, get_or b.parents k r, stands, Contains-get_or b.parents k r lt, satisfied, refl))
 
--- a block that stands is complete where it is of the garbage round, or its parents are
+-- a block that stands is complete if it is of the garbage round, or if its parents are complete
 pub complete_from_parents : (s : State) (d : Digest) (b : Block) → IsSound s → IsStanding s d b → (b.round ≤ s.floor) ⊎ All (λ r. IsSatisfied s b.round r × IsComplete s r.digest) b.parents → IsComplete s d
 complete_from_parents s d b sound stands how = record {
   stands = (b, stands);
@@ -71,7 +71,7 @@ one_parent blocks round r p at = (
   λ fits. (p, at, fits.0, fits.1),
 )
 
--- the tests of a parent that is there
+-- the tests that find a parent
 equal_numbers : (a b : ℕ) → IsTrue (nat_eq a b) → a ≡ b
 equal_numbers a b e = grind arith
 
@@ -91,7 +91,7 @@ other_author blocks round r p at apart = (
   λ has. absurd (apart ((one_parent blocks round r p at).0 has).0),
 )
 
--- ---- one more digest is looked at
+-- ---- one more digest is tested
 
 low : (a b : ℕ) → is_le (nat_cmp a b) ≡ true → a ≤ b
 low a b e = grind arith
@@ -99,7 +99,7 @@ low a b e = grind arith
 high : (a b : ℕ) → is_le (nat_cmp a b) ≡ false → b < a
 high a b e = grind arith
 
--- the block's round is tested, or its parents are
+-- either the block's round passes, or its parents do
 pub completed_low : (floor : ℕ) (old : FinMap digest_cmp Block) (b : Block) → is_le (nat_cmp b.round floor) ≡ true → (b.round ≤ floor) ⊎ All (HasParent old b.round) b.parents
 completed_low floor old b e = inl (low b.round floor e)
 
@@ -107,7 +107,7 @@ pub not_completed : (floor : ℕ) (old : FinMap digest_cmp Block) (b : Block) �
 not_completed floor old b e lacks (inl at_floor) = let above = high b.round floor e in omega (arith, above, at_floor)
 not_completed floor old b e lacks (inr parents) = lacks parents
 
--- ---- what the complete blocks make
+-- ---- the view of the complete blocks
 
 -- the complete blocks are closed: the parents of each above the garbage round are among them, and no two share a slot
 pub closed : (s : State) (v : Frozen) → IsSound s → v.floor ≡ s.floor → AreComplete s v.blocks → IsClosed v
@@ -144,7 +144,7 @@ shown s v floor are = record {
   );
 }
 
--- a digest that is among the complete blocks is complete
+-- a digest that the complete blocks have is complete
 pub complete_there : (s : State) (blocks : FinMap digest_cmp Block) (d : Digest) → AreComplete s blocks → is_some (get blocks d) ≡ true → IsComplete s d
 complete_there s blocks d are there = by (get blocks d) refl there
   where
@@ -152,7 +152,7 @@ complete_there s blocks d are there = by (get blocks d) refl there
     by (Some b) at e = ((are d b).0 at).1
     by None at e = absurd cc
 
--- and one that is not among them is not
+-- and any other digest is not
 pub complete_not_there : (s : State) (blocks : FinMap digest_cmp Block) (d : Digest) → AreComplete s blocks → is_some (get blocks d) ≡ false → IsComplete s d → ⊥
 complete_not_there s blocks d are lacks whole =
     let there : get blocks d ≡ Some whole.stands.0 = (are d whole.stands.0).1 (whole.stands.1.0, whole) in

@@ -23,7 +23,7 @@ use Rattle.nw_model.proofs.Listed.{contains_first, contains_later, contains_case
 
 -- ---- paths
 
--- a path goes on along another
+-- two paths in sequence are a path
 joined : (s : State) (d : Digest) (path : List Digest) (e : Digest) (on : List Digest) (a : Digest) → IsPath s d path e → IsPath s e on a → IsPath s d (path ++ on) a
 joined s d [] e on a first second = subst (λ q. IsPath s q on a) (sym first.1) second
 joined s d (x ∷ path) e on a first second = (first.0, joined s x path e on a first.1 second)
@@ -40,9 +40,9 @@ complete_along s d (x ∷ path) e whole on = complete_along s x path e (parent_c
 pub ancestor_complete : (s : State) (d e : Digest) → IsComplete s d → IsAncestor s d e → IsComplete s e
 ancestor_complete s d e whole ancestor = complete_along s d ancestor.0 e whole ancestor.1
 
--- ---- what can be decided
+-- ---- decisions
 
--- it holds, or it does not
+-- the statement P holds, or it does not
 abbrev pub Decided : Type 0 → Type 0
 Decided P = P ⊎ (P → ⊥)
 
@@ -131,7 +131,7 @@ here_or_below s d b (e ∷ path) a stands on =
     let satisfied : IsSatisfied s b.round parent.1 = subst (λ (y : Block). IsSatisfied s y.round parent.1) same parent.4 in
     inr (parent.1, among, (satisfied, (path, subst (λ q. IsPath s q path a) (sym parent.5) on.1)))
 
--- whether a is an ancestor, where it is known whether it is one of a parent
+-- whether a is an ancestor, if it is known whether it is an ancestor of a parent
 from_parents : (s : State) (d a : Digest) (b : Block) → IsStanding s d b → Decided (IsBelow s b a) → Decided (IsAncestor s d a)
 from_parents s d a b stands (inl below) = inl (below.0.digest ∷ below.2.1.0, ((b, below.0, stands, below.1, below.2.0, refl), below.2.1.1))
 from_parents s d a b stands (inr refuted) = elim (decided_digest d a) [
@@ -146,7 +146,7 @@ from_parents s d a b stands (inr refuted) = elim (decided_digest d a) [
 nothing_stands : (s : State) (d a : Digest) → (((b : Block) × IsStanding s d b) → ⊥) → IsAncestor s d a → ⊥
 nothing_stands s d a refuted ancestor = refuted (first_stands s d ancestor.0 a ancestor.1)
 
--- a path from a block of at most this round can be found, since each step down it is one round
+-- a path from a block of at most this round can be found, because each step goes down one round
 decided_ancestor : (n : ℕ) (s : State) (d a : Digest) → ((b : Block) → IsStanding s d b → b.round ≤ n) → Decided (IsAncestor s d a)
 decided_ancestor zero s d a low = elim (decided_standing s d) [
   | inl stands ↦ from_parents s d a stands.0 stands.1 (inr (λ below.
@@ -173,7 +173,7 @@ is_ancestor_decided s d a = elim (decided_standing s d) [
   | inr refuted ↦ inr (nothing_stands s d a refuted)
 ]
 
--- whether it holds, as a test
+-- the decision of P, as a test
 abbrev pub holds : {P : Type 0} → Decided P → Bool
 holds (inl p) = true
 holds (inr refuted) = false
@@ -186,7 +186,7 @@ passing test [] blocks = []
 passing test (d ∷ digests) [] = []
 passing test (d ∷ digests) (b ∷ blocks) = cond (test d) (b ∷ passing test digests blocks) (passing test digests blocks)
 
--- what holds of each block holds of each that passes
+-- if P holds of each block, it holds of each block that passes
 passing_each : (P : Block → Type 0) (test : Digest → Bool) (digests : List Digest) (blocks : List Block) → AllByRecursion P blocks → AllByRecursion P (passing test digests blocks)
 passing_each P test [] blocks all = tt
 passing_each P test (d ∷ digests) [] all = tt
@@ -196,7 +196,7 @@ passing_each P test (d ∷ digests) (b ∷ blocks) all = by (test d) refl (passi
     by true is rest = (all.0, rest)
     by false is rest = rest
 
--- those that pass are in order where all are
+-- if all blocks are in order, so are those that pass
 passing_sorted : (R : Block → Block → Ordering) (test : Digest → Bool) (digests : List Digest) (blocks : List Block) → IsStrictlySortedBy R blocks → IsStrictlySortedBy R (passing test digests blocks)
 unfolding IsStrictlySortedBy
 passing_sorted R test [] blocks sorted = tt
@@ -207,7 +207,7 @@ passing_sorted R test (d ∷ digests) (b ∷ blocks) sorted = by (test d) refl (
     by true is rest = (passing_each (λ y. R b y ≡ Less) test digests blocks sorted.0, rest)
     by false is rest = rest
 
--- those that pass stand under the digests that pass
+-- the blocks that pass are held under the digests that pass
 passing_found : (held : FinMap digest_cmp Block) (test : Digest → Bool) (digests : List Digest) (blocks : List Block) → map (get held) digests ≡ map Some blocks
     → map (get held) (filter test digests) ≡ map Some (passing test digests blocks)
 passing_found held test [] blocks found = refl

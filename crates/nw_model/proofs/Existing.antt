@@ -25,10 +25,10 @@ use Rattle.nw_model.proofs.Listed.{contains_first, contains_later, contains_case
 use Rattle.nw_model.proofs.Contained.{is_ancestor_decided, holds, holds_so, so_holds, kept}
 use Rattle.nw_model.proofs.Walked.{ascending_by_slot}
 
--- ---- any list, put in order
+-- ---- sorting a list
 
 module _ {K : Type 0} {R : K → K → Ordering} (o : IsTotalOrder R) where
-  -- what holds of a key and of each key of a list holds of each of both
+  -- if P holds of a key and of each key of a list, it holds of each key after the insertion
   put_each : (P : K → Type 0) (x : K) (ys : List K) → P x → AllByRecursion P ys → AllByRecursion P (insert_key R ys x)
   put_each P x [] p all = (p, tt)
   put_each P x (y ∷ ys) p all = by (R x y) (put_each P x ys p all.1)
@@ -38,12 +38,12 @@ module _ {K : Type 0} {R : K → K → Ordering} (o : IsTotalOrder R) where
       by Equal rest = all
       by Greater rest = (all.0, rest)
 
-  -- a key below the first of a list in order is below all of it
+  -- a key below the first key of a list in order is below all of its keys
   below_each : (x y : K) (ys : List K) → R x y ≡ Less → AllByRecursion (λ z. R y z ≡ Less) ys → AllByRecursion (λ z. R x z ≡ Less) ys
   below_each x y [] less all = tt
   below_each x y (z ∷ zs) less all = (o.trans x y z less all.0, below_each x y zs less all.1)
 
-  -- a list in order stays so
+  -- inserting a key keeps a list in order
   put_sorted : (x : K) (ys : List K) → IsStrictlySortedBy R ys → IsStrictlySortedBy R (insert_key R ys x)
   unfolding IsStrictlySortedBy
   put_sorted x [] sorted = (tt, tt)
@@ -54,7 +54,7 @@ module _ {K : Type 0} {R : K → K → Ordering} (o : IsTotalOrder R) where
       by Equal is rest = sorted
       by Greater is rest = (put_each (λ z. R y z ≡ Less) x ys (o.antisymm y x ∙ ap ordering_reverse is) sorted.0, rest)
 
-  -- and has the key, where no other key ties with it
+  -- and adds the key, if no other key ties with it
   put_contains : (x : K) (ys : List K) → ((y : K) → Contains ys y → R x y ≡ Equal → x ≡ y) → (z : K) → Contains (insert_key R ys x) z ↔ Contains (x ∷ ys) z
   put_contains x [] alone z = (λ among. among, λ among. among)
   put_contains x (y ∷ ys) alone z = by (R x y) refl (put_contains x ys (λ w among. alone w (contains_later y ys w among)) z)
@@ -86,7 +86,7 @@ module _ {K : Type 0} {R : K → K → Ordering} (o : IsTotalOrder R) where
         ],
       )
 
-  -- the keys of a list, of which no two tie, can be put in order
+  -- a list of keys can be sorted if no two of them tie
   in_order : (xs : List K) → ((x y : K) → Contains xs x → Contains xs y → R x y ≡ Equal → x ≡ y) → (ys : List K) × IsStrictlySortedBy R ys × ((z : K) → Contains ys z ↔ Contains xs z)
   unfolding IsStrictlySortedBy
   in_order [] apart = ([], tt, λ z. (λ among. among, λ among. among))
@@ -117,7 +117,7 @@ slot_under held d = option_map_or block_slot (get held d) (0, 0)
 abbrev by_slot : FinMap digest_cmp Block → Digest → Digest → Ordering
 by_slot held d e = slot_cmp (slot_under held d) (slot_under held e)
 
--- each digest of the list has its block
+-- the blocks of a list of digests
 blocks_under : (held : FinMap digest_cmp Block) (digests : List Digest) → ((a : Digest) → Contains digests a → (b : Block) × (get held a ≡ Some b)) → (blocks : List Block) × (map (get held) digests ≡ map Some blocks)
 blocks_under held [] there = ([], refl)
 blocks_under held (d ∷ digests) there =
@@ -149,7 +149,7 @@ slots_ascend held (d ∷ digests) sorted = (below_slots held d digests sorted.0,
 
 -- ---- the ancestors of a digest
 
--- the last of a path stands
+-- the last digest of a path stands
 last_stands : (s : State) (d : Digest) (path : List Digest) (a : Digest) → IsPath s d path a → (b : Block) × IsStanding s a b
 last_stands s d [] a on = (on.0.0, subst (λ q. IsStanding s q on.0.0) on.1 on.0.1)
 last_stands s d (e ∷ path) a on = last_stands s e path a on.1
@@ -158,7 +158,7 @@ is_some_then : {X : Type 0} (found : Option X) → IsSome found → (x : X) × (
 is_some_then None h = absurd cc
 is_some_then (Some x) h = (x, refl)
 
--- in a sound state, two digests that stand under one slot are one
+-- in a sound state, two digests that stand with blocks of one slot are equal
 one_standing : (s : State) (x y : Digest) (b c : Block) → IsSound s → IsStanding s x b → IsStanding s y c → by_slot s.blocks x y ≡ Equal → x ≡ y
 one_standing s x y b c sound at_x at_y tied =
     let of_x = is_some_then (get s.certificates x) at_x.1 in
@@ -172,7 +172,7 @@ one_standing s x y b c sound at_x at_y tied =
 held_among : (held : FinMap digest_cmp Block) (a : Digest) (b : Block) → get held a ≡ Some b → Contains (keys held) a
 held_among held a b at = Contains-from_any same_digest a (keys held) (sym (contains_key-keys held a) ∙ ap is_some at)
 
--- the ancestors of a digest are some of those under which a block is held
+-- the ancestors of a digest can be listed
 ancestors_listed : (s : State) (d : Digest) → (digests : List Digest) × ((a : Digest) → Contains digests a ↔ IsAncestor s d a)
 ancestors_listed s d = (
   filter (λ a. holds (is_ancestor_decided s d a)) (keys s.blocks),
@@ -194,7 +194,7 @@ lists held P digests blocks are sorted found = record {
   ascending = ascending_by_slot blocks (subst (λ slots. IsStrictlySortedBy slot_cmp slots) (slots_under held digests blocks found) (slots_ascend held digests sorted));
 }
 
--- the ancestors of a digest, put in order
+-- a digest of a sound state has a causal list
 pub causal_list_exists : (s : State) (d : Digest) → IsSound s → (blocks : List Block) × IsCausalList s d blocks
 causal_list_exists s d sound =
     let listed = ancestors_listed s d in
@@ -203,7 +203,7 @@ causal_list_exists s d sound =
     let under = blocks_under s.blocks sorted.0 (λ a among. let of_a = stands a ((sorted.2 a).0 among) in (of_a.0, of_a.1.0)) in
     (under.0, lists s.blocks (IsAncestor s d) sorted.0 under.0 (λ a. (λ among. (listed.1 a).0 ((sorted.2 a).0 among), λ ancestor. (sorted.2 a).1 ((listed.1 a).1 ancestor))) sorted.1 under.1)
 
--- and there is one such list
+-- and it has only one
 pub one_causal_list : CompleteDigestsHaveOneCausalList
 one_causal_list s d sound whole =
     let there = causal_list_exists s d sound in

@@ -1,4 +1,4 @@
--- Digests that are found one after the other.
+-- A search finds digests one after the other.
 use Rattle.std.proofs.Common.{◌≡◌, ◌↔◌, ◌⊎◌, ℕ, ◌+◌, ◌<◌, ◌≤◌, true, false, List, [], ◌∷◌, ◌++◌, Option, Some, None, All, is_some, length, take, get_or, refl, ap, sym, ◌∙◌, subst, arith, inl, inr}
 use Rattle.std.specs.Prelude.{Contains}
 use Rattle.std.specs.FinMap.{FinMap, get, insert}
@@ -19,7 +19,7 @@ none_some x e = cc
 
 -- ---- steps of a search
 
--- a search for nothing
+-- a search for no digests finds nothing
 pub finds_nothing : (v : Frozen) (P : Digest → Type 0) (found : FinMap slot_cmp Digest) (listed : List Digest) → ((e : Digest) → P e → ⊥) → Finds v P found found listed listed
 finds_nothing v P found listed none = record {
   keeps = λ slot e at. at;
@@ -29,7 +29,7 @@ finds_nothing v P found listed none = record {
   lists = λ e among. inl among;
 }
 
--- one search, and then another
+-- two searches in sequence
 pub finds_on : (v : Frozen) (P Q R : Digest → Type 0) (a b c : FinMap slot_cmp Digest) (xs ys zs : List Digest)
     → Finds v P a b xs ys → Finds v Q b c ys zs → ((e : Digest) → R e ↔ (P e ⊎ Q e)) → Finds v R a c xs zs
 finds_on v P Q R a b c xs ys zs one two both = record {
@@ -55,7 +55,7 @@ finds_on v P Q R a b c xs ys zs one two both = record {
   ];
 }
 
--- what is found is under the slots of the blocks
+-- found digests are under the slots of their blocks
 pub under_more : (v : Frozen) (P : Digest → Type 0) (a b : FinMap slot_cmp Digest) (xs ys : List Digest) → Finds v P a b xs ys → AreUnder v a → AreUnder v b
 under_more v P a b xs ys one under slot e at = elim (one.adds slot e at) [
   | inl before ↦ under slot e before
@@ -70,7 +70,7 @@ is_none_then : {X : Type 0} (found : Option X) → is_some found ≡ false → f
 is_none_then None e = refl
 is_none_then (Some x) e = absurd cc
 
--- where the slot is taken, the digest was found before
+-- if the slot is taken, the digest was found before
 pub finds_again : (v : Frozen) (found : FinMap slot_cmp Digest) (listed : List Digest) (d : Digest) (b : Block)
     → IsClosed v → AreUnder v found → get v.blocks d ≡ Some b → is_some (get found (block_slot b)) ≡ true → Finds v (λ e. d ≡ e) found found listed listed
 finds_again v found listed d b closed under at taken = record {
@@ -87,7 +87,7 @@ finds_again v found listed d b closed under at taken = record {
         let held = under (block_slot b) there.0 there.1 in
         there.1 ∙ ap Some (closed.apart there.0 d held.0 b held.1.0 at held.1.1 held.2)
 
--- where the slot is free, the digest is found now
+-- if the slot is free, the digest is found now
 pub finds_one : (v : Frozen) (found : FinMap slot_cmp Digest) (listed : List Digest) (d : Digest) (b : Block)
     → IsThere v d b → is_some (get found (block_slot b)) ≡ false → Finds v (λ e. d ≡ e) found (insert found (block_slot b) d) listed (listed ++ d ∷ [])
 finds_one v found listed d b there free = record {
@@ -101,7 +101,7 @@ finds_one v found listed d b there free = record {
   lists = λ e among. Contains-push_cases listed d e among;
 }
 
--- ---- what the first references, and the first digests, ask for
+-- ---- the first few references, and the first few digests
 
 pub names_nothing : (e : Digest) → IsNamed [] e → ⊥
 names_nothing e (r, among, same) = absurd (omega (arith, among.1))
@@ -141,29 +141,29 @@ parents_more v digests i d b lt at above e = rw (take_more digests i d lt) (
   ],
 )
 
--- one reference more
+-- one more reference
 pub names_on : (v : Frozen) (refs : List Ref) (i : ℕ) (d : Ref) (a b c : FinMap slot_cmp Digest) (xs ys zs : List Digest) → i < length refs
     → Finds v (IsNamed (take i refs)) a b xs ys → Finds v (λ e. (get_or refs i d).digest ≡ e) b c ys zs → Finds v (IsNamed (take (i + 1) refs)) a c xs zs
 names_on v refs i d a b c xs ys zs lt one two = finds_on v (IsNamed (take i refs)) (λ e. (get_or refs i d).digest ≡ e) (IsNamed (take (i + 1) refs)) a b c xs ys zs one two (names_more refs i d lt)
 
--- one digest more
+-- one more digest
 pub parents_on : (v : Frozen) (digests : List Digest) (i : ℕ) (d : Digest) (x : Block) (a b c : FinMap slot_cmp Digest) (xs ys zs : List Digest)
     → i < length digests → get v.blocks (get_or digests i d) ≡ Some x → v.floor < x.round
     → Finds v (IsParentOfAny v (take i digests)) a b xs ys → Finds v (IsNamed x.parents) b c ys zs → Finds v (IsParentOfAny v (take (i + 1) digests)) a c xs zs
 parents_on v digests i d x a b c xs ys zs lt at above one two =
     finds_on v (IsParentOfAny v (take i digests)) (IsNamed x.parents) (IsParentOfAny v (take (i + 1) digests)) a b c xs ys zs one two (parents_more v digests i d x lt at above)
 
--- the block of a digest that is there is there
+-- the view has the block of each of its digests
 pub there_is : (v : Frozen) (d : Digest) (b : Block) → (x : Block) × IsThere v d x → get v.blocks d ≡ Some b → IsThere v d b
 there_is v d b (x, there) at = (at, subst (λ (y : Block). v.floor ≤ y.round) (one_block x b there.0 at) there.1)
 
--- the parents of a block above the floor are there
+-- the view has the parents of a block above the floor
 pub parents_there : (v : Frozen) (d : Digest) (b : Block) → IsClosed v → get v.blocks d ≡ Some b → v.floor < b.round → All (λ r. (p : Block) × IsThere v r.digest p) b.parents
 parents_there v d b closed at above k r lt =
     let held = closed.parents d b at above k r lt in
     let before : held.0.round + 1 ≡ b.round = held.3 in
     (held.0, (held.1, omega (arith, before)))
 
--- the block under a digest that is above the floor is above the floor
+-- a block that is found under a digest above the floor is above the floor
 pub above_is : (v : Frozen) (d : Digest) (b : Block) → (x : Block) × (get v.blocks d ≡ Some x) × (v.floor < x.round) → get v.blocks d ≡ Some b → v.floor < b.round
 above_is v d b (x, there, above) at = subst (λ (y : Block). v.floor < y.round) (one_block x b there at) above

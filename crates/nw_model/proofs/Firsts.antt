@@ -1,4 +1,4 @@
--- A slot that has a first digest keeps one, and gets no vote.
+-- A slot with a first digest gets no vote from then on.
 use Rattle.std.proofs.Common.{◌≡◌, ◌⊎◌, ℕ, zero, suc, ◌≤◌, ◌<◌, inl, inr, arith, Bool, true, false, not, cond, List, [], ◌∷◌, Option, Some, None, IsSome, is_some, refl, ap, sym, subst}
 use Rattle.std.specs.Prelude.{nat_lt, nat_le, slice_get}
 use Rattle.std.specs.Ordering.{eq_by_cmp}
@@ -25,12 +25,12 @@ use Rattle.nw_model.proofs.Replayed.{past, past_found, is_stored, not_below}
 use Rattle.nw_model.proofs.Raised.{slot_is_kept}
 use Rattle.nw_model.proofs.Kept.{at_slot}
 
--- what a look-up finds after a value was put somewhere
+-- a look-up after an insertion
 some_put : {X : Type 0} (here : Bool) (v : X) (found : Option X) → IsSome found → IsSome (cond here (Some v) found)
 some_put true v found h = refl
 some_put false v found h = h
 
--- the slot has a first digest, or is below the garbage round
+-- the slot is spent: it has a first digest, or is below the garbage round
 abbrev pub IsSpent : State → Slot → Type 0
 IsSpent s slot = IsSome (get s.firsts slot) ⊎ (slot.0 < s.floor)
 
@@ -49,7 +49,7 @@ abbrev is_raised : CollectReply → Bool
 is_raised (collect.Raised dropped) = true
 is_raised (collect.NotHigher floor) = false
 
--- a collection that is answered so has a higher round
+-- a collection with the reply Raised has a higher round
 pub higher : (s : State) (round dropped : ℕ) → collect_reply s round ≡ collect.Raised dropped → s.floor < round
 higher s round dropped is = above (past is_raised (nat_le round s.floor) (collect.NotHigher s.floor) _ (collect.Raised dropped) refl refl is).0
   where
@@ -75,7 +75,7 @@ stays bounds s other slot h = h
 one_vote : (v w : Bool) → write.Stored v ≡ write.Stored w → v ≡ w
 one_vote v w e = cc
 
--- a write that is stored with a vote finds no first digest, and is not below the garbage round
+-- before a write is stored with a vote, its slot has no first digest and is not below the garbage round
 voted : (bounds : Bounds) (s : State) (d : Digest) (b : Block) → write_reply bounds s d b ≡ write.Stored true → (is_some (get s.firsts (block_slot b)) ≡ false) × (s.floor ≤ b.round)
 voted bounds s d b is =
     let low = past is_stored (nat_lt b.round s.floor) (write.Collected s.floor) _ (write.Stored true) refl refl is in
@@ -117,13 +117,13 @@ spends bounds s slot e is (d, b, is_call, is_reply, here) =
     some_is None x e = absurd cc
     some_is (Some y) x e = refl
 
--- no event after that votes for it
+-- no later event votes for it
 none_votes : (bounds : Bounds) (s : State) (es : List Event) (slot : Slot) → AreReplies bounds s es → IsSpent s slot → (j : ℕ) (e : Event) → slice_get es j ≡ Some e → IsVote slot e → ⊥
 none_votes bounds s [] slot are spent j e at vote = absurd cc
 none_votes bounds s (x ∷ es) slot are spent zero e at vote = let same : x ≡ e = cc in unvoted bounds s slot x are.0 spent (subst (λ y. IsVote slot y) (sym same) vote)
 none_votes bounds s (x ∷ es) slot are spent (suc j) e at vote = none_votes bounds (after bounds s x.call) es slot are.2 (stays bounds s x.call slot spent) j e at vote
 
--- two events that vote for a slot are one
+-- two events that vote for the same slot are the same event
 one_votes : (bounds : Bounds) (s : State) (es : List Event) (slot : Slot) → AreReplies bounds s es → (i j : ℕ) (e f : Event) → slice_get es i ≡ Some e → slice_get es j ≡ Some f → IsVote slot e → IsVote slot f → i ≡ j
 one_votes bounds s [] slot are i j e f at_i at_j vote_e vote_f = absurd cc
 one_votes bounds s (x ∷ es) slot are zero zero e f at_i at_j vote_e vote_f = refl

@@ -1,4 +1,4 @@
--- Two reads of a digest.
+-- Two reads of a digest agree.
 use Rattle.std.proofs.Common.{◌≡◌, ◌≢◌, ◌⊎◌, ℕ, zero, suc, ◌<◌, ◌≤◌, Bool, true, false, List, [], ◌∷◌, Option, Some, refl, ap, sym, ◌∙◌, subst, arith, inl, inr}
 use Rattle.std.specs.Prelude.{nat_le, slice_get, All}
 use Rattle.std.specs.FinMap.{get}
@@ -33,7 +33,7 @@ use Rattle.nw_model.proofs.OneReply.{to_collect}
 use Rattle.nw_model.proofs.Replayed.{sound_after, sound_base}
 use Rattle.nw_model.proofs.Sames.{same_block_decides}
 
--- ---- what raises the garbage round
+-- ---- events that raise the garbage round
 
 write_raises_nothing : (s : State) (d : Digest) (b : Block) (r : WriteReply) (round : ℕ) → s.floor ≤ round → round < (after_write s d b r).floor → ⊥
 write_raises_nothing s d b (write.Stored vote) round low high = omega arith
@@ -60,7 +60,7 @@ raises bounds s (call.Collect to) given round is low high =
     (to, raised.0, refl, to_collect bounds s to given is ∙ ap reply.Collect raised.1, raised.2)
 raises bounds s other given round is low high = absurd (omega arith)
 
--- ---- what a read gives
+-- ---- the blocks that reads give
 
 -- the block that a read gives is held
 read_held : (bounds : Bounds) (s : State) (e : Event) (d : Digest) (b : Block) → IsReply bounds s e.call e.reply → IsReadOf d b e → get s.blocks d ≡ Some b
@@ -71,14 +71,14 @@ read_held bounds s e d b is read =
     the_block : {x y : Option Block} → x ≡ y → x ≡ y
     the_block e = e
 
--- a read leaves the state
+-- a read does not change the state
 read_leaves : (bounds : Bounds) (s : State) (e : Event) (d : Digest) (b : Block) → IsReadOf d b e → after bounds s e.call ≡ s
 read_leaves bounds s e d b read = ap (after bounds s) read.0
 
 same_event : (e f : Event) → Some e ≡ Some f → e ≡ f
 same_event e f is = cc
 
--- a later read gives a block that is held now, or an event before it raised the garbage round above the block's
+-- a later read gives the block that is held now, or an event before it raised the garbage round above the block's round
 reads_on : (bounds : Bounds) (s : State) (es : List Event) (d : Digest) (b c : Block) → AreReplies bounds s es → get s.blocks d ≡ Some b → s.floor ≤ b.round
     → (j : ℕ) (f : Event) → slice_get es j ≡ Some f → IsReadOf d c f
     → (b ≡ c) ⊎ ((k : ℕ) × (e : Event) × (k < j) × (slice_get es k ≡ Some e) × RaisesAbove b.round e)
@@ -97,7 +97,7 @@ reads_on bounds s (x ∷ es) d b c are held low (suc j) f at read = by (nat_le (
     ]
     by false is rest = inr (zero, x, omega arith, refl, raises bounds s x.call x.reply b.round are.0 low (grind arith))
 
--- two reads give one block, or an event between them raised the garbage round above the first one's
+-- two reads give the same block, or an event between them raised the garbage round above the first block's round
 reads_between : (bounds : Bounds) (s : State) (es : List Event) (d : Digest) (b c : Block) → IsSound s → AreReplies bounds s es → (i j : ℕ) (e f : Event) → i < j → slice_get es i ≡ Some e → slice_get es j ≡ Some f
     → IsReadOf d b e → IsReadOf d c f → (b ≡ c) ⊎ IsCollectedBetween es i j b.round
 reads_between bounds s [] d b c sound are i j e f order at_i at_j read_e read_f = absurd cc
@@ -117,7 +117,7 @@ reads_between bounds s (x ∷ es) d b c sound are (suc i) (suc j) e f order at_i
       | inr later ↦ inr (suc later.0, later.1, omega (arith, later.2), omega (arith, later.3), later.4, later.5)
     ]
 
--- what a read gives has the digest that was read
+-- the block that a read gives has the digest that was read
 read_digest : (accepts : Meaning) (members : List Member) (bounds : Bounds) (s : State) (es : List Event) (d : Digest) (b : Block)
     → AreAdmitted accepts members s → AreReplies bounds s es → All (λ e. IsAdmitted accepts members e.call) es → (i : ℕ) (e : Event) → slice_get es i ≡ Some e → IsReadOf d b e → digest_of b ≡ d
 read_digest accepts members bounds s [] d b admitted are each i e at read = absurd cc

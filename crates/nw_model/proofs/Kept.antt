@@ -1,4 +1,4 @@
--- What a store over maps keeps, step by step.
+-- The invariant of a store with an index (IsKept), step by step.
 use Rattle.std.proofs.Common.{◌≡◌, ℕ, ◌≤◌, Bool, true, false, not, List, [], ◌∷◌, Option, Some, None, cond, is_some, refl, ap, sym, ◌∙◌, subst, arith, inl, inr, ◌⊎◌}
 use Rattle.std.specs.Prelude.{Result, Ok, Err, OnOk, OnErr, ◌==◌, ◌&&◌, ◌||◌, find}
 use Rattle.std.specs.List.{list_any}
@@ -37,7 +37,7 @@ same_slot a b e =
 pub slot_itself : (a : Slot) → is_slot a a ≡ true
 slot_itself a = grind arith
 
--- what is found passes the test
+-- a found element passes the test
 find_passes : {X : Type 0} (p : X → Bool) (xs : List X) (x : X) → find p xs ≡ Some x → p x ≡ true
 find_passes p [] x e = absurd cc
 find_passes p (y ∷ ys) x e = by (p y) refl e (find_passes p ys x)
@@ -46,7 +46,7 @@ find_passes p (y ∷ ys) x e = by (p y) refl e (find_passes p ys x)
     by true is e rest = let same : y ≡ x = cc in subst (λ z. p z ≡ true) same is
     by false is e rest = rest e
 
--- what passes, and ties with an element, is found
+-- a search finds an element if a passing one is in the list
 find_misses : {K : Type 0} (R : K → K → Ordering) (p : K → Bool) (q : K) (ks : List K) → ((x y : K) → eq_by_cmp R x y ≡ true → x ≡ y)
     → list_any (eq_by_cmp R q) ks ≡ true → p q ≡ true → find p ks ≡ None → ⊥
 find_misses R p q [] same any passes none = absurd cc
@@ -77,7 +77,7 @@ certified_passes found c slot is at =
     subst (λ f. option_map_or (λ x. is_slot (certificate_slot x) slot) f false ≡ true) (sym is)
     (subst (λ (t : Slot). is_slot (certificate_slot c) t ≡ true) at (slot_itself (certificate_slot c)))
 
--- the index answers what is certified for a slot
+-- the index gives the certified digest of a slot
 pub index_answers : (s : State) (index : FinMap slot_cmp Digest) (slot : Slot) → IsIndex s.certificates index → get index slot ≡ certified_digest s slot
 index_answers s index slot indexed = by (certified_digest s slot) refl (get index slot) refl
   where
@@ -92,7 +92,7 @@ index_answers s index slot indexed = by (certified_digest s slot) refl (get inde
         let held : list_any (eq_by_cmp digest_cmp d) (keys s.certificates) ≡ true = sym (contains_key-keys s.certificates d) ∙ ap is_some c.1 in
         absurd (find_misses digest_cmp (is_certified_for s slot) d (keys s.certificates) same_digest held passes is)
 
--- ---- a block that is written
+-- ---- a written block
 
 apart_slot : {X : Type 0} (slot_of : X → Slot) (found : Option X) (slot : Slot) (x : X) → is_elsewhere slot_of found slot ≡ false → found ≡ Some x → slot_of x ≡ slot
 apart_slot slot_of None slot x e is = absurd cc
@@ -104,7 +104,7 @@ apart_slot slot_of (Some y) slot x e is =
     not_false true h = refl
     not_false false h = absurd cc
 
--- what stands at a digest after a write at one
+-- a value found after an insertion is the inserted one, or was found before
 pub after_insert : {X : Type 0} (m : FinMap digest_cmp X) (k : Digest) (v : X) (q : Digest) (x : X) → get (insert m k v) q ≡ Some x → ((q ≡ k) × (v ≡ x)) ⊎ (get m q ≡ Some x)
 after_insert m k v q x e = by (eq_by_cmp digest_cmp q k) refl (sym (get-insert digests_total m k v q) ∙ e)
   where
@@ -130,9 +130,9 @@ sound_with_block s d b vote sound fits above = record {
   certificates_kept = sound.certificates_kept;
 }
 
--- ---- a certificate that is kept
+-- ---- a kept certificate
 
--- where none is found, no certificate is for the slot
+-- if no certified digest of the slot is found, no certificate has the slot
 none_certified : (s : State) (slot : Slot) → certified_digest s slot ≡ None → (e : Digest) (x : Certificate) → get s.certificates e ≡ Some x → certificate_slot x ≡ slot → ⊥
 none_certified s slot none e x at here =
     let passes : is_certified_for s slot e ≡ true = certified_passes (get s.certificates e) x slot at here in
@@ -174,7 +174,7 @@ sound_with_certificate s c sound first fits above = record {
 pub some_none : {X : Type 0} (x : X) → Some x ≡ None → ⊥
 some_none x e = cc
 
--- what stands at a slot after a write at one
+-- a digest found after an insertion is the inserted one, or was found before
 pub after_slot : (m : FinMap slot_cmp Digest) (k : Slot) (v : Digest) (q : Slot) (x : Digest) → get (insert m k v) q ≡ Some x → ((q ≡ k) × (v ≡ x)) ⊎ (get m q ≡ Some x)
 after_slot m k v q x e = by (eq_by_cmp slot_cmp q k) refl (sym (get-insert slots_total m k v q) ∙ e)
   where
@@ -182,14 +182,14 @@ after_slot m k v q x e = by (eq_by_cmp slot_cmp q k) refl (sym (get-insert slots
     by true at is = inl (slots_apart q k (tie (slot_cmp q k) at), cc)
     by false at is = inr is
 
--- what is written stands there
+-- the inserted value is found
 pub at_insert : {X : Type 0} (m : FinMap digest_cmp X) (k : Digest) (v : X) → get (insert m k v) k ≡ Some v
 at_insert m k v = get-insert digests_total m k v k ∙ ap (λ b. cond b (Some v) (get m k)) ((eq_by_cmp_equiv digests_total).refl k)
 
 pub at_slot : (m : FinMap slot_cmp Digest) (k : Slot) (v : Digest) → get (insert m k v) k ≡ Some v
 at_slot m k v = get-insert slots_total m k v k ∙ ap (λ b. cond b (Some v) (get m k)) ((eq_by_cmp_equiv slots_total).refl k)
 
--- what stood elsewhere still does
+-- an insertion at a free digest keeps the other values
 pub still_insert : {X : Type 0} (m : FinMap digest_cmp X) (k : Digest) (v : X) (q : Digest) (x : X) → get m k ≡ None → get m q ≡ Some x → get (insert m k v) q ≡ Some x
 still_insert m k v q x none at = by (eq_by_cmp digest_cmp q k) refl
   where
@@ -219,7 +219,7 @@ index_with_certificate s index c indexed absent first slot d = (
   ],
 )
 
--- ---- what is kept
+-- ---- the invariant
 
 nothing : {X : Type 0} (q : Digest) (x : X) → get (empty {R = digest_cmp}) q ≡ Some x → ⊥
 nothing q x e = some_none x (sym e ∙ get-empty digest_cmp q)
@@ -239,7 +239,7 @@ kept_opening = record {
   );
 }
 
--- after a block was written
+-- after a write
 pub kept_written : (s : State) (index : FinMap slot_cmp Digest) (d : Digest) (b : Block) (blocks : FinMap digest_cmp Block) (firsts : FinMap slot_cmp Digest)
     → IsKept s index → is_elsewhere certificate_slot (get s.certificates d) (block_slot b) ≡ false → s.floor ≤ b.round → blocks ≡ insert s.blocks d b → IsKept (record s { blocks = blocks; firsts = firsts }) index
 kept_written s index d b blocks firsts kept fits above is =
@@ -249,7 +249,7 @@ kept_written s index d b blocks firsts kept fits above is =
       indexed = kept.indexed;
     })
 
--- after a block was written, or memory was refused
+-- after a write, or a failed allocation
 pub kept_after_write : {E : Type 0} (r : Result (Unit {0}) E) (s : State) (index : FinMap slot_cmp Digest) (d : Digest) (b : Block) (blocks : FinMap digest_cmp Block) (firsts : FinMap slot_cmp Digest)
     → IsKept s index → is_elsewhere certificate_slot (get s.certificates d) (block_slot b) ≡ false → s.floor ≤ b.round
     → OnOk r (blocks ≡ insert s.blocks d b) → OnErr r (blocks ≡ s.blocks) → IsKept (record s { blocks = blocks; firsts = firsts }) index
@@ -261,7 +261,7 @@ kept_after_write (Err e) s index d b blocks firsts kept fits above ok err =
       indexed = kept.indexed;
     })
 
--- after a certificate was kept, or memory was refused
+-- after a certificate was kept, or a failed allocation
 pub kept_after_certify : {E : Type 0} (r : Result (Unit {0}) E) (s : State) (index : FinMap slot_cmp Digest) (c : Certificate) (certificates : FinMap digest_cmp Certificate) (after : FinMap slot_cmp Digest)
     → IsKept s index → get s.certificates c.digest ≡ None → certified_digest s (certificate_slot c) ≡ None → is_elsewhere block_slot (get s.blocks c.digest) (certificate_slot c) ≡ false → s.floor ≤ c.round
     → OnOk r ((certificates ≡ insert s.certificates c.digest c) × (after ≡ insert index (certificate_slot c) c.digest)) → OnErr r ((certificates ≡ s.certificates) × (after ≡ index)) → IsKept (record s { certificates = certificates }) after

@@ -1,4 +1,4 @@
--- Lists of the blocks under some digests.
+-- Lists of the blocks under given digests.
 use Rattle.std.proofs.Common.{◌≡◌, ◌↔◌, ◌⊎◌, zero, suc, List, [], ◌∷◌, Some, map, refl, ap, sym, ◌∙◌, subst, arith, inl, inr}
 use Rattle.std.specs.Prelude.{Contains}
 use Rattle.std.specs.List.Sorted.{IsStrictlySortedBy}
@@ -60,7 +60,7 @@ module _ {K : Type 0} {R : K → K → Ordering} (o : IsTotalOrder R) where
         | inr later ↦ later
       ]
 
-  -- two lists in order with the same elements are one
+  -- two lists in order with the same elements are equal
   pub same_in_order : (xs ys : List K) → IsStrictlySortedBy R xs → IsStrictlySortedBy R ys → ((z : K) → Contains xs z ↔ Contains ys z) → xs ≡ ys
   same_in_order [] [] sorted_x sorted_y same = refl
   same_in_order [] (y ∷ ys) sorted_x sorted_y same = absurd (contains_none y ((same y).1 (contains_first y ys)))
@@ -78,7 +78,7 @@ blocks_total = on_total block_slot slots_total
 
 -- ---- blocks under digests
 
--- each block of the list stands under a digest of the list
+-- each listed block is held under a listed digest
 pub digest_of : (held : FinMap digest_cmp Block) (digests : List Digest) (blocks : List Block) (b : Block) → map (get held) digests ≡ map Some blocks → Contains blocks b
     → (a : Digest) × Contains digests a × (get held a ≡ Some b)
 digest_of held digests [] b found among = absurd (contains_none b among)
@@ -91,7 +91,7 @@ digest_of held (d ∷ digests) (x ∷ blocks) b found among =
       | inr later ↦ let below = digest_of held digests blocks b rest later in (below.0, contains_later d digests below.0 below.1, below.2)
     ]
 
--- each digest of the list has its block in the list
+-- each listed digest has its block in the list
 pub block_of : (held : FinMap digest_cmp Block) (digests : List Digest) (blocks : List Block) (a : Digest) → map (get held) digests ≡ map Some blocks → Contains digests a
     → (b : Block) × Contains blocks b × (get held a ≡ Some b)
 block_of held [] blocks a found among = absurd (contains_none a among)
@@ -104,7 +104,7 @@ block_of held (d ∷ digests) (x ∷ blocks) a found among =
       | inr later ↦ let below = block_of held digests blocks a rest later in (below.0, contains_later x blocks below.0 below.1, below.2)
     ]
 
--- what one list of the digests with P has, each other has
+-- any two lists for the digests with P have the same blocks
 listed_too : (held : FinMap digest_cmp Block) (P : Digest → Type 0) (blocks others : List Block) → Lists held P blocks → Lists held P others → (b : Block) → Contains blocks b → Contains others b
 listed_too held P blocks others one other b among =
     let under = digest_of held one.digests blocks b one.found among in
@@ -115,7 +115,7 @@ listed_too held P blocks others one other b among =
     one_block : (x y : Block) → Some x ≡ Some y → x ≡ y
     one_block x y e = cc
 
--- two lists of the digests with P are one
+-- any two lists for the digests with P are equal
 pub same_lists : (held : FinMap digest_cmp Block) (P : Digest → Type 0) (blocks others : List Block) → Lists held P blocks → Lists held P others → blocks ≡ others
 same_lists held P blocks others one other =
     same_in_order blocks_total blocks others one.ascending other.ascending (λ b. (listed_too held P blocks others one other b, listed_too held P others blocks other one b))

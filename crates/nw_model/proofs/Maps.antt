@@ -1,4 +1,4 @@
--- What a finite map answers is what the ordered map of its entries does.
+-- A finite map answers as the ordered map of its entries does.
 use Rattle.std.proofs.Common.{◌≡◌, ℕ, ◌+◌, Bool, true, false, List, [], ◌∷◌, length, Option, Some, None, cond, is_some, refl, ap, sym, ◌∙◌, add-one}
 use Rattle.std.specs.declared.cmp.Ordering.{Ordering}
 use Rattle.std.specs.declared.cmp.Ordering.TheVariants.{Less, Equal, Greater}
@@ -64,7 +64,7 @@ module _ {K X : Type 0} {R : K → K → Ordering} (o : IsTotalOrder R) where
       ∙ ap (λ n. n + 1) (len_sorted es (sorted_tail R e.0 (keys_of es) s))
       ∙ add-one (length es)
 
-  -- after a write at a key
+  -- a look-up after an insertion at a key
   pub inserted : IsAntisymmetric R → (m n : List (K × X)) (k : K) (v : X)
       → ((q : K) → lookup (is_at (R q)) n ≡ cond (is_at (R k) q) (Some v) (lookup (is_at (R q)) m)) → from_entries {R = R} n ≡ insert (from_entries m) k v
   inserted same m n k v is = same_map o same _ _ (λ q.
@@ -73,7 +73,7 @@ module _ {K X : Type 0} {R : K → K → Ordering} (o : IsTotalOrder R) where
       ∙ ap (cond (eq_by_cmp R q k) (Some v)) (sym (get_lookup m q))
       ∙ sym (get-insert o (from_entries m) k v q))
 
-  -- what stands at a key after a write to the entries
+  -- a look-up after an insertion into the entries
   pub lookup_put : IsAntisymmetric R → (es : List (K × X)) (k : K) (v : X) (q : K)
       → lookup (is_at (R q)) (insert_entry R es k v) ≡ cond (is_at (R k) q) (Some v) (lookup (is_at (R q)) es)
   lookup_put same [] k v q = ap (λ b. cond b (Some v) None) ((eq_by_cmp_equiv o).symm q k)
@@ -90,6 +90,6 @@ module _ {K X : Type 0} {R : K → K → Ordering} (o : IsTotalOrder R) where
           ∙ apart (is_at (R q) e.0) (is_at (R k) q) v e.1 (lookup (is_at (R q)) es)
           (λ at_e at_k. let here : R k e.0 ≡ Equal = ap (λ x. R k x) (sym (same q e.0 (tie (R q e.0) at_e))) ∙ tie (R k q) at_k in cc)
 
-  -- the entries after a write, as a finite map
+  -- the entries after an insertion, as a finite map
   pub put_entries : IsAntisymmetric R → (m n : List (K × X)) (k : K) (v : X) → n ≡ insert_entry R m k v → from_entries {R = R} n ≡ insert (from_entries m) k v
   put_entries same m n k v is = inserted same m n k v (λ q. ap (lookup (is_at (R q))) is ∙ lookup_put same m k v q)

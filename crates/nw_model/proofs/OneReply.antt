@@ -1,4 +1,4 @@
--- One reply to each call.
+-- Each call has one reply.
 use Rattle.std.proofs.Common.{◌≡◌, ◌⊎◌, ℕ, List, length, Option, Some, None, IsSome, refl, ap, sym, ◌∙◌, subst, inl, inr}
 use Rattle.std.specs.Prelude.{take}
 use Rattle.std.specs.Cmp.{IsTotalOrder}
@@ -22,7 +22,7 @@ use Rattle.nw_model.specs.declared.reply.Reply.TheVariants as reply
 use Rattle.nw_model.proofs.Maps.{digests_total}
 use Rattle.nw_model.proofs.Listed.{same_lists, same_in_order}
 
--- equal replies are one
+-- equal replies are one reply
 equal_replies : (one other : Reply) → one ≡ other → AreOneReply one other
 equal_replies one other same = record {
   short = ap shortened same;
@@ -62,13 +62,13 @@ some_is : {X : Type 0} (found : Option X) (x : X) → found ≡ Some x → IsSom
 some_is None x e = absurd cc
 some_is (Some y) x e = refl
 
--- a complete block gets its list
+-- a complete digest gets its list
 complete_listed : (s : State) (d : Digest) (r : CausalReply) → IsComplete s d → IsCausalReply s d (reply.Causal r) → ⊥
 complete_listed s d causal.Unknown whole is = none_some (get s.blocks d) is (some_is (get s.blocks d) whole.stands.0 whole.stands.1.0)
 complete_listed s d causal.Uncertified whole is = none_some (get s.certificates d) is.1 whole.stands.1.1
 complete_listed s d causal.Incomplete whole is = is.2 whole
 
--- there is one reason why there is no list
+-- there is only one reason why there is no list
 one_reason : (s : State) (d : Digest) (one other : CausalReply) → IsCausalReply s d (reply.Causal one) → IsCausalReply s d (reply.Causal other) → one ≡ other
 one_reason s d causal.Unknown causal.Unknown is was = refl
 one_reason s d causal.Unknown causal.Uncertified is was = absurd (none_some (get s.blocks d) is was.0)
@@ -80,7 +80,7 @@ one_reason s d causal.Incomplete causal.Unknown is was = absurd (none_some (get 
 one_reason s d causal.Incomplete causal.Uncertified is was = absurd (none_some (get s.certificates d) was.1 is.1)
 one_reason s d causal.Incomplete causal.Incomplete is was = refl
 
--- a causal read is answered by a reason, or by the list of a complete block
+-- the reply to a causal read is a reason, or the list of a complete digest
 reason_or_list : (s : State) (d : Digest) (r : Reply) → IsCausalReply s d r → ((why : CausalReply) × (r ≡ reply.Causal why)) ⊎ (IsComplete s d × (shortened r ≡ reply.Ready))
 reason_or_list s d (reply.Causal why) is = inl (why, refl)
 reason_or_list s d reply.Ready is = inr (is, refl)
@@ -108,17 +108,17 @@ to_causal s d one other is was = record {
       same_lists s.blocks (IsAncestor s d) blocks others one_list.1 other_list.1;
 }
 
--- ---- what is missing, and how much is kept
+-- ---- wanted parents and counts
 
--- there is one list of exactly those with P
+-- there is only one list of exactly the values with P
 pub one_list : {A : Type 0} {cmp : A → A → Ordering} (o : IsTotalOrder cmp) (P : A → Type 0) (xs ys : List A) → AreExactly cmp P xs → AreExactly cmp P ys → xs ≡ ys
 one_list o P xs ys one other = same_in_order o xs ys one.ascending other.ascending (λ x. (λ here. (other.exactly x).1 ((one.exactly x).0 here), λ there. (one.exactly x).1 ((other.exactly x).0 there)))
 
--- and one count
+-- and only one count
 pub one_count : {A : Type 0} {cmp : A → A → Ordering} (o : IsTotalOrder cmp) (P : A → Type 0) (n k : ℕ) → HasCount cmp P n → HasCount cmp P k → n ≡ k
 one_count o P n k (xs, exact, is) (ys, other, was) = sym is ∙ ap length (one_list o P xs ys exact other) ∙ was
 
--- there are first wanted parents
+-- the first wanted parents are determined
 to_missing : (bounds : Bounds) (s : State) (most : ℕ) (r : Reply) → IsReply bounds s (call.Missing most) r → (first : List Wanted) × AreFirstWanted s most first × (r ≡ reply.Missing first)
 to_missing bounds s most (reply.Missing first) is = (first, is, refl)
 to_missing bounds s most other is = absurd is
@@ -135,7 +135,7 @@ to_status : (bounds : Bounds) (s : State) (r : Reply) → IsReply bounds s call.
 to_status bounds s (reply.Status counts) is = (counts, is, refl)
 to_status bounds s other is = absurd is
 
--- there is one status
+-- there is only one status
 one_status : (s : State) (a b : Counts) → AreCounts s a → AreCounts s b → a ≡ b
 one_status s a b one other =
     let floor : a.floor ≡ b.floor = one.floor ∙ sym other.floor in

@@ -1,4 +1,4 @@
--- A causal list reaches the quorum in each round.
+-- The authors in a causal list reach the quorum in each round.
 use Rattle.std.proofs.Common.{◌≡◌, ℕ, zero, suc, ◌+◌, ◌-◌, ◌<◌, ◌≤◌, Bool, true, false, cond, List, [], ◌∷◌, Some, map, refl, sym, ◌∙◌, subst, arith, inl, inr}
 use Rattle.std.specs.Prelude.{Contains, filter, ◌==◌, ◌||◌}
 use Rattle.std.specs.List.{sum_by, enumerate_from}
@@ -27,7 +27,7 @@ use Rattle.nw_model.proofs.Listed.{contains_first, contains_later, contains_case
 abbrev weigh : ℕ × Member → ℕ
 weigh q = q.1.weight
 
--- what passes a test that implies another weighs no more
+-- the members that pass a stricter test do not weigh more
 more_weigh : (t u : ℕ → Bool) → ((n : ℕ) → t n ≡ true → u n ≡ true) → (ps : List (ℕ × Member)) → weight_where t ps ≤ weight_where u ps
 more_weigh t u implies [] = omega arith
 more_weigh t u implies (p ∷ ps) = by (t p.0) refl (u p.0) refl (more_weigh t u implies ps)
@@ -39,15 +39,15 @@ more_weigh t u implies (p ∷ ps) = by (t p.0) refl (u p.0) refl (more_weigh t u
     by false is false was rest = rest
     by true is false was rest = let wrong : u p.0 ≡ true = implies p.0 is in absurd cc
 
--- the numbers of a list that reaches the quorum reach it in a longer one
+-- a list reaches the quorum if it contains a list that does
 reaches_more : (members : List Member) (one other : List ℕ) → ((n : ℕ) → is_listed one n ≡ true → is_listed other n ≡ true) → ReachesQuorum members one → ReachesQuorum members other
 reaches_more members one other implies reaches =
     let more : listed_weight members one ≤ listed_weight members other = more_weigh (is_listed one) (is_listed other) implies (enumerate_from 0 members) in
     omega (arith, more, reaches)
 
--- ---- numbers that are listed
+-- ---- listed numbers
 
--- an author that is listed is that of a reference
+-- each listed author is the author of a reference
 named_author : (refs : List Ref) (n : ℕ) → is_listed (authors refs) n ≡ true → (r : Ref) × Contains refs r × (r.author ≡ n)
 named_author [] n e = absurd cc
 named_author (r ∷ refs) n e = by (r.author == n) refl e (named_author refs n)
@@ -89,11 +89,11 @@ author_listed round blocks p among at =
 -- ---- from a block down
 
 module _ (accepts : Meaning) (members : List Member) (s : State) (admitted : AreAdmitted accepts members s) where
-  -- the parents of a block that is held, of a later round than 0, reach the quorum
+  -- the parents of a held block after round 0 reach the quorum
   parents_reach : (d : Digest) (b : Block) → get s.blocks d ≡ Some b → 0 < b.round → ReachesQuorum members (authors b.parents)
   parents_reach d b at above = (admitted d b at).1.1.parents above
 
-  -- so there is one
+  -- so it has a parent
   some_parent : (b : Block) → ReachesQuorum members (authors b.parents) → (r : Ref) × Contains b.parents r
   some_parent b reaches = by b.parents refl
     where
@@ -107,7 +107,7 @@ module _ (accepts : Meaning) (members : List Member) (s : State) (admitted : Are
   one_step : (d : Digest) (b : Block) (r : Ref) → IsStanding s d b → Contains b.parents r → IsSatisfied s b.round r → IsAncestor s d r.digest
   one_step d b r stands among satisfied = (r.digest ∷ [], ((b, r, stands, among, satisfied, refl), ((satisfied.0, satisfied.1), refl)))
 
-  -- a complete block has an ancestor in each round from the garbage round on
+  -- a complete block has an ancestor in each round from the garbage round to its own
   one_in_round : (n round : ℕ) (d : Digest) (b : Block) → IsComplete s d → IsStanding s d b → round + n ≡ b.round → s.floor ≤ round
       → (e : Digest) × (x : Block) × IsAncestor s d e × IsStanding s e x × (x.round ≡ round)
   one_in_round zero round d b whole stands at high = (d, b, ([], ((b, stands), refl)), stands, omega arith)
@@ -120,7 +120,7 @@ module _ (accepts : Meaning) (members : List Member) (s : State) (admitted : Are
       let before : satisfied.0.round + 1 ≡ x.round = satisfied.3 in
       (r.0.digest, satisfied.0, ancestor_joined s d upper.0 r.0.digest upper.2 (one_step upper.0 x r.0 upper.3 r.1 satisfied), satisfied.1, omega arith)
 
-  -- the authors of the parents of an ancestor are listed in the round before
+  -- the authors of an ancestor's parents are listed in the preceding round
   parents_listed : (d e : Digest) (x : Block) (blocks : List Block) (round : ℕ) → IsComplete s d → IsCausalList s d blocks → IsAncestor s d e → IsStanding s e x → x.round ≡ round + 1 → s.floor ≤ round
       → (n : ℕ) → is_listed (authors x.parents) n ≡ true → is_listed (authors_in round blocks) n ≡ true
   parents_listed d e x blocks round whole listed ancestor stands is high n named =

@@ -1,4 +1,4 @@
--- What a collection keeps.
+-- The entries that a collection keeps.
 use Rattle.std.proofs.Common.{◌≡◌, ℕ, ◌≤◌, Bool, true, false, cond, List, filter, Option, Some, None, refl, ap, sym, ◌∙◌, subst, arith}
 use Rattle.std.specs.Prelude.{nat_le}
 use Rattle.std.specs.Option.{option_map_or}
@@ -38,7 +38,7 @@ module _ {X : Type 0} (round_of : X → ℕ) (round : ℕ) (m : FinMap digest_cm
   pub at_round : (d : Digest) → get (from_round round_of round m) d ≡ cond (keeps (get m d)) (get m d) None
   at_round d = get-retain_keys m (λ q. keeps (get m q)) d (λ x tied. ap (λ q. keeps (get m q)) (sym (digests_apart d x tied)))
 
-  -- what is kept was there, and is not below the round
+  -- a kept entry was there, and is not below the round
   pub was_there : (d : Digest) (x : X) → get (from_round round_of round m) d ≡ Some x → (get m d ≡ Some x) × (round ≤ round_of x)
   was_there d x e = by (get m d) refl (sym (at_round d) ∙ e)
     where
@@ -50,14 +50,14 @@ module _ {X : Type 0} (round_of : X → ℕ) (round : ℕ) (m : FinMap digest_cm
           test true high same = (is ∙ same, subst (λ z. round ≤ round_of z) (only_one y x same) (low round (round_of y) high))
           test false high same = absurd (nothing x same)
 
-  -- what was there and is not below the round is kept
+  -- an entry that was there and is not below the round is kept
   pub is_kept : (d : Digest) (x : X) → get m d ≡ Some x → round ≤ round_of x → get (from_round round_of round m) d ≡ Some x
   is_kept d x at high =
       at_round d
       ∙ ap (λ found. cond (keeps found) found None) at
       ∙ ap (λ b. cond b (Some x) None) (is_low round (round_of x) high)
 
--- the same of slots
+-- the same for slots
 module _ {X : Type 0} (round : ℕ) (m : FinMap slot_cmp X) where
   abbrev pub slots_from : FinMap slot_cmp X
   slots_from = retain_keys m (λ (slot : Slot). nat_le round slot.0)
@@ -91,7 +91,7 @@ sound_raised s round sound = record {
     certificate : (d : Digest) (c : Certificate) → get (raised s round).certificates d ≡ Some c → (get s.certificates d ≡ Some c) × (round ≤ c.round)
     certificate d c at = was_there (λ (x : Certificate). x.round) round s.certificates d c at
 
--- and the index without the slots below the round names what is certified
+-- and the index without the slots below the round is the index of the new state
 pub kept_raised : (s : State) (index : FinMap slot_cmp Digest) (round : ℕ) → IsKept s index → IsKept (raised s round) (slots_from round index)
 kept_raised s index round kept = record {
   sound = sound_raised s round kept.sound;
@@ -106,7 +106,7 @@ kept_raised s index round kept = record {
   );
 }
 
--- ---- the same of entries
+-- ---- the same for entries
 
 option_kept : {X : Type 0} (p : X → Bool) (found : Option X) → option_filter p found ≡ cond (option_map_or p found false) found None
 option_kept p None = refl

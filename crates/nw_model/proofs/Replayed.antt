@@ -1,4 +1,4 @@
--- What a history leaves is sound.
+-- A legal history leaves a sound state.
 use Rattle.std.proofs.Common.{◌≡◌, ℕ, ◌≤◌, Bool, true, false, cond, List, [], ◌∷◌, Option, Some, None, refl, ap, sym, subst, arith}
 use Rattle.std.specs.Prelude.{nat_lt}
 use Rattle.std.specs.Option.{option_map_or}
@@ -24,7 +24,7 @@ use Rattle.nw_model.specs.declared.reply.CollectReply.TheVariants as collect
 use Rattle.nw_model.proofs.Kept.{sound_with_block, sound_with_certificate, kept_opening}
 use Rattle.nw_model.proofs.Raised.{sound_raised}
 
--- a value with this mark that is not the first branch's is the second's
+-- a value with this mark comes from the second branch, if the first branch has no such mark
 pub past : {X : Type 0} (mark : X → Bool) (test : Bool) (x rest r : X) → mark x ≡ false → mark r ≡ true → cond test x rest ≡ r → (test ≡ false) × (rest ≡ r)
 past mark true x rest r unmarked marked is = let same = ap mark is in absurd cc
 past mark false x rest r unmarked marked is = (refl, is)
@@ -36,7 +36,7 @@ past_found mark reply (Some x) rest r unmarked marked is = let same = ap mark is
 pub not_below : (a b : ℕ) → nat_lt a b ≡ false → b ≤ a
 not_below a b e = grind arith
 
--- ---- what is known where a block is stored, or a certificate kept
+-- ---- what the replies Stored and Certified imply
 
 abbrev pub is_stored : WriteReply → Bool
 is_stored (write.Stored vote) = true
@@ -67,7 +67,7 @@ certified bounds s c is =
     let conflict = past_found is_certified certify.Conflict (certified_digest s (certificate_slot c)) _ certify.Certified (λ _. refl) refl elsewhere.1 in
     (not_below c.round s.floor low.0, elsewhere.0, conflict.0)
 
--- ---- what each call leaves
+-- ---- the state after each call
 
 sound_after_write : (bounds : Bounds) (s : State) (d : Digest) (b : Block) (r : WriteReply) → IsSound s → write_reply bounds s d b ≡ r → IsSound (after_write s d b r)
 sound_after_write bounds s d b (write.Stored vote) sound is = let known = stored bounds s d b vote is in sound_with_block s d b vote sound known.1 known.0
@@ -81,7 +81,7 @@ sound_after_collect : (s : State) (round : ℕ) (r : CollectReply) → IsSound s
 sound_after_collect s round (collect.Raised dropped) sound = sound_raised s round sound
 sound_after_collect s round (collect.NotHigher floor) sound = sound
 
--- each call leaves a sound state sound
+-- each call keeps a sound state sound
 pub sound_after : (bounds : Bounds) (s : State) (asked : Call) → IsSound s → IsSound (after bounds s asked)
 sound_after bounds s (call.Write d b) sound = sound_after_write bounds s d b (write_reply bounds s d b) sound refl
 sound_after bounds s (call.Certify c) sound = sound_after_certify bounds s c (certify_reply bounds s c) sound refl
@@ -96,7 +96,7 @@ sound_replay bounds s (e ∷ es) sound = sound_replay bounds (after bounds s e.c
 pub sound_opening : IsSound opening
 sound_opening = kept_opening.sound
 
--- so is a base
+-- a base is sound
 pub sound_base : (accepts : Meaning) (terms : Terms) (base : State) → IsBase accepts terms base → IsSound base
 sound_base accepts terms base based = subst IsSound (sym based.left) (sound_replay terms.bounds opening based.earlier sound_opening)
 

@@ -1,4 +1,4 @@
--- When stored values are the same: what `==` says of blocks, certificates and ordered maps of them.
+-- `==` decides equality of blocks, certificates and ordered maps of them.
 use Rattle.std.specs.Prelude.{◌==◌}
 use Rattle.std.proofs.Common.{◌≡◌, ◌∙◌, ◌&&◌, ℕ, Bool, false, nat_eq, List, length, ap, sym}
 use Rattle.std.specs.declared.cmp.Ordering.{Ordering}
@@ -19,7 +19,7 @@ use Rattle.nw_digest.specs.Order.{digest_cmp, Slot, slot_cmp}
 use Rattle.nw_model.specs.State.{State, opening}
 use Rattle.nw_model.proofs.Maps.{get_lookup}
 
--- a test that decides one sentence decides another that holds exactly where it does
+-- a test that decides one statement decides each equivalent statement
 by_parts : {P Q : Type 0} (r : Bool) → (P → Q) → (Q → P) → Decides r P → Decides r Q
 by_parts r to from d = (λ e. to (d.0 e), λ q. d.1 (from q))
 
@@ -81,20 +81,20 @@ same_slot_decides a b = by_parts (same_slot a b) (λ e. λ i. (e.0 i, e.1 i)) (�
 -- ---- ordered maps, seen as finite maps
 
 module _ {K X : Type 0} {R : K → K → Ordering} (o : IsTotalOrder R) (exact : IsAntisymmetric R) (m n : BTreeMap K X) (s : IsOrdered R m) (t : IsOrdered R n) where
-  -- ordered maps that are one finite map have the same entries
+  -- ordered maps that are equal as finite maps have the same entries
   same_list : from_entries {R = R} m.entries ≡ from_entries n.entries → m.entries ≡ n.entries
   same_list e = btree_map_from_get o m n s t (λ q. sym (get_lookup o m.entries q) ∙ ap (λ f. get f q) e ∙ get_lookup o n.entries q) exact
 
-  -- `==` of ordered maps decides whether they are one finite map
+  -- `==` of ordered maps decides whether they are equal as finite maps
   pub maps_decide : {E : K → K → Bool} {F : X → X → Bool} → ((a b : K) → Decides (E a b) (a ≡ b)) → ((a b : X) → Decides (F a b) (a ≡ b))
       → (r : Bool) → r ≡ pointwise (λ (p q : K × X). E p.0 q.0 && F p.1 q.1) m.entries n.entries → Decides r (from_entries {R = R} m.entries ≡ from_entries n.entries)
   maps_decide keys values r is = by_parts r (λ e. ap (from_entries {R = R}) e) same_list (btree_map_eq-Decides keys values m n r is)
 
-  -- ordered maps of other lengths are other finite maps
+  -- ordered maps of different lengths are different finite maps
   pub other_length : (k l : ℕ) → k ≡ length m.entries → l ≡ length n.entries → (k ≡ l → ⊥) → Decides (nat_eq k l) (from_entries {R = R} m.entries ≡ from_entries n.entries)
   other_length k l is_k is_l differ = (λ yes. absurd (differ ((Decides-eqb k l).0 yes)), λ e. absurd (differ (is_k ∙ ap length (same_list e) ∙ sym is_l)))
 
--- what `==` answers of the entries of each map of a store
+-- the result of `==` for the entries of each map of a store
 abbrev pub same_blocks : List (Digest × Block) → List (Digest × Block) → Bool
 same_blocks = pointwise (λ p q. same_digest p.0 q.0 && same_block p.1 q.1)
 
@@ -104,7 +104,7 @@ same_certificates = pointwise (λ p q. same_digest p.0 q.0 && same_certificate p
 abbrev pub same_slots : List (Slot × Digest) → List (Slot × Digest) → Bool
 same_slots = pointwise (λ p q. same_slot p.0 q.0 && same_digest p.1 q.1)
 
--- a state of nothing, with garbage round 0, is the opening one
+-- a state with three empty maps and garbage round 0 is the opening state
 pub nothing : (s : State) → s.floor ≡ 0 → len s.blocks ≡ 0 → len s.certificates ≡ 0 → len s.firsts ≡ 0 → s ≡ opening
 nothing s floor blocks certificates firsts =
     let no_blocks = empty_of_len s.blocks blocks in
@@ -121,10 +121,10 @@ no_certificates s e = ap (λ (x : State). len x.certificates) e ∙ len-empty di
 pub no_firsts : (s : State) → s ≡ opening → len s.firsts ≡ 0
 no_firsts s e = ap (λ (x : State). len x.firsts) e ∙ len-empty slot_cmp Digest
 
--- the answer false, where the opening state shows a contradiction
+-- the result false, if the opening state leads to a contradiction
 pub not_opening : (s : State) → (s ≡ opening → ⊥) → Decides false (s ≡ opening)
 not_opening s other = (λ yes. absurd cc, λ e. absurd (other e))
 
--- a number that is 0 exactly where a sentence holds
+-- a number that is 0 exactly if a statement holds
 pub zero_decides : {P : Type 0} (n : ℕ) → (n ≡ 0 → P) → (P → n ≡ 0) → Decides (nat_eq n 0) P
 zero_decides n to from = by_parts (nat_eq n 0) to from (Decides-eqb n 0)

@@ -1,4 +1,4 @@
--- A causal list stays, but for the rounds below a later garbage round.
+-- A causal list stays, except for the rounds below a later garbage round.
 use Rattle.std.proofs.Common.{◌≡◌, ℕ, ◌+◌, ◌<◌, ◌≤◌, Bool, true, false, cond, List, [], ◌∷◌, Option, Some, None, IsSome, get_or, map, refl, ap, sym, ◌∙◌, subst, arith}
 use Rattle.std.specs.Prelude.{Contains, filter, nat_le}
 use Rattle.std.specs.Option.{option_map_or}
@@ -28,7 +28,7 @@ some_is (Some y) x e = refl
 -- ---- from s on to t
 
 module _ (s t : State) (sound : IsSound s) (carries : Carries s t) where
-  -- what stands and is not below the garbage round of t stands in t
+  -- a digest that stands in s stands in t, if its block is not below the garbage round of t
   still_standing : (d : Digest) (b : Block) → IsStanding s d b → t.floor ≤ b.round → IsStanding t d b
   still_standing d b stands high =
       let c = is_some_then (get s.certificates d) stands.1 in
@@ -40,7 +40,7 @@ module _ (s t : State) (sound : IsSound s) (carries : Carries s t) where
   still_satisfied : (round : ℕ) (r : Ref) → t.floor < round → IsSatisfied s round r → IsSatisfied t round r
   still_satisfied round r above (p, stands, author, before) = (p, still_standing r.digest p stands (omega arith), author, before)
 
-  -- a path to a block that is not below the garbage round of t is a path in t, and begins at such a block
+  -- a path in s is a path in t if its last block is not below the garbage round of t. Then none of its blocks is
   still_path : (d : Digest) (path : List Digest) (a : Digest) (x : Block) → IsPath s d path a → IsStanding s a x → t.floor ≤ x.round
       → IsPath t d path a × (b : Block) × IsStanding s d b × (t.floor ≤ b.round)
   still_path d [] a x on stands high =
@@ -85,7 +85,7 @@ module _ (s t : State) (sound : IsSound s) (carries : Carries s t) where
       let rest = was_path e path a first.1 sound_t (parent_complete s d e whole first.0) first.2 first.3 on in
       ((first.0, rest.0), rest.1, rest.2, rest.3)
 
-  -- ---- complete then too
+  -- ---- complete in t
 
   still_complete : (d : Digest) (b : Block) → IsSound t → IsComplete s d → IsStanding s d b → t.floor ≤ b.round → IsComplete t d
   still_complete d b sound_t whole stands high = record {

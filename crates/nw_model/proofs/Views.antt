@@ -13,7 +13,7 @@ use Rattle.nw_model.specs.Laws.{ViewsShowTheAncestors}
 use Rattle.nw_model.proofs.Complete.{parent_complete, parents_complete}
 use Rattle.nw_model.proofs.Listed.{contains_first, contains_later}
 
--- a block of the view is held in the state
+-- each block of the view is held in the state
 pub there_held : (v : Frozen) (s : State) (d : Digest) (b : Block) → Shows v s → IsThere v d b → get s.blocks d ≡ Some b
 there_held v s d b shows there = ((shows.complete d b).0 there).0
 
@@ -21,12 +21,12 @@ there_held v s d b shows there = ((shows.complete d b).0 there).0
 pub complete_there : (v : Frozen) (s : State) (d : Digest) (b : Block) → HasNoneBelow s → Shows v s → IsComplete s d → IsStanding s d b → IsThere v d b
 complete_there v s d b kept shows whole stands = (shows.complete d b).1 (stands.0, kept d b stands.0, whole)
 
--- the last of a path is in the view
+-- the last digest of a path is in the view
 pub last_there : (v : Frozen) (d : Digest) (path : List Digest) (a : Digest) → IsPathIn v d path a → (b : Block) × IsThere v a b
 last_there v d [] a on = (on.0.0, subst (λ q. IsThere v q on.0.0) on.1 on.0.1)
 last_there v d (e ∷ path) a on = last_there v e path a on.1
 
--- what a path in the view is in the state
+-- a path in the view is a path in the state
 path_to_state : (v : Frozen) (s : State) (d : Digest) (path : List Digest) (a : Digest) → Shows v s → IsComplete s d → IsPathIn v d path a → IsPath s d path a
 path_to_state v s d [] a shows whole on = (whole.stands, on.1)
 path_to_state v s d (e ∷ path) a shows whole on =
@@ -41,7 +41,7 @@ path_to_state v s d (e ∷ path) a shows whole on =
     let below : IsComplete s e = subst (λ q. IsComplete s q) parent.5 named.1 in
     ((b, r, stands, parent.4, named.0, parent.5), path_to_state v s e path a shows below on.1)
 
--- what a path in the state is in the view
+-- a path in the state is a path in the view
 path_to_view : (v : Frozen) (s : State) (d : Digest) (path : List Digest) (a : Digest) → HasNoneBelow s → Shows v s → IsComplete s d → IsPath s d path a → IsPathIn v d path a
 path_to_view v s d [] a kept shows whole on = ((on.0.0, complete_there v s d on.0.0 kept shows whole on.0.1), on.1)
 path_to_view v s d (e ∷ path) a kept shows whole on =
@@ -61,7 +61,7 @@ ancestors_shown v s d kept shows whole a = (
   λ in_state. (in_state.0, path_to_view v s d in_state.0 a kept shows whole in_state.1),
 )
 
--- two functions that agree at the elements of a list make one list of it
+-- two functions that agree on the elements of a list map it to the same list
 same_map : {X Y : Type 0} (f g : X → Y) (xs : List X) → ((x : X) → Contains xs x → f x ≡ g x) → map f xs ≡ map g xs
 same_map f g [] agree = refl
 same_map f g (x ∷ xs) agree =

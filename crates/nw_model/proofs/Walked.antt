@@ -1,4 +1,4 @@
--- The blocks of the digests that were found, in the order of their slots.
+-- The blocks of the found digests, in the order of their slots.
 use Rattle.std.proofs.Common.{◌≡◌, ℕ, ◌<◌, List, [], ◌∷◌, Some, None, All, length, get_or, map, refl, ap, sym, ◌∙◌, subst, arith, inl, inr, ◌++◌, Bor}
 use Rattle.std.specs.Prelude.{Contains}
 use Rattle.std.specs.declared.cmp.Ordering.TheVariants.{Less}
@@ -35,7 +35,7 @@ each_found es sorted k d lt =
 no_entry : (e : Slot × Digest) → None ≡ Some e → ⊥
 no_entry e h = cc
 
--- what is found is among the values
+-- a found digest is among the values
 found_among : (es : List (Slot × Digest)) (q : Slot) (a : Digest) → get (from_entries {R = slot_cmp} es) q ≡ Some a → Contains (values_of es) a
 found_among es q a at =
     let place = place_from_lookup (is_at (slot_cmp q)) es a (sym (get_lookup slots_total es q) ∙ at) in
@@ -49,7 +49,7 @@ found_among es q a at =
       | inr (past, none) ↦ absurd (no_entry e (sym none ∙ is))
     ]
 
--- what is among the values is found
+-- each of the values is found
 among_found : (es : List (Slot × Digest)) (a : Digest) → IsStrictlySortedBy slot_cmp (keys_of es) → Contains (values_of es) a → (q : Slot) × (get (from_entries {R = slot_cmp} es) q ≡ Some a)
 among_found es a sorted (k, lt, at) =
     let none : Slot × Digest = ((0, 0), a) in
@@ -62,7 +62,7 @@ among_found es a sorted (k, lt, at) =
 some_same : (b c : Block) → Some b ≡ Some c → b ≡ c
 some_same b c e = cc
 
--- blocks that stand under the values have the keys for their slots
+-- the blocks under the values have the keys as their slots
 same_slots : (v : Frozen) (es : List (Slot × Digest)) (blocks : List Block) → AllByRecursion (λ e. IsUnder v e.0 e.1) es → map (get v.blocks) (values_of es) ≡ map Some blocks → map block_slot blocks ≡ keys_of es
 same_slots v [] [] under is = refl
 same_slots v [] (b ∷ bs) under is = absurd cc
@@ -80,20 +80,20 @@ below_all : (b : Block) (bs : List Block) → AllByRecursion (λ q. slot_cmp (bl
 below_all b [] h = tt
 below_all b (c ∷ cs) h = (h.0, below_all b cs h.1)
 
--- blocks whose slots ascend ascend
+-- blocks ascend if their slots ascend
 pub ascending_by_slot : (bs : List Block) → IsStrictlySortedBy slot_cmp (map block_slot bs) → IsStrictlySortedBy block_cmp bs
 unfolding IsStrictlySortedBy
 ascending_by_slot [] h = tt
 ascending_by_slot (b ∷ bs) h = (below_all b bs h.0, ascending_by_slot bs h.1)
 
--- the block of each digest that was found is there
+-- the view has the block of each found digest
 pub values_there : (v : Frozen) (d : Digest) (es : List (Slot × Digest)) → IsStrictlySortedBy slot_cmp (keys_of es) → Reaches v d (from_entries es) → (a : Digest) → Contains (values_of es) a → (b : Block) × (get v.blocks a ≡ Some b)
 values_there v d es sorted reaches a among =
     let found = among_found es a sorted among in
     let under = reaches.under found.0 a found.1 in
     (under.0, under.1.0)
 
--- the blocks of the values are the walk
+-- the blocks under the values are the walk
 pub walked : (v : Frozen) (d : Digest) (es : List (Slot × Digest)) (blocks : List Block) → IsStrictlySortedBy slot_cmp (keys_of es) → Reaches v d (from_entries es) → map (get v.blocks) (values_of es) ≡ map Some blocks
     → IsWalk v d blocks
 walked v d es blocks sorted reaches is = record {
@@ -111,11 +111,11 @@ walked v d es blocks sorted reaches is = record {
 
 -- ---- one block after the other
 
--- one value more
+-- one more value
 pub walk_on : (v : Frozen) (xs : List (Bor Digest)) (x : Bor Digest) (bs : List Block) (b : Block) → map (get v.blocks) (map deref xs) ≡ map Some bs → get v.blocks x.now ≡ Some b
     → map (get v.blocks) (map deref (xs ++ x ∷ [])) ≡ map Some (bs ++ b ∷ [])
 walk_on v xs x bs b so_far at = simp map-append (cc)
 
--- what the iterator gives is a value
+-- the iterator gives the values
 pub turn_among : (values : List Digest) (i : ℕ) (x : Digest) → i < length values → slice_get values i ≡ Some x → Contains values x
 turn_among values i x lt is = (i, lt, get_or_from_slice_get values i x x is)

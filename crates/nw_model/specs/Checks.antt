@@ -1,4 +1,4 @@
--- Well-formed blocks and valid certificates, under a committee and what its scheme accepts.
+-- Well-formed blocks and valid certificates, under a committee and the meaning of a signature scheme.
 use Rattle.std.specs.Prelude.{◌≡◌, ℕ, ◌<◌, List, [], Some, All, length, true, slice_get}
 use Rattle.sha2.specs.Sha256.{sha256}
 use Rattle.nw_digest.specs.declared.digest.Digest.{Digest}
@@ -13,11 +13,11 @@ use Rattle.nw_committee.specs.Committee.{ReachesQuorum}
 use Rattle.nw_committee.specs.declared.member.Member.{Member}
 use Rattle.nw_sig.specs.Signed.{Meaning, block_text, vote_text}
 
--- the digest of a block: SHA-256 of its body
+-- the digest of a block: SHA-256 of its encoded body
 abbrev pub digest_of : Block → Digest
 digest_of b = record { 0 = sha256 (body b) }
 
--- there is a member with this number
+-- some member has this number
 abbrev pub IsMember : List Member → ℕ → Type 0
 IsMember members number = number < length members
 
@@ -25,27 +25,38 @@ IsMember members number = number < length members
 abbrev pub IsSignedBy : Meaning → List Member → ℕ → List ℕ → Signature → Type 0
 IsSignedBy accepts members number text signature = IsSignature signature × (m : Member) × (slice_get members number ≡ Some m) × (accepts m.key text signature ≡ true)
 
--- the block fits, its author and the authors of its parents are members, it has no parents in round 0 and parents that reach the quorum in a later one, and its author signed its digest
+-- the block is well formed with this signature
 pub record IsWellFormedWith (accepts : Meaning) (members : List Member) (b : Block) (signature : Signature) : Type 0 where
+  -- the block is within the limits of the encoding
   pub fits : Fits b
+  -- its author is a member
   pub author : IsMember members b.author
+  -- the authors of its parents are members
   pub parent_authors : All (IsMember members) (authors b.parents)
+  -- a block of round 0 has no parents
   pub genesis : b.round ≡ 0 → b.parents ≡ []
+  -- the authors of the parents of a later block reach the quorum
   pub parents : 0 < b.round → ReachesQuorum members (authors b.parents)
+  -- its author signed its digest
   pub signed : IsSignedBy accepts members b.author (block_text (digest_of b)) signature
 
 -- the block is well formed with some signature
 abbrev pub IsWellFormed : Meaning → List Member → Block → Type 0
 IsWellFormed accepts members b = (signature : Signature) × IsWellFormedWith accepts members b signature
 
--- the seal is its signer's, of a vote for the certificate's digest, round and author
+-- the seal is its signer's vote for the certificate's digest, round and author
 abbrev pub IsSealOf : Meaning → List Member → Certificate → Seal → Type 0
 IsSealOf accepts members c seal = IsSignedBy accepts members seal.signer (vote_text c.digest c.round c.author) seal.signature
 
--- the certificate fits, its author and its signers are members, the signers reach the quorum, and each seal is its signer's
+-- the certificate is valid
 pub record IsValid (accepts : Meaning) (members : List Member) (c : Certificate) : Type 0 where
+  -- the certificate is within the limits of the encoding
   pub fits : CertificateFits c
+  -- its author is a member
   pub author : IsMember members c.author
+  -- its signers are members
   pub signer_numbers : All (IsMember members) (signers c.votes)
+  -- its signers reach the quorum
   pub votes : ReachesQuorum members (signers c.votes)
+  -- each seal is its signer's vote
   pub sealed : All (IsSealOf accepts members c) c.votes

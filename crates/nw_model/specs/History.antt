@@ -14,45 +14,60 @@ abbrev pub replay : Bounds → State → List Event → State
 replay bounds s [] = s
 replay bounds s (e ∷ es) = replay bounds (after bounds s e.call) es
 
--- each reply is the one of its call at its place, and none is a list
+-- each event has the reply of its call at its place (IsReply), and no reply is a list
 abbrev pub AreReplies : Bounds → State → List Event → Type 0
 AreReplies bounds s [] = Unit {0}
 AreReplies bounds s (e ∷ es) = IsReply bounds s e.call e.reply × IsShort e.reply × AreReplies bounds (after bounds s e.call) es
 
--- the events of a session, in order
+-- the events of one session, in order
 abbrev pub events_of : ℕ → List Event → List Event
 events_of session es = filter (λ e. e.session == session) es
 
--- numbered from this one on
+-- the events are numbered n, n + 1, and so on
 abbrev pub AreNumbered : ℕ → List Event → Type 0
 AreNumbered n [] = Unit {0}
 AreNumbered n (e ∷ es) = (e.number ≡ n) × AreNumbered (n + 1) es
 
--- what is written stands under its own digest and is well formed, and what is certified is valid
+-- a call is admitted if what it hands in passes the checks: a block is well formed and written under its own digest, and a certificate
+-- is valid
 abbrev pub IsAdmitted : Meaning → List Member → Call → Type 0
 IsAdmitted accepts members (call.Write d b) = (d ≡ digest_of b) × IsWellFormed accepts members b
 IsAdmitted accepts members (call.Certify c) = IsValid accepts members c
 IsAdmitted accepts members other = Unit {0}
 
--- what a history is legal under: the committee, the bounds of the tables, and how many events and sessions there are at most
+-- the committee and the limits under which a history is legal
 pub record Terms : Type 0 where
+  -- the members of the committee
   pub committee : List Member
+  -- the bounds of the store
   pub bounds : Bounds
+  -- how many events the history may have
   pub events : ℕ
+  -- the numbers of sessions are below this
   pub sessions : ℕ
 
--- where a history may start: the state that some events leave from the opening one, with the step's replies to admitted calls
+-- the state is a base: some events with admitted calls lead to it from the opening state
 pub record IsBase (accepts : Meaning) (terms : Terms) (base : State) : Type 0 where
+  -- these events
   pub earlier : List Event
+  -- their replies are those of the step
   pub replies : AreReplies terms.bounds opening earlier
+  -- their calls are admitted
   pub admitted : All (λ e. IsAdmitted accepts terms.committee e.call) earlier
+  -- the base is the state after them
   pub left : base ≡ replay terms.bounds opening earlier
 
--- from its base on each reply is the step's, each session's calls are numbered from 1 on, sessions and events are within their limits, and what is written and certified is admitted
+-- the history is legal
 pub record IsLegal (accepts : Meaning) (terms : Terms) (base : State) (es : List Event) : Type 0 where
+  -- it starts from a base
   pub based : IsBase accepts terms base
+  -- each reply is that of the step at its place, with Ready in place of a list
   pub replies : AreReplies terms.bounds base es
+  -- the events of each session are numbered 1, 2, .. in order
   pub numbered : (session : ℕ) → AreNumbered 1 (events_of session es)
+  -- the number of each session is below the limit on sessions
   pub sessions : All (λ e. e.session < terms.sessions) es
+  -- there are no more events than the limit on events
   pub short : length es ≤ terms.events
+  -- each call is admitted
   pub admitted : All (λ e. IsAdmitted accepts terms.committee e.call) es

@@ -1,4 +1,4 @@
--- Laws over the definitions.
+-- The laws that the definitions satisfy.
 use Rattle.std.specs.Prelude.{◌≡◌, ◌≢◌, ◌==◌, ◌↔◌, ◌⊎◌, ℕ, ◌≤◌, ◌<◌, true, nat_le, List, ◌++◌, Some, All, Contains, IsSome, filter, map, slice_get}
 use Rattle.nw_digest.specs.declared.digest.Digest.{Digest}
 use Rattle.nw_codec.specs.declared.block.Block.{Block}
@@ -18,7 +18,7 @@ use Rattle.nw_model.specs.declared.reply.Reply.TheVariants as reply
 use Rattle.nw_model.specs.declared.reply.CollectReply.TheVariants as collect
 use Rattle.nw_model.specs.declared.reply.WriteReply.TheVariants as write
 
--- what the calls of a legal history leave is sound: at most one digest is certified for a slot, and the block under it has that slot
+-- every legal history leaves a sound state: so each slot has at most one certified digest, and the block under it has that slot
 abbrev pub LegalHistoriesLeaveSoundStates : Type 0
 LegalHistoriesLeaveSoundStates =
     (accepts : Meaning) (terms : Terms) (base : State) (es : List Event) → IsLegal accepts terms base es → IsSound (replay terms.bounds base es)
@@ -28,22 +28,22 @@ abbrev pub BeginningsOfLegalHistoriesAreLegal : Type 0
 BeginningsOfLegalHistoriesAreLegal =
     (accepts : Meaning) (terms : Terms) (base : State) (first more : List Event) → IsLegal accepts terms base (first ++ more) → IsLegal accepts terms base first
 
--- where a view shows a state that holds no block below its garbage round, a complete block has the same ancestors in both
+-- if a view shows a state that has no blocks below its garbage round, a complete digest has the same ancestors in both
 abbrev pub ViewsShowTheAncestors : Type 0
 ViewsShowTheAncestors = (v : Frozen) (s : State) (d : Digest) → HasNoneBelow s → Shows v s → IsComplete s d → (a : Digest) → IsAncestorIn v d a ↔ IsAncestor s d a
 
--- in a sound state a complete digest has a causal list, and each other causal list of it is equal to that
+-- in a sound state, a complete digest has a causal list, and every causal list of it is equal to that one
 abbrev pub CompleteDigestsHaveOneCausalList : Type 0
 CompleteDigestsHaveOneCausalList =
     (s : State) (d : Digest) → IsSound s → IsComplete s d → (blocks : List Block) × IsCausalList s d blocks × ((others : List Block) → IsCausalList s d others → others ≡ blocks)
 
--- each block of the causal list of a complete block is complete, and its own causal list is contained in that list
+-- each digest in the causal list of a complete digest is complete, and its own causal list is contained in that list
 abbrev pub CausalListsContainThoseOfTheirBlocks : Type 0
 CausalListsContainThoseOfTheirBlocks =
     (s : State) (d : Digest) (blocks : List Block) → IsComplete s d → (listed : IsCausalList s d blocks) → (e : Digest) → Contains listed.digests e
     → IsComplete s e × (few : List Block) × IsCausalList s e few × All (Contains blocks) few
 
--- the event is a write of a block of this slot, which is answered with a vote
+-- the event is a write of a block of this slot, and its reply is Stored with a vote
 abbrev pub IsVote : Slot → Event → Type 0
 IsVote slot e = (d : Digest) × (b : Block) × (e.call ≡ call.Write d b) × (e.reply ≡ reply.Write (write.Stored true)) × (block_slot b ≡ slot)
 
@@ -53,22 +53,29 @@ LegalHistoriesVoteOnce =
     (accepts : Meaning) (terms : Terms) (base : State) (es : List Event) → IsLegal accepts terms base es
     → (slot : Slot) (i j : ℕ) (e f : Event) → slice_get es i ≡ Some e → slice_get es j ≡ Some f → IsVote slot e → IsVote slot f → i ≡ j
 
--- a slot that has a first digest in the base of a legal history gets no vote in it
+-- if a slot has a first digest in the base of a legal history, no event of the history votes for it
 abbrev pub FirstsOfABaseGetNoVote : Type 0
 FirstsOfABaseGetNoVote =
     (accepts : Meaning) (terms : Terms) (base : State) (es : List Event) → IsLegal accepts terms base es
     → (slot : Slot) → IsSome (get base.firsts slot) → (i : ℕ) (e : Event) → slice_get es i ≡ Some e → IsVote slot e → ⊥
 
--- a legal history leaves s after its first events, and t after more
+-- s and t are states of one legal history, s not later than t
 pub record LeadsOn (accepts : Meaning) (terms : Terms) (s t : State) : Type 0 where
+  -- the base of the history
   pub base : State
+  -- its events up to s
   pub first : List Event
+  -- its events from s to t
   pub more : List Event
+  -- the history is legal
   pub legal : IsLegal accepts terms base (first ++ more)
+  -- s is the state after the first events
   pub earlier : s ≡ replay terms.bounds base first
+  -- t is the state after all of them
   pub later : t ≡ replay terms.bounds s more
 
--- a complete block that is not below a later garbage round is complete then too, and its causal list is the one of before without the blocks of rounds below that garbage round
+-- take a complete digest, and a later state whose garbage round is not above the block's round: the digest is complete then too, and its
+-- causal list is the earlier one without the blocks below that garbage round
 abbrev pub CausalListsStay : Type 0
 CausalListsStay =
     (accepts : Meaning) (terms : Terms) (s t : State) → LeadsOn accepts terms s t
@@ -79,14 +86,15 @@ CausalListsStay =
 abbrev pub authors_in : ℕ → List Block → List ℕ
 authors_in round blocks = map (λ b. b.author) (filter (λ b. b.round == round) blocks)
 
--- after a legal history, the causal list of a complete block has in each round, from the garbage round up to the one before the block's, blocks whose authors reach the quorum
+-- after a legal history, take the causal list of a complete digest and a round from the garbage round up to the round before the block's:
+-- the authors of the listed blocks of that round reach the quorum
 abbrev pub CausalListsReachQuorums : Type 0
 CausalListsReachQuorums =
     (accepts : Meaning) (terms : Terms) (base : State) (es : List Event) → IsLegal accepts terms base es → (s : State) → s ≡ replay terms.bounds base es
     → (d : Digest) (b : Block) (blocks : List Block) → IsComplete s d → IsCausalList s d blocks → get s.blocks d ≡ Some b
     → (round : ℕ) → s.floor ≤ round → round < b.round → ReachesQuorum terms.committee (authors_in round blocks)
 
--- the event is a read of d, which is answered with b
+-- the event is a read of d, and its reply is the block b
 abbrev pub IsReadOf : Digest → Block → Event → Type 0
 IsReadOf d b e = (e.call ≡ call.Read d) × (e.reply ≡ reply.Read (Some b))
 
@@ -94,17 +102,21 @@ IsReadOf d b e = (e.call ≡ call.Read d) × (e.reply ≡ reply.Read (Some b))
 abbrev pub RaisesAbove : ℕ → Event → Type 0
 RaisesAbove round e = (floor dropped : ℕ) × (e.call ≡ call.Collect floor) × (e.reply ≡ reply.Collect (collect.Raised dropped)) × (round < floor)
 
--- an event between these two raised the garbage round above this round
+-- an event between those at places i and j raised the garbage round above this round
 abbrev pub IsCollectedBetween : List Event → ℕ → ℕ → ℕ → Type 0
 IsCollectedBetween es i j round = (k : ℕ) × (e : Event) × (i < k) × (k < j) × (slice_get es k ≡ Some e) × RaisesAbove round e
 
--- two different blocks whose digest is d
+-- b and c are a collision of the hash function: two different blocks with the digest d
 pub record AreCollision (d : Digest) (b c : Block) : Type 0 where
+  -- the blocks are different
   pub differ : b ≢ c
+  -- d is the digest of b
   pub first : digest_of b ≡ d
+  -- d is the digest of c
   pub second : digest_of c ≡ d
 
--- a digest that is read twice in a legal history is answered with one block, or the first was collected in between and the two blocks share their digest
+-- two reads of a digest in a legal history give the same block, or a collection between them raised the garbage round above the first
+-- block's round, and the two are different blocks with that digest
 abbrev pub ReadsAgree : Type 0
 ReadsAgree =
     (accepts : Meaning) (terms : Terms) (base : State) (es : List Event) → IsLegal accepts terms base es

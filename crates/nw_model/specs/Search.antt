@@ -1,4 +1,4 @@
--- Finding the ancestors of a block, parents by parents.
+-- Steps of a search for the ancestors of a block, which goes from blocks to their parents.
 use Rattle.std.specs.Prelude.{◌≡◌, ◌<◌, ◌⊎◌, List, Some, All, Contains}
 use Rattle.std.specs.FinMap.{FinMap, get}
 use Rattle.nw_digest.specs.declared.digest.Digest.{Digest}
@@ -8,15 +8,15 @@ use Rattle.nw_digest.specs.Order.{Slot, slot_cmp}
 use Rattle.nw_model.specs.State.{block_slot}
 use Rattle.nw_model.specs.View.{Frozen, IsThere, IsParentIn, IsAncestorIn}
 
--- the block under e is there, and takes the slot
+-- the view has a block of this slot under e, not below its floor
 abbrev pub IsUnder : Frozen → Slot → Digest → Type 0
 IsUnder v slot e = (b : Block) × IsThere v e b × (block_slot b ≡ slot)
 
--- each digest that was found is under the slot of its block
+-- each found digest is found under the slot of its block
 abbrev pub AreUnder : Frozen → FinMap slot_cmp Digest → Type 0
 AreUnder v found = (slot : Slot) (e : Digest) → get found slot ≡ Some e → IsUnder v slot e
 
--- e was found, under the slot of its block
+-- e is found, under the slot of its block
 abbrev pub IsFound : Frozen → FinMap slot_cmp Digest → Digest → Type 0
 IsFound v found e = (b : Block) × (get v.blocks e ≡ Some b) × (get found (block_slot b) ≡ Some e)
 
@@ -28,20 +28,28 @@ IsNamed refs e = (r : Ref) × Contains refs r × (r.digest ≡ e)
 abbrev pub IsParentOfAny : Frozen → List Digest → Digest → Type 0
 IsParentOfAny v digests e = (d : Digest) × Contains digests d × IsParentIn v d e
 
--- the block of each digest is above the floor
+-- the view has a block above the floor under each of these digests
 abbrev pub AreAbove : Frozen → List Digest → Type 0
 AreAbove v digests = All (λ d. (b : Block) × (get v.blocks d ≡ Some b) × (v.floor < b.round)) digests
 
--- each digest with P is found, what is found anew is listed too, and nothing else is
+-- a step of the search finds the digests with P: the found digests grow from old to new, and the listed ones from listed to more
 pub record Finds (v : Frozen) (P : Digest → Type 0) (old new : FinMap slot_cmp Digest) (listed more : List Digest) : Type 0 where
+  -- each digest found before is still found
   pub keeps : (slot : Slot) (e : Digest) → get old slot ≡ Some e → get new slot ≡ Some e
+  -- each digest with P is found now
   pub finds : (e : Digest) → P e → IsFound v new e
+  -- a digest found only now has P and is listed, and its block has the slot that it is found under
   pub adds : (slot : Slot) (e : Digest) → get new slot ≡ Some e → (get old slot ≡ Some e) ⊎ (Contains more e × P e × IsUnder v slot e)
+  -- each digest listed before is still listed
   pub stays : (e : Digest) → Contains listed e → Contains more e
+  -- a digest listed only now has P
   pub lists : (e : Digest) → Contains more e → Contains listed e ⊎ P e
 
--- what was found are exactly the ancestors of d, each under the slot of its block
+-- the search from d is finished: exactly the ancestors of d are found
 pub record Reaches (v : Frozen) (d : Digest) (found : FinMap slot_cmp Digest) : Type 0 where
+  -- each found digest is found under the slot of its block
   pub under : AreUnder v found
+  -- each found digest is an ancestor of d
   pub only : (slot : Slot) (e : Digest) → get found slot ≡ Some e → IsAncestorIn v d e
+  -- each ancestor of d is found
   pub each : (e : Digest) → IsAncestorIn v d e → IsFound v found e

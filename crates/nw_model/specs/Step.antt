@@ -1,4 +1,4 @@
--- What each call answers, and what it leaves.
+-- The step table: the reply to each call, and the state after it.
 use Rattle.std.specs.Prelude.{◌≡◌, ◌==◌, ◌&&◌, ℕ, ◌+◌, ◌-◌, Bool, false, not, nat_lt, nat_le, List, Option, Some, None, IsSome, is_some, option_and_then, find, if◌then◌else◌, refl}
 use Rattle.std.specs.Coded.{Coded, code_by, coded×, coded_ℕ}
 use Rattle.std.specs.Option.{option_map_or}
@@ -23,95 +23,137 @@ use Rattle.nw_model.specs.declared.reply.CollectReply.TheVariants as collect
 use Rattle.nw_model.specs.declared.reply.Reply.{Reply}
 use Rattle.nw_model.specs.declared.reply.Reply.TheVariants as reply
 
--- how many blocks are kept at most, and how many rounds are taken from the garbage round on
+-- the bounds of a store, which no call changes
 pub record Bounds : Type 0 where
+  -- the largest number of held blocks, and separately of certificates
   pub blocks : ℕ
+  -- the number of rounds, from the garbage round on, whose blocks and certificates the store accepts
   pub window : ℕ
 
--- the tables of a store: its state, and the bounds under which it takes its steps
+-- the tables of a store
 pub record Tables : Type 0 where
+  -- the bounds under which the store takes its steps
   pub bounds : Bounds
+  -- its state
   pub state : State
 
--- how tables are told apart from others
+-- the code of tables
 abbrev pub coded_tables : Coded Tables
 coded_tables =
     code_by (ℕ × (ℕ × State)) (coded× coded_ℕ (coded× coded_ℕ coded_state))
     (λ t. (t.bounds.blocks, (t.bounds.window, t.state)))
     (λ p. record { bounds = record { blocks = p.0; window = p.1.0 }; state = p.1.1 }) (λ _. refl)
 
--- the two slots are one
+-- the two slots are equal
 abbrev pub is_slot : Slot → Slot → Bool
 is_slot a b = (a.0 == b.0) && (a.1 == b.1)
 
--- the two digests are one
+-- the two digests are equal
 abbrev pub is_digest : Digest → Digest → Bool
 is_digest a b = same_bytes a.0 b.0
 
--- there is a value, and its slot is another
+-- there is a value, and it has another slot than this one
 abbrev pub is_elsewhere : {X : Type 0} → (X → Slot) → Option X → Slot → Bool
 is_elsewhere slot_of found slot = option_map_or (λ x. not (is_slot (slot_of x) slot)) found false
 
--- the first digest of the slot, where it is another and this one is not certified
+-- the first digest of the slot, if it is another than d and d is not certified
 abbrev pub rival : State → Digest → Slot → Option Digest
 rival s d slot = if is_some (get s.certificates d) then None else option_and_then (λ first. if is_digest first d then None else Some first) (get s.firsts slot)
 
--- the replies to a write, in the order in which they are tested
+-- the round is below the garbage round
+abbrev pub is_collected : State → ℕ → Bool
+is_collected s round = nat_lt round s.floor
+
+-- the round is at or above the garbage round plus the window
+abbrev pub is_too_far : Bounds → State → ℕ → Bool
+is_too_far bounds s round = nat_le (s.floor + bounds.window) round
+
+-- some block is held under d
+abbrev pub is_held : State → Digest → Bool
+is_held s d = is_some (get s.blocks d)
+
+-- the block b is held under d
+abbrev pub is_held_block : State → Digest → Block → Bool
+is_held_block s d b = option_map_or (same_block b) (get s.blocks d) false
+
+-- d is certified
+abbrev pub is_certified : State → Digest → Bool
+is_certified s d = is_some (get s.certificates d)
+
+-- d is certified for another slot than this one
+abbrev pub is_certified_elsewhere : State → Digest → Slot → Bool
+is_certified_elsewhere s d slot = is_elsewhere certificate_slot (get s.certificates d) slot
+
+-- a block of another slot than this one is held under d
+abbrev pub is_held_elsewhere : State → Digest → Slot → Bool
+is_held_elsewhere s d slot = is_elsewhere block_slot (get s.blocks d) slot
+
+-- so many entries have reached the bound
+abbrev pub is_full : Bounds → ℕ → Bool
+is_full bounds entries = nat_le bounds.blocks entries
+
+-- the slot has no first digest
+abbrev pub is_open : State → Slot → Bool
+is_open s slot = not (is_some (get s.firsts slot))
+
+-- the reply to a write of the block b under d: the first of these whose test holds
 abbrev pub write_reply : Bounds → State → Digest → Block → WriteReply
 write_reply bounds s d b =
-    if nat_lt b.round s.floor then write.Collected s.floor
-    else if nat_le (s.floor + bounds.window) b.round then write.TooFar
-    else if option_map_or (same_block b) (get s.blocks d) false then write.Held
-    else if is_some (get s.blocks d) then write.Clash
-    else if is_elsewhere certificate_slot (get s.certificates d) (block_slot b) then write.Misfit
+    if is_collected s b.round then write.Collected s.floor
+    else if is_too_far bounds s b.round then write.TooFar
+    else if is_held_block s d b then write.Held
+    else if is_held s d then write.Clash
+    else if is_certified_elsewhere s d (block_slot b) then write.Misfit
+    -- Equivocates with the rival if there is one; otherwise the last line
     else option_map_or write.Equivocates (rival s d (block_slot b))
-    (if nat_le bounds.blocks (len s.blocks) then write.Full else write.Stored (not (is_some (get s.firsts (block_slot b)))))
+    (if is_full bounds (len s.blocks) then write.Full else write.Stored (is_open s (block_slot b)))
 
--- the block stands under the digest, which is the first of the block's slot where there is a vote
+-- the state in which b is held under d, and d is the first digest of b's slot if there is a vote
 abbrev pub with_block : State → Digest → Block → Bool → State
 with_block s d b vote = record s {
   blocks = insert s.blocks d b;
   firsts = if vote then insert s.firsts (block_slot b) d else s.firsts;
 }
 
--- a write changes the state where its reply is Stored
+-- the state after a write with this reply: only Stored changes it
 abbrev pub after_write : State → Digest → Block → WriteReply → State
 after_write s d b (write.Stored vote) = with_block s d b vote
 after_write s d b other = s
 
--- whether this digest is certified for the slot
+-- the digest is certified for this slot
 abbrev pub is_certified_for : State → Slot → Digest → Bool
 is_certified_for s slot d = option_map_or (λ c. is_slot (certificate_slot c) slot) (get s.certificates d) false
 
--- the digest that is certified for the slot, if there is one
+-- the certified digest of the slot, if there is one
 abbrev pub certified_digest : State → Slot → Option Digest
 certified_digest s slot = find (is_certified_for s slot) (keys s.certificates)
 
--- the replies to a certificate, in the order in which they are tested
+-- the reply to the certificate c: the first of these whose test holds
 abbrev pub certify_reply : Bounds → State → Certificate → CertifyReply
 certify_reply bounds s c =
-    if nat_lt c.round s.floor then certify.Collected s.floor
-    else if nat_le (s.floor + bounds.window) c.round then certify.TooFar
+    if is_collected s c.round then certify.Collected s.floor
+    else if is_too_far bounds s c.round then certify.TooFar
     else if is_certified_for s (certificate_slot c) c.digest then certify.Already
-    else if is_some (get s.certificates c.digest) then certify.Misfit
-    else if is_elsewhere block_slot (get s.blocks c.digest) (certificate_slot c) then certify.Misfit
+    else if is_certified s c.digest then certify.Misfit
+    else if is_held_elsewhere s c.digest (certificate_slot c) then certify.Misfit
+    -- Conflict with the slot's certified digest if there is one; otherwise the last line
     else option_map_or certify.Conflict (certified_digest s (certificate_slot c))
-    (if nat_le bounds.blocks (len s.certificates) then certify.Full else certify.Certified)
+    (if is_full bounds (len s.certificates) then certify.Full else certify.Certified)
 
--- the certificate stands under its digest
+-- the state in which c is kept under its digest
 abbrev pub with_certificate : State → Certificate → State
 with_certificate s c = record s { certificates = insert s.certificates c.digest c }
 
--- a certificate changes the state where its reply is Certified
+-- the state after a certificate with this reply: only Certified changes it
 abbrev pub after_certify : State → Certificate → CertifyReply → State
 after_certify s c certify.Certified = with_certificate s c
 after_certify s c other = s
 
--- a map without the values of rounds below this one
+-- the map without the values of rounds below this one
 abbrev pub from_round : {X : Type 0} → (X → ℕ) → ℕ → FinMap digest_cmp X → FinMap digest_cmp X
 from_round round_of round m = retain_keys m (λ d. option_map_or (λ x. nat_le round (round_of x)) (get m d) false)
 
--- the round is the garbage round, and nothing of a round below it is kept
+-- the state with this garbage round, and without the entries of lower rounds
 abbrev pub raised : State → ℕ → State
 raised s round = record {
   blocks = from_round (λ b. b.round) round s.blocks;
@@ -120,23 +162,23 @@ raised s round = record {
   floor = round;
 }
 
--- the replies to a collection; what is dropped are blocks
+-- the reply to a collection: NotHigher if the round is not above the garbage round; otherwise Raised, with the number of dropped blocks
 abbrev pub collect_reply : State → ℕ → CollectReply
 collect_reply s round = if nat_le round s.floor then collect.NotHigher s.floor else collect.Raised (len s.blocks - len (raised s round).blocks)
 
--- a collection changes the state where its reply is Raised
+-- the state after a collection with this reply: only Raised changes it
 abbrev pub after_collect : State → ℕ → CollectReply → State
 after_collect s round (collect.Raised dropped) = raised s round
 after_collect s round other = s
 
--- what a call leaves
+-- the state after a call: only writes, certificates and collections may change it
 abbrev pub after : Bounds → State → Call → State
 after bounds s (call.Write d b) = after_write s d b (write_reply bounds s d b)
 after bounds s (call.Certify c) = after_certify s c (certify_reply bounds s c)
 after bounds s (call.Collect round) = after_collect s round (collect_reply s round)
 after bounds s other = s
 
--- the replies to a causal read; Ready stands for the list
+-- the reply to a causal read of d. Ready may be in place of the list
 abbrev pub IsCausalReply : State → Digest → Reply → Type 0
 IsCausalReply s d (reply.Causal causal.Unknown) = get s.blocks d ≡ None
 IsCausalReply s d (reply.Causal causal.Uncertified) = IsSome (get s.blocks d) × (get s.certificates d ≡ None)
@@ -157,7 +199,7 @@ IsReply bounds s (call.Missing most) (reply.Missing first) = AreFirstWanted s mo
 IsReply bounds s call.Status (reply.Status counts) = AreCounts s counts
 IsReply bounds s asked other = ⊥
 
--- a reply that a history may record: no list
+-- the reply is one that a history may record: no list
 abbrev pub IsShort : Reply → Type 0
 IsShort (reply.List blocks) = ⊥
 IsShort other = Unit {0}
@@ -167,11 +209,13 @@ abbrev pub shortened : Reply → Reply
 shortened (reply.List blocks) = reply.Ready
 shortened other = other
 
--- the two replies are one, but that Ready may stand for the list
+-- the two replies are equal, except that one may have Ready in place of the list
 pub record AreOneReply (one other : Reply) : Type 0 where
+  -- a history records both in the same way
   pub short : shortened one ≡ shortened other
+  -- if both are lists, the lists are equal
   pub list : (blocks others : List Block) → one ≡ reply.List blocks → other ≡ reply.List others → blocks ≡ others
 
--- two replies to one call at one state are one
+-- two replies to the same call in the same state are equal, except that one may have Ready in place of the list
 abbrev pub StepIsAFunction : Type 0
 StepIsAFunction = (bounds : Bounds) (s : State) (asked : Call) (one other : Reply) → IsReply bounds s asked one → IsReply bounds s asked other → AreOneReply one other

@@ -1,4 +1,4 @@
-//! What is asked of a store.
+//! The calls of a store.
 ghost use Rattle.std.specs.Prelude.{◌≡◌, ◌↔◌, IfOk, IsTrue};
 
 use nw_codec::{Block, Certificate};
@@ -9,24 +9,24 @@ use nw_digest::{Digest, NoMemory, Round, Shared};
 pub enum Call {
     /// Store the block under the digest.
     Write(Digest, Shared<Block>),
-    /// Keep the certificate of a digest.
+    /// Keep the certificate for its digest.
     Certify(Shared<Certificate>),
-    /// The certificate that is kept for the digest.
+    /// Find the certificate that is kept for the digest.
     Certificate(Digest),
-    /// The block that is held under the digest.
+    /// Find the block that is held under the digest.
     Read(Digest),
-    /// The block that is held under the digest, with all its certified ancestors.
+    /// List the ancestors of the digest: its block, and all blocks below it that satisfied references lead to.
     Causal(Digest),
-    /// Drop what is of a round below this one, which is the garbage round from then on.
+    /// Make this the garbage round, and drop everything of lower rounds.
     Collect(Round),
-    /// The first so many of the parents that are wanted.
+    /// List the wanted parents in their order, at most this many.
     Missing(u16),
-    /// How much is kept, and how much is wanted.
+    /// Count what is kept and what is wanted.
     Status,
 }
 
 impl Call {
-    /// The same call, with one more owner of its block or certificate.
+    /// A copy of the call, which shares its block or certificate. `NoMemory` if that has too many owners.
     pub fn try_clone(&self) -> Result<Call, NoMemory>
         ensures { IfOk result (λ copy. copy ≡ self.now) }
     {
@@ -42,7 +42,7 @@ impl Call {
         })
     }
 
-    /// Whether the other call is the same. It takes no memory.
+    /// Whether the two calls are equal. Allocates nothing.
     pub fn is_same(&self, other: &Call) -> bool
         ensures { IsTrue result ↔ self.now ≡ other.now }
     {
@@ -62,21 +62,21 @@ impl Call {
     }
 }
 
-/// Whether two digests are the same.
+/// Whether two digests are equal.
 fn is_same_digest(one: &Digest, other: &Digest) -> bool
     ensures { IsTrue result ↔ one.now ≡ other.now }
 {
     one == other
 }
 
-/// Whether two blocks are the same.
+/// Whether two blocks are equal.
 fn is_same_block(one: &Block, other: &Block) -> bool
     ensures { IsTrue result ↔ one.now ≡ other.now }
 {
     one == other
 }
 
-/// Whether two certificates are the same.
+/// Whether two certificates are equal.
 fn is_same_certificate(one: &Certificate, other: &Certificate) -> bool
     ensures { IsTrue result ↔ one.now ≡ other.now }
 {

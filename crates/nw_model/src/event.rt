@@ -1,4 +1,4 @@
-//! What a history records.
+//! The events of a history.
 use crate::{Call, Reply};
 
 /// One call of a session and its reply.
@@ -6,7 +6,7 @@ use crate::{Call, Reply};
 pub struct Event {
     /// The session's id.
     pub session: u16,
-    /// Which call of its session it is, counted from 1.
+    /// The number of the call in its session, counted from 1.
     pub number: u32,
     pub call: Call,
     pub reply: Reply,

@@ -1,7 +1,7 @@
-//! What the store means: its state, its calls, the reply to each, and which histories are legal.
+//! This crate defines what a store means: its state, its calls, the reply to each call, and which histories are legal.
 //!
-//! Its contract: the step table in `specs/Step.antt` gives each call one reply at a state, and what the calls of a legal
-//! history leave is sound. It stands on `nw_codec` for blocks and certificates, on `nw_waiting` for the name of a wanted parent, and on
+//! Its contract: the step table in `specs/Step.antt` gives each call exactly one reply in a state, and every legal history leaves a
+//! sound state. It takes blocks and certificates from `nw_codec`, wanted parents from `nw_waiting`, and digests and rounds from
 //! `nw_digest`.
 #![tactic(auto)]
 

@@ -1,4 +1,4 @@
-//! What a store answers.
+//! The replies of a store.
 ghost use Rattle.std.specs.Prelude.{◌≡◌, IfOk};
 
 use nw_codec::{Block, Certificate};
@@ -9,23 +9,23 @@ use std::alloc::Global;
 /// The reply to a write. Only `Stored` changes the store.
 #[derive(Clone, Copy, Debug, PartialEq, Eq)]
 pub enum WriteReply {
-    /// The block's round is below the garbage round, which is given.
+    /// The block's round is below this garbage round.
     Collected(Round),
-    /// The block's round is not below the garbage round and the window together.
+    /// The block's round is at or above the garbage round plus the window.
     TooFar,
-    /// The same block is held under the digest.
+    /// The same block is held under the digest already.
     Held,
     /// Another block is held under the digest.
     Clash,
     /// The digest is certified for another round or author.
     Misfit,
-    /// The first digest of the block's round and author is another one, which is given, and this one is not certified.
+    /// The block's round and author have this other first digest, and the written digest is not certified.
     Equivocates(Digest),
-    /// As many blocks are held as the limit allows.
+    /// The number of held blocks has reached its limit.
     Full,
     /// The block is held from now on.
     Stored {
-        /// Whether this is the first block of its round and author, for which the store votes.
+        /// Whether the store votes for the block: its round and author had no first digest.
         vote: bool,
     },
 }
@@ -33,57 +33,57 @@ pub enum WriteReply {
 /// The reply to a certificate. Only `Certified` changes the store.
 #[derive(Clone, Copy, Debug, PartialEq, Eq)]
 pub enum CertifyReply {
-    /// The certificate's round is below the garbage round, which is given.
+    /// The certificate's round is below this garbage round.
     Collected(Round),
-    /// The certificate's round is not below the garbage round and the window together.
+    /// The certificate's round is at or above the garbage round plus the window.
     TooFar,
     /// The digest is certified for the same round and author.
     Already,
-    /// The digest is certified for another round or author, or its block has another.
+    /// The digest is certified for another round or author, or the block held under it has another.
     Misfit,
-    /// Another digest, which is given, is certified for the round and author.
+    /// This other digest is certified for the round and author.
     Conflict(Digest),
-    /// As many certificates are kept as the limit allows.
+    /// The number of certificates has reached its limit.
     Full,
     /// The certificate is kept from now on.
     Certified,
 }
 
-/// Why a causal read gives no list.
+/// The reply to a causal read that gets no list: the reason.
 #[derive(Clone, Copy, Debug, PartialEq, Eq)]
 pub enum CausalReply {
     /// No block is held under the digest.
     Unknown,
-    /// The block is held, and the digest is not certified.
+    /// The block is held, but the digest is not certified.
     Uncertified,
-    /// The block is held and certified, and on some way down from it a parent is missing or not certified.
+    /// The block is held and certified, but an ancestor above the garbage round has a reference that is not satisfied.
     Incomplete,
 }
 
 /// The reply to a collection. Only `Raised` changes the store.
 #[derive(Clone, Copy, Debug, PartialEq, Eq)]
 pub enum CollectReply {
-    /// The round is not higher than the garbage round, which is given.
+    /// The round is not above this garbage round.
     NotHigher(Round),
-    /// The round is the garbage round from now on, and nothing of a round below it is kept.
+    /// The round is the garbage round from now on, and everything of lower rounds is dropped.
     Raised {
-        /// How many blocks were dropped.
+        /// The number of dropped blocks.
         dropped: u64,
     },
 }
 
-/// How much is kept, and how much is wanted.
+/// The reply to the call for the status: how much the store keeps, and how many parents it wants.
 #[derive(Clone, Copy, Debug, PartialEq, Eq)]
 pub struct Counts {
     /// The garbage round.
     pub floor: Round,
-    /// How many blocks are held.
+    /// The number of held blocks.
     pub blocks: u64,
-    /// How many certificates are kept.
+    /// The number of certificates.
     pub certificates: u64,
-    /// How many blocks are complete.
+    /// The number of complete blocks.
     pub complete: u64,
-    /// How many parents are wanted.
+    /// The number of wanted parents.
     pub wanted: u64,
 }
 
@@ -98,22 +98,22 @@ pub enum Reply {
     Certificate(Option<Shared<Certificate>>),
     /// To a read: the block that is held under the digest, if there is one.
     Read(Option<Shared<Block>>),
-    /// To a causal read that gets no list.
+    /// To a causal read that gets no list: why not.
     Causal(CausalReply),
-    /// To a causal read whose list can be walked from now on. A history has it in place of the list.
+    /// To a causal read of a complete digest, in place of the list. A history always has it in place of the list.
     Ready,
-    /// To a causal read: the block and its certified ancestors, strictly ascending by round and author.
+    /// To a causal read of a complete digest: the blocks of its ancestors, strictly ascending by round and author.
     List(Sequence<Shared<Block>>),
     /// To a collection.
     Collect(CollectReply),
-    /// To the call for what is missing: the first of the parents that are wanted, strictly ascending by round, author and digest.
+    /// To the call for missing parents: the first wanted parents, strictly ascending by round, author and digest.
     Missing(Sequence<Wanted>),
     /// To the call for the status.
     Status(Counts),
 }
 
 impl Reply {
-    /// The same reply, with one more owner of what it gives.
+    /// A copy of the reply, which shares its blocks and certificate. `NoMemory` if allocation fails, or if one of them has too many owners.
     pub fn try_clone(&self, alloc: Global) -> Result<Reply, NoMemory>
         ensures { IfOk result (λ copy. copy ≡ self.now) }
     {
@@ -136,7 +136,7 @@ impl Reply {
     }
 }
 
-/// The same list, with one more owner of each block.
+/// A copy of the list, which shares the blocks.
 fn clone_all(
     alloc: Global,
     blocks: &Sequence<Shared<Block>>,
@@ -150,7 +150,7 @@ fn clone_all(
     Ok(Sequence::new(copy))
 }
 
-/// The same list.
+/// A copy of the list.
 fn copy_all(alloc: Global, wanted: &Sequence<Wanted>) -> Result<Sequence<Wanted>, NoMemory>
     ensures { IfOk result (λ copy. copy ≡ wanted.now) }
 {

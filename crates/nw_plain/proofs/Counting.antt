@@ -1,4 +1,4 @@
--- How many blocks are complete.
+-- The number of complete blocks.
 use Rattle.std.proofs.Common.{◌≡◌, List, Option, Some, None, IsSome, length, refl, sym, ◌∙◌}
 use Rattle.std.specs.List.Sorted.{IsStrictlySortedBy}
 use Rattle.std.specs.Map.{lookup, keys_of}
@@ -25,7 +25,7 @@ is_found : {X : Type 0} (found : Option X) (x : X) → found ≡ Some x → IsSo
 is_found None x e = absurd cc
 is_found (Some y) x e = refl
 
--- entries that are exactly the complete blocks are as many
+-- the number of entries is the number of complete blocks, if they are exactly these
 pub complete_count : (s : State) (es : List (Digest × Block)) → IsStrictlySortedBy digest_cmp (keys_of es) → AreComplete s (from_entries es) → HasCount digest_cmp (IsComplete s) (length es)
 complete_count s es sorted complete = (
   keys_of es,

@@ -1,4 +1,4 @@
--- How many blocks a collection drops.
+-- The number of blocks that a collection drops.
 use Rattle.std.proofs.Common.{◌≡◌, ℕ, suc, ◌+◌, ◌-◌, Bool, true, false, not, cond, List, [], ◌∷◌, filter, length, refl, ap, sym, ◌∙◌, arith}
 use Rattle.std.specs.Prelude.{nat_le, nat_lt}
 use Rattle.std.specs.declared.cmp.Ordering.{Ordering}
@@ -20,7 +20,7 @@ unfolding IsStrictlySortedBy
 sorted_cons R x xs above rest = (above, rest)
 
 module _ {K X : Type 0} (R : K → K → Ordering) (p : K × X → Bool) where
-  -- keys above one are above it where some go
+  -- keys above a key stay above it if some are removed
   above_filter : (k : K) (es : List (K × X)) → AllByRecursion (λ y. R k y ≡ Less) (keys_of es) → AllByRecursion (λ y. R k y ≡ Less) (keys_of (filter p es))
   above_filter k [] all = all
   above_filter k (e ∷ es) all = by (p e) (above_filter k es all.1)
@@ -29,7 +29,7 @@ module _ {K X : Type 0} (R : K → K → Ordering) (p : K × X → Bool) where
       by true rest = (all.0, rest)
       by false rest = rest
 
-  -- entries in order are in order where some go
+  -- entries stay in order if some are removed
   sorted_filter : (es : List (K × X)) → IsStrictlySortedBy R (keys_of es) → IsStrictlySortedBy R (keys_of (filter p es))
   sorted_filter [] sorted = sorted
   sorted_filter (e ∷ es) sorted = by (p e) (sorted_filter es (sorted_tail R e.0 (keys_of es) sorted))
@@ -38,7 +38,7 @@ module _ {K X : Type 0} (R : K → K → Ordering) (p : K × X → Bool) where
       by true rest = sorted_cons R e.0 (keys_of (filter p es)) (above_filter e.0 es (sorted_head R e.0 (keys_of es) sorted)) rest
       by false rest = rest
 
--- as many values pass as entries
+-- the number of values that pass is the number of entries that do
 same_length : {K X : Type 0} (p : X → Bool) (es : List (K × X)) → length (filter p (values_of es)) ≡ length (filter (λ e. p e.1) es)
 same_length p [] = refl
 same_length p (e ∷ es) = by (p e.1) (same_length p es)
@@ -50,7 +50,7 @@ same_length p (e ∷ es) = by (p e.1) (same_length p es)
 not_below : (a b : ℕ) → nat_lt a b ≡ not (nat_le b a)
 not_below a b = grind arith
 
--- what is below the round is what a collection drops
+-- a collection drops the entries below the round
 pub dropped_count : {X : Type 0} (round_of : X → ℕ) (round : ℕ) (es : List (Digest × X)) → IsStrictlySortedBy digest_cmp (keys_of es)
     → length (filter (λ x. nat_lt (round_of x) round) (values_of es)) ≡ len (from_entries {R = digest_cmp} es) - len (from_round round_of round (from_entries es))
 dropped_count round_of round es sorted =

@@ -22,7 +22,7 @@ use Rattle.nw_model.proofs.Kept.{same_digest, after_insert, at_insert, tie}
 use Rattle.nw_model.proofs.Complete.{one_block, complete_from_parents, parents_complete}
 use Rattle.std.proofs.lemmas.Bool.{cases_lt}
 
--- the slots that are left, in order, and the complete blocks of the others
+-- some slots are left, in order, and the complete blocks of the other slots are found
 pub record SoFar (s : State) (left : List (Slot × Digest)) (complete : FinMap digest_cmp Block) : Type 0 where
   pub sorted : IsStrictlySortedBy slot_cmp (keys_of left)
   pub indexed : (q : Slot) (d : Digest) → lookup (is_at (slot_cmp q)) left ≡ Some d → (c : Certificate) × (get s.certificates d ≡ Some c) × (certificate_slot c ≡ q)
@@ -50,7 +50,7 @@ not_again x left d sorted = sym (find_lookup slot_cmp left x) ∙ find_below slo
 at_itself : (x : Slot) (d : Digest) (next : List (Slot × Digest)) → lookup (is_at (slot_cmp x)) ((x, d) ∷ next) ≡ Some d
 at_itself x d next = ap (λ b. cond b (Some d) (lookup (is_at (slot_cmp x)) next)) ((eq_by_cmp_equiv slots_total).refl x)
 
--- what is not left with the first is not left without it
+-- a slot that is not left is not left after one more slot is tested
 not_behind : (q x : Slot) (d : Digest) (next : List (Slot × Digest)) → lookup (is_at (slot_cmp q)) ((x, d) ∷ next) ≡ None → lookup (is_at (slot_cmp q)) next ≡ None
 not_behind q x d next none = by (is_at (slot_cmp q) x) none
   where
@@ -58,7 +58,7 @@ not_behind q x d next none = by (is_at (slot_cmp q) x) none
     by true e = absurd (none_some d (sym e))
     by false e = e
 
--- what is not left without the first is the first, or not left with it
+-- a slot that is not left after one more slot is tested is that slot, or was not left before
 first_or_not : (q x : Slot) (d : Digest) (next : List (Slot × Digest)) → lookup (is_at (slot_cmp q)) next ≡ None → (q ≡ x) ⊎ (lookup (is_at (slot_cmp q)) ((x, d) ∷ next) ≡ None)
 first_or_not q x d next none = by (is_at (slot_cmp q) x) refl
   where
@@ -66,7 +66,7 @@ first_or_not q x d next none = by (is_at (slot_cmp q) x) refl
     by true at = inl (slots_apart q x (tie (slot_cmp q x) at))
     by false at = inr (ap (λ b. cond b (Some d) (lookup (is_at (slot_cmp q)) next)) at ∙ none)
 
--- what is left behind the first is left with it
+-- a slot that is left after one more slot is tested was left before
 found_behind : (q x : Slot) (d e : Digest) (next : List (Slot × Digest)) → IsStrictlySortedBy slot_cmp (keys_of ((x, d) ∷ next)) → lookup (is_at (slot_cmp q)) next ≡ Some e → lookup (is_at (slot_cmp q)) ((x, d) ∷ next) ≡ Some e
 found_behind q x d e next sorted found = by (is_at (slot_cmp q) x) refl
   where
@@ -76,7 +76,7 @@ found_behind q x d e next sorted found = by (is_at (slot_cmp q) x) refl
         absurd (none_some e (sym (not_again x next d sorted) ∙ ap (λ (y : Slot). lookup (is_at (slot_cmp y)) next) (sym same) ∙ found))
     by false at = ap (λ b. cond b (Some d) (lookup (is_at (slot_cmp q)) next)) at ∙ found
 
--- a value stays where another is written, or the same
+-- a value stays if another digest, or the same value, is inserted
 stays : (m : FinMap digest_cmp Block) (k : Digest) (v : Block) (q : Digest) (x : Block) → get m q ≡ Some x → (q ≡ k → v ≡ x) → get (insert m k v) q ≡ Some x
 stays m k v q x at same = get-insert digests_total m k v q ∙ by (eq_by_cmp digest_cmp q k) refl
   where
@@ -103,7 +103,7 @@ module _ (s : State) (x : Slot) (d : Digest) (next : List (Slot × Digest)) (old
   its_slot : (b : Block) → get s.blocks d ≡ Some b → block_slot b ≡ x
   its_slot b at = sound.one_slot d b certified.0 at certified.1 ∙ certified.2
 
-  -- a complete block of the slot is the one that is looked at
+  -- the complete block of the slot is the tested one
   only_one : (e : Digest) (b : Block) → get s.blocks e ≡ Some b → IsComplete s e → block_slot b ≡ x → e ≡ d
   only_one e b at whole same =
       let c = some_of whole.stands.1.1 in
@@ -130,7 +130,7 @@ module _ (s : State) (x : Slot) (d : Digest) (next : List (Slot × Digest)) (old
     | inr low ↦ inl low
   ]
 
-  -- the block is new, or was there
+  -- each found block is the tested one, or was found before
   gives : (new : FinMap digest_cmp Block) → AddsIfComplete s old new d → (e : Digest) (b : Block) → get new e ≡ Some b → ((e ≡ d) × (get s.blocks d ≡ Some b) × IsComplete s d) ⊎ (get old e ≡ Some b)
   gives new (inl (none, same)) e b at = inr (ap (λ m. get m e) (sym same) ∙ at)
   gives new (inr (c, held, inr (never, same))) e b at = inr (ap (λ m. get m e) (sym same) ∙ at)
@@ -139,19 +139,19 @@ module _ (s : State) (x : Slot) (d : Digest) (next : List (Slot × Digest)) (old
     | inr there ↦ inr there
   ]
 
-  -- what was there still is
+  -- a block found before is still found
   keeps : (new : FinMap digest_cmp Block) → AddsIfComplete s old new d → (e : Digest) (b : Block) → get s.blocks e ≡ Some b → get old e ≡ Some b → get new e ≡ Some b
   keeps new (inl (none, same)) e b held at = ap (λ m. get m e) same ∙ at
   keeps new (inr (c, here, inr (never, same))) e b held at = ap (λ m. get m e) same ∙ at
   keeps new (inr (c, here, inl (how, put))) e b held at = ap (λ m. get m e) put ∙ stays old d c e b at (λ one. one_block c b here (ap (get s.blocks) (sym one) ∙ held))
 
-  -- the slot's block is there where it is complete
+  -- the slot's block is found if it is complete
   adds : (new : FinMap digest_cmp Block) → AddsIfComplete s old new d → (b : Block) → get s.blocks d ≡ Some b → IsComplete s d → get new d ≡ Some b
   adds new (inl (none, same)) b held whole = absurd (none_some b (sym none ∙ held))
   adds new (inr (c, here, inr (never, same))) b held whole = absurd (never (completed c here whole))
   adds new (inr (c, here, inl (how, put))) b held whole = ap (λ m. get m d) put ∙ at_insert old d c ∙ sym here ∙ held
 
-  -- one slot fewer is left
+  -- after the test one slot fewer is left
   pub one_fewer : (new : FinMap digest_cmp Block) → AddsIfComplete s old new d → SoFar s next new
   one_fewer new added = record {
     sorted = sorted_tail slot_cmp x (keys_of next) far.sorted;

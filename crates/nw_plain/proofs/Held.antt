@@ -1,4 +1,4 @@
--- A state with one more block or certificate.
+-- The state after one more block or certificate.
 use Rattle.std.proofs.Common.{◌≡◌, true, false, Option, Some, None, IsNone, refl}
 use Rattle.std.specs.FinMap.{FinMap, insert}
 use Rattle.nw_digest.specs.declared.digest.Digest.{Digest}

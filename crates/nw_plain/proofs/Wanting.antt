@@ -1,4 +1,4 @@
--- What the references of some blocks add to what is wanted.
+-- The wanted parents that the references of blocks add.
 use Rattle.std.proofs.Common.{◌≡◌, ◌↔◌, ◌⊎◌, ℕ, ◌+◌, ◌<◌, List, [], ◌∷◌, ◌++◌, take, length, get_or, Some, refl, ap, sym, ◌∙◌, subst, arith, inl, inr}
 use Rattle.std.specs.Prelude.{Contains}
 use Rattle.std.specs.declared.cmp.Ordering.{Ordering}
@@ -28,12 +28,12 @@ use Rattle.nw_model.specs.Missing.{IsNamedBy, IsWanted, Wants, AreExactly}
 use Rattle.nw_model.proofs.Maps.{digests_total, get_lookup}
 use Rattle.nw_model.proofs.Kept.{same_digest}
 use Rattle.nw_model.proofs.Listed.{contains_first, contains_later, contains_cases, contains_none}
-use Rattle.nw_plain.specs.Added.{Adds, Lacks}
+use Rattle.nw_plain.specs.Added.{Adds, NamesMissing}
 
--- ---- one key more
+-- ---- one more key
 
 module _ {K : Type 0} (R : K → K → Ordering) (same : IsAntisymmetric R) where
-  -- a set with one more key has its keys and this one
+  -- inserting a key into a set adds exactly this key
   pub with_key : (ks : List K) (k x : K) → Contains (insert_key R ks k) x ↔ (Contains ks x ⊎ (k ≡ x))
   with_key [] k x = (λ among. elim (contains_cases k [] x among) [ inl here ↦ inr here | inr later ↦ absurd (contains_none x later) ], λ h. elim h [ inl old ↦ absurd (contains_none x old) | inr here ↦ subst (λ y. Contains (k ∷ []) y) here (contains_first k []) ])
   with_key (y ∷ ys) k x = by (R k y) refl (with_key ys k x)
@@ -58,9 +58,9 @@ module _ {K : Type 0} (R : K → K → Ordering) (same : IsAntisymmetric R) wher
         ],
       )
 
--- ---- what one of a list adds
+-- ---- additions by the elements of a list
 
--- some of the list has Q of it
+-- Q holds of x for some element of the list
 abbrev pub Of : {A X : Type 0} → (A → X → Type 0) → List A → X → Type 0
 Of {A} Q xs x = (a : A) × Contains xs a × Q a x
 
@@ -68,7 +68,7 @@ module _ {A X : Type 0} (Q : A → X → Type 0) where
   pub adds_nothing : (old : List X) → Adds (Of Q []) old old
   adds_nothing old x = (inl, λ h. elim h [ inl here ↦ here | inr there ↦ absurd (contains_none there.0 there.1) ])
 
-  -- and what one more adds
+  -- the same with one more element
   pub adds_one_more : (xs : List A) (a : A) (old mid new : List X) → Adds (Of Q xs) old mid → Adds (Q a) mid new → Adds (Of Q (xs ++ a ∷ [])) old new
   adds_one_more xs a old mid new one two x = (
     λ among. elim ((two x).0 among) [
@@ -87,14 +87,14 @@ module _ {A X : Type 0} (Q : A → X → Type 0) where
     ]),
   )
 
-  -- the same, where a list is read from its front
+  -- the same for the first elements of a list
   pub adds_next : (xs : List A) (i : ℕ) (d : A) (old mid new : List X) → i < length xs → Adds (Of Q (take i xs)) old mid → Adds (Q (get_or xs i d)) mid new → Adds (Of Q (take (i + 1) xs)) old new
   adds_next xs i d old mid new lt one two = subst (λ ys. Adds (Of Q ys) old new) (sym (take_more xs i d lt)) (adds_one_more (take i xs) (get_or xs i d) old mid new one two)
 
 -- ---- a reference
 
--- a block above the garbage round wants what its references lack
-pub of_references : (s : State) (b : Block) (old new : List Wanted) → s.floor < b.round → Adds (Of (Lacks s b.round) b.parents) old new → Adds (Wants s b) old new
+-- a block above the garbage round wants the parents that its unsatisfied references name
+pub of_references : (s : State) (b : Block) (old new : List Wanted) → s.floor < b.round → Adds (Of (NamesMissing s b.round) b.parents) old new → Adds (Wants s b) old new
 of_references s b old new above adds w = (
   λ among. elim ((adds w).0 among) [ inl here ↦ inl here | inr (r, in_parents, lacks) ↦ inr (above, r, in_parents, lacks.0, lacks.1) ],
   λ h. (adds w).1 (elim h [ inl here ↦ inl here | inr (high, r, in_parents, lacks, named) ↦ inr (r, in_parents, (lacks, named)) ]),
@@ -103,9 +103,9 @@ of_references s b old new above adds w = (
 wanted_apart : IsAntisymmetric wanted_cmp
 wanted_apart v w e = one_wanted v w (ap is_eq e)
 
--- what a reference that is not satisfied lacks is the one name that it has
+-- an unsatisfied reference names one missing parent
 pub lacks_one : (s : State) (round : ℕ) (r : Ref) (before : ℕ) → before + 1 ≡ round → (IsSatisfied s round r → ⊥) → (old : List Wanted)
-    → Adds (Lacks s round r) old (insert_key wanted_cmp old (record { round = before; author = r.author; digest = r.digest }))
+    → Adds (NamesMissing s round r) old (insert_key wanted_cmp old (record { round = before; author = r.author; digest = r.digest }))
 lacks_one s round r before is lacks old x = (
   λ among. elim ((with_key wanted_cmp wanted_apart old name x).0 among) [
     | inl here ↦ inl here
@@ -122,9 +122,9 @@ lacks_one s round r before is lacks old x = (
     name : Wanted
     name = record { round = before; author = r.author; digest = r.digest }
 
--- ---- the blocks that are held
+-- ---- the held blocks
 
--- some entries of the blocks are left, and exactly what the blocks of the others want is wanted
+-- some held blocks are left, and exactly the parents that the others want are found
 pub record SoFar (s : State) (left : List (Digest × Block)) (wanted : List Wanted) : Type 0 where
   pub done : List (Digest × Block)
   pub held : s.blocks ≡ from_entries (done ++ left)
@@ -145,7 +145,7 @@ one_done s left d b wanted more so adds ordered = record {
     same : so.done ++ (d, b) ∷ [] ++ left ≡ so.done ++ ((d, b) ∷ left)
     same = append_assoc so.done ((d, b) ∷ []) left
 
--- where no entry is left, exactly what is wanted was found
+-- if no block is left, exactly the wanted parents are found
 pub all_done : (s : State) (wanted : List Wanted) → SoFar s [] wanted → AreExactly wanted_cmp (IsWanted s) wanted
 all_done s wanted so = record {
   exactly = λ w. (

@@ -1,4 +1,4 @@
--- What is added to a set of wanted parents.
+-- Additions to a set of wanted parents.
 use Rattle.std.specs.Prelude.{◌↔◌, ◌⊎◌, ℕ, List, Contains}
 use Rattle.nw_codec.specs.declared.block.Ref.{Ref}
 use Rattle.nw_waiting.specs.declared.wanted.Wanted.{Wanted}
@@ -6,10 +6,10 @@ use Rattle.nw_model.specs.State.{State}
 use Rattle.nw_model.specs.Paths.{IsSatisfied}
 use Rattle.nw_model.specs.Missing.{IsNamedBy}
 
--- new has exactly what old has, and what has P
+-- new has exactly the values of old and the values with P
 abbrev pub Adds : {A : Type 0} → (A → Type 0) → List A → List A → Type 0
 Adds {A} P old new = (x : A) → Contains new x ↔ (Contains old x ⊎ P x)
 
--- the reference of a block of this round is not satisfied, and names it
-abbrev pub Lacks : State → ℕ → Ref → Wanted → Type 0
-Lacks s round r w = (IsSatisfied s round r → ⊥) × IsNamedBy round r w
+-- the reference r of a block of this round is not satisfied, and names the parent w
+abbrev pub NamesMissing : State → ℕ → Ref → Wanted → Type 0
+NamesMissing s round r w = (IsSatisfied s round r → ⊥) × IsNamedBy round r w

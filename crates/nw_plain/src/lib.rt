@@ -1,7 +1,6 @@
-//! A slow store over ordered maps, which shows what each call means.
+//! This crate has a slow store over ordered maps, with which tests compare the fast one, and the bases from which histories start.
 //!
-//! Its contract: the calls of [`Plain`] are the steps of the table of `nw_model`. Other stores are compared with it, and
-//! histories start from it as a [`Base`].
+//! Its contract: each call of [`Plain`] takes the step of the table of `nw_model`. A [`Base`] is such a store that never changes.
 #![tactic(auto)]
 
 mod base;

@@ -24,17 +24,17 @@ use std::collections::BTreeMap;
 use std::collections::btree_map::Entry;
 use std::marker::Model;
 
-/// A slow store over ordered maps, which shows what each call means. Contracts see its state, and the bounds under which
-/// it takes its steps.
+/// A slow store over ordered maps. Contracts see its state and its bounds.
 #[derive(Drop)]
 pub struct Plain {
     blocks: BTreeMap<Digest, Shared<Block>>,
     certificates: BTreeMap<Digest, Shared<Certificate>>,
     firsts: BTreeMap<(Round, u16), Digest>,
-    /// The digest that is certified for each round and author.
+    /// The certified digest of each round and author.
     certified: BTreeMap<(Round, u16), Digest>,
     floor: Round,
-    most: u32,
+    /// The largest number of held blocks, and separately of certificates.
+    limit: u32,
     window: u32,
     alloc: Global,
 }
@@ -49,7 +49,7 @@ impl Model for Plain {
     ghost coded = { coded_tables };
 
     ghost view = { λ p. record {
-      bounds = record { blocks = p.most; window = p.window };
+      bounds = record { blocks = p.limit; window = p.window };
       state = record {
         blocks = map.from_entries p.blocks.entries;
         certificates = map.from_entries p.certificates.entries;
@@ -69,9 +69,9 @@ impl Model for Plain {
 }
 
 impl Plain {
-    /// An empty store, with garbage round 0. It takes no memory.
+    /// An empty store with garbage round 0. Allocates nothing.
     ///
-    /// It keeps at most `blocks` blocks, and takes blocks of `window` rounds from the garbage round on.
+    /// The store holds at most `blocks` blocks and `blocks` certificates. It accepts those of `window` rounds from the garbage round on.
     pub fn new(alloc: Global, blocks: u32, window: u32) -> Plain
         ensures { result ≡ record {
           bounds = record { blocks = blocks; window = window };
@@ -84,15 +84,15 @@ impl Plain {
             firsts: BTreeMap::new(alloc),
             certified: BTreeMap::new(alloc),
             floor: Round::ZERO,
-            most: blocks,
+            limit: blocks,
             window,
             alloc,
         }
     }
 
-    /// Takes the step of the call and answers its reply: of a causal read of a complete digest its list, never `Ready`.
+    /// Takes the step of the call and returns its reply. A causal read of a complete digest gets its list, never `Ready`.
     ///
-    /// Want of memory leaves the store as it was.
+    /// `NoMemory` if allocation fails. Then the store is unchanged.
     pub fn call(&mut self, call: &Call) -> Result<Reply, NoMemory>
         ensures reply { IfOk result
             (λ reply. IsReply self.old.bounds self.old.state call.now reply) }
@@ -118,7 +118,7 @@ impl Plain {
         Ok(reply)
     }
 
-    /// The reply that the call would get now. A causal read of a complete digest gets its list, never `Ready`.
+    /// The reply that the call would get now. A causal read of a complete digest would get its list, never `Ready`.
     fn reply(&self, call: &Call) -> Result<Reply, NoMemory>
         ensures reply { IfOk result (IsReply self.now.bounds self.now.state call.now) }
         ensures listed { IfOk result (λ reply. reply ≢ Reply.Ready) }
@@ -139,7 +139,7 @@ impl Plain {
         }
     }
 
-    /// The block that is held under the digest.
+    /// The block that is held under the digest, if there is one.
     fn read(&self, digest: &Digest) -> Result<Option<Shared<Block>>, NoMemory>
         ensures { IfOk result (λ found. found ≡ map.get self.now.state.blocks digest.now) }
     {
@@ -172,7 +172,7 @@ impl Plain {
         if let Some(first) = self.rival(digest, block) {
             return WriteReply::Equivocates(first);
         }
-        if self.held() >= self.most as usize {
+        if self.block_count() >= self.limit as usize {
             return WriteReply::Full;
         }
         WriteReply::Stored {
@@ -193,7 +193,7 @@ impl Plain {
         }
     }
 
-    /// The first digest of the block's slot, where it is another and this one is not certified.
+    /// The first digest of the block's slot, if it is another digest and this one is not certified.
     fn rival(&self, digest: &Digest, block: &Block) -> Option<Digest>
         ensures { result ≡ rival self.now.state digest.now (block_slot block.now) }
     {
@@ -213,7 +213,7 @@ impl Plain {
         self.floor
     }
 
-    /// The block that is held under the digest.
+    /// The block that is held under the digest, if there is one.
     pub(crate) fn block(&self, digest: &Digest) -> Option<&Block>
         ensures { option_copied result ≡ map.get self.now.state.blocks digest.now }
     {
@@ -223,7 +223,7 @@ impl Plain {
         }
     }
 
-    /// The certificate that is kept for the digest.
+    /// The certificate that is kept for the digest, if there is one.
     pub(crate) fn certificate(&self, digest: &Digest) -> Option<&Certificate>
         ensures { option_copied result ≡ map.get self.now.state.certificates digest.now }
     {
@@ -233,20 +233,20 @@ impl Plain {
         }
     }
 
-    /// The first digest of the round and author.
+    /// The first digest of the round and author, if there is one.
     pub(crate) fn first(&self, round: Round, author: u16) -> Option<Digest>
         ensures { result ≡ map.get self.now.state.firsts (round, author) }
     {
         self.firsts.get(&(round, author)).copied()
     }
 
-    fn held(&self) -> usize
+    fn block_count(&self) -> usize
         ensures { result ≡ map.len self.now.state.blocks }
     {
         self.blocks.len()
     }
 
-    /// Puts the block under the digest, which is the first of the block's slot where there is a vote.
+    /// Adds the block under the digest. If `vote` is set, the digest becomes the first of the block's slot.
     fn store(&mut self, digest: Digest, block: Shared<Block>, vote: bool) -> Result<(), NoMemory>
         requires absent { IsNone (map.get self.old.state.blocks digest) }
         requires open { IsTrue vote → IsNone (map.get self.old.state.firsts (block_slot block)) }
@@ -264,7 +264,7 @@ impl Plain {
         Ok(())
     }
 
-    /// Puts the block under the digest, which is the first of the block's slot from now on.
+    /// Adds the block under the digest, which becomes the first of the block's slot.
     fn store_first(&mut self, digest: Digest, block: Shared<Block>) -> Result<(), NoMemory>
         requires absent { IsNone (map.get self.old.state.blocks digest) }
         requires open { IsNone (map.get self.old.state.firsts (block_slot block)) }
@@ -281,7 +281,7 @@ impl Plain {
     }
 }
 
-/// Puts the value under the digest, and the digest under the slot. Room for both is made before either map changes.
+/// Adds the value under the digest, and the digest under the slot. `NoMemory` if allocation fails. Then both maps are unchanged.
 fn insert_both<T: Drop>(
     held: &mut BTreeMap<Digest, T>,
     digest: Digest,

@@ -1,4 +1,4 @@
-//! Views: blocks as they were at one moment, with all that happened before them.
+//! Views: the complete blocks of one moment.
 ghost use Rattle.std.specs.Prelude.{◌≡◌};
 ghost use Rattle.std.specs.Option.{option_copied};
 ghost use Rattle.std.specs.FinMap as map;
@@ -9,8 +9,8 @@ use nw_digest::{Digest, Round, Shared};
 use std::collections::BTreeMap;
 use std::marker::Model;
 
-/// Blocks under their digests, and a floor. Each parent of a block above the floor is there too, with the named author
-/// and in the round before, and no two blocks that are not below the floor share round and author.
+/// Blocks under their digests, and a floor. The view is closed: it has each parent of a block above the floor, with the named author
+/// and the preceding round, and no two blocks at or above the floor share a round and author.
 #[derive(Drop)]
 pub(crate) struct View {
     blocks: BTreeMap<Digest, Shared<Block>>,
@@ -32,7 +32,7 @@ impl Model for View {
 }
 
 impl View {
-    /// The view of these blocks. It takes no memory.
+    /// The view of these blocks, with this floor. Allocates nothing.
     pub(crate) fn new(blocks: BTreeMap<Digest, Shared<Block>>, floor: Round) -> View
         requires { IsClosed (record { blocks = map.from_entries blocks.entries; floor = floor }) }
         ensures { result ≡ record { blocks = map.from_entries blocks.entries; floor = floor } }
@@ -40,7 +40,7 @@ impl View {
         View { blocks, floor }
     }
 
-    /// The block under the digest.
+    /// The block under the digest, if there is one.
     pub(crate) fn get(&self, digest: &Digest) -> Option<&Shared<Block>>
         ensures block { option_copied result ≡ map.get self.now.blocks digest.now }
         ensures closed { IsClosed self.now }
@@ -48,7 +48,7 @@ impl View {
         self.blocks.get(digest)
     }
 
-    /// The round below which nothing is asked for.
+    /// The floor: walks use no block of a lower round.
     pub(crate) fn floor(&self) -> Round
         ensures floor { result ≡ self.now.floor }
         ensures closed { IsClosed self.now }

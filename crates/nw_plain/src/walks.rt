@@ -1,4 +1,4 @@
-//! Walks: the blocks that happened before a block, in a view.
+//! Walks: the ancestors of a block in a view.
 ghost use Rattle.std.specs.Prelude.{IfOk, All, []};
 ghost use Rattle.std.specs.FinMap as map;
 ghost use Rattle.nw_model.specs.View.{IsThere, IsWalk};
@@ -10,9 +10,9 @@ use nw_digest::{Digest, NoMemory, Round, Shared};
 use std::alloc::Global;
 use std::collections::BTreeMap;
 
-/// The block under the digest and all its ancestors in the view, strictly ascending by round and author.
+/// The blocks of the ancestors of the digest in the view, strictly ascending by round and author.
 ///
-/// It goes round by round, from the block's own down to the floor; each block is looked up once for each reference to it.
+/// The walk goes round by round, from the block's own down to the floor. It looks up each block once for each reference to it.
 pub(crate) fn walk(
     alloc: Global,
     view: &View,
@@ -31,7 +31,7 @@ pub(crate) fn walk(
     Ok(blocks)
 }
 
-/// The digests of the ancestors, under their rounds and authors.
+/// The ancestors of the digest, by round and author.
 fn ancestors(
     alloc: Global,
     view: &View,
@@ -56,7 +56,7 @@ fn ancestors(
     Ok(found)
 }
 
-/// The parents of the blocks of one round that were not found before. They are found now.
+/// The parents of the frontier's blocks, without those that were found before. Adds them to `found`.
 fn parents_of_all(
     alloc: Global,
     view: &View,
@@ -78,7 +78,7 @@ fn parents_of_all(
     Ok(parents)
 }
 
-/// Adds the parents of the block that were not found before.
+/// Adds the parents of the block that were not found before to `found` and to `parents`.
 fn find_parents(
     view: &View,
     block: &Block,

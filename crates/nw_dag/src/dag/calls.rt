@@ -1,4 +1,4 @@
-//! The calls of the step table, each by the name that the table has for it.
+//! The calls of the step table.
 ghost use Rattle.std.specs.Prelude.{◌≡◌, IfOk, OnOk, OnErr};
 ghost use Rattle.nw_model.specs.Step.{IsReply, IsShort, after};
 ghost use Rattle.nw_model.specs.Step.{write_reply, certify_reply, collect_reply};
@@ -10,10 +10,9 @@ use nw_model::{Call, CertifyReply, CollectReply, Reply, WriteReply};
 use std::alloc::Global;
 
 impl Dag {
-    /// Takes the step of the call that gets this reply, which [`Dag::reply`] gives. It looks up nothing that the reply
-    /// tells.
+    /// Takes the step of the call that gets this reply. [`Dag::reply`] finds the reply; what it says is not looked up again.
     ///
-    /// Want of memory leaves the store as it was.
+    /// `NoMemory` if allocation fails. Then the store is unchanged.
     pub fn take(&mut self, call: &Call, reply: &Reply) -> Result<(), NoMemory>
         requires { IsReply self.old.bounds self.old.state call.now reply.now }
         ensures state { OnOk result
@@ -33,7 +32,9 @@ impl Dag {
         }
     }
 
-    /// The reply that the call would get now. A causal read of a complete digest gets `Ready`, and no list.
+    /// The reply that the call would get now. A causal read of a complete digest would get `Ready`, not a list.
+    ///
+    /// `NoMemory` if allocation fails, or if the block or certificate of the reply has too many owners.
     pub fn reply(&self, alloc: Global, call: &Call) -> Result<Reply, NoMemory>
         ensures reply { IfOk result (IsReply self.now.bounds self.now.state call.now) }
         ensures short { IfOk result IsShort }
@@ -54,8 +55,9 @@ impl Dag {
         }
     }
 
-    /// Takes the step of a write of the block under the digest, and answers its reply. Want of memory leaves the store as
-    /// it was.
+    /// Takes the step of a write of the block under the digest, and returns its reply.
+    ///
+    /// `NoMemory` if allocation fails. Then the store is unchanged.
     pub fn write(&mut self, digest: Digest, block: &Shared<Block>) -> Result<WriteReply, NoMemory>
         ensures reply { IfOk result
             (λ r. r ≡ write_reply self.old.bounds self.old.state digest block.now) }
@@ -69,7 +71,9 @@ impl Dag {
         Ok(reply)
     }
 
-    /// Takes the step of handing in the certificate, and answers its reply. Want of memory leaves the store as it was.
+    /// Takes the step of handing in the certificate, and returns its reply.
+    ///
+    /// `NoMemory` if allocation fails. Then the store is unchanged.
     pub fn certify(&mut self, certificate: &Shared<Certificate>) -> Result<CertifyReply, NoMemory>
         ensures reply { IfOk result
             (λ r. r ≡ certify_reply self.old.bounds self.old.state certificate.now) }
@@ -83,8 +87,10 @@ impl Dag {
         Ok(reply)
     }
 
-    /// Takes the step of a collection, and answers its reply: where the round is higher than the garbage round, it is the
-    /// garbage round from now on, and what is of a round below it is dropped. Want of memory leaves the store as it was.
+    /// Takes the step of a collection, and returns its reply. If the round is above the garbage round, it becomes the garbage round, and
+    /// everything of lower rounds is dropped.
+    ///
+    /// `NoMemory` if allocation fails. Then the store is unchanged.
     pub fn collect(&mut self, round: Round) -> Result<CollectReply, NoMemory>
         ensures reply { IfOk result (λ r. r ≡ collect_reply self.old.state round) }
         ensures state { OnOk result

@@ -15,8 +15,10 @@ use nw_model::{CausalReply, Reply};
 use std::alloc::Global;
 
 impl Dag {
-    /// A view of the complete blocks, where the block under the digest is complete; else why it is not given. What became
-    /// complete since the last view is frozen once more, and all views share it. Want of memory changes no answer.
+    /// A view of the complete blocks if the digest is complete; otherwise the reason why there is none. The blocks that became complete
+    /// since the last view are frozen, and all later views share them.
+    ///
+    /// `NoMemory` if allocation fails. The state never changes.
     pub fn freeze_for(
         &mut self,
         alloc: Global,
@@ -35,8 +37,9 @@ impl Dag {
         Ok(Ok(self.generations.view(alloc, self.held.floor())?))
     }
 
-    /// Freezes the complete blocks anew, as one generation that has no collected block. Views that were given stay as they
-    /// are. Want of memory changes no answer.
+    /// Freezes all complete blocks again, as one generation without collected blocks. Earlier views keep their generations.
+    ///
+    /// `NoMemory` if allocation fails. The state never changes.
     pub fn compact(&mut self, alloc: Global) -> Result<(), NoMemory>
         ensures { self.new ≡ self.old }
     {
@@ -45,7 +48,7 @@ impl Dag {
         Ok(())
     }
 
-    /// Why a causal read of the digest gets no list, or `None` where the block under it is complete.
+    /// Why a causal read of the digest would get no list, or `None` if the digest is complete.
     fn refusal(&self, digest: &Digest) -> Option<CausalReply>
         ensures why { MatchOption result (IsComplete self.now.state digest.now)
             (λ refusal. IsCausalReply self.now.state digest.now (Reply.Causal refusal)) }
@@ -63,7 +66,7 @@ impl Dag {
         None
     }
 
-    /// The reply that a causal read would get now, where no list is asked for.
+    /// The reply that a causal read would get now, with `Ready` in place of a list.
     pub(super) fn causal_reply(&self, digest: &Digest) -> Reply
         ensures reply { IsCausalReply self.now.state digest.now result }
         ensures short { IsShort result }

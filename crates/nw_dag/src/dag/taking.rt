@@ -1,4 +1,4 @@
-//! What the tables take in at each decided reply.
+//! The changes of the tables that each reply calls for.
 ghost use Rattle.std.specs.Prelude.{◌≡◌, OnOk, OnErr};
 ghost use Rattle.nw_model.specs.Step.{after_write, after_certify, after_collect};
 ghost use Rattle.nw_model.specs.Step.{write_reply, certify_reply, collect_reply};
@@ -26,13 +26,15 @@ impl Dag {
             return Ok(());
         };
         let owner = block.try_clone()?;
-        self.waits.roll.reserve(&self.held, &self.waits.lacking)?;
+        self.waits
+            .completions
+            .reserve(&self.held, &self.waits.lacking)?;
         self.waits.want_parents(&self.held, block.get(), digest)?;
         if let Err(refused) = self.held.put_block(digest, owner, *vote) {
             self.waits.forget(digest);
             return Err(refused);
         }
-        self.waits.roll.admit();
+        self.waits.completions.add_pending();
         self.waits.arrive(&self.held, digest);
         Ok(())
     }
@@ -57,7 +59,7 @@ impl Dag {
         Ok(())
     }
 
-    /// Takes the step of a collection that gets this reply. The memory is taken first.
+    /// Takes the step of a collection that gets this reply. All allocation comes before the first change.
     pub(super) fn take_collect(
         &mut self,
         round: Round,
@@ -73,11 +75,11 @@ impl Dag {
             return Ok(());
         };
         let holders = self.held.up_to(round)?;
-        let lost = self.waits.lost(&self.held, &holders, round);
+        let complete = self.waits.complete_below(&self.held, &holders, round);
         let blocks = self.held.blocks();
         self.held.raise(round, &holders);
         let dropped = blocks - self.held.blocks();
-        self.waits.collect(&self.held, &holders, dropped - lost);
+        self.waits.collect(&self.held, &holders, dropped - complete);
         Ok(())
     }
 }

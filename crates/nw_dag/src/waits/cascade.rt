@@ -1,4 +1,4 @@
-//! What becomes complete when a block stands.
+//! The cascade: the blocks that become complete when a digest comes to stand.
 ghost use Rattle.std.specs.Prelude.{◌≡◌, ◌+◌, ◌<◌, [], ◌∷◌, drop, length};
 ghost use Rattle.std.specs.List.{IsDistinct};
 ghost use Rattle.std.specs.Ordering.{eq_by_cmp};
@@ -7,55 +7,56 @@ ghost use Rattle.nw_held.specs.Standing.{Stands};
 ghost use Rattle.nw_dag.specs.Lacking.{IsReady};
 ghost use Rattle.nw_dag.specs.Changes.{Adds, Promotes};
 ghost use Rattle.nw_dag.specs.Frozen.{Grows};
-ghost use Rattle.nw_dag.specs.Settled.{IsTally, IsCascading, IsSettled, IsSettledBut};
+ghost use Rattle.nw_dag.specs.Settled.{IsTally, IsCascading, IsSettled, IsSettledWithout};
 
 use super::Waits;
-use crate::roll::{is_ready, lacks_nothing};
+use crate::completions::{is_ready, lacks_nothing};
 use nw_digest::Digest;
 use nw_held::Held;
 
 impl Waits {
-    /// Lists the digest where it is ready.
+    /// Lists the digest if it is ready.
     pub(super) fn add_if_ready(&mut self, held: &Held, digest: Digest)
         requires pending { IsReady held.now.state self.old.lacking digest
-            → 0 < self.old.roll.pending }
+            → 0 < self.old.completions.pending }
         ensures unmet { self.new.unmet ≡ self.old.unmet }
         ensures lacking { self.new.lacking ≡ self.old.lacking }
         ensures added { Adds (IsReady held.now.state self.old.lacking)
-            (digest ∷ []) self.old.roll.fresh.items self.new.roll.fresh.items }
-        ensures most { length self.new.roll.fresh.items + self.new.roll.pending
-            ≡ length self.old.roll.fresh.items + self.old.roll.pending }
+            (digest ∷ []) self.old.completions.fresh.items self.new.completions.fresh.items }
+        ensures most { length self.new.completions.fresh.items + self.new.completions.pending
+            ≡ length self.old.completions.fresh.items + self.old.completions.pending }
     {
         if is_ready(held, &self.lacking, digest) {
-            self.roll.add(digest);
+            self.completions.add(digest);
         }
     }
 
-    /// Lists those of the digests that are ready.
+    /// Lists the digests that are ready.
     fn add_ready(&mut self, held: &Held, digests: &[Digest])
-        requires tally { IsTally held.now.state self.old.lacking digests.now self.old.roll.pending }
+        requires tally { IsTally held.now.state self.old.lacking digests.now
+            self.old.completions.pending }
         requires once { IsDistinct (eq_by_cmp digest_cmp) digests.now }
         ensures unmet { self.new.unmet ≡ self.old.unmet }
         ensures lacking { self.new.lacking ≡ self.old.lacking }
         ensures added { Adds (IsReady held.now.state self.old.lacking) digests.now
-            self.old.roll.fresh.items self.new.roll.fresh.items }
-        ensures most { length self.new.roll.fresh.items + self.new.roll.pending
-            ≡ length self.old.roll.fresh.items + self.old.roll.pending }
+            self.old.completions.fresh.items self.new.completions.fresh.items }
+        ensures most { length self.new.completions.fresh.items + self.new.completions.pending
+            ≡ length self.old.completions.fresh.items + self.old.completions.pending }
     {
         for digest in digests {
             self.add_if_ready(held, *digest);
         }
     }
 
-    /// Lets nobody lack the block under the digest any more, and lists those that lacked it and are ready now.
+    /// Promotes the digest: no block lacks its block any longer, and the blocks that became ready by this are listed.
     fn promote(&mut self, held: &Held, digest: Digest)
-        requires tally { IsTally held.now.state self.old.lacking [] self.old.roll.pending }
+        requires tally { IsTally held.now.state self.old.lacking [] self.old.completions.pending }
         requires stands { Stands held.now.state digest }
         ensures unmet { self.new.unmet ≡ self.old.unmet }
         ensures promotes { Promotes held.now.state digest self.old.lacking self.new.lacking
-            self.old.roll.fresh.items self.new.roll.fresh.items }
-        ensures most { length self.new.roll.fresh.items + self.new.roll.pending
-            ≡ length self.old.roll.fresh.items + self.old.roll.pending }
+            self.old.completions.fresh.items self.new.completions.fresh.items }
+        ensures most { length self.new.completions.fresh.items + self.new.completions.pending
+            ≡ length self.old.completions.fresh.items + self.old.completions.pending }
     {
         if let Some(wanted) = held.name(digest) {
             let holders = self.lacking.satisfy(&wanted);
@@ -63,41 +64,42 @@ impl Waits {
         }
     }
 
-    /// Promotes what is listed from this place on, and what becomes ready by it. It takes no memory.
+    /// Promotes the listed digests from this place on, and those that become ready by this. Allocates nothing.
     pub(super) fn cascade(&mut self, held: &Held, first: usize)
         requires due { IsCascading held.now.state self.old.unmet self.old.lacking
-            (drop first self.old.roll.fresh.items) self.old.roll.pending }
+            (drop first self.old.completions.fresh.items) self.old.completions.pending }
         ensures settled { IsSettled held.now.state self.new.unmet self.new.lacking
-            self.new.roll.pending }
+            self.new.completions.pending }
         ensures grown { Grows held.now.state (IsReady held.now.state self.old.lacking)
-            self.old.lacking self.new.lacking self.old.roll.fresh.items self.new.roll.fresh.items }
+            self.old.lacking self.new.lacking
+            self.old.completions.fresh.items self.new.completions.fresh.items }
     {
-        for place in first..self.roll.most() {
-            match self.roll.get(place) {
+        for place in first..self.completions.most() {
+            match self.completions.get(place) {
                 None => return,
                 Some(digest) => self.promote(held, digest),
             }
         }
     }
 
-    /// Takes in that the digest may stand now: what lacked it does no more, and what is complete by it is promoted. It
-    /// takes no memory.
+    /// Updates the sets after the block or the certificate of the digest was added. If the digest stands now, it is no longer unmet. If it
+    /// is complete, it is listed and promoted, with all blocks that become complete by this. Allocates nothing.
     pub(crate) fn arrive(&mut self, held: &Held, digest: Digest)
-        requires { IsSettledBut held.now.state digest self.old.unmet self.old.lacking
-            self.old.roll.pending }
+        requires { IsSettledWithout held.now.state digest self.old.unmet self.old.lacking
+            self.old.completions.pending }
         ensures settled { IsSettled held.now.state self.new.unmet self.new.lacking
-            self.new.roll.pending }
+            self.new.completions.pending }
         ensures grown { Grows held.now.state
             (λ d. IsReady held.now.state self.old.lacking d × (d ≡ digest → ⊥)) self.old.lacking
-            self.new.lacking self.old.roll.fresh.items self.new.roll.fresh.items }
+            self.new.lacking self.old.completions.fresh.items self.new.completions.fresh.items }
     {
         let Some(name) = held.standing(&digest) else {
             return;
         };
         let _met = self.unmet.satisfy(&name);
         if lacks_nothing(&self.lacking, digest) {
-            let first = self.roll.listed();
-            self.roll.add(digest);
+            let first = self.completions.listed();
+            self.completions.add(digest);
             self.cascade(held, first);
         }
     }

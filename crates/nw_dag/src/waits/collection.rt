@@ -1,4 +1,4 @@
-//! What holders lack after a collection.
+//! Missing parents and complete blocks after a collection.
 ghost use Rattle.std.specs.Prelude.{◌≡◌, ◌↔◌, ◌+◌, IsTrue, [], ◌∷◌, length};
 ghost use Rattle.std.specs.List.{IsDistinct};
 ghost use Rattle.std.specs.Ordering.{eq_by_cmp};
@@ -8,17 +8,18 @@ ghost use Rattle.nw_dag.specs.Lacking.{IsReady};
 ghost use Rattle.nw_dag.specs.Changes.{Adds};
 ghost use Rattle.nw_dag.specs.Frozen.{Grows};
 ghost use Rattle.nw_dag.specs.Settled.{IsTally, IsSettled};
-ghost use Rattle.nw_dag.specs.Collection.{AreWithout, IsStuck, IsLost, LostCount, IsCollecting};
+ghost use Rattle.nw_dag.specs.Collection.{AreReleased, StandsButLacks};
+ghost use Rattle.nw_dag.specs.Collection.{IsCompleteBelow, HasCompleteBelow, IsCollecting};
 
 use super::Waits;
-use crate::roll::{is_ready, lacks_nothing};
+use crate::completions::{is_ready, lacks_nothing};
 use nw_digest::{Digest, Round};
 use nw_held::Held;
 
 impl Waits {
-    /// Whether the block under the digest is complete, and of a round below this one.
-    fn is_lost(&self, held: &Held, digest: Digest, round: Round) -> bool
-        ensures { IsTrue result ↔ IsLost held.now.state self.now.lacking round digest }
+    /// Whether the digest is complete, and its block is of a round below this one.
+    fn is_complete_below(&self, held: &Held, digest: Digest, round: Round) -> bool
+        ensures { IsTrue result ↔ IsCompleteBelow held.now.state self.now.lacking round digest }
     {
         match held.block(&digest) {
             None => false,
@@ -26,29 +27,29 @@ impl Waits {
         }
     }
 
-    /// How many of the digests have complete blocks of rounds below this one.
-    pub(crate) fn lost(&self, held: &Held, digests: &[Digest], round: Round) -> usize
+    /// How many of the digests are complete, with blocks of rounds below this one.
+    pub(crate) fn complete_below(&self, held: &Held, digests: &[Digest], round: Round) -> usize
         requires { IsDistinct (eq_by_cmp digest_cmp) digests.now }
-        ensures { LostCount held.now.state self.now.lacking round digests.now result }
+        ensures { HasCompleteBelow held.now.state self.now.lacking round digests.now result }
     {
         let mut count = 0;
         for digest in digests {
-            if self.is_lost(held, *digest, round) {
+            if self.is_complete_below(held, *digest, round) {
                 count += 1;
             }
         }
         count
     }
 
-    /// Lets the holder lack nothing any more, and lists it where it is ready by that.
+    /// Releases the holder: it lacks nothing from now on, and is listed if it became ready by this.
     fn release(&mut self, held: &Held, holder: Digest)
-        requires tally { IsTally held.now.state self.old.lacking [] self.old.roll.pending }
+        requires tally { IsTally held.now.state self.old.lacking [] self.old.completions.pending }
         ensures unmet { self.new.unmet ≡ without_holder self.old.unmet holder }
         ensures lacking { self.new.lacking ≡ without_holder self.old.lacking holder }
-        ensures added { Adds (IsStuck held.now.state self.old.lacking)
-            (holder ∷ []) self.old.roll.fresh.items self.new.roll.fresh.items }
-        ensures most { length self.new.roll.fresh.items + self.new.roll.pending
-            ≡ length self.old.roll.fresh.items + self.old.roll.pending }
+        ensures added { Adds (StandsButLacks held.now.state self.old.lacking)
+            (holder ∷ []) self.old.completions.fresh.items self.new.completions.fresh.items }
+        ensures most { length self.new.completions.fresh.items + self.new.completions.pending
+            ≡ length self.old.completions.fresh.items + self.old.completions.pending }
     {
         let lacked_nothing = lacks_nothing(&self.lacking, holder);
         self.forget(holder);
@@ -57,34 +58,35 @@ impl Waits {
         }
     }
 
-    /// Lets the holders lack nothing any more, and lists those that are ready by that.
+    /// Releases the holders: they lack nothing from now on, and those that became ready by this are listed.
     fn release_each(&mut self, held: &Held, holders: &[Digest])
-        requires tally { IsTally held.now.state self.old.lacking [] self.old.roll.pending }
+        requires tally { IsTally held.now.state self.old.lacking [] self.old.completions.pending }
         requires once { IsDistinct (eq_by_cmp digest_cmp) holders.now }
-        ensures unmet { AreWithout holders.now self.old.unmet self.new.unmet }
-        ensures lacking { AreWithout holders.now self.old.lacking self.new.lacking }
-        ensures added { Adds (IsStuck held.now.state self.old.lacking) holders.now
-            self.old.roll.fresh.items self.new.roll.fresh.items }
-        ensures most { length self.new.roll.fresh.items + self.new.roll.pending
-            ≡ length self.old.roll.fresh.items + self.old.roll.pending }
+        ensures unmet { AreReleased holders.now self.old.unmet self.new.unmet }
+        ensures lacking { AreReleased holders.now self.old.lacking self.new.lacking }
+        ensures added { Adds (StandsButLacks held.now.state self.old.lacking) holders.now
+            self.old.completions.fresh.items self.new.completions.fresh.items }
+        ensures most { length self.new.completions.fresh.items + self.new.completions.pending
+            ≡ length self.old.completions.fresh.items + self.old.completions.pending }
     {
         for holder in holders {
             self.release(held, *holder);
         }
     }
 
-    /// Takes in that the garbage round was raised: these holders, of rounds up to it, lack nothing any more, so many blocks
-    /// that were not complete are held no more, and what is complete by it is promoted. It takes no memory.
+    /// Updates the sets after the garbage round was raised. The holders are the digests of rounds up to it, and `dropped` is the number of
+    /// dropped blocks that were not complete. Blocks that become complete by this are listed and promoted. Allocates nothing.
     pub(crate) fn collect(&mut self, held: &Held, holders: &[Digest], dropped: usize)
-        requires { IsCollecting held.now.state self.old.unmet self.old.lacking self.old.roll.pending
-            holders.now dropped }
+        requires { IsCollecting held.now.state self.old.unmet self.old.lacking
+            self.old.completions.pending holders.now dropped }
         ensures settled { IsSettled held.now.state self.new.unmet self.new.lacking
-            self.new.roll.pending }
+            self.new.completions.pending }
         ensures grown { Grows held.now.state (IsReady held.now.state self.old.lacking)
-            self.old.lacking self.new.lacking self.old.roll.fresh.items self.new.roll.fresh.items }
+            self.old.lacking self.new.lacking
+            self.old.completions.fresh.items self.new.completions.fresh.items }
     {
-        self.roll.dismiss(dropped);
-        let first = self.roll.listed();
+        self.completions.drop_pending(dropped);
+        let first = self.completions.listed();
         self.release_each(held, holders);
         self.cascade(held, first);
     }

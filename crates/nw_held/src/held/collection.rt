@@ -1,4 +1,4 @@
-//! What a collection finds and drops of what is held.
+//! Collections: what one counts, and what it drops.
 ghost use Rattle.std.specs.Prelude.{◌≡◌, ◌-◌, ◌≤◌, IfOk};
 ghost use Rattle.std.specs.FinMap as map;
 ghost use Rattle.nw_model.specs.Sound.{IsSound};
@@ -6,14 +6,14 @@ ghost use Rattle.nw_model.specs.Step.{collect_reply, raised};
 ghost use Rattle.nw_held.specs.Collection.{AreUpTo, counts_at};
 
 use super::Held;
-use super::shelf::drop_below;
+use super::dropping::drop_below;
 use nw_digest::{Digest, NoMemory, Round};
 use nw_model::CollectReply;
 use nw_rounds::Table;
 
 impl Held {
-    /// The reply that a collection would get now. It goes through what is of rounds below this one alone, and through
-    /// nothing where the round is not higher than the garbage round. It takes no memory.
+    /// The reply that a collection would get now. This goes only through the entries of lower rounds, and through none if the round is
+    /// not above the garbage round. Allocates nothing.
     pub fn collect_reply(&self, round: Round) -> CollectReply
         ensures { result ≡ collect_reply self.now.state round }
     {
@@ -25,7 +25,7 @@ impl Held {
         }
     }
 
-    /// How many blocks of rounds below this one are held.
+    /// How many held blocks are of rounds below this one.
     fn blocks_below(&self, round: Round) -> usize
         ensures { result
             ≡ map.len self.now.state.blocks - map.len (raised self.now.state round).blocks }
@@ -39,8 +39,8 @@ impl Held {
         count
     }
 
-    /// Whether the block of the digest is counted where the digest stands in this table: in that of the certificates,
-    /// where one is kept for it, and else in that of the firsts.
+    /// Whether a digest that is listed in this table counts as a block there. A certified digest counts in the table of certified
+    /// digests, if its block is held. Any other digest counts in the table of first digests.
     fn counts_at(&self, table: Table, digest: &Digest) -> bool
         ensures { result ≡ counts_at self.now.state table digest.now }
     {
@@ -50,7 +50,7 @@ impl Held {
         }
     }
 
-    /// The digests of the slots of this round and those below. It is refused for want of memory alone.
+    /// The digests of the slots of this round and of lower rounds. `NoMemory` if allocation fails.
     pub fn up_to(&self, round: Round) -> Result<Vec<Digest>, NoMemory>
         ensures digests { IfOk result (λ found. AreUpTo self.now.state round found.items) }
         ensures sound { IsSound self.now.state }
@@ -58,8 +58,8 @@ impl Held {
         self.slots.digests_up_to(self.alloc, round)
     }
 
-    /// Makes the round the garbage round, and drops what is of a round below it, which is under these digests. It takes no
-    /// memory.
+    /// Makes this the garbage round, and drops everything of lower rounds. `digests` are those that [`Held::up_to`] gives for this round.
+    /// Allocates nothing.
     pub fn raise(&mut self, round: Round, digests: &[Digest])
         requires { AreUpTo self.old.state round digests.now }
         ensures state { self.new.state ≡ raised self.old.state round }

@@ -1,4 +1,4 @@
-//! Which reply a call will get.
+//! The replies to writes and certificates.
 ghost use Rattle.std.specs.Prelude.{◌≡◌, None, Some, is_some, if◌then◌else◌};
 ghost use Rattle.std.specs.Option.{option_and_then, option_copied};
 ghost use Rattle.nw_model.specs.State.{block_slot, certificate_slot};
@@ -10,7 +10,7 @@ use nw_digest::{Digest, Shared};
 use nw_model::{CertifyReply, WriteReply};
 
 impl Held {
-    /// The reply that a write of the block under the digest would get now. It takes no memory.
+    /// The reply that a write of the block under the digest would get now. Allocates nothing.
     pub fn write_reply(&self, digest: &Digest, block: &Block) -> WriteReply
         ensures { result ≡ write_reply self.now.bounds self.now.state digest.now block.now }
     {
@@ -35,7 +35,7 @@ impl Held {
         if let Some(rival) = rival(certificate, first, digest) {
             return WriteReply::Equivocates(rival);
         }
-        if self.blocks() >= self.most as usize {
+        if self.blocks() >= self.limit as usize {
             return WriteReply::Full;
         }
         WriteReply::Stored {
@@ -43,7 +43,7 @@ impl Held {
         }
     }
 
-    /// The reply that the certificate would get now. It takes no memory.
+    /// The reply that the certificate would get now. Allocates nothing.
     pub fn certify_reply(&self, certificate: &Certificate) -> CertifyReply
         ensures { result ≡ certify_reply self.now.bounds self.now.state certificate.now }
     {
@@ -70,14 +70,14 @@ impl Held {
         if let Some(other) = self.certified(certificate.round, certificate.author) {
             return CertifyReply::Conflict(other);
         }
-        if self.certificates() >= self.most as usize {
+        if self.certificates() >= self.limit as usize {
             return CertifyReply::Full;
         }
         CertifyReply::Certified
     }
 }
 
-/// Whether the certificate is for another round or author than the block's.
+/// Whether there is a certificate, and it is for another round or author than the block's.
 fn is_misfit(certificate: Option<&Shared<Certificate>>, block: &Block) -> bool
     ensures { result
         ≡ is_elsewhere certificate_slot (option_copied certificate.entry) (block_slot block.now) }
@@ -91,7 +91,7 @@ fn is_misfit(certificate: Option<&Shared<Certificate>>, block: &Block) -> bool
     }
 }
 
-/// The first digest of a slot, where it is another and this one has no certificate.
+/// The first digest of a slot, if it is another digest and this one has no certificate.
 fn rival(
     certificate: Option<&Shared<Certificate>>,
     first: Option<Digest>,

@@ -15,7 +15,7 @@ use nw_model::{CausalReply, Reply};
 use std::collections::BTreeMap;
 
 impl Plain {
-    /// A view of the complete blocks, where the block under the digest is complete; else why it is not given.
+    /// A view of the complete blocks if the digest is complete; otherwise the reason why it is not.
     fn freeze_for(&self, digest: Digest) -> Result<Result<View, CausalReply>, NoMemory>
         ensures { IfOk result (λ frozen. MatchResult frozen
             (λ view. IsComplete self.now.state digest × Shows view self.now.state)
@@ -34,7 +34,7 @@ impl Plain {
         Ok(Ok(View::new(complete, self.floor)))
     }
 
-    /// The complete blocks. Certified digests are taken by round, so that a block's parents come before it.
+    /// The complete blocks. Certified digests are taken in the order of their rounds, so a block's parents come before it.
     pub(super) fn complete_blocks(&self) -> Result<BTreeMap<Digest, Shared<Block>>, NoMemory>
         ensures { IfOk result
             (λ complete. AreComplete self.now.state (map.from_entries complete.entries)) }
@@ -46,7 +46,8 @@ impl Plain {
         Ok(complete)
     }
 
-    /// Adds the block that is held under the digest where it is of the garbage round, or has its parents among the others.
+    /// Adds the block that is held under the digest if it is not above the garbage round, or if its parents are among the complete
+    /// blocks.
     fn add_if_complete(
         &self,
         complete: &mut BTreeMap<Digest, Shared<Block>>,
@@ -64,7 +65,7 @@ impl Plain {
         Ok(())
     }
 
-    /// The reply that a causal read would get now, with its list.
+    /// The reply that a causal read would get now: the list, or the reason why there is none.
     pub(super) fn causal_reply(&self, digest: Digest) -> Result<Reply, NoMemory>
         ensures reply { IfOk result (IsCausalReply self.now.state digest) }
         ensures listed { IfOk result (λ reply. reply ≢ Reply.Ready) }
@@ -79,7 +80,7 @@ impl Plain {
     }
 }
 
-/// Whether each parent of the block is among these blocks, with the named author and in the round before.
+/// Whether each parent of the block is among these blocks, with the named author and the preceding round.
 fn has_parents(blocks: &BTreeMap<Digest, Shared<Block>>, block: &Block) -> bool
     ensures { IsTrue result
         ↔ All (HasParent (map.from_entries blocks.now.entries) block.now.round) block.now.parents }
@@ -91,7 +92,7 @@ fn has_parents(blocks: &BTreeMap<Digest, Shared<Block>>, block: &Block) -> bool
         .all(|reference| has_parent(blocks, block.round, reference))
 }
 
-/// Whether the named parent of a block of this round is among these blocks, with the named author and in the round before.
+/// Whether the parent that a block of this round names is among these blocks, with the named author and the preceding round.
 fn has_parent(blocks: &BTreeMap<Digest, Shared<Block>>, round: Round, reference: &Ref) -> bool
     ensures { IsTrue result ↔ HasParent (map.from_entries blocks.now.entries) round reference.now }
 {

@@ -11,7 +11,7 @@ use nw_digest::{Digest, NoMemory, Round, Shared};
 use nw_model::CertifyReply;
 
 impl Plain {
-    /// The certificate that is held for the digest.
+    /// The certificate that is kept for the digest, if there is one.
     pub(super) fn read_certificate(
         &self,
         digest: &Digest,
@@ -50,20 +50,20 @@ impl Plain {
         if let Some(other) = self.certified_digest(slot) {
             return CertifyReply::Conflict(other);
         }
-        if self.kept() >= self.most as usize {
+        if self.certificate_count() >= self.limit as usize {
             return CertifyReply::Full;
         }
         CertifyReply::Certified
     }
 
-    /// The digest that is certified for the slot.
+    /// The certified digest of the slot, if there is one.
     fn certified_digest(&self, slot: (Round, u16)) -> Option<Digest>
         ensures { result ≡ certified_digest self.now.state slot }
     {
         self.certified.get(&slot).copied()
     }
 
-    /// Keeps the certificate.
+    /// Adds the certificate.
     pub(super) fn certify(&mut self, certificate: Shared<Certificate>) -> Result<(), NoMemory>
         requires absent { IsNone (map.get self.old.state.certificates certificate.digest) }
         requires open { certified_digest self.old.state (certificate_slot certificate) ≡ None }
@@ -86,7 +86,7 @@ impl Plain {
         )
     }
 
-    pub(super) fn kept(&self) -> usize
+    pub(super) fn certificate_count(&self) -> usize
         ensures { result ≡ map.len self.now.state.certificates }
     {
         self.certificates.len()

@@ -20,19 +20,19 @@ impl Plain {
             return CollectReply::NotHigher(self.floor);
         }
         CollectReply::Raised {
-            dropped: self.held_below(round),
+            dropped: self.blocks_below(round),
         }
     }
 
-    /// How many blocks are held of rounds below this one.
-    fn held_below(&self, round: Round) -> u64
+    /// How many held blocks are of rounds below this one.
+    fn blocks_below(&self, round: Round) -> u64
         ensures { result
             ≡ map.len self.now.state.blocks - map.len (raised self.now.state round).blocks }
     {
         count_below(&self.blocks, round) as u64
     }
 
-    /// Makes the round the garbage round, and drops what is of a round below it. It takes no memory.
+    /// Makes this the garbage round, and drops everything of lower rounds. Allocates nothing.
     pub(super) fn raise(&mut self, round: Round)
         ensures state { self.new.state ≡ raised self.old.state round }
         ensures bounds { self.new.bounds ≡ self.old.bounds }

@@ -1,4 +1,4 @@
-//! Stores that start where another one is.
+//! Stores that start from a base.
 ghost use Rattle.std.specs.Prelude.{◌≡◌, IfOk};
 
 use super::Plain;
@@ -7,9 +7,9 @@ use nw_digest::NoMemory;
 use std::alloc::Global;
 
 impl Plain {
-    /// A store with the base's state and bounds, which has one more owner of each block and certificate of the base.
+    /// A store with the base's state and bounds. It copies the base's maps, and shares the blocks and certificates.
     ///
-    /// Its cost is that of copying the base's maps. On want of memory there is no store, and the base is as it was.
+    /// `NoMemory` if allocation fails. The base never changes.
     pub fn over(alloc: Global, base: &Base) -> Result<Plain, NoMemory>
         ensures { IfOk result (λ plain. plain ≡ base.now) }
     {
@@ -26,7 +26,7 @@ impl Plain {
             firsts: self.firsts.clone()?,
             certified: self.certified.clone()?,
             floor: self.floor,
-            most: self.most,
+            limit: self.limit,
             window: self.window,
             alloc,
         })

@@ -1,10 +1,10 @@
-//! What a store misses, and how much it keeps.
+//! Wanted parents, and the counts of a store.
 ghost use Rattle.std.specs.Prelude.{◌≡◌, ◌↔◌, ◌<◌, ◌+◌, IfOk, OnOk, IsTrue, take};
 ghost use Rattle.std.specs.List.Sorted.{IsStrictlySortedBy};
 ghost use Rattle.nw_waiting.specs.Pairs.{wanted_cmp};
 ghost use Rattle.nw_model.specs.Paths.{IsSatisfied};
 ghost use Rattle.nw_model.specs.Missing.{AreCounts, AreExactly, AreFirstWanted, IsWanted, Wants};
-ghost use Rattle.nw_plain.specs.Added.{Adds, Lacks};
+ghost use Rattle.nw_plain.specs.Added.{Adds, NamesMissing};
 
 use super::Plain;
 use nw_codec::{Block, Ref};
@@ -14,7 +14,7 @@ use std::alloc::{AllocError, Global};
 use std::collections::BTreeSet;
 
 impl Plain {
-    /// The first so many of the wanted parents.
+    /// The first `most` wanted parents, or all if there are fewer.
     pub(super) fn first_wanted(&self, most: u16) -> Result<Sequence<Wanted>, NoMemory>
         ensures { IfOk result (AreFirstWanted self.now.state most) }
     {
@@ -23,20 +23,20 @@ impl Plain {
         Ok(Sequence::new(first))
     }
 
-    /// How much is kept, and how much is wanted.
+    /// The counts of the state.
     pub(super) fn counts(&self) -> Result<Counts, NoMemory>
         ensures { IfOk result (AreCounts self.now.state) }
     {
         Ok(Counts {
             floor: self.floor,
-            blocks: self.held() as u64,
-            certificates: self.kept() as u64,
+            blocks: self.block_count() as u64,
+            certificates: self.certificate_count() as u64,
             complete: self.complete_blocks()?.len() as u64,
             wanted: self.wanted()?.len() as u64,
         })
     }
 
-    /// The parents that are wanted.
+    /// The wanted parents.
     fn wanted(&self) -> Result<BTreeSet<Wanted>, NoMemory>
         ensures { IfOk result
             (λ wanted. AreExactly wanted_cmp (IsWanted self.now.state) wanted.keys) }
@@ -63,7 +63,7 @@ impl Plain {
         }
     }
 
-    /// Adds what the references of the block name that are not satisfied, in the round before it.
+    /// Adds the parents that the block's unsatisfied references name. `before` is the round before the block's.
     fn add_unsatisfied(
         &self,
         wanted: &mut BTreeSet<Wanted>,
@@ -83,7 +83,8 @@ impl Plain {
         Ok(())
     }
 
-    /// Adds what the reference of a block of this round names, in the round before, where it is not satisfied.
+    /// Adds the parent that the reference of a block of this round names, if the reference is not satisfied. `before` is the preceding
+    /// round.
     fn add_if_unsatisfied(
         &self,
         wanted: &mut BTreeSet<Wanted>,
@@ -93,7 +94,8 @@ impl Plain {
     ) -> Result<(), NoMemory>
         requires { before + 1 ≡ round }
         ensures added { OnOk result
-            (Adds (Lacks self.now.state round reference.now) wanted.old.keys wanted.new.keys) }
+            (Adds (NamesMissing self.now.state round reference.now)
+            wanted.old.keys wanted.new.keys) }
         ensures ordered { IsStrictlySortedBy wanted_cmp wanted.old.keys
             → IsStrictlySortedBy wanted_cmp wanted.new.keys }
     {
@@ -123,7 +125,7 @@ impl Plain {
     }
 }
 
-/// The first `most` keys.
+/// The first `most` keys, or all if there are fewer.
 fn first_keys<K: Ord + Copy>(
     alloc: Global,
     keys: &BTreeSet<K>,

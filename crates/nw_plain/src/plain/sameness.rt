@@ -1,4 +1,4 @@
-//! Whether two stores are the same.
+//! Comparisons of stores.
 ghost use Rattle.std.specs.Prelude.{◌≡◌, ◌↔◌, IsTrue};
 ghost use Rattle.std.specs.FinMap as map;
 ghost use Rattle.nw_digest.specs.Order.{digest_cmp, slot_cmp};
@@ -10,28 +10,28 @@ use nw_digest::{Digest, Round, Shared};
 use std::collections::BTreeMap;
 
 impl Plain {
-    /// Whether it is as a new store: nothing is held, and the garbage round is 0.
+    /// Whether its state is the opening state: three empty maps, and garbage round 0.
     pub(crate) fn is_opening(&self) -> bool
         ensures { IsTrue result ↔ self.now.state ≡ opening }
     {
-        if self.held() > 0 || self.kept() > 0 {
+        if self.block_count() > 0 || self.certificate_count() > 0 {
             return false;
         }
-        self.voted() == 0 && self.floor.get() == 0
+        self.first_count() == 0 && self.floor.get() == 0
     }
 
     /// How many rounds and authors have a first digest.
-    fn voted(&self) -> usize
+    fn first_count(&self) -> usize
         ensures { result ≡ map.len self.now.state.firsts }
     {
         self.firsts.len()
     }
 
-    /// Whether the other store has the same state and the same bounds. It takes no memory, and compares each entry once.
+    /// Whether the two stores have the same state and the same bounds. Allocates nothing, and compares each entry once.
     pub(crate) fn is_same(&self, other: &Plain) -> bool
         ensures { IsTrue result ↔ self.now ≡ other.now }
     {
-        self.most == other.most
+        self.limit == other.limit
             && self.window == other.window
             && self.floor == other.floor
             && are_same_blocks(&self.blocks, &other.blocks)

@@ -30,7 +30,7 @@ returns-clause-all c =
     let s = c.args.held.now.state in
     let lacking = c.args.waits.now.lacking in
     let fresh = c.drop_stale.new.self.fresh.items in
-    let fewer = frozen_fewer s lacking c.args.waits.now.roll.fresh.items fresh c.args.generations.now.blocks c.requires (λ x among ready. (c.drop_stale.ensures.fresh x).1 (among, ready)) in
+    let fewer = frozen_fewer s lacking c.args.waits.now.completions.fresh.items fresh c.args.generations.now.blocks c.requires (λ x among ready. (c.drop_stale.ensures.fresh x).1 (among, ready)) in
     let ready : (d : Digest) → Contains fresh d → IsReady s lacking d = λ d among. ((c.drop_stale.ensures.fresh d).0 among).1 in
     let of = rw c.as_slice.ensures.value at c.in_ok-fresh.ensures in
     elim c.if-parts-eq-MOST_PARTS.branch [

@@ -6,7 +6,7 @@ use Rattle.nw_digest.specs.declared.digest.Digest.{Digest}
 use Rattle.nw_digest.specs.Order.{digest_cmp}
 use Rattle.nw_model.specs.State.{State}
 use Rattle.nw_model.proofs.Maps.{digests_apart, digests_total, put_entries}
-use Rattle.nw_dag.specs.Frozen.{AreOf}
+use Rattle.nw_dag.specs.Frozen.{AreHeldUnder}
 use Rattle.nw_dag.proofs.Freezing.{held_none, held_more, held_same}
 use Rattle.nw_dag.proofs.frozen.held_blocks.Goals.{in-Some+in_ok-try_clone+in_ok-put, in_default}
 use Rattle.nw_dag.proofs.frozen.held_blocks.Goals as goal
@@ -22,7 +22,7 @@ loop-digest-preserved c =
     let none : Digest = record { 0 = [] } in
     let d : Digest = get_or xs i none in
     let more : take (i + 1) xs ≡ take i xs ++ d ∷ [] = take_more xs i none c.loop-digest-test.true in
-    subst (λ ys. AreOf s ys (from_entries {R = digest_cmp} c.match-block.trie)) (sym more) (elim c.match-block.branch [
+    subst (λ ys. AreHeldUnder s ys (from_entries {R = digest_cmp} c.match-block.trie)) (sym more) (elim c.match-block.branch [
       | in-Some+in_ok-try_clone+in_ok-put w ↦ held_more s (take i xs) (from_entries {R = digest_cmp} c.loop-digest.trie) (from_entries c.match-block.trie) d w.in-Some.block.now c.loop-digest.invariant
           (sym w.in-Some.ensures.value) (ap (λ (es : List (Digest × Block)). from_entries es) w.trie-is ∙ put_entries digests_total digests_apart c.loop-digest.trie w.put.new.self d _ w.in_ok-put.ensures.put ∙ ap (insert (from_entries {R = digest_cmp} c.loop-digest.trie) d) w.in_ok-try_clone.ensures)
       | in_default w ↦ held_same s (take i xs) (from_entries {R = digest_cmp} c.loop-digest.trie) (from_entries c.match-block.trie) d c.loop-digest.invariant
@@ -30,4 +30,4 @@ loop-digest-preserved c =
     ])
 
 pub returns : goal.returns
-returns c = subst (λ ys. AreOf c.args.held.now.state ys (from_entries {R = digest_cmp} c.loop-digest.trie)) (take_all c.loop-digest.digest-index c.args.digests.now c.loop-digest-test.false) c.loop-digest.invariant
+returns c = subst (λ ys. AreHeldUnder c.args.held.now.state ys (from_entries {R = digest_cmp} c.loop-digest.trie)) (take_all c.loop-digest.digest-index c.args.digests.now c.loop-digest-test.false) c.loop-digest.invariant

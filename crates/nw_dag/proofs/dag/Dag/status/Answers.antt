@@ -18,8 +18,8 @@ returns c =
     let inv = c.self.invariant.settled.settling in
     let same = ready_complete s waits.lacking inv.promoted c.certificates.ensures.sound in
     let listed = c.self.invariant.settled.complete in
-    let counts : length listed ≡ c.blocks-3.result - c.self.inside.waits.roll.pending = omega (arith, c.self.invariant.settled.counts, c.blocks-3.ensures) in
-    let complete : HasCount digest_cmp (IsComplete s) (c.blocks-3.result - c.self.inside.waits.roll.pending) =
+    let counts : length listed ≡ c.blocks-3.result - c.self.inside.waits.completions.pending = omega (arith, c.self.invariant.settled.counts, c.blocks-3.ensures) in
+    let complete : HasCount digest_cmp (IsComplete s) (c.blocks-3.result - c.self.inside.waits.completions.pending) =
     subst (HasCount digest_cmp (IsComplete s)) counts (count_of (IsComplete s) listed inv.listed.once (λ x. (
       λ among. (same x).0 (All-contains (IsReady s waits.lacking) listed x inv.listed.ready among),
       λ whole. inv.all x ((same x).1 whole),

@@ -2,7 +2,7 @@ use Rattle.std.proofs.Common.{◌≡◌, None, refl, ap, sym, ◌∙◌, subst}
 use Rattle.std.specs.FinMap.{get}
 use Rattle.nw_model.specs.State.{State}
 use Rattle.nw_model.specs.Step.{with_certificate}
-use Rattle.nw_dag.specs.Frozen.{AreFrozenBut}
+use Rattle.nw_dag.specs.Frozen.{AreFrozenExcept}
 use Rattle.nw_dag.proofs.Freezing.{frozen_arrived}
 use Rattle.nw_codec.specs.declared.certificate.Certificate.{Certificate}
 use Rattle.nw_dag.proofs.Written.{certified, certified_anew, certificate_arrives, since_certified}
@@ -10,7 +10,7 @@ use Rattle.nw_dag.proofs.dag.Dag.take_certify.Goals as goal
 
 pub arrive-requires : goal.arrive-requires
 arrive-requires c = rw (c.in_ok-put_certificate.ensures.state, c.in_ok-try_clone.ensures, c.get.ensures)
-    (certified c.self.inside.held.state c.args.certificate.now (certified_anew c.self.inside.held.bounds c.self.inside.held.state c.args.certificate.now (rw (← c.self.view_is) at (sym c.requires ∙ c.in-Certified.is))) c.self.inside.waits.unmet c.self.inside.waits.lacking c.self.inside.waits.roll.pending c.self.invariant.settled)
+    (certified c.self.inside.held.state c.args.certificate.now (certified_anew c.self.inside.held.bounds c.self.inside.held.state c.args.certificate.now (rw (← c.self.view_is) at (sym c.requires ∙ c.in-Certified.is))) c.self.inside.waits.unmet c.self.inside.waits.lacking c.self.inside.waits.completions.pending c.self.invariant.settled)
 
 pub invariant_of-self-2 : goal.invariant_of-self-2
 invariant_of-self-2 c =
@@ -21,8 +21,8 @@ invariant_of-self-2 c =
     let put : c.put_certificate.new.self.state ≡ with_certificate s c.args.certificate.now = c.in_ok-put_certificate.ensures.state ∙ ap (λ (x : Certificate). with_certificate s x) c.in_ok-try_clone.ensures in
     record {
       settled = c.arrive.ensures.settled;
-      frozen = subst (λ (t : State). AreFrozenBut t new.lacking new.roll.fresh.items c.self.inside.generations.blocks) (sym put)
-          (frozen_arrived s (with_certificate s c.args.certificate.now) c.args.certificate.now.digest waits.lacking waits.lacking new.lacking waits.roll.fresh.items waits.roll.fresh.items new.roll.fresh.items c.self.inside.generations.blocks
+      frozen = subst (λ (t : State). AreFrozenExcept t new.lacking new.completions.fresh.items c.self.inside.generations.blocks) (sym put)
+          (frozen_arrived s (with_certificate s c.args.certificate.now) c.args.certificate.now.digest waits.lacking waits.lacking new.lacking waits.completions.fresh.items waits.completions.fresh.items new.completions.fresh.items c.self.inside.generations.blocks
           (certificate_arrives s c.args.certificate.now none) (since_certified s c.args.certificate.now none waits.lacking c.self.invariant.settled.settling.promoted) (λ x other. refl) refl c.self.invariant.frozen (λ x among ready. among)
           (rw (put, c.get.ensures) at c.arrive.ensures.grown));
     }

@@ -4,8 +4,8 @@ use Rattle.std.specs.FinMap.{get}
 use Rattle.nw_digest.specs.declared.digest.Digest.{Digest}
 use Rattle.nw_model.specs.State.{State}
 use Rattle.nw_model.specs.Step.{with_block}
-use Rattle.nw_dag.specs.declared.roll.Roll.{Roll}
-use Rattle.nw_dag.specs.Frozen.{AreFrozenBut}
+use Rattle.nw_dag.specs.declared.completions.Completions.{Completions}
+use Rattle.nw_dag.specs.Frozen.{AreFrozenExcept}
 use Rattle.nw_dag.proofs.Freezing.{frozen_arrived, frozen_fewer}
 use Rattle.nw_codec.specs.declared.block.Block.{Block}
 use Rattle.nw_model.proofs.Carried.{stored_anew}
@@ -15,8 +15,8 @@ use Rattle.nw_dag.proofs.dag.Dag.take_write.Goals as goal
 pub invariant_of-self-in_err-want_parents : goal.invariant_of-self-in_err-want_parents
 invariant_of-self-in_err-want_parents c =
     let waits = c.self.inside.waits in
-    rw (c.in_err-want_parents.ensures.unchanged.0, c.in_err-want_parents.ensures.unchanged.1, c.want_parents.ensures.roll, c.reserve.ensures.pending)
-    (record { settled = c.self.invariant.settled; frozen = frozen_fewer c.self.inside.held.state waits.lacking waits.roll.fresh.items c.reserve.new.self.fresh.items c.self.inside.generations.blocks c.self.invariant.frozen c.reserve.ensures.kept })
+    rw (c.in_err-want_parents.ensures.unchanged.0, c.in_err-want_parents.ensures.unchanged.1, c.want_parents.ensures.completions, c.reserve.ensures.pending)
+    (record { settled = c.self.invariant.settled; frozen = frozen_fewer c.self.inside.held.state waits.lacking waits.completions.fresh.items c.reserve.new.self.fresh.items c.self.inside.generations.blocks c.self.invariant.frozen c.reserve.ensures.kept })
 
 pub invariant_of-self-in-Err : goal.invariant_of-self-in-Err
 invariant_of-self-in-Err c =
@@ -29,27 +29,27 @@ invariant_of-self-in-Err c =
     ∙ forgotten d waits.unmet wanted.unmet (wants_same _ _ d waits.unmet wanted.unmet c.in_ok-want_parents.ensures.unmet) (nothing_unmet s d waits.unmet none c.self.invariant.settled.settling.standing) in
     let lacking : c.forget.new.self.lacking ≡ waits.lacking = c.forget.ensures.lacking
     ∙ forgotten d waits.lacking wanted.lacking (wants_same _ _ d waits.lacking wanted.lacking c.in_ok-want_parents.ensures.lacking) (nothing_lacking s d waits.lacking none c.self.invariant.settled.settling.promoted) in
-    rw (c.in-Err.ensures.unchanged, unmet, lacking, c.forget.ensures.roll, c.want_parents.ensures.roll, c.reserve.ensures.pending)
-    (record { settled = c.self.invariant.settled; frozen = frozen_fewer s waits.lacking waits.roll.fresh.items c.reserve.new.self.fresh.items c.self.inside.generations.blocks c.self.invariant.frozen c.reserve.ensures.kept })
+    rw (c.in-Err.ensures.unchanged, unmet, lacking, c.forget.ensures.completions, c.want_parents.ensures.completions, c.reserve.ensures.pending)
+    (record { settled = c.self.invariant.settled; frozen = frozen_fewer s waits.lacking waits.completions.fresh.items c.reserve.new.self.fresh.items c.self.inside.generations.blocks c.self.invariant.frozen c.reserve.ensures.kept })
 
-pub admit-requires : goal.admit-requires
-admit-requires c = rw c.want_parents.ensures.roll c.in_ok-reserve.ensures.room
+pub add_pending-requires : goal.add_pending-requires
+add_pending-requires c = rw c.want_parents.ensures.completions c.in_ok-reserve.ensures.room
 
 pub arrive-requires : goal.arrive-requires
 arrive-requires c =
     let s : State = c.self.inside.held.state in
     let none : get s.blocks c.args.digest ≡ None = stored_anew c.self.inside.held.bounds c.self.inside.held.state c.args.digest c.args.block.now c.in-Stored.vote (rw (← c.self.view_is) at (sym c.requires ∙ c.in-Stored.is)) in
     let waits = c.self.inside.waits in
-    let more : c.admit.new.self.pending ≡ waits.roll.pending + 1 = c.admit.ensures.pending ∙ ap (λ (r : Roll). r.pending + 1) c.want_parents.ensures.roll ∙ ap (λ n. n + 1) c.reserve.ensures.pending in
+    let more : c.add_pending.new.self.pending ≡ waits.completions.pending + 1 = c.add_pending.ensures.pending ∙ ap (λ (r : Completions). r.pending + 1) c.want_parents.ensures.completions ∙ ap (λ n. n + 1) c.reserve.ensures.pending in
     rw (c.in_default-put_block.ensures.state, c.in_ok-owner.ensures)
-    (written s c.args.digest c.args.block.now c.in-Stored.vote none waits.unmet waits.lacking c.want_parents.new.self.unmet c.want_parents.new.self.lacking waits.roll.pending c.admit.new.self.pending c.self.invariant.settled
+    (written s c.args.digest c.args.block.now c.in-Stored.vote none waits.unmet waits.lacking c.want_parents.new.self.unmet c.want_parents.new.self.lacking waits.completions.pending c.add_pending.new.self.pending c.self.invariant.settled
     (rw c.get.ensures at c.in_ok-want_parents.ensures.unmet) (rw c.get.ensures at c.in_ok-want_parents.ensures.lacking) more)
 
 pub invariant_of-self : goal.invariant_of-self
 invariant_of-self c =
     let waits = c.self.inside.waits in
     rw (c.reserve.ensures.pending)
-    (record { settled = c.self.invariant.settled; frozen = frozen_fewer c.self.inside.held.state waits.lacking waits.roll.fresh.items c.reserve.new.self.fresh.items c.self.inside.generations.blocks c.self.invariant.frozen c.reserve.ensures.kept })
+    (record { settled = c.self.invariant.settled; frozen = frozen_fewer c.self.inside.held.state waits.lacking waits.completions.fresh.items c.reserve.new.self.fresh.items c.self.inside.generations.blocks c.self.invariant.frozen c.reserve.ensures.kept })
 
 pub invariant_of-self-2 : goal.invariant_of-self-2
 invariant_of-self-2 c =
@@ -59,13 +59,13 @@ invariant_of-self-2 c =
     let waits = c.self.inside.waits in
     let mid = c.want_parents.new.self.lacking in
     let new = c.arrive.new.self in
-    let listed = c.admit.new.self.fresh.items in
+    let listed = c.add_pending.new.self.fresh.items in
     let put : c.put_block.new.self.state ≡ with_block s d c.args.block.now c.in-Stored.vote = c.in_default-put_block.ensures.state ∙ ap (λ (x : Block). with_block s d x c.in-Stored.vote) c.in_ok-owner.ensures in
-    let same : listed ≡ c.reserve.new.self.fresh.items = ap (λ q. q.items) c.admit.ensures.fresh ∙ ap (λ (r : Roll). r.fresh.items) c.want_parents.ensures.roll in
+    let same : listed ≡ c.reserve.new.self.fresh.items = ap (λ q. q.items) c.add_pending.ensures.fresh ∙ ap (λ (r : Completions). r.fresh.items) c.want_parents.ensures.completions in
     record {
       settled = c.arrive.ensures.settled;
-      frozen = subst (λ (t : State). AreFrozenBut t new.lacking new.roll.fresh.items c.self.inside.generations.blocks) (sym put)
-          (frozen_arrived s (with_block s d c.args.block.now c.in-Stored.vote) d waits.lacking mid new.lacking waits.roll.fresh.items listed new.roll.fresh.items c.self.inside.generations.blocks
+      frozen = subst (λ (t : State). AreFrozenExcept t new.lacking new.completions.fresh.items c.self.inside.generations.blocks) (sym put)
+          (frozen_arrived s (with_block s d c.args.block.now c.in-Stored.vote) d waits.lacking mid new.lacking waits.completions.fresh.items listed new.completions.fresh.items c.self.inside.generations.blocks
           (block_arrives s d c.args.block.now c.in-Stored.vote none)
           (since_written s d c.args.block.now c.in-Stored.vote none waits.lacking mid c.self.invariant.settled.settling.promoted (rw c.get.ensures at c.in_ok-want_parents.ensures.lacking))
           (λ x other. get_other s.blocks d c.args.block.now x other) refl c.self.invariant.frozen

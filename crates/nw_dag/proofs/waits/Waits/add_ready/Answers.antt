@@ -19,7 +19,7 @@ add_if_ready-requires c =
     let d : Digest = get_or digests i none in
     let inv = c.loop-digest.invariant in
     record {
-      pending = λ ready. pending_next s c.args.self.now.lacking digests (take i digests) c.args.self.now.roll.fresh.items c.loop-digest.self.roll.fresh.items c.args.self.now.roll.pending c.loop-digest.self.roll.pending d
+      pending = λ ready. pending_next s c.args.self.now.lacking digests (take i digests) c.args.self.now.completions.fresh.items c.loop-digest.self.completions.fresh.items c.args.self.now.completions.pending c.loop-digest.self.completions.pending d
           c.requires.tally inv.added (λ x among. among_front i digests x among) inv.most (Contains-get_or digests i none c.loop-digest-test.true)
           (not_before digests i none c.loop-digest-test.true c.requires.once) (subst (λ (m : Pairs). IsReady s m d) inv.lacking ready);
     }
@@ -32,17 +32,17 @@ loop-digest-preserved c =
     let d : Digest = get_or c.args.digests.now c.loop-digest.digest-index none in
     let more : take (c.loop-digest.digest-index + 1) c.args.digests.now ≡ seen ++ d ∷ [] = take_more c.args.digests.now c.loop-digest.digest-index none c.loop-digest-test.true in
     let inv = c.loop-digest.invariant in
-    let new = c.add_if_ready.new.self.roll.fresh.items in
-    let one : Adds (P c.args.self.now.lacking) (d ∷ []) c.loop-digest.self.roll.fresh.items new =
-    subst (λ (m : Pairs). Adds (P m) (d ∷ []) c.loop-digest.self.roll.fresh.items new) inv.lacking c.add_if_ready.ensures.added in
+    let new = c.add_if_ready.new.self.completions.fresh.items in
+    let one : Adds (P c.args.self.now.lacking) (d ∷ []) c.loop-digest.self.completions.fresh.items new =
+    subst (λ (m : Pairs). Adds (P m) (d ∷ []) c.loop-digest.self.completions.fresh.items new) inv.lacking c.add_if_ready.ensures.added in
     record {
       unmet = c.add_if_ready.ensures.unmet ∙ inv.unmet;
       lacking = c.add_if_ready.ensures.lacking ∙ inv.lacking;
-      added = subst (λ xs. Adds (P c.args.self.now.lacking) xs c.args.self.now.roll.fresh.items new) (sym more)
-          (adds_more (P c.args.self.now.lacking) seen d c.args.self.now.roll.fresh.items c.loop-digest.self.roll.fresh.items new
+      added = subst (λ xs. Adds (P c.args.self.now.lacking) xs c.args.self.now.completions.fresh.items new) (sym more)
+          (adds_more (P c.args.self.now.lacking) seen d c.args.self.now.completions.fresh.items c.loop-digest.self.completions.fresh.items new
           (not_before c.args.digests.now c.loop-digest.digest-index none c.loop-digest-test.true c.requires.once) inv.added one);
       most = c.add_if_ready.ensures.most ∙ inv.most;
     }
 
 pub loop-digest-init : goal.loop-digest-init
-loop-digest-init c = record { unmet = refl; lacking = refl; added = adds_none (IsReady c.args.held.now.state c.args.self.now.lacking) c.args.self.now.roll.fresh.items; most = refl }
+loop-digest-init c = record { unmet = refl; lacking = refl; added = adds_none (IsReady c.args.held.now.state c.args.self.now.lacking) c.args.self.now.completions.fresh.items; most = refl }

@@ -8,6 +8,6 @@ invariant-loop-digest l =
     record {
       unmet : l.self.unmet ≡ l.fn.self.unmet;
       lacking : l.self.lacking ≡ l.fn.self.lacking;
-      added : Adds (IsReady l.held.state l.fn.self.lacking) (take l.digest-index l.digests) l.fn.self.roll.fresh.items l.self.roll.fresh.items;
-      most : length l.self.roll.fresh.items + l.self.roll.pending ≡ length l.fn.self.roll.fresh.items + l.fn.self.roll.pending;
+      added : Adds (IsReady l.held.state l.fn.self.lacking) (take l.digest-index l.digests) l.fn.self.completions.fresh.items l.self.completions.fresh.items;
+      most : length l.self.completions.fresh.items + l.self.completions.pending ≡ length l.fn.self.completions.fresh.items + l.fn.self.completions.pending;
     }

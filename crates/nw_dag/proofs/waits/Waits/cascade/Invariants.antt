@@ -7,7 +7,7 @@ use Rattle.nw_dag.proofs.waits.Waits.cascade.Given as goal
 abbrev pub invariant-loop-place : goal.invariant-loop-place
 invariant-loop-place l =
     record {
-      settling : IsCascading l.held.state l.self.unmet l.self.lacking (drop l.place l.self.roll.fresh.items) l.self.roll.pending;
-      grown : Grows l.held.state (IsReady l.held.state l.fn.self.lacking) l.fn.self.lacking l.self.lacking l.fn.self.roll.fresh.items l.self.roll.fresh.items;
-      most : length l.self.roll.fresh.items + l.self.roll.pending ≡ length l.fn.self.roll.fresh.items + l.fn.self.roll.pending;
+      settling : IsCascading l.held.state l.self.unmet l.self.lacking (drop l.place l.self.completions.fresh.items) l.self.completions.pending;
+      grown : Grows l.held.state (IsReady l.held.state l.fn.self.lacking) l.fn.self.lacking l.self.lacking l.fn.self.completions.fresh.items l.self.completions.fresh.items;
+      most : length l.self.completions.fresh.items + l.self.completions.pending ≡ length l.fn.self.completions.fresh.items + l.fn.self.completions.pending;
     }

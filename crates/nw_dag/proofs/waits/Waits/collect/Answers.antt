@@ -2,12 +2,12 @@ use Rattle.nw_model.specs.State.{State}
 use Rattle.nw_dag.proofs.Collecting.{dropped_fits, tally_kept, collected, grown_collected}
 use Rattle.nw_dag.proofs.waits.Waits.collect.Goals as goal
 
-pub dismiss-requires : goal.dismiss-requires
-dismiss-requires c = dropped_fits c.args.held.now.state c.args.self.now.unmet c.args.self.now.lacking c.args.self.now.roll.pending c.args.holders.now c.args.dropped c.requires
+pub drop_pending-requires : goal.drop_pending-requires
+drop_pending-requires c = dropped_fits c.args.held.now.state c.args.self.now.unmet c.args.self.now.lacking c.args.self.now.completions.pending c.args.holders.now c.args.dropped c.requires
 
 pub release_each-requires-clause-tally : goal.release_each-requires-clause-tally
 release_each-requires-clause-tally c =
-    tally_kept c.args.held.now.state c.args.self.now.unmet c.args.self.now.lacking c.args.self.now.roll.pending c.args.holders.now c.args.dropped c.requires c.dismiss.new.self.pending c.dismiss.ensures.pending
+    tally_kept c.args.held.now.state c.args.self.now.unmet c.args.self.now.lacking c.args.self.now.completions.pending c.args.holders.now c.args.dropped c.requires c.drop_pending.new.self.pending c.drop_pending.ensures.pending
 
 pub release_each-requires-clause-once : goal.release_each-requires-clause-once
 release_each-requires-clause-once c = c.requires.up_to.once
@@ -18,8 +18,8 @@ cascade-requires c =
     let self = c.args.self.now in
     let new = c.release_each.new.self in
     record {
-      due = collected s self.unmet self.lacking self.roll.pending c.args.holders.now c.args.dropped c.requires new.unmet new.lacking c.dismiss.new.self.fresh.items new.roll.fresh.items c.dismiss.new.self.pending new.roll.pending c.listed-first.result
-          c.dismiss.ensures.pending c.release_each.ensures.unmet c.release_each.ensures.lacking c.release_each.ensures.added c.release_each.ensures.most c.listed-first.ensures;
+      due = collected s self.unmet self.lacking self.completions.pending c.args.holders.now c.args.dropped c.requires new.unmet new.lacking c.drop_pending.new.self.fresh.items new.completions.fresh.items c.drop_pending.new.self.pending new.completions.pending c.listed-first.result
+          c.drop_pending.ensures.pending c.release_each.ensures.unmet c.release_each.ensures.lacking c.release_each.ensures.added c.release_each.ensures.most c.listed-first.ensures;
     }
 
 pub returns-clause-grown : goal.returns-clause-grown
@@ -27,5 +27,5 @@ returns-clause-grown c =
     let s : State = c.args.held.now.state in
     let self = c.args.self.now in
     let mid = c.release_each.new.self in
-    grown_collected s self.lacking mid.lacking c.cascade.new.self.lacking c.args.holders.now self.roll.fresh.items mid.roll.fresh.items c.cascade.new.self.roll.fresh.items
-    c.release_each.ensures.lacking (rw c.dismiss.ensures.fresh at c.release_each.ensures.added) c.cascade.ensures.grown
+    grown_collected s self.lacking mid.lacking c.cascade.new.self.lacking c.args.holders.now self.completions.fresh.items mid.completions.fresh.items c.cascade.new.self.completions.fresh.items
+    c.release_each.ensures.lacking (rw c.drop_pending.ensures.fresh at c.release_each.ensures.added) c.cascade.ensures.grown

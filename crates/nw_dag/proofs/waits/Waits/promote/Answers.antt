@@ -9,14 +9,14 @@ use Rattle.nw_dag.proofs.waits.Waits.promote.Goals as goal
 
 pub add_ready-requires-clause-tally : goal.add_ready-requires-clause-tally
 add_ready-requires-clause-tally c =
-    subst (λ (xs : List Digest). IsTally c.args.held.now.state c.satisfy-holders.new.self xs c.args.self.now.roll.pending) (sym c.as_slice.ensures.value)
-    (tally_fewer c.args.held.now.state c.args.self.now.lacking c.satisfy-holders.new.self c.in-Some.wanted c.args.self.now.roll.pending c.satisfy-holders.result.items c.satisfy-holders.ensures.rest c.satisfy-holders.ensures.holders c.requires.tally)
+    subst (λ (xs : List Digest). IsTally c.args.held.now.state c.satisfy-holders.new.self xs c.args.self.now.completions.pending) (sym c.as_slice.ensures.value)
+    (tally_fewer c.args.held.now.state c.args.self.now.lacking c.satisfy-holders.new.self c.in-Some.wanted c.args.self.now.completions.pending c.satisfy-holders.result.items c.satisfy-holders.ensures.rest c.satisfy-holders.ensures.holders c.requires.tally)
 
 pub returns-in-Some-clause-promotes : goal.returns-in-Some-clause-promotes
 returns-in-Some-clause-promotes c =
     let s = c.args.held.now.state in
-    let old = c.args.self.now.roll.fresh.items in
-    let new = c.add_ready.new.self.roll.fresh.items in
+    let old = c.args.self.now.completions.fresh.items in
+    let new = c.add_ready.new.self.completions.fresh.items in
     let adds : Adds (IsReady s c.satisfy-holders.new.self) c.satisfy-holders.result.items old new =
     subst (λ xs. Adds (IsReady s c.satisfy-holders.new.self) xs old new) c.as_slice.ensures.value c.add_ready.ensures.added in
     subst (λ (m : Pairs). Promotes s c.args.digest c.args.self.now.lacking m old new) (sym c.add_ready.ensures.lacking)

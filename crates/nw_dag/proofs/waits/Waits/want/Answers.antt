@@ -1,7 +1,6 @@
-use Rattle.nw_waiting.specs.Pairs.{Lacks}
 use Rattle.nw_waiting.specs.declared.wanted.Wanted.{Wanted}
 use Rattle.nw_held.specs.Standing.{IsMet}
-use Rattle.nw_dag.specs.Lacking.{IsReady}
+use Rattle.nw_dag.specs.Lacking.{LacksNothing, IsReady}
 use Rattle.nw_dag.proofs.Wanting.{refuted, on_ok, same_either, same_inserted, wants_inserted, wants_on_ok}
 use Rattle.nw_dag.proofs.waits.Waits.want.Goals as goal
 
@@ -24,7 +23,7 @@ returns-in_ok-want-clause-same_lacking c = same_either c.want-then-not-is_met.re
 
 pub returns-then-not-lacks_nothing-clause-lacking : goal.returns-then-not-lacks_nothing-clause-lacking
 returns-then-not-lacks_nothing-clause-lacking c =
-    let lacks_it = refuted c.lacks_nothing.result ((w : Wanted) → Lacks c.args.self.now.lacking c.args.wanted.digest w → ⊥) c.lacks_nothing.ensures c.if-not-lacks_nothing.true in
+    let lacks_it = refuted c.lacks_nothing.result (LacksNothing c.args.self.now.lacking c.args.wanted.digest) c.lacks_nothing.ensures.nothing c.if-not-lacks_nothing.true in
     wants_on_ok c.want-then-not-lacks_nothing.result (λ (w : Wanted). IsMet c.args.held.now.state w × IsReady c.args.held.now.state c.args.self.now.lacking w.digest) c.args.wanted c.args.holder c.args.self.now.lacking
     c.want-then-not-lacks_nothing.new.self (λ both. lacks_it both.1.1) c.want-then-not-lacks_nothing.ensures.added
 

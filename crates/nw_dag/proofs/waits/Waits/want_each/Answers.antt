@@ -5,7 +5,7 @@ use Rattle.nw_waiting.specs.declared.wanted.Wanted.{Wanted}
 use Rattle.nw_model.specs.State.{State}
 use Rattle.nw_held.specs.Standing.{IsMet}
 use Rattle.nw_dag.specs.Lacking.{IsReady, IsNamedAmong}
-use Rattle.nw_dag.specs.Changes.{Wants}
+use Rattle.nw_dag.specs.Changes.{LacksAlso}
 use Rattle.nw_dag.proofs.Wanting.{wants_more, same_through, ready_same, ready_back}
 use Rattle.nw_dag.proofs.waits.Waits.want_each.Goals as goal
 
@@ -22,14 +22,14 @@ loop-reference-preserved c =
     let v : Wanted = c.named_by.result in
     let inv = c.loop-reference.invariant in
     record {
-      unmet = subst (λ xs. Wants met (IsNamedAmong (c.args.round + 1) xs) c.args.holder c.args.self.now.unmet c.want.new.self.unmet) (sym more)
+      unmet = subst (λ xs. LacksAlso met (IsNamedAmong (c.args.round + 1) xs) c.args.holder c.args.self.now.unmet c.want.new.self.unmet) (sym more)
           (wants_more met met (c.args.round + 1) seen r v c.args.holder c.args.self.now.unmet c.loop-reference.self.unmet c.want.new.self.unmet c.named_by.ensures (λ x. x) (λ x. x) inv.unmet c.in_ok-want.ensures.unmet);
-      lacking = subst (λ xs. Wants whole (IsNamedAmong (c.args.round + 1) xs) c.args.holder c.args.self.now.lacking c.want.new.self.lacking) (sym more)
+      lacking = subst (λ xs. LacksAlso whole (IsNamedAmong (c.args.round + 1) xs) c.args.holder c.args.self.now.lacking c.want.new.self.lacking) (sym more)
           (wants_more whole whole_now (c.args.round + 1) seen r v c.args.holder c.args.self.now.lacking c.loop-reference.self.lacking c.want.new.self.lacking c.named_by.ensures
           (λ (is, ready). (is, ready_back s c.args.holder v.digest c.args.self.now.lacking c.loop-reference.self.lacking inv.same_lacking c.requires.absent ready))
           (λ (is, ready). (is, ready_same s c.args.holder v.digest c.args.self.now.lacking c.loop-reference.self.lacking inv.same_lacking c.requires.absent ready))
           inv.lacking c.in_ok-want.ensures.lacking);
       same_unmet = same_through c.args.holder c.args.self.now.unmet c.loop-reference.self.unmet c.want.new.self.unmet inv.same_unmet c.want.ensures.same_unmet;
       same_lacking = same_through c.args.holder c.args.self.now.lacking c.loop-reference.self.lacking c.want.new.self.lacking inv.same_lacking c.want.ensures.same_lacking;
-      roll = c.want.ensures.roll ∙ inv.roll;
+      completions = c.want.ensures.completions ∙ inv.completions;
     }

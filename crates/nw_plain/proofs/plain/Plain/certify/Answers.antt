@@ -14,7 +14,7 @@ use Rattle.nw_plain.proofs.Held.{absent, held_certificate}
 use Rattle.nw_model.proofs.Kept.{index_answers, kept_after_certify}
 use Rattle.nw_plain.proofs.plain.Plain.certify.Goals as goal
 
--- what a refusal leaves, as finite maps
+-- the maps after a failed allocation, as finite maps
 unchanged : {E : Type 0} (r : Result (Unit {0}) E) (m n : List (Digest × Certificate)) (i j : List (Slot × Digest)) → OnErr r (m ≡ n) → OnErr r (i ≡ j)
     → OnErr r ((from_entries {R = digest_cmp} m ≡ from_entries n) × (from_entries {R = slot_cmp} i ≡ from_entries j))
 unchanged (Ok x) m n i j one two = tt

@@ -1,5 +1,5 @@
-use Rattle.nw_held.proofs.Shelves.{drops_one}
-use Rattle.nw_held.proofs.held.shelf.drop_if_below.Goals as goal
+use Rattle.nw_held.proofs.Dropped.{drops_one}
+use Rattle.nw_held.proofs.held.dropping.drop_if_below.Goals as goal
 
 pub returns-then-is_below : goal.returns-then-is_below
 returns-then-is_below g c =

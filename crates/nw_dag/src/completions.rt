@@ -1,46 +1,46 @@
-//! Which blocks are complete: the last ones by their digests, and all of them by how many are not.
+//! Completions: the digests of the blocks that became complete last, and the number of blocks that are not complete.
 ghost use Rattle.std.specs.Prelude.{◌≡◌, ◌↔◌, ◌+◌, ◌-◌, ◌<◌, ◌≤◌, [], ◌∷◌, ◌++◌};
-ghost use Rattle.std.specs.Prelude.{OnOk, MatchOption, IsTrue, length, get_or, Contains};
+ghost use Rattle.std.specs.Prelude.{OnOk, MatchOption, IsTrue, false, length, get_or, Contains};
 ghost use Rattle.std.specs.Vec.{vec_capacity};
 ghost use Rattle.nw_model.specs.Sound.{IsSound};
-ghost use Rattle.nw_waiting.specs.Pairs.{Lacks};
-ghost use Rattle.nw_dag.specs.Lacking.{IsReady};
+ghost use Rattle.nw_dag.specs.Lacking.{IsReady, LacksNothing, LacksSomething};
 
 use nw_digest::{Digest, NoMemory};
 use nw_held::Held;
-use nw_waiting::{Waiting, Wanted};
+use nw_waiting::Waiting;
 use std::alloc::Global;
 
-/// The blocks that became complete since the last view, and how many of the held blocks are pending: not complete.
+/// The digests of the blocks that became complete since the last view, and the number of pending blocks: those that are held but not
+/// complete.
 #[derive(Drop)]
-pub(crate) struct Roll {
-    /// In the order in which they became complete. What was collected since may stand here still.
+pub(crate) struct Completions {
+    /// The digests, in the order in which the blocks became complete. Blocks that were collected since may still be listed.
     pub(crate) fresh: Vec<Digest>,
     pub(crate) pending: usize,
-    // Each pending block has a place behind the list.
+    // The list has room for each pending block, so listing a block never allocates.
     ghost room: { length fresh.items + pending ≤ vec_capacity fresh },
 }
 
-impl Roll {
-    /// Nothing is held. It takes no memory.
-    pub(crate) fn new(alloc: Global) -> Roll
+impl Completions {
+    /// An empty list, with no pending blocks. Allocates nothing.
+    pub(crate) fn new(alloc: Global) -> Completions
         ensures fresh { result.fresh.items ≡ [] }
         ensures pending { result.pending ≡ 0 }
     {
-        Roll {
+        Completions {
             fresh: Vec::new(alloc),
             pending: 0,
         }
     }
 
-    /// How many blocks are listed.
+    /// The number of listed blocks.
     pub(crate) fn listed(&self) -> usize
         ensures { result ≡ length self.now.fresh.items }
     {
         self.fresh.len()
     }
 
-    /// The block at the place of the list, or `None` behind its end.
+    /// The digest at this place of the list, or `None` after its end.
     pub(crate) fn get(&self, place: usize) -> Option<Digest>
         ensures { MatchOption result (length self.now.fresh.items ≤ place) (λ digest. (place
             < length self.now.fresh.items) × (digest ≡ get_or self.now.fresh.items place digest)) }
@@ -48,15 +48,17 @@ impl Roll {
         self.fresh.get(place).copied()
     }
 
-    /// How long the list is when no block is pending any more.
+    /// The largest length that the list can reach: that with all pending blocks listed.
     pub(crate) fn most(&self) -> usize
         ensures { result ≡ length self.now.fresh.items + self.now.pending }
     {
         self.fresh.len() + self.pending
     }
 
-    /// Makes room for one pending block more. Where there is none, room is made for as many blocks again as are listed or pending;
-    /// where those are more than are held, what was collected is listed no more first. Want of memory changes no more than that.
+    /// Makes room for one more pending block. If the room is used up, the list grows by as many places as blocks are listed or pending.
+    /// Before that, if more blocks are listed or pending than are held, collected blocks are removed from the list.
+    ///
+    /// `NoMemory` if allocation fails. Then only collected blocks may have been removed.
     pub(crate) fn reserve(&mut self, held: &Held, lacking: &Waiting<Global>) -> Result<(), NoMemory>
         ensures kept { (d : Digest) → Contains self.old.fresh.items d
             → IsReady held.now.state lacking.now d → Contains self.new.fresh.items d }
@@ -77,8 +79,8 @@ impl Roll {
         Ok(())
     }
 
-    /// Takes in that one pending block more is held.
-    pub(crate) fn admit(&mut self)
+    /// Counts one more pending block.
+    pub(crate) fn add_pending(&mut self)
         requires { length self.old.fresh.items + self.old.pending < vec_capacity self.old.fresh }
         ensures fresh { self.new.fresh ≡ self.old.fresh }
         ensures pending { self.new.pending ≡ self.old.pending + 1 }
@@ -86,8 +88,8 @@ impl Roll {
         self.pending += 1;
     }
 
-    /// Takes in that so many pending blocks are held no more.
-    pub(crate) fn dismiss(&mut self, blocks: usize)
+    /// Counts this many pending blocks less.
+    pub(crate) fn drop_pending(&mut self, blocks: usize)
         requires { blocks ≤ self.old.pending }
         ensures fresh { self.new.fresh ≡ self.old.fresh }
         ensures pending { self.new.pending ≡ self.old.pending - blocks }
@@ -95,7 +97,7 @@ impl Roll {
         self.pending -= blocks;
     }
 
-    /// Lists a pending block, which is complete now.
+    /// Lists a pending block, which became complete.
     pub(crate) fn add(&mut self, digest: Digest)
         requires { 0 < self.old.pending }
         ensures fresh { self.new.fresh.items ≡ self.old.fresh.items ++ digest ∷ [] }
@@ -105,7 +107,7 @@ impl Roll {
         let _added = self.fresh.push(digest);
     }
 
-    /// Lists no block any more that is not complete.
+    /// Removes the blocks from the list that are not complete (any longer).
     pub(crate) fn drop_stale(&mut self, held: &Held, lacking: &Waiting<Global>)
         ensures fresh { (d : Digest) → Contains self.new.fresh.items d
             ↔ (Contains self.old.fresh.items d × IsReady held.now.state lacking.now d) }
@@ -114,7 +116,7 @@ impl Roll {
         self.fresh.retain(|digest| is_ready(held, lacking, *digest));
     }
 
-    /// Lists nothing any more.
+    /// Empties the list.
     pub(crate) fn clear(&mut self)
         ensures fresh { self.new.fresh.items ≡ [] }
         ensures pending { self.new.pending ≡ self.old.pending }
@@ -123,7 +125,7 @@ impl Roll {
     }
 }
 
-/// Whether the block stands and lacks nothing. It is looked up only where it lacks nothing.
+/// Whether the digest stands and lacks no parent. Its block is looked up only if it lacks no parent.
 pub(crate) fn is_ready(held: &Held, lacking: &Waiting<Global>, digest: Digest) -> bool
     ensures ready { IsTrue result ↔ IsReady held.now.state lacking.now digest }
     ensures sound { IsTrue result → IsSound held.now.state }
@@ -131,9 +133,10 @@ pub(crate) fn is_ready(held: &Held, lacking: &Waiting<Global>, digest: Digest) -
     lacks_nothing(lacking, digest) && held.standing(&digest).is_some()
 }
 
-/// Whether the holder lacks nothing.
+/// Whether the holder lacks no parent.
 pub(crate) fn lacks_nothing(lacking: &Waiting<Global>, holder: Digest) -> bool
-    ensures { IsTrue result ↔ ((w : Wanted) → Lacks lacking.now holder w → ⊥) }
+    ensures nothing { IsTrue result ↔ LacksNothing lacking.now holder }
+    ensures something { result ≡ false → LacksSomething lacking.now holder }
 {
     lacking.lacks(holder) == 0
 }

@@ -1,6 +1,6 @@
 use Rattle.std.proofs.Common.{sym, ◌∙◌}
 use Rattle.nw_model.proofs.Maps.{len_sorted, digests_total}
-use Rattle.nw_plain.proofs.plain.Plain.held.Goals as goal
+use Rattle.nw_plain.proofs.plain.Plain.block_count.Goals as goal
 
 pub returns : goal.returns
 returns c = rw (← c.self.view_is) (c.len.ensures.len ∙ sym (len_sorted digests_total _ c.len.ensures.ordered))

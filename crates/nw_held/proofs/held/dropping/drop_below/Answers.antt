@@ -1,9 +1,9 @@
 use Rattle.std.proofs.Common.{◌≡◌, ◌+◌, List, [], ◌∷◌, ◌++◌, get_or, take, sym, subst}
 use Rattle.std.proofs.lemmas.List.{take_more}
 use Rattle.nw_digest.specs.declared.digest.Digest.{Digest}
-use Rattle.nw_held.specs.Shelf.{DropsBelow}
-use Rattle.nw_held.proofs.Shelves.{drops_none, drops_more}
-use Rattle.nw_held.proofs.held.shelf.drop_below.Goals as goal
+use Rattle.nw_held.specs.Dropping.{DropsBelow}
+use Rattle.nw_held.proofs.Dropped.{drops_none, drops_more}
+use Rattle.nw_held.proofs.held.dropping.drop_below.Goals as goal
 
 pub loop-digest-init : goal.loop-digest-init
 loop-digest-init g c = drops_none g.V.InRound.round_of c.args.round c.args.entries.now c.requires

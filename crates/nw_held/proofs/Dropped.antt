@@ -1,4 +1,4 @@
--- Values of rounds, before and after some are dropped.
+-- Entries before and after values of lower rounds are dropped.
 use Rattle.std.proofs.Common.{◌≡◌, ◌⊎◌, ℕ, ◌+◌, ◌<◌, ◌≤◌, Bool, true, false, not, cond, List, [], ◌∷◌, ◌++◌, filter, length, Option, Some, None, refl, ap, sym, ◌∙◌, subst, arith, inl, inr}
 use Rattle.std.specs.Prelude.{Contains, nat_le, nat_lt}
 use Rattle.std.specs.declared.cmp.Ordering.{Ordering}
@@ -23,7 +23,7 @@ use Rattle.nw_model.proofs.Kept.{same_digest}
 use Rattle.nw_model.proofs.Listed.{contains_cases, contains_none}
 use Rattle.nw_model.proofs.Maps.{digests_total, digests_apart, get_lookup, len_sorted}
 use Rattle.nw_model.proofs.Raised.{at_round, filtered_round}
-use Rattle.nw_held.specs.Shelf.{IsBelow, DropsBelow}
+use Rattle.nw_held.specs.Dropping.{IsBelow, DropsBelow}
 
 none_some : {X : Type 0} (x : X) → None ≡ Some x → ⊥
 none_some x e = cc
@@ -31,7 +31,7 @@ none_some x e = cc
 one : {X : Type 0} (x y : X) → Some x ≡ Some y → x ≡ y
 one x y e = cc
 
--- ---- entries in order stay so where some go
+-- ---- entries stay in order if some are removed
 
 sorted_cons : {K : Type 0} (R : K → K → Ordering) (x : K) (xs : List K) → AllByRecursion (λ y. R x y ≡ Less) xs → IsStrictlySortedBy R xs → IsStrictlySortedBy R (x ∷ xs)
 unfolding IsStrictlySortedBy
@@ -71,7 +71,7 @@ module _ {K X : Type 0} (R : K → K → Ordering) (p : K × X → Bool) where
       by true rest = sorted_cons R e.0 (keys_of (filter p es)) (above_filter e.0 es (sorted_head R e.0 (keys_of es) sorted)) rest
       by false rest = rest
 
--- ---- what is dropped
+-- ---- dropped values
 
 module _ {V : Type 0} (round_of : V → ℕ) (round : ℕ) where
   abbrev at : Digest → List (Digest × V) → Option V
@@ -80,7 +80,7 @@ module _ {V : Type 0} (round_of : V → ℕ) (round : ℕ) where
   no_none : (found : Option V) → found ≡ None → IsBelow round_of round found → ⊥
   no_none found none (v, is, low) = none_some v (sym none ∙ is)
 
-  -- nothing was looked at
+  -- no digest was tested
   pub drops_none : (es : List (Digest × V)) → IsStrictlySortedBy digest_cmp (keys_of es) → DropsBelow round_of round [] es es
   drops_none es sorted = record {
     stays = λ d. inl refl;
@@ -88,7 +88,7 @@ module _ {V : Type 0} (round_of : V → ℕ) (round : ℕ) where
     ordered = sorted;
   }
 
-  -- one is not below the round
+  -- one digest was tested, whose value is not below the round
   pub drops_not : (d : Digest) (es : List (Digest × V)) → IsStrictlySortedBy digest_cmp (keys_of es) → (IsBelow round_of round (at d es) → ⊥) → DropsBelow round_of round (d ∷ []) es es
   drops_not d es sorted high = record {
     stays = λ q. inl refl;
@@ -96,7 +96,7 @@ module _ {V : Type 0} (round_of : V → ℕ) (round : ℕ) where
     ordered = sorted;
   }
 
-  -- one is
+  -- one digest was tested, whose value is below the round
   pub drops_one : (d : Digest) (old new : List (Digest × V)) → IsStrictlySortedBy digest_cmp (keys_of old) → IsBelow round_of round (at d old) → new ≡ remove_entry (is_at (digest_cmp d)) old
       → DropsBelow round_of round (d ∷ []) old new
   drops_one d old new sorted low is = record {
@@ -118,7 +118,7 @@ module _ {V : Type 0} (round_of : V → ℕ) (round : ℕ) where
       by q true tied = let same : d ≡ q = same_digest d q tied in inr (here q same, subst (λ x. IsBelow round_of round (at x old)) same low)
       by q false apart = inl (after q ∙ ap (λ b. cond b None (at q old)) apart)
 
-  -- one more was looked at
+  -- one more digest was tested
   pub drops_more : (digests : List Digest) (d : Digest) (a b c : List (Digest × V)) → DropsBelow round_of round digests a b → DropsBelow round_of round (d ∷ []) b c → DropsBelow round_of round (digests ++ d ∷ []) a c
   drops_more digests d a b c first second = record {
     stays = λ q. elim (second.stays q) [
@@ -155,7 +155,7 @@ module _ {V : Type 0} (round_of : V → ℕ) (round : ℕ) where
       not_low : (a b : ℕ) → b < a → nat_le a b ≡ false
       not_low a b h = grind arith
 
-  -- where all below the round are among these, what stays is from the round on
+  -- if all values below the round are under these digests, exactly the values from the round on stay
   pub dropped_is : (digests : List Digest) (old new : List (Digest × V)) → DropsBelow round_of round digests old new → ((d : Digest) → IsBelow round_of round (at d old) → Contains digests d)
       → from_entries {R = digest_cmp} new ≡ from_round round_of round (from_entries old)
   dropped_is digests old new drops all = same_map digests_total digests_apart _ _ (λ q.
@@ -175,7 +175,7 @@ module _ {V : Type 0} (round_of : V → ℕ) (round : ℕ) where
         | inr (none, low) ↦ none ∙ sym (dropped_only (at q old) low)
       ]
 
-  -- how many stay
+  -- the number of values that stay
   pub count_kept : (es : List (Digest × V)) → IsStrictlySortedBy digest_cmp (keys_of es) → len (from_round round_of round (from_entries {R = digest_cmp} es)) ≡ length (filter (λ e. nat_le round (round_of e.1)) es)
   count_kept es sorted = ap len (sym (filtered_round round_of round es sorted)) ∙ len_sorted digests_total (filter (λ e. nat_le round (round_of e.1)) es) (sorted_filter digest_cmp (λ e. nat_le round (round_of e.1)) es sorted)
 

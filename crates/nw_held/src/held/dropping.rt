@@ -1,16 +1,16 @@
-//! Values of rounds, under digests.
+//! Tries of values that have a round: dropping those of lower rounds.
 ghost use Rattle.std.specs.Prelude.{◌↔◌, IsTrue, [], ◌∷◌};
 ghost use Rattle.std.specs.List.Sorted.{IsStrictlySortedBy};
 ghost use Rattle.std.specs.Map.{keys_of, lookup};
 ghost use Rattle.std.specs.BTreeMap.{is_at};
 ghost use Rattle.nw_digest.specs.Order.{digest_cmp};
-ghost use Rattle.nw_held.specs.Shelf.{DropsBelow, IsBelow};
+ghost use Rattle.nw_held.specs.Dropping.{DropsBelow, IsBelow};
 
 use nw_digest::{Digest, InRound, Round};
 use nw_trie::Trie;
 use std::alloc::Global;
 
-/// Drops those of the digests whose values are of rounds below this one.
+/// Drops the values of these digests that are of rounds below this one.
 pub(super) fn drop_below<V: InRound + Drop>(
     entries: &mut Trie<V, Global>,
     digests: &[Digest],
@@ -24,7 +24,7 @@ pub(super) fn drop_below<V: InRound + Drop>(
     }
 }
 
-/// Drops the value of the digest where it is of a round below this one.
+/// Drops the value of the digest if it is of a round below this one.
 fn drop_if_below<V: InRound + Drop>(entries: &mut Trie<V, Global>, digest: &Digest, round: Round)
     requires { IsStrictlySortedBy digest_cmp (keys_of entries.old) }
     ensures { DropsBelow V.round_of round (digest.now ∷ []) entries.old entries.new }
@@ -34,7 +34,7 @@ fn drop_if_below<V: InRound + Drop>(entries: &mut Trie<V, Global>, digest: &Dige
     }
 }
 
-/// Whether there is a value of the digest, of a round below this one.
+/// Whether the digest has a value of a round below this one.
 fn is_below<V: InRound + Drop>(entries: &Trie<V, Global>, digest: &Digest, round: Round) -> bool
     ensures { IsTrue result
         ↔ IsBelow V.round_of round (lookup (is_at (digest_cmp digest.now)) entries.now) }

@@ -1,5 +1,5 @@
-use Rattle.nw_dag.proofs.roll.Roll.reserve.Goals as goal
-use Rattle.nw_dag.proofs.roll.Roll.reserve.Goals.{then-most-blocks, else-most-blocks}
+use Rattle.nw_dag.proofs.completions.Completions.reserve.Goals as goal
+use Rattle.nw_dag.proofs.completions.Completions.reserve.Goals.{then-most-blocks, else-most-blocks}
 
 pub returns-in_err-reserve-clause-kept : goal.returns-in_err-reserve-clause-kept
 returns-in_err-reserve-clause-kept c = λ d among ready. rw c.reserve.ensures.items (elim c.if-most-blocks.branch [
