@@ -1,7 +1,7 @@
 //! Words that no script prints. It would need two blocks with one digest, a member that signs with another member's key, or a store
 //! that settles sessions that it did not make.
 use nw_check::CertFault;
-use nw_desk::{Answer, Desk, committee};
+use nw_desk::{Answer, Interpreter, committee};
 use nw_digest::Shared;
 use nw_model::{CertifyReply, Reply, WriteReply};
 use nw_play::PlayFault;
@@ -39,11 +39,11 @@ fn line_of(alloc: Global, answer: &Answer<'_>) -> Result<Vec<u8>, Fail> {
 /// The line that tells the reply of the name.
 fn told(
     alloc: Global,
-    desk: &Desk<'static>,
+    interpreter: &Interpreter<'static>,
     name: Name<'static>,
     reply: &Reply,
 ) -> Result<Vec<u8>, Fail> {
-    match desk.told(alloc, Some(name), reply) {
+    match interpreter.answer_to(alloc, Some(name), reply) {
         Ok(answer) => {
             let line = line_of(alloc, &answer);
             drop(answer);
@@ -53,10 +53,10 @@ fn told(
     }
 }
 
-/// A desk of one member, without names.
-fn desk_of_one(alloc: Global) -> Result<Desk<'static>, Fail> {
+/// A interpreter of one member, without names.
+fn desk_of_one(alloc: Global) -> Result<Interpreter<'static>, Fail> {
     match committee(alloc, &CommitteeLine::Equal { members: 1 }) {
-        Ok(one) => Ok(Desk::new(alloc, Shared::new(alloc, one)?)),
+        Ok(one) => Ok(Interpreter::new(alloc, Shared::new(alloc, one)?)),
         Err(_) => Err(Fail::from("there is a committee of one")),
     }
 }
@@ -65,13 +65,13 @@ fn desk_of_one(alloc: Global) -> Result<Desk<'static>, Fail> {
 fn replies_that_no_script_meets_have_their_words(rt: HostRuntime) -> Result<(), Fail> {
     let alloc = rt.alloc();
     let name = Name::new("a").ok_or("a letter is a name")?;
-    let desk = desk_of_one(alloc)?;
+    let interpreter = desk_of_one(alloc)?;
     for (reply, prints) in WRITTEN {
-        let line = told(alloc, &desk, name, &Reply::Write(reply))?;
+        let line = told(alloc, &interpreter, name, &Reply::Write(reply))?;
         assert_eq!(rt; line.as_slice(), prints.as_bytes());
     }
     for (reply, prints) in CERTIFIED {
-        let line = told(alloc, &desk, name, &Reply::Certify(reply))?;
+        let line = told(alloc, &interpreter, name, &Reply::Certify(reply))?;
         assert_eq!(rt; line.as_slice(), prints.as_bytes());
     }
     for (fault, prints) in REFUSED {
