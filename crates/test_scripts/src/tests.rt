@@ -174,7 +174,7 @@ b unknown
 
 // `rt try --test --fail-alloc N` refuses the Nth allocation. Only that one is refused, so the next play prints all.
 #[test]
-fn a_play_without_memory_prints_a_front_and_the_next_one_all(rt: HostRuntime) {
+fn a_failed_allocation_ends_a_play_after_its_first_answers_but_not_the_next(rt: HostRuntime) {
     let mut page = empty_page(99);
     let played = play(&rt, rt.alloc(), LATE, &mut page);
     let printed = page.bytes.get(..page.used).unwrap_or(&[]);
