@@ -1,4 +1,4 @@
-//! The words of a line, one after another.
+//! Reading the words of a line, one after another.
 
 use crate::LineFault;
 use crate::lists::list;
@@ -6,19 +6,19 @@ use crate::word::{Name, member, number, transaction, weight};
 use nw_digest::Round;
 use std::alloc::Global;
 
-/// The words of a line that are not yet read, parted by one space. A line has at least one word, which may be empty.
+/// The unread words of a line, separated by one space. A line has at least one word, which may be empty.
 #[derive(Drop)]
 pub struct Words<'a> {
     rest: Option<&'a [u8]>,
 }
 
 impl<'a> Words<'a> {
-    /// The words of the line.
+    /// All words of the line.
     pub fn new(line: &'a [u8]) -> Words<'a> {
         Words { rest: Some(line) }
     }
 
-    /// The next word. The line is bad where it has no more.
+    /// The next word. `Bad` if there is none. The methods below are also `Bad` if it is not of their kind.
     pub fn next(&mut self) -> Result<&'a [u8], LineFault> {
         let rest = self.rest.take().ok_or(LineFault::Bad)?;
         match rest.iter().position(|byte| *byte == b' ') {
@@ -30,12 +30,12 @@ impl<'a> Words<'a> {
         }
     }
 
-    /// The next word, which must be a text.
+    /// The next word, which must be UTF-8.
     pub fn text(&mut self) -> Result<&'a str, LineFault> {
         str::from_utf8(self.next()?).ok().ok_or(LineFault::Bad)
     }
 
-    /// Whether each word was read.
+    /// Whether all words were read.
     pub fn is_empty(&self) -> bool {
         self.rest.is_none()
     }
