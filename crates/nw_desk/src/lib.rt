@@ -3,7 +3,7 @@
 //! An `Interpreter` holds the committee and the names of a script. It turns a request into an `Action`: an answer to print, or a
 //! call to make. It turns the reply of a call into an `Answer`, which writes itself. No function of this crate takes a lock or waits.
 //!
-//! Proved is that a committee has the members or weights of its line (`committee`). Scripts show what is printed. Loads (`nw_load`)
+//! It is proved that a committee has the members or weights of its line (`committee`). Scripts show what is printed. Loads (`nw_load`)
 //! take their committee and messages from here too.
 #![tactic(auto)]
 

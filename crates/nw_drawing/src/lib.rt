@@ -1,6 +1,6 @@
 //! Draws pictures of blocks as SVG, with rounds from left to right and authors from top to bottom.
 //!
-//! Proved is that the place of a box follows from its column and lane, and that boxes of different columns or lanes do not overlap.
+//! It is proved that the place of a box follows from its column and lane, and that boxes of different columns or lanes do not overlap.
 //! The lane follows from the author's row and the box above, and each box is lower than the one above. The stored run of
 //! `nw_picture` shows a picture.
 #![tactic(auto)]

@@ -10,7 +10,7 @@ use nw_store::{Home, Ticket};
 use std::alloc::Global;
 use std::sync::Wait;
 
-/// What a client works with.
+/// A client: the calls that it may make, its channel, and its gate.
 #[derive(Drop)]
 pub(crate) struct Client<'a, L: Home, G: Gate> {
     alloc: Global,

@@ -45,7 +45,7 @@ pub fn read_committee(
             Ok(committee) => Ok(committee),
             Err(fault) => Err(PlayFault::at(lines.last_number(), fault)),
         },
-        _ => Err(lines.last_is_bad()),
+        _ => Err(lines.bad_last_line()),
     }
 }
 

@@ -74,11 +74,11 @@ impl PlayFault {
 
 /// Prints the answer on a line.
 pub(crate) fn print<W: Write>(out: &mut W, answer: &Answer<'_>) -> Result<(), PlayFault> {
-    written(answer.write(out))
+    write_outcome(answer.write(out))
 }
 
 /// The outcome of writing, with `Write` for any error of the writer.
-pub(crate) fn written(outcome: io::Result<()>) -> Result<(), PlayFault> {
+pub(crate) fn write_outcome(outcome: io::Result<()>) -> Result<(), PlayFault> {
     match outcome {
         Ok(()) => Ok(()),
         Err(_) => Err(PlayFault::Write),

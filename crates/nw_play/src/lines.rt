@@ -29,8 +29,8 @@ impl<'a> Lines<'a> {
         self.last_number
     }
 
-    /// The fault that the line read last is bad.
-    pub fn last_is_bad(&self) -> PlayFault {
+    /// The fault if the line read last is bad.
+    pub fn bad_last_line(&self) -> PlayFault {
         PlayFault::BadLine {
             line: self.last_number,
         }

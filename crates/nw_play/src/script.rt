@@ -4,7 +4,7 @@ ghost use Rattle.nw_play.specs.declared.input.TheConstants.{MAX_SCRIPT};
 ghost use Rattle.nw_play.specs.Unread.{IsUnread};
 
 use crate::books::{Start, default_start, read_committee};
-use crate::fault::{PlayFault, written};
+use crate::fault::{PlayFault, write_outcome};
 use crate::input::read_script;
 use crate::lines::Lines;
 use crate::stores::play_store;
@@ -40,7 +40,7 @@ pub fn play<Rt: Wait, R: Read + Drop, W: Write + Drop>(
     let played = play_script(rt, alloc, script.as_slice(), &mut out);
     let outcome = match played {
         Err(PlayFault::Write) => Err(PlayFault::Write),
-        _ => written(out.flush()).and(played),
+        _ => write_outcome(out.flush()).and(played),
     };
     // Dropping the parts does not flush again after a failed write.
     drop(out.into_parts());
@@ -55,7 +55,7 @@ fn play_script<Rt: Wait, W: Write>(
 ) -> Result<(), PlayFault> {
     let played = play_stores(rt, alloc, script, out);
     if let Err(fault @ (PlayFault::BadLine { .. } | PlayFault::Differs { .. })) = played {
-        written(writeln!(out, "{fault}"))?;
+        write_outcome(writeln!(out, "{fault}"))?;
     }
     played
 }

@@ -59,7 +59,7 @@ fn is_reopened<L: Home, W: Write>(
     match lines.next_line(alloc)? {
         None => Ok(false),
         Some(Line::Reopen) => Ok(true),
-        Some(_) => Err(lines.last_is_bad()),
+        Some(_) => Err(lines.bad_last_line()),
     }
 }
 
