@@ -39,6 +39,7 @@ impl<'a> Interpreter<'a> {
         Ok(self.named_block(name)?.digest)
     }
 
+    /// The named block. `Bad` if the name is not bound.
     pub(crate) fn named_block(&self, name: Name<'a>) -> Result<&NamedBlock, LineFault> {
         self.names.named_block(name)
     }
@@ -49,6 +50,8 @@ impl<'a> Interpreter<'a> {
     }
 
     /// The answer to a causal read that gave a ticket. If `is_kept`, it binds the name to the ticket; if not, it walks the ticket.
+    ///
+    /// `NoMemory` if an allocation fails. `Bad` if a block of the list has no name, which never happens in a script.
     pub fn answer_to_ticket(
         &mut self,
         alloc: Global,

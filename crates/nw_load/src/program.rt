@@ -3,7 +3,7 @@ use crate::fault::LoadFault;
 use crate::launch::load;
 use crate::report::NodeReport;
 use nw_intake::FreeGate;
-use nw_script::weight;
+use nw_script::number_u32;
 use std::alloc::Global;
 use std::io::{self, Write};
 use std::sync::Wait;
@@ -49,7 +49,7 @@ pub fn print_outcome<W: Write>(outcome: &Result<Vec<NodeReport>, LoadFault>, out
 fn numbers(words: &[String]) -> Option<(u32, u32)> {
     match words {
         [command, nodes, rounds] if command.as_str() == "load" => {
-            Some((weight(nodes.as_str())?, weight(rounds.as_str())?))
+            Some((number_u32(nodes.as_str())?, number_u32(rounds.as_str())?))
         }
         _ => None,
     }

@@ -13,4 +13,4 @@ mod words;
 pub use fault::LineFault;
 pub use line::{BlockLine, CommitteeLine, LimitsLine, Line, Request, parse_line};
 pub use lists::list;
-pub use word::{Name, member, number, transaction, weight};
+pub use word::{Name, number, number_u16, number_u32, transaction};

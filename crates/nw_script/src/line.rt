@@ -135,10 +135,10 @@ fn read_request<'a>(
         b"certify" | b"valid" | b"gather" => request_of_signers(alloc, keyword, words)?,
         b"open" => open(words)?,
         b"collect" => Request::Collect(words.round()?),
-        b"missing" => Request::Missing(words.member()?),
+        b"missing" => Request::Missing(words.number_u16()?),
         b"status" => Request::Status,
         b"compact" => Request::Compact,
-        b"session" => Request::Session(words.member()?),
+        b"session" => Request::Session(words.number_u16()?),
         _ => return Err(LineFault::Bad),
     })
 }
@@ -146,7 +146,7 @@ fn read_request<'a>(
 fn block<'a>(alloc: Global, words: &mut Words<'a>) -> Result<BlockLine<'a>, LineFault> {
     Ok(BlockLine {
         name: words.name()?,
-        author: words.member()?,
+        author: words.number_u16()?,
         round: words.round()?,
         parents: words.names(alloc)?,
         transactions: words.transactions(alloc)?,
@@ -197,7 +197,7 @@ fn request_of_signers<'a>(
 fn committee(alloc: Global, words: &mut Words<'_>) -> Result<CommitteeLine, LineFault> {
     match words.next()? {
         b"v1" => Ok(CommitteeLine::Equal {
-            members: words.limit()?,
+            members: words.number_u32()?,
         }),
         b"v2" => Ok(CommitteeLine::Weighted {
             weights: words.weights(alloc)?,
@@ -208,10 +208,10 @@ fn committee(alloc: Global, words: &mut Words<'_>) -> Result<CommitteeLine, Line
 
 fn limits(words: &mut Words<'_>) -> Result<LimitsLine, LineFault> {
     Ok(LimitsLine {
-        blocks: words.limit()?,
-        events: words.limit()?,
-        window: words.limit()?,
-        sessions: words.limit()?,
+        blocks: words.number_u32()?,
+        events: words.number_u32()?,
+        window: words.number_u32()?,
+        sessions: words.number_u32()?,
     })
 }
 
@@ -220,7 +220,7 @@ fn signer(words: &mut Words<'_>) -> Result<Option<u16>, LineFault> {
     if words.is_empty() {
         Ok(None)
     } else {
-        Ok(Some(words.member()?))
+        Ok(Some(words.number_u16()?))
     }
 }
 

@@ -81,16 +81,16 @@ pub fn number(word: &str) -> Option<u64>
     }
 }
 
-/// The number of a member, at most 65,535, or `None` if the word is not such a number.
-pub fn member(word: &str) -> Option<u16>
+/// The decimal number in the word, or `None` if it has leading zeros, is 2^16 or larger, or is not a number.
+pub fn number_u16(word: &str) -> Option<u16>
     ensures spelled { IfSome result (λ n. word.now ≡ decimal n) }
     ensures found { (n : ℕ) → n < 2 ^ 16 → word.now ≡ decimal n → result ≡ Some n }
 {
     u16::try_from(number(word)?).ok()
 }
 
-/// The weight of a member, or any other number below 2^32, or `None` if the word is not such a number.
-pub fn weight(word: &str) -> Option<u32>
+/// The decimal number in the word, or `None` if it has leading zeros, is 2^32 or larger, or is not a number.
+pub fn number_u32(word: &str) -> Option<u32>
     ensures spelled { IfSome result (λ n. word.now ≡ decimal n) }
     ensures found { (n : ℕ) → n < 2 ^ 32 → word.now ≡ decimal n → result ≡ Some n }
 {

@@ -2,7 +2,7 @@
 
 use crate::LineFault;
 use crate::lists::list;
-use crate::word::{Name, member, number, transaction, weight};
+use crate::word::{Name, number, number_u16, number_u32, transaction};
 use nw_digest::Round;
 use std::alloc::Global;
 
@@ -51,8 +51,8 @@ impl<'a> Words<'a> {
     }
 
     /// The next word, which must be a number below 2^32.
-    pub fn limit(&mut self) -> Result<u32, LineFault> {
-        weight(self.text()?).ok_or(LineFault::Bad)
+    pub fn number_u32(&mut self) -> Result<u32, LineFault> {
+        number_u32(self.text()?).ok_or(LineFault::Bad)
     }
 
     /// The next word, which must be the number of a round.
@@ -60,9 +60,9 @@ impl<'a> Words<'a> {
         Round::new(self.number()?).ok_or(LineFault::Bad)
     }
 
-    /// The next word, which must be a number below 2^16: a member's or a session's.
-    pub fn member(&mut self) -> Result<u16, LineFault> {
-        member(self.text()?).ok_or(LineFault::Bad)
+    /// The next word, which must be a number below 2^16.
+    pub fn number_u16(&mut self) -> Result<u16, LineFault> {
+        number_u16(self.text()?).ok_or(LineFault::Bad)
     }
 
     /// The next word, which must be a list of names.
@@ -72,12 +72,12 @@ impl<'a> Words<'a> {
 
     /// The next word, which must be a list of members.
     pub fn members(&mut self, alloc: Global) -> Result<Vec<u16>, LineFault> {
-        list(alloc, self.text()?, member)
+        list(alloc, self.text()?, number_u16)
     }
 
     /// The next word, which must be a list of weights.
     pub fn weights(&mut self, alloc: Global) -> Result<Vec<u32>, LineFault> {
-        list(alloc, self.text()?, weight)
+        list(alloc, self.text()?, number_u32)
     }
 
     /// The next word, which must be a list of transactions.

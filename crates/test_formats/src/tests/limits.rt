@@ -71,8 +71,8 @@ fn sizes_at_the_limit(rt: HostRuntime) -> Result<(), Fail> {
     Ok(())
 }
 
-/// The message, written out byte by byte, of a block of author 0 and round 0 without parents, with 15 transactions of 65,536
-/// bytes and one of `last` bytes.
+/// The message of a block of author 0 and round 0 without parents, byte by byte. It has 15 transactions of 65,536 bytes and one of
+/// `last` bytes.
 fn message(alloc: Global, last: u32) -> Result<Vec<u8>, AllocError> {
     let mut text = [1, 1, 0, 0, 0, 0, 0, 0, 0, 0, 0, 0, 0, 16].to_vec(alloc)?;
     for number in 1..=16 {

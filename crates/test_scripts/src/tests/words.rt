@@ -1,5 +1,5 @@
-//! Words that no script prints. A script would need two blocks with one digest, a member that signs with another member's key, or a
-//! store that settles sessions that it did not make.
+//! Words that no script prints. They need two blocks with one digest, a vote signed with another member's key, or a settlement with
+//! sessions of another store.
 use nw_check::CertFault;
 use nw_desk::{Answer, Interpreter, committee};
 use nw_digest::Shared;
