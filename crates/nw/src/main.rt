@@ -1,9 +1,12 @@
-//! Without arguments: plays a script from standard input to standard output. With `load` and two numbers: runs a load of so
-//! many nodes and rounds, and prints its report.
+//! Plays a script from standard input to standard output, or runs a load and prints its report.
 //!
-//! The exit status is 0 where the end of the script was reached or the load reported, 1 where the script could not be read,
-//! was too long, its answers or the report could not be written, or memory was refused to a script, 2 where a line is bad, or
-//! the program was given other arguments, and 3 where the sessions of a store differ, or the load was refused.
+//! Without arguments it plays a script. With the arguments `load`, a number of nodes and a number of rounds, it runs a load. The exit
+//! status is
+//!
+//! - 0 if the script was played to its end, or the load has a report;
+//! - 1 if the script could not be read or was too long, output could not be written, or an allocation of a script failed;
+//! - 2 if a line of the script is bad, or the arguments are other words;
+//! - 3 if the load failed, or the sessions of a store differ, which no script can cause.
 #![tactic(auto)]
 
 use nw_load::run;
@@ -13,12 +16,12 @@ use std::env::{self, Args};
 use std::io::ErrorKind;
 use std::process::ExitCode;
 
-// The status of arguments that can't be read. All are judged before anything else is read or run.
+// The exit status if the arguments can't be read. They are tested before anything else is read or run.
 const BAD_ARGUMENTS: u8 = 2;
 
 fn main(rt: HostRuntime) -> ExitCode {
     let words = match env::args(&rt) {
-        Ok(given) => behind_the_name(rt.alloc(), given),
+        Ok(given) => without_program_name(rt.alloc(), given),
         Err(error) if error.kind() == ErrorKind::OutOfMemory => return ExitCode::FAILURE,
         Err(_) => return ExitCode::from(BAD_ARGUMENTS),
     };
@@ -31,11 +34,12 @@ fn main(rt: HostRuntime) -> ExitCode {
     }
 }
 
-// The words that the program was given, of which the first is its own name.
-fn behind_the_name(alloc: Global, given: Args<Global>) -> Result<Vec<String>, AllocError> {
+// The arguments after the first, which is the name of the program.
+fn without_program_name(alloc: Global, given: Args<Global>) -> Result<Vec<String>, AllocError> {
     given.skip(1).collect(alloc)
 }
 
+// The exit status of a play.
 fn status(outcome: Result<(), PlayFault>) -> u8 {
     match outcome {
         Ok(()) => 0,

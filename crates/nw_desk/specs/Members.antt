@@ -1,4 +1,4 @@
--- The members that a line of a script names.
+-- The members of a script's committee.
 use Rattle.std.specs.Prelude.{◌≡◌, List, length, map}
 use Rattle.nw_committee.specs.Committee.{equal_members}
 use Rattle.nw_committee.specs.declared.member.Key.{Key}
@@ -6,7 +6,7 @@ use Rattle.nw_committee.specs.declared.member.Member.{Member}
 use Rattle.nw_script.specs.declared.line.CommitteeLine.{CommitteeLine}
 use Rattle.nw_script.specs.declared.line.CommitteeLine.TheVariants as lines
 
--- as many members as the line says, of weight 1; or one for each of its weights, in order
+-- the members of a committee line: the given number of members of weight 1, or members with the given weights, in order
 abbrev pub AreMembersOf : CommitteeLine → List Member → Type 0
 AreMembersOf (lines.Equal count) members =
     (keys : List Key) × (members ≡ equal_members keys) × (length keys ≡ count)

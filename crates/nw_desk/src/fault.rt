@@ -6,12 +6,12 @@ use nw_committee::CommitteeFault;
 use nw_digest::NoMemory;
 use std::alloc::{AllocError, AllocFailed};
 
-/// Why a line was not played.
+/// Why a line could not be played.
 #[derive(Clone, Copy, Debug, PartialEq, Eq)]
 pub enum LineFault {
-    /// The line is bad.
+    /// It is not a line of a script, or can't be played at its place.
     Bad,
-    /// Memory was refused.
+    /// An allocation failed.
     NoMemory,
 }
 
@@ -71,7 +71,7 @@ impl From<BookError> for LineFault {
     }
 }
 
-/// What was encoded, or `None` where it is over a limit or out of order.
+/// The encoded text, or `None` if the value is over a limit or out of order. An allocation failure stays an error.
 pub fn within_limits(encoded: Result<Vec<u8>, EncodeError>) -> Result<Option<Vec<u8>>, LineFault> {
     match encoded {
         Ok(text) => Ok(Some(text)),

@@ -1,22 +1,24 @@
-//! The desk of a player of scripts: what names and numbers stand for, and how answers are printed.
+//! The part of a script line that needs no store: names and numbers, messages, and answers in words.
 //!
-//! It does of a line whatever needs no store: it defines blocks, makes and checks messages, walks tickets, says what a line asks
-//! of a store, and puts replies into words. No function of it has leave to wait. What is printed is shown by scripts; proved is
-//! that the committee of a script has the weights that its line says. Loads have their committee and messages of it too.
+//! An `Interpreter` holds the committee and the names of a script. It turns a request into an `Action`: an answer to print, or a
+//! call to make. It turns the reply of a call into an `Answer`, which writes itself. No function of this crate takes a lock or waits.
+//!
+//! It is proved that a committee has the members or weights of its line (`committee`). Scripts show what is printed. Loads (`nw_load`)
+//! take their committee and messages from here too.
 #![tactic(auto)]
 
-mod asked;
+mod action;
 mod blocks;
-mod desk;
 mod fault;
+mod interpreter;
 mod members;
 mod names;
 mod print;
 mod replies;
 mod votes;
 
-pub use asked::Asked;
-pub use desk::Desk;
+pub use action::Action;
 pub use fault::LineFault;
+pub use interpreter::Interpreter;
 pub use members::{block_message, committee, vote_message};
 pub use print::Answer;

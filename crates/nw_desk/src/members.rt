@@ -1,4 +1,4 @@
-//! The members of a script's committee, each with the key of its number.
+//! The members of a script's committee and what they sign. Member i has the demonstration key of its number.
 ghost use Rattle.std.specs.Prelude.{◌≡◌, IfOk, List, length, map, min};
 ghost use Rattle.nw_committee.specs.Committee.{equal_members};
 ghost use Rattle.nw_committee.specs.declared.member.Key.{Key};
@@ -14,10 +14,10 @@ use nw_script::CommitteeLine;
 use nw_sig::{DemoSigner, Signer, block_text, vote_text};
 use std::alloc::Global;
 
-// How many members a committee has at most.
+// The largest committee.
 const MAX_MEMBERS: u32 = 100;
 
-/// The committee of the line. The line is bad where no committee has such members.
+/// The committee of the line. `Bad` if there is no such committee, `NoMemory` if an allocation fails.
 pub fn committee(alloc: Global, line: &CommitteeLine) -> Result<Committee, LineFault>
     ensures members { IfOk result (AreMembersOf line.now) }
 {
@@ -68,14 +68,16 @@ fn members(alloc: Global, weights: &[u32]) -> Result<Vec<Member>, LineFault>
     Ok(members)
 }
 
-// 30 bytes 00, and the number.
+// The key of the member: 30 zero bytes and its number in two bytes.
 fn key(number: u16) -> Key {
     let mut bytes = [0; 32];
     bytes[30..].copy_from_slice(&number.to_be_bytes());
     Key(bytes)
 }
 
-/// The message of the block with this digest, signed by the member as its creator.
+/// The encoded message of the block with this digest, signed by the member as its author.
+///
+/// `OverLimit` if the block does not fit (docs/FORMATS.md), `NoMemory` if an allocation fails.
 pub fn block_message(
     alloc: Global,
     member: u16,
@@ -85,7 +87,7 @@ pub fn block_message(
     encode_block(alloc, block, &signature(member, &block_text(digest)))
 }
 
-/// The message of the member's vote for the block with this digest.
+/// The encoded message of the member's vote for the block with this digest. `NoMemory` if an allocation fails.
 pub fn vote_message(
     alloc: Global,
     member: u16,
@@ -106,7 +108,7 @@ pub(crate) fn vote(member: u16, digest: Digest, block: &Block) -> Vote {
     }
 }
 
-/// The certificate of the members' votes for the block with this digest, in the order of the members.
+/// A certificate for the block with this digest, with the members' votes in the given order. It may break every rule of certificates.
 pub(crate) fn certificate(
     alloc: Global,
     members: &[u16],

@@ -8,34 +8,35 @@ use nw_script::Name;
 use std::alloc::Global;
 use std::collections::HashMap;
 
-/// What a name stands for: a block that fits, and its digest.
+/// A block that fits (docs/FORMATS.md), and its digest.
 #[derive(Drop)]
-pub struct Bound {
+pub struct NamedBlock {
     pub block: Block,
     pub digest: Digest,
 }
 
-// What was bound first of a round and author.
+// The first named block of a round and author.
 #[derive(Drop)]
 struct Slot<'a> {
     name: Name<'a>,
-    // Whether nothing of another digest was bound since.
-    is_alone: bool,
+    // Whether all later named blocks of the slot have the same digest.
+    is_unique: bool,
 }
 
-/// The names of a script's blocks, and the first name of each digest.
+/// The named blocks of a script, and the first name of each digest.
 #[derive(Drop)]
 pub struct Names<'a> {
-    bound: HashMap<&'a str, Bound>,
+    blocks: HashMap<&'a str, NamedBlock>,
     first_names: HashMap<[u8; 32], Name<'a>>,
-    /// By round and author, so that a block of a long list is not hashed to find its name.
+    /// By round and author. With it, most blocks of a long list get their name without a hash.
     slots: HashMap<(u64, u16), Slot<'a>>,
 }
 
 impl<'a> Names<'a> {
+    /// No names. It allocates nothing.
     pub fn new(alloc: Global) -> Names<'a> {
         Names {
-            bound: HashMap::new(alloc),
+            blocks: HashMap::new(alloc),
             first_names: HashMap::new(alloc),
             slots: HashMap::new(alloc),
         }
@@ -43,15 +44,15 @@ impl<'a> Names<'a> {
 
     /// Whether the name is bound.
     pub fn has(&self, name: Name<'a>) -> bool {
-        self.bound.contains_key(name.as_str())
+        self.blocks.contains_key(name.as_str())
     }
 
-    /// What the name stands for. The line is bad where it is not bound.
-    pub fn bound(&self, name: Name<'a>) -> Result<&Bound, LineFault> {
-        self.bound.get(name.as_str()).ok_or(LineFault::Bad)
+    /// The block of the name. `Bad` if the name is not bound.
+    pub fn named_block(&self, name: Name<'a>) -> Result<&NamedBlock, LineFault> {
+        self.blocks.get(name.as_str()).ok_or(LineFault::Bad)
     }
 
-    /// References to the blocks of the names.
+    /// References to the named blocks. `Bad` if a name is not bound.
     pub fn references(
         &self,
         alloc: Global,
@@ -59,7 +60,7 @@ impl<'a> Names<'a> {
     ) -> Result<Sequence<Ref>, LineFault> {
         let mut references = Vec::with_capacity(alloc, names.len())?;
         for name in names {
-            let parent = self.bound(*name)?;
+            let parent = self.named_block(*name)?;
             references.push(Ref {
                 author: parent.block.author,
                 digest: parent.digest,
@@ -68,16 +69,19 @@ impl<'a> Names<'a> {
         Ok(Sequence::new(references))
     }
 
-    /// Binds the name, which is free, to the block. The line is bad where the block does not fit.
+    /// Binds the free name to the block. `Bad` if the block does not fit.
     pub fn bind(&mut self, name: Name<'a>, block: Block) -> Result<(), LineFault> {
         let digest = digest_of(&block)?;
-        self.keep(name, digest, block.round, block.author)?;
-        drop(self.bound.insert(name.as_str(), Bound { block, digest })?);
+        self.record_first(name, digest, block.round, block.author)?;
+        drop(
+            self.blocks
+                .insert(name.as_str(), NamedBlock { block, digest })?,
+        );
         Ok(())
     }
 
-    // Keeps the name, which is free, for the digest and for the round and author, if it is their first.
-    fn keep(
+    // Records the name for its digest and for its slot, unless these have one.
+    fn record_first(
         &mut self,
         name: Name<'a>,
         digest: Digest,
@@ -87,15 +91,15 @@ impl<'a> Names<'a> {
         self.first_names.entry(digest.0)?.or_insert(name);
         let slot = self.slots.entry((round.get(), author))?.or_insert(Slot {
             name,
-            is_alone: true,
+            is_unique: true,
         });
-        if let Some(first) = self.bound.get(slot.name.as_str()) {
-            slot.is_alone &= first.digest == digest;
+        if let Some(first) = self.blocks.get(slot.name.as_str()) {
+            slot.is_unique &= first.digest == digest;
         }
         Ok(())
     }
 
-    /// The first name that was bound to a block of the digest. Each digest that a book answers has one.
+    /// The first name of a block with this digest. Each digest in a reply has one, since a script hands in named blocks only.
     pub fn first_name(&self, digest: &Digest) -> Result<Name<'a>, LineFault> {
         self.first_names
             .get(&digest.0)
@@ -103,25 +107,26 @@ impl<'a> Names<'a> {
             .ok_or(LineFault::Bad)
     }
 
-    /// The first name that was bound to a block of the wanted one's digest.
+    /// The first name of a block with the digest of this wanted parent.
     pub fn name_of_wanted(&self, wanted: &Wanted) -> Result<Name<'a>, LineFault> {
         match self.slots.get(&(wanted.round.get(), wanted.author)) {
-            Some(slot) if self.bound(slot.name)?.digest == wanted.digest => Ok(slot.name),
+            Some(slot) if self.named_block(slot.name)?.digest == wanted.digest => Ok(slot.name),
             _ => self.first_name(&wanted.digest),
         }
     }
 
-    /// The first name that was bound to a block of this block's digest. A name was bound to it: each block that a book lists was
-    /// handed in by its name.
+    /// The first name of a block with this block's digest. Each block of a causal list has one, since it was handed in by name.
     pub fn name_of(&self, block: &Block) -> Result<Name<'a>, LineFault> {
         match self.slots.get(&(block.round.get(), block.author)) {
-            Some(slot) if slot.is_alone || self.bound(slot.name)?.block == *block => Ok(slot.name),
+            Some(slot) if slot.is_unique || self.named_block(slot.name)?.block == *block => Ok(
+                slot.name,
+            ),
             _ => self.first_name(&digest_of(block)?),
         }
     }
 }
 
-// The digest of the block. The line is bad where the block does not fit.
+// The digest of the block. `Bad` if the block does not fit.
 fn digest_of(block: &Block) -> Result<Digest, LineFault> {
     if !block.fits() {
         return Err(LineFault::Bad);

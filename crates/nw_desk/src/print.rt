@@ -1,4 +1,4 @@
-//! What is printed.
+//! Answers, and the lines that they print.
 
 use itoa::Buffer;
 use nw_check::{BlockFault, CertFault};
@@ -6,86 +6,85 @@ use nw_model::{Counts, Wanted};
 use nw_script::Name;
 use std::io::{self, Write};
 
-/// The answer to a request, which is printed on a line of its own. Words beside a name or a number have the spaces that part them
-/// from it.
+/// The answer to a request, printed on a line of its own. `words` contain the spaces between them and a name or number beside them.
 #[derive(Drop)]
 pub enum Answer<'a> {
-    /// Words that speak of no name.
+    /// Words only.
     Words(&'static str),
-    /// Words and a number that speak of no name.
-    Counted {
+    /// Words and a number.
+    Count {
         words: &'static str,
         number: u64,
     },
-    /// What is said of a block or a ticket.
-    Told {
+    /// The name of a block or ticket, and words.
+    Named {
         name: Name<'a>,
         words: &'static str,
     },
-    /// What is said of a block, and of another one.
-    ToldOf {
+    /// The name of a block, words, and the name of another block.
+    NamedPair {
         name: Name<'a>,
         words: &'static str,
         other: Name<'a>,
     },
-    /// What is said of a block, and a number.
-    ToldCount {
+    /// The name of a block, words, and a number.
+    NamedCount {
         name: Name<'a>,
         words: &'static str,
         number: u64,
     },
-    /// A block was bound, whose body has so many bytes.
-    Bound {
+    /// A new named block, and the number of bytes of its body.
+    Block {
         name: Name<'a>,
         body: usize,
     },
-    /// A block is not well formed.
+    /// The rule that a block breaks.
     BadBlock {
         name: Name<'a>,
         fault: BlockFault,
     },
-    /// A certificate is not valid.
+    /// The rule that a certificate breaks.
     BadCert {
         name: Name<'a>,
         fault: CertFault,
     },
-    /// Bytes of a block in hex.
-    Bytes {
+    /// The body or the digest of a block in hex.
+    Hex {
         name: Name<'a>,
         hex: String,
     },
-    /// A digest of a word in hex.
+    /// The digest of a word in hex.
     Hash(String),
-    /// What a gatherer said of each vote.
+    /// The result of each gathered vote, in words.
     Gathered {
         name: Name<'a>,
         votes: Vec<&'static str>,
     },
-    /// The signers of the certificate that is kept.
+    /// The signers of a kept certificate.
     Signers {
         name: Name<'a>,
         signers: Vec<u16>,
     },
-    /// The names of the blocks of a causal list, of a block or a ticket.
+    /// The names of the blocks in the causal list of a block or ticket.
     Listed {
         name: Name<'a>,
         blocks: Vec<&'a str>,
     },
-    /// The parents that are wanted, and the first name of the digest of each.
+    /// Wanted parents, and the first name of each one's digest.
     Missing {
         wanted: Vec<Wanted>,
         names: Vec<Name<'a>>,
     },
-    /// How much is kept and how much is wanted.
+    /// The numbers of a status call.
     Status(Counts),
-    /// A store was settled: the events of its history, and the calls of each session.
+    /// The number of events of a settled store, followed by the number of calls of each session.
     Settled(Vec<usize>),
 }
 
 impl<'a> Answer<'a> {
-    /// That a block or a certificate is over a limit or out of order.
+    /// The answer for a block or a certificate that is over a limit or out of order.
     pub(crate) fn over_limit(name: Name<'a>) -> Answer<'a> {
-        Answer::Told {
+        Answer::Named {
             name,
             words: " refused over limit",
         }
@@ -93,7 +92,7 @@ impl<'a> Answer<'a> {
 }
 
 impl Answer<'_> {
-    /// Writes the line of the answer.
+    /// Writes the answer and a line end. The error is that of the writer.
     pub fn write<W: Write>(&self, out: &mut W) -> io::Result<()> {
         self.write_words(out)?;
         out.write_all(b"\n")
@@ -102,32 +101,32 @@ impl Answer<'_> {
     fn write_words<W: Write>(&self, out: &mut W) -> io::Result<()> {
         match self {
             Answer::Words(words) => out.write_all(words.as_bytes()),
-            Answer::Counted { words, number } => {
+            Answer::Count { words, number } => {
                 out.write_all(words.as_bytes())?;
                 write_number(out, *number)
             }
-            Answer::Told { name, words } => write_both(out, name.as_str(), words),
-            Answer::ToldOf { name, words, other } => {
-                write_both(out, name.as_str(), words)?;
+            Answer::Named { name, words } => write_two(out, name.as_str(), words),
+            Answer::NamedPair { name, words, other } => {
+                write_two(out, name.as_str(), words)?;
                 out.write_all(other.as_str().as_bytes())
             }
-            Answer::ToldCount {
+            Answer::NamedCount {
                 name,
                 words,
                 number,
             } => {
-                write_both(out, name.as_str(), words)?;
+                write_two(out, name.as_str(), words)?;
                 write_number(out, *number)
             }
-            Answer::Bound { name, body } => {
-                write_both(out, "block ", name.as_str())?;
-                write_number_behind(out, b' ', *body as u64)
+            Answer::Block { name, body } => {
+                write_two(out, "block ", name.as_str())?;
+                write_number_after(out, b' ', *body as u64)
             }
             Answer::BadBlock { name, fault } => write!(out, "{name} refused {fault}"),
             Answer::BadCert { name, fault } => write!(out, "{name} refused {fault}"),
-            Answer::Bytes { name, hex } => {
+            Answer::Hex { name, hex } => {
                 out.write_all(name.as_str().as_bytes())?;
-                write_behind(out, hex.as_str())
+                write_after_space(out, hex.as_str())
             }
             Answer::Hash(hex) => out.write_all(hex.as_bytes()),
             Answer::Gathered { name, votes } => write_list(out, name.as_str(), "", votes),
@@ -140,13 +139,13 @@ impl Answer<'_> {
     }
 }
 
-fn write_both<W: Write>(out: &mut W, one: &str, two: &str) -> io::Result<()> {
+fn write_two<W: Write>(out: &mut W, one: &str, two: &str) -> io::Result<()> {
     out.write_all(one.as_bytes())?;
     out.write_all(two.as_bytes())
 }
 
-// The word behind a space.
-fn write_behind<W: Write>(out: &mut W, word: &str) -> io::Result<()> {
+// A space and the word.
+fn write_after_space<W: Write>(out: &mut W, word: &str) -> io::Result<()> {
     out.write_all(b" ")?;
     out.write_all(word.as_bytes())
 }
@@ -155,27 +154,27 @@ fn write_number<W: Write>(out: &mut W, number: u64) -> io::Result<()> {
     out.write_all(Buffer::new().format(number).as_bytes())
 }
 
-// The number behind the byte.
-fn write_number_behind<W: Write>(out: &mut W, before: u8, number: u64) -> io::Result<()> {
+// The byte and the number.
+fn write_number_after<W: Write>(out: &mut W, before: u8, number: u64) -> io::Result<()> {
     out.write_all(&[before])?;
     write_number(out, number)
 }
 
-// The name, the words behind it, and each item behind a space.
+// The name, the words, and the items, each after a space.
 fn write_list<W: Write>(out: &mut W, name: &str, words: &str, items: &[&str]) -> io::Result<()> {
-    write_both(out, name, words)?;
+    write_two(out, name, words)?;
     for item in items {
-        write_behind(out, item)?;
+        write_after_space(out, item)?;
     }
     Ok(())
 }
 
-// Numbers parted by commas.
+// Numbers separated by commas.
 fn write_signers<W: Write>(out: &mut W, name: &str, signers: &[u16]) -> io::Result<()> {
-    write_both(out, name, " certified by")?;
+    write_two(out, name, " certified by")?;
     let mut before = b' ';
     for signer in signers {
-        write_number_behind(out, before, u64::from(*signer))?;
+        write_number_after(out, before, u64::from(*signer))?;
         before = b',';
     }
     Ok(())
@@ -184,7 +183,7 @@ fn write_signers<W: Write>(out: &mut W, name: &str, signers: &[u16]) -> io::Resu
 fn write_settled<W: Write>(out: &mut W, counts: &[usize]) -> io::Result<()> {
     out.write_all(b"settled")?;
     for count in counts {
-        write_number_behind(out, b' ', *count as u64)?;
+        write_number_after(out, b' ', *count as u64)?;
     }
     Ok(())
 }
@@ -192,8 +191,8 @@ fn write_settled<W: Write>(out: &mut W, counts: &[usize]) -> io::Result<()> {
 fn write_missing<W: Write>(out: &mut W, wanted: &[Wanted], names: &[Name<'_>]) -> io::Result<()> {
     out.write_all(b"missing")?;
     for (parent, name) in wanted.iter().zip(names) {
-        write_number_behind(out, b' ', parent.round.get())?;
-        write_number_behind(out, b'.', u64::from(parent.author))?;
+        write_number_after(out, b' ', parent.round.get())?;
+        write_number_after(out, b'.', u64::from(parent.author))?;
         out.write_all(b".")?;
         out.write_all(name.as_str().as_bytes())?;
     }

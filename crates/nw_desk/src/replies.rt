@@ -1,7 +1,7 @@
-//! Replies in words. A digest is told by the first name that was bound to its block.
+//! Replies in words. A digest is printed as the first name of its block.
 
-use crate::desk::Desk;
 use crate::fault::LineFault;
+use crate::interpreter::Interpreter;
 use crate::print::Answer;
 use nw_book::Ticket;
 use nw_codec::{Block, Seal};
@@ -11,60 +11,63 @@ use nw_script::Name;
 use nw_sig::DemoScheme;
 use std::alloc::Global;
 
-impl<'a> Desk<'a> {
-    /// The answer that tells the reply to a call, which is on the name where it has one.
-    pub fn told(
+impl<'a> Interpreter<'a> {
+    /// The reply of a call in words. `name` is the block of the call, if it has one.
+    ///
+    /// `Bad` if the reply is a list or `Ready`, or does not belong to a call with (or without) a name, or has a digest without a name.
+    /// `NoMemory` if an allocation fails.
+    pub fn answer_to(
         &self,
         alloc: Global,
         name: Option<Name<'a>>,
         reply: &Reply,
     ) -> Result<Answer<'a>, LineFault> {
         match name {
-            Some(name) => self.told_on(alloc, name, reply),
-            None => self.stated(alloc, reply),
+            Some(name) => self.answer_on_name(alloc, name, reply),
+            None => self.answer_without_name(alloc, reply),
         }
     }
 
-    // The answer that tells the reply to a call on the name.
-    fn told_on(
+    // The reply to a call on a named block, in words.
+    fn answer_on_name(
         &self,
         alloc: Global,
         name: Name<'a>,
         reply: &Reply,
     ) -> Result<Answer<'a>, LineFault> {
         match reply {
-            Reply::Write(reply) => self.written(name, *reply),
-            Reply::Certify(reply) => self.certified(name, *reply),
+            Reply::Write(reply) => self.answer_to_write(name, *reply),
+            Reply::Certify(reply) => self.answer_to_certify(name, *reply),
             Reply::Certificate(Some(certificate)) => {
                 signed(alloc, name, certificate.get().votes.as_slice())
             }
-            Reply::Certificate(None) => Ok(told(name, " none")),
+            Reply::Certificate(None) => Ok(named(name, " none")),
             Reply::Read(Some(block)) => found(name, block.get()),
-            Reply::Read(None) => Ok(told(name, " unknown")),
-            Reply::Causal(reply) => Ok(told(name, word_of(*reply))),
+            Reply::Read(None) => Ok(named(name, " unknown")),
+            Reply::Causal(reply) => Ok(named(name, word_of(*reply))),
             Reply::Ready | Reply::List(_) => Err(LineFault::Bad),
             Reply::Collect(_) | Reply::Missing(_) | Reply::Status(_) => Err(LineFault::Bad),
         }
     }
 
-    // The answer that tells the reply to a call that names no block.
-    fn stated(&self, alloc: Global, reply: &Reply) -> Result<Answer<'a>, LineFault> {
+    // The reply to a call without a block, in words.
+    fn answer_without_name(&self, alloc: Global, reply: &Reply) -> Result<Answer<'a>, LineFault> {
         match reply {
-            Reply::Collect(CollectReply::Raised { dropped }) => Ok(Answer::Counted {
+            Reply::Collect(CollectReply::Raised { dropped }) => Ok(Answer::Count {
                 words: "raised ",
                 number: *dropped,
             }),
-            Reply::Collect(CollectReply::NotHigher(floor)) => Ok(Answer::Counted {
+            Reply::Collect(CollectReply::NotHigher(floor)) => Ok(Answer::Count {
                 words: "not higher ",
                 number: floor.get(),
             }),
-            Reply::Missing(wanted) => self.missing(alloc, wanted.as_slice()),
+            Reply::Missing(wanted) => self.answer_to_missing(alloc, wanted.as_slice()),
             Reply::Status(counts) => Ok(Answer::Status(*counts)),
             _ => Err(LineFault::Bad),
         }
     }
 
-    fn missing(&self, alloc: Global, wanted: &[Wanted]) -> Result<Answer<'a>, LineFault> {
+    fn answer_to_missing(&self, alloc: Global, wanted: &[Wanted]) -> Result<Answer<'a>, LineFault> {
         if wanted.is_empty() {
             return Ok(Answer::Words("missing none"));
         }
@@ -85,11 +88,11 @@ impl<'a> Desk<'a> {
         Ok(names)
     }
 
-    fn written(&self, name: Name<'a>, reply: WriteReply) -> Result<Answer<'a>, LineFault> {
+    fn answer_to_write(&self, name: Name<'a>, reply: WriteReply) -> Result<Answer<'a>, LineFault> {
         let words = match reply {
             WriteReply::Collected(floor) => return Ok(collected(name, floor)),
             WriteReply::Equivocates(first) => {
-                return self.told_of(name, " equivocates ", first);
+                return self.with_first_name(name, " equivocates ", first);
             }
             WriteReply::TooFar => " too far",
             WriteReply::Held => " held",
@@ -99,35 +102,39 @@ impl<'a> Desk<'a> {
             WriteReply::Stored { vote: true } => " stored vote",
             WriteReply::Stored { vote: false } => " stored",
         };
-        Ok(told(name, words))
+        Ok(named(name, words))
     }
 
-    fn certified(&self, name: Name<'a>, reply: CertifyReply) -> Result<Answer<'a>, LineFault> {
+    fn answer_to_certify(
+        &self,
+        name: Name<'a>,
+        reply: CertifyReply,
+    ) -> Result<Answer<'a>, LineFault> {
         let words = match reply {
             CertifyReply::Collected(floor) => return Ok(collected(name, floor)),
-            CertifyReply::Conflict(other) => return self.told_of(name, " conflict ", other),
+            CertifyReply::Conflict(other) => return self.with_first_name(name, " conflict ", other),
             CertifyReply::TooFar => " too far",
             CertifyReply::Already => " already",
             CertifyReply::Misfit => " misfit",
             CertifyReply::Full => " full",
             CertifyReply::Certified => " certified",
         };
-        Ok(told(name, words))
+        Ok(named(name, words))
     }
 
-    // The words, with the first name that was bound to the block of this digest.
-    fn told_of(
+    // The words and the first name of the digest.
+    fn with_first_name(
         &self,
         name: Name<'a>,
         words: &'static str,
         digest: Digest,
     ) -> Result<Answer<'a>, LineFault> {
         let other = self.names.first_name(&digest)?;
-        Ok(Answer::ToldOf { name, words, other })
+        Ok(Answer::NamedPair { name, words, other })
     }
 
-    /// The names of the ticket's list.
-    pub(crate) fn listed(
+    /// Walks the ticket: the answer with the names of its list.
+    pub(crate) fn walk_ticket(
         &self,
         alloc: Global,
         name: Name<'a>,
@@ -151,12 +158,12 @@ impl<'a> Desk<'a> {
     }
 }
 
-fn told<'a>(name: Name<'a>, words: &'static str) -> Answer<'a> {
-    Answer::Told { name, words }
+fn named<'a>(name: Name<'a>, words: &'static str) -> Answer<'a> {
+    Answer::Named { name, words }
 }
 
 fn collected(name: Name<'_>, floor: Round) -> Answer<'_> {
-    Answer::ToldCount {
+    Answer::NamedCount {
         name,
         words: " collected ",
         number: floor.get(),
@@ -167,7 +174,7 @@ fn found<'a>(name: Name<'a>, block: &Block) -> Result<Answer<'a>, LineFault> {
     if !block.fits() {
         return Err(LineFault::Bad);
     }
-    Ok(Answer::ToldCount {
+    Ok(Answer::NamedCount {
         name,
         words: " found ",
         number: block.body_size() as u64,
@@ -176,7 +183,7 @@ fn found<'a>(name: Name<'a>, block: &Block) -> Result<Answer<'a>, LineFault> {
 
 fn signed<'a>(alloc: Global, name: Name<'a>, votes: &[Seal]) -> Result<Answer<'a>, LineFault> {
     if votes.is_empty() {
-        return Ok(told(name, " certified by -"));
+        return Ok(named(name, " certified by -"));
     }
     let mut signers = Vec::with_capacity(alloc, votes.len())?;
     for seal in votes {

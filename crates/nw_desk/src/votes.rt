@@ -1,9 +1,9 @@
-//! Votes and certificates of blocks that names stand for.
+//! Votes and certificates for named blocks.
 
-use crate::desk::Desk;
 use crate::fault::{LineFault, within_limits};
+use crate::interpreter::Interpreter;
 use crate::members::{certificate, vote};
-use crate::names::Bound;
+use crate::names::NamedBlock;
 use crate::print::Answer;
 use nw_check::{Counted, Gather, GatherFault, StartFault, valid};
 use nw_codec::{Message, encode_message};
@@ -11,66 +11,66 @@ use nw_script::Name;
 use nw_sig::DemoScheme;
 use std::alloc::Global;
 
-impl<'a> Desk<'a> {
-    /// The message of a certificate of the block with the signers' votes in this order, or `None` where it does not fit.
+impl<'a> Interpreter<'a> {
+    /// The encoded message of a certificate for the block, with the signers' votes in the given order, or `None` if it does not fit.
     pub(crate) fn certificate_text(
         &self,
         alloc: Global,
         name: Name<'a>,
         signers: &[u16],
     ) -> Result<Option<Vec<u8>>, LineFault> {
-        let bound = self.bound(name)?;
+        let named = self.named_block(name)?;
         let message = Message::Certificate(certificate(
             alloc,
             signers,
-            bound.digest,
-            &bound.block,
+            named.digest,
+            &named.block,
         )?);
         let text = encode_message(alloc, &message);
         drop(message);
         within_limits(text)
     }
 
-    /// Whether such a certificate is valid.
+    /// The answer whether a certificate for the block, with the signers' votes in the given order, is valid.
     pub(crate) fn valid(
         &self,
         alloc: Global,
         name: Name<'a>,
         signers: &[u16],
     ) -> Result<Answer<'a>, LineFault> {
-        let bound = self.bound(name)?;
-        let certificate = certificate(alloc, signers, bound.digest, &bound.block)?;
-        let is_valid = valid::<DemoScheme>(self.committee.get(), bound.digest, &certificate);
+        let named = self.named_block(name)?;
+        let certificate = certificate(alloc, signers, named.digest, &named.block)?;
+        let is_valid = valid::<DemoScheme>(self.committee.get(), named.digest, &certificate);
         drop(certificate);
         let words = if is_valid { " valid yes" } else { " valid no" };
-        Ok(Answer::Told { name, words })
+        Ok(Answer::Named { name, words })
     }
 
-    /// Gathers the signers' votes for the block in this order.
+    /// Gathers the signers' votes for the block in the given order: the answer with the result of each.
     pub(crate) fn gather(
         &self,
         alloc: Global,
         name: Name<'a>,
         signers: &[u16],
     ) -> Result<Answer<'a>, LineFault> {
-        let bound = self.bound(name)?;
-        let block = &bound.block;
+        let named = self.named_block(name)?;
+        let block = &named.block;
         match Gather::new(
             alloc,
             &self.committee,
-            bound.digest,
+            named.digest,
             block.round,
             block.author,
         ) {
             Ok(mut gather) => {
-                let votes = gather_all(alloc, &mut gather, signers, bound);
+                let votes = gather_all(alloc, &mut gather, signers, named);
                 drop(gather);
                 Ok(Answer::Gathered {
                     name,
                     votes: votes?,
                 })
             }
-            Err(StartFault::Author) => Ok(Answer::Told {
+            Err(StartFault::Author) => Ok(Answer::Named {
                 name,
                 words: " refused author",
             }),
@@ -79,27 +79,27 @@ impl<'a> Desk<'a> {
     }
 }
 
-// What the gatherer says of each member's vote.
+// The result of each signer's vote, in words.
 fn gather_all(
     alloc: Global,
     gather: &mut Gather<DemoScheme>,
     signers: &[u16],
-    bound: &Bound,
+    named: &NamedBlock,
 ) -> Result<Vec<&'static str>, LineFault> {
     let mut votes = Vec::with_capacity(alloc, signers.len())?;
     for signer in signers {
-        votes.push(gathered(gather, *signer, bound)?)?;
+        votes.push(gather_one(gather, *signer, named)?)?;
     }
     Ok(votes)
 }
 
-// What a gatherer says of the member's vote. A vote for another block is met by no script.
-fn gathered(
+// The result of the signer's vote, in words. The votes of a script are always for the gathered block.
+fn gather_one(
     gather: &mut Gather<DemoScheme>,
     signer: u16,
-    bound: &Bound,
+    named: &NamedBlock,
 ) -> Result<&'static str, LineFault> {
-    match gather.add(&vote(signer, bound.digest, &bound.block)) {
+    match gather.add(&vote(signer, named.digest, &named.block)) {
         Ok(Counted::Counted) => Ok("counted"),
         Ok(Counted::Quorum) => Ok("quorum"),
         Err(GatherFault::Repeated) => Ok("repeated"),

@@ -1,19 +1,19 @@
-//! Why a picture is not drawn.
+//! Faults of drawing.
 
 use std::alloc::{AllocError, AllocFailed};
 use std::io::{self, ErrorKind};
 use thiserror::Error;
 
-/// Why a picture was not drawn to its end. What was printed before stands.
+/// Why a picture was not drawn to its end. The lines written before the fault remain.
 #[derive(Clone, Copy, Debug, PartialEq, Eq, Error)]
 pub enum DrawFault {
-    /// The picture has more than 65,535 tiles. Nothing was printed.
+    /// The picture has more than 65,535 tiles. Nothing was written.
     #[error("too many blocks for a picture")]
     TooMany,
     /// The writer failed.
     #[error("the picture can't be written")]
     Write,
-    /// Memory was refused.
+    /// An allocation failed.
     #[error("out of memory")]
     NoMemory,
 }

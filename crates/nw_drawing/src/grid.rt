@@ -9,10 +9,10 @@ use crate::places::{Place, places_of};
 use std::alloc::{AllocError, Global};
 use std::collections::BTreeMap;
 
-// How many tiles a picture has at most.
-const MOST_TILES: usize = 65_535;
+// The largest number of tiles of a picture.
+const MAX_TILES: usize = 65_535;
 
-/// The rounds and authors that have tiles, ascending, and the place of each tile by its number.
+/// The rounds and the authors that have tiles, ascending, and the place of each tile by its number.
 #[derive(Drop)]
 pub(crate) struct Grid {
     pub rounds: Vec<u64>,
@@ -21,11 +21,11 @@ pub(crate) struct Grid {
 }
 
 impl Grid {
-    /// The grid of the tiles.
+    /// The grid of the tiles. `TooMany` if there are more than 65,535, `NoMemory` if an allocation fails.
     pub fn new(alloc: Global, tiles: &[Tile]) -> Result<Grid, DrawFault>
         ensures { IsErrOf result DrawFault.TooMany ↔ (65535 < length tiles.now) }
     {
-        if tiles.len() > MOST_TILES {
+        if tiles.len() > MAX_TILES {
             return Err(DrawFault::TooMany);
         }
         let rounds = rounds_of(alloc, tiles)?;

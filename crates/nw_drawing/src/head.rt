@@ -1,14 +1,14 @@
 //! The head of a picture: its size, styles and marks.
 
-use crate::frame::{garbage_at, legend_at, right_of};
+use crate::frame::{garbage_line, legend_corner, right_edge};
 use crate::grid::Grid;
 use crate::legend;
 use crate::scale::Scale;
 use std::io::{self, Write};
 
-// How much room the words of the garbage round want.
+// The width of the garbage round's words.
 const GARBAGE_WORDS: u64 = 216;
-// The room on the right of all else and below it.
+// The margin at the right and at the bottom.
 const MARGIN: u64 = 16;
 
 const STYLES: &str = "<style>\n\
@@ -52,7 +52,7 @@ const MARKS: &str = "<defs>\n\
 <path id=\"vote\" class=\"dot\" d=\"M0 0h-9l9 9z\"/>\n\
 </defs>\n";
 
-/// Opens the picture, and writes its styles and marks.
+/// Writes the opening tag, the styles, the marks and the background.
 pub(crate) fn write_head<W: Write>(
     out: &mut W,
     grid: &Grid,
@@ -69,15 +69,15 @@ pub(crate) fn write_head<W: Write>(
     out.write_all(b"<rect class=\"paper\" width=\"100%\" height=\"100%\"/>\n")
 }
 
-/// Closes the picture.
+/// Writes the closing tag.
 pub(crate) fn write_tail<W: Write>(out: &mut W) -> io::Result<()> {
     out.write_all(b"</svg>\n")
 }
 
-// How wide the picture is: the columns, the legend and the words of the garbage round are in it.
+// The width of the picture, which contains the columns, the legend and the garbage round's words.
 fn width_of(grid: &Grid, scale: Scale, garbage_round: u64) -> u64 {
-    let columns = right_of(grid, scale).max(legend::WIDTH);
-    let words = match garbage_at(grid, scale, garbage_round) {
+    let columns = right_edge(grid, scale).max(legend::WIDTH);
+    let words = match garbage_line(grid, scale, garbage_round) {
         Some(x) => x.saturating_add(GARBAGE_WORDS),
         None => 0,
     };
@@ -85,5 +85,7 @@ fn width_of(grid: &Grid, scale: Scale, garbage_round: u64) -> u64 {
 }
 
 fn height_of(grid: &Grid) -> u64 {
-    legend_at(grid).y.saturating_add(legend::HEIGHT + MARGIN)
+    legend_corner(grid)
+        .y
+        .saturating_add(legend::HEIGHT + MARGIN)
 }

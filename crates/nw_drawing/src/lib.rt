@@ -1,24 +1,24 @@
-//! Pictures of blocks: rounds from left to right, authors from top to bottom, printed as SVG.
+//! Draws pictures of blocks as SVG, with rounds from left to right and authors from top to bottom.
 //!
-//! Its contract: the place of a box is a function of its column and lane. Boxes of different columns or lanes do not overlap. The lane
-//! is a function of the author's row and of the box above in that column, and each box stands lower than the one above. The stored run
-//! of `nw_picture` shows what a picture looks like. It uses no other crate of the project.
+//! It is proved that a column and a lane give the place of a box, and that boxes of different columns or lanes do not overlap. The
+//! author's row and the box above give the lane, and each box is lower than the one above. The stored run of `nw_picture` shows a
+//! picture.
 #![tactic(auto)]
 
+mod arrows;
 mod fault;
 mod frame;
 mod grid;
 mod head;
 mod legend;
-mod links;
 mod marks;
 mod picture;
 mod places;
 mod scale;
 mod shapes;
-mod whole;
+mod svg;
 
 pub use fault::DrawFault;
-pub use picture::{Link, Picture, State, Tile};
+pub use picture::{Arrow, Picture, State, Tile};
 pub use scale::{Scale, boxes_do_not_overlap, lane_below};
-pub use whole::draw;
+pub use svg::draw;

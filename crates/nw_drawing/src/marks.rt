@@ -1,14 +1,14 @@
-//! What marks boxes beside their state: the ground of a box outside its author's row, and the bracket of twins.
+//! Marks of a box's place: the band of a box outside its author's row, and the bracket of twins.
 
 use crate::places::Place;
-use crate::scale::{BOX_HEIGHT, GROUND_HEIGHT, LANE, Scale};
+use crate::scale::{BOX_HEIGHT, GROUND_HEIGHT, LANE_STEP, Scale};
 use crate::shapes::Point;
 use std::io::{self, Write};
 
-// How far left of a box its bracket reaches.
+// The width of a bracket, which is left of its box.
 const BRACKET: u64 = 9;
 
-/// Draws the ground of a box outside its author's row. It leaves the row half a gap before the box, and returns half a gap after it.
+/// Draws the band of a box outside its author's row. It leaves the row half a gap before the box, and returns half a gap after it.
 pub(crate) fn write_branch<W: Write>(out: &mut W, place: Place, scale: Scale) -> io::Result<()> {
     let half = u64::from(scale.gap) / 2;
     let row = Scale::ground(u32::from(place.row));
@@ -30,10 +30,10 @@ pub(crate) fn write_branch<W: Write>(out: &mut W, place: Place, scale: Scale) ->
 
 /// Draws the bracket that joins a box to its twin above.
 pub(crate) fn write_twins<W: Write>(out: &mut W, at: Point) -> io::Result<()> {
-    write_bracket(out, at.beside(0, BOX_HEIGHT / 2), LANE)
+    write_bracket(out, at.offset(0, BOX_HEIGHT / 2), LANE_STEP)
 }
 
-/// Draws a bracket left of this point, up to a point this much higher.
+/// Draws a bracket from this point up to one that is `height` higher.
 pub(crate) fn write_bracket<W: Write>(out: &mut W, at: Point, height: u64) -> io::Result<()> {
     let Point { x, y } = at;
     let top = y.saturating_sub(height);

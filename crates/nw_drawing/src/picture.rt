@@ -1,19 +1,19 @@
-//! What a picture shows.
+//! Pictures, before they are drawn.
 
-/// What a store has of a block.
+/// The state of a block in a store.
 #[derive(Clone, Copy)]
 pub enum State {
-    /// The block is held, and not certified.
+    /// The block is held, but not certified.
     Held,
-    /// The block is held and certified, and not complete.
+    /// The block is held and certified, but not complete.
     Certified,
-    /// The block is held and certified, and so are all its ancestors down to the garbage round.
+    /// The block is complete (docs/MODEL.md).
     Complete,
     /// The block's round is below the garbage round.
     Collected,
-    /// The block is not held, and one that is held names it.
+    /// The block is not held, and is a wanted parent.
     Wanted,
-    /// The block is not held, and none that is held names it.
+    /// The block is not held, and is not wanted.
     Absent,
 }
 
@@ -40,7 +40,7 @@ impl State {
         }
     }
 
-    /// What the legend says of the state.
+    /// The words of the legend for the state.
     pub(crate) fn meaning(self) -> &'static str {
         match self {
             State::Held => "held",
@@ -53,35 +53,35 @@ impl State {
     }
 }
 
-/// A block in a picture.
+/// A block in a picture, drawn as a box.
 #[derive(Drop)]
 pub struct Tile {
-    /// Letters and digits, which XML writes as they are. At most 64 of them stand in the box.
+    /// Letters and digits, which XML needs not escape. A box has room for 64.
     pub name: String,
     pub round: u64,
     pub author: u16,
     pub state: State,
     /// Whether the store voted for the block.
     pub has_vote: bool,
-    /// Whether the last causal read lists the block.
+    /// Whether the last walk lists the block.
     pub is_read: bool,
 }
 
-/// A reference of a tile, the child, to another, the parent: both by their places in the list of tiles. One that is not there is
-/// not drawn.
+/// A reference from the child to the parent, given by their places in the list of tiles. If either is not in the list, the
+/// reference is not drawn.
 #[derive(Clone, Copy)]
-pub struct Link {
+pub struct Arrow {
     pub child: usize,
     pub parent: usize,
-    /// Whether what it names is met.
-    pub is_met: bool,
+    /// Whether the reference is satisfied (docs/MODEL.md).
+    pub is_satisfied: bool,
 }
 
-/// What a picture shows.
+/// A picture.
 #[derive(Drop)]
 pub struct Picture {
     pub tiles: Vec<Tile>,
-    pub links: Vec<Link>,
-    /// The rounds below this one are collected.
+    pub arrows: Vec<Arrow>,
+    /// The garbage round; the rounds below it are collected.
     pub garbage_round: u64,
 }

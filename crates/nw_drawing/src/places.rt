@@ -1,4 +1,4 @@
-//! The places of boxes. A box stands in its author's row, or below the box above it if that row is taken in its column.
+//! The places of boxes. A box is in its author's row, or below the box above it if that row is taken in its column.
 
 ghost use Rattle.std.specs.Prelude.{◌≡◌, ◌+◌, ◌<◌, ◌≤◌, IfOk, IfSome, IsNone, length, max, vec_len};
 
@@ -7,18 +7,18 @@ use crate::scale::lane_below;
 use std::alloc::{AllocError, Global};
 use std::collections::BTreeMap;
 
-/// Where a box stands.
+/// The place of a box.
 #[derive(Clone, Copy)]
 pub(crate) struct Place {
     pub column: u16,
-    /// The place of its author among all authors.
+    /// The position of its author among all authors.
     pub row: u16,
     pub lane: u32,
     /// Whether the box above it has the same round and author.
     pub is_twin: bool,
 }
 
-/// The place of each tile, by its number.
+/// The place of each tile, by the tile's number. `rounds` and `authors` are those of the tiles, ascending.
 pub(crate) fn places_of(
     alloc: Global,
     tiles: &[Tile],
@@ -51,7 +51,7 @@ fn order_of(alloc: Global, tiles: &[Tile]) -> Result<Vec<(u64, u16, usize)>, All
     Ok(order)
 }
 
-// The place of the next box, in this column and row.
+// The place of the next box, in this column and row. `above` is the place before it.
 fn place_below(above: Option<Place>, column: u16, row: u16) -> Place
     requires { IfSome above (λ other. other.lane < 4294967295) }
     ensures column { result.column ≡ column }
@@ -75,7 +75,7 @@ fn place_below(above: Option<Place>, column: u16, row: u16) -> Place
     }
 }
 
-// The place of the value among these, which ascend.
+// The position of the value among these ascending values.
 fn index_of<T: Ord + Copy>(values: &[T], value: T) -> u16 {
     let below = values.partition_point(|other| *other < value);
     u16::try_from(below).unwrap_or(u16::MAX)

@@ -1,44 +1,44 @@
-//! Where boxes stand.
+//! Sizes and positions of boxes, in pixels.
 ghost use Rattle.std.specs.Prelude.{◌≡◌, ◌+◌, ◌≤◌, ◌<◌, ℕ};
 ghost use Rattle.nw_drawing.specs.Scale.{column_start, lane_of, left_of, top_of};
 
-/// How high a box is.
+/// The height of a box.
 pub(crate) const BOX_HEIGHT: u64 = 26;
 
-/// How far apart lanes are.
-pub(crate) const LANE: u64 = 40;
+/// The distance from one lane to the next.
+pub(crate) const LANE_STEP: u64 = 40;
 
-/// How high the ground of a lane is.
+/// The height of the ground of a lane.
 pub(crate) const GROUND_HEIGHT: u64 = 38;
 
-// How far above its boxes the ground of a lane begins.
-const ABOVE_BOX: u64 = 6;
+// The distance from the top of a lane's ground to that of its boxes.
+const GROUND_MARGIN: u64 = 6;
 
-// How far from the left the first column begins.
-const LEFT: u64 = 64;
+// The left of the first column.
+const FIRST_COLUMN: u64 = 64;
 
-// How far from the top the first lane begins.
-const TOP: u64 = 56;
+// The top of the first lane.
+const FIRST_LANE: u64 = 56;
 
-// How wide a box is beside its letters.
-const BESIDE_LETTERS: u16 = 34;
+// The width of a box without its letters.
+const BOX_MARGIN: u16 = 34;
 
-// How wide a letter is.
-const LETTER: u16 = 8;
+// The width of a letter.
+const LETTER_WIDTH: u16 = 8;
 
-// How many letters a box has room for at most.
-const MOST_LETTERS: u16 = 64;
+// The largest number of letters that a box has room for.
+const MAX_LETTERS: u16 = 64;
 
-// How wide a gap is at least.
-const LEAST_GAP: u16 = 44;
+// The width of a gap before `GAP_PER_LANE` is added for each lane.
+const MIN_GAP: u16 = 44;
 
-// How much wider for each lane, since its lines are then steeper.
+// The additional width of the gap for each lane, since more lanes make the arrows steeper.
 const GAP_PER_LANE: u16 = 4;
 
-// For how many lanes at most.
-const MOST_LANES: u16 = 24;
+// The largest number of lanes that widen the gap.
+const MAX_LANES: u16 = 24;
 
-/// How wide the boxes are, and the gaps between columns, through which the lines go.
+/// The width of the boxes, and of the gaps between columns, through which the arrows go.
 #[derive(Clone, Copy)]
 pub struct Scale {
     pub width: u16,
@@ -46,39 +46,39 @@ pub struct Scale {
 }
 
 impl Scale {
-    /// The scale for boxes of so many letters in so many lanes.
+    /// The scale for boxes of at most `letters` letters in `lanes` lanes.
     pub fn new(letters: u16, lanes: u32) -> Scale {
-        let lanes = u16::try_from(lanes).unwrap_or(MOST_LANES);
+        let lanes = u16::try_from(lanes).unwrap_or(MAX_LANES);
         Scale {
-            width: BESIDE_LETTERS + LETTER * letters.min(MOST_LETTERS),
-            gap: LEAST_GAP + GAP_PER_LANE * lanes.min(MOST_LANES),
+            width: BOX_MARGIN + LETTER_WIDTH * letters.min(MAX_LETTERS),
+            gap: MIN_GAP + GAP_PER_LANE * lanes.min(MAX_LANES),
         }
     }
 
-    /// Where the column begins, with the gap left of its boxes.
+    /// The left of the column, which begins with the gap left of its boxes.
     pub fn column(&self, column: u16) -> u64
         ensures { result ≡ column_start self.now.width self.now.gap column }
     {
-        LEFT + u64::from(column) * (u64::from(self.width) + u64::from(self.gap))
+        FIRST_COLUMN + u64::from(column) * (u64::from(self.width) + u64::from(self.gap))
     }
 
-    /// Where the boxes of the column begin.
+    /// The left of the column's boxes.
     pub fn left(&self, column: u16) -> u64
         ensures { result ≡ left_of self.now.width self.now.gap column }
     {
         self.column(column) + u64::from(self.gap)
     }
 
-    /// Where the boxes of the lane begin.
+    /// The top of the lane's boxes.
     pub fn top(lane: u32) -> u64
         ensures { result ≡ top_of lane }
     {
-        TOP + LANE * u64::from(lane)
+        FIRST_LANE + LANE_STEP * u64::from(lane)
     }
 
-    /// Where the ground of the lane begins.
+    /// The top of the lane's ground.
     pub(crate) fn ground(lane: u32) -> u64 {
-        Scale::top(lane).saturating_sub(ABOVE_BOX)
+        Scale::top(lane).saturating_sub(GROUND_MARGIN)
     }
 }
 

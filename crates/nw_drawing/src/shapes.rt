@@ -1,8 +1,8 @@
-//! Shapes, a line each.
+//! The shapes of a picture, each written on a line.
 
 use std::io::{self, Write};
 
-/// A place in a picture.
+/// A point in a picture.
 #[derive(Clone, Copy)]
 pub(crate) struct Point {
     pub x: u64,
@@ -10,27 +10,27 @@ pub(crate) struct Point {
 }
 
 impl Point {
-    pub fn at(x: u64, y: u64) -> Point {
+    pub fn new(x: u64, y: u64) -> Point {
         Point { x, y }
     }
 
-    /// The point so far to the right and below.
-    pub fn beside(self, right: u64, below: u64) -> Point {
+    /// The point moved to the right and down.
+    pub fn offset(self, right: u64, below: u64) -> Point {
         Point {
             x: self.x.saturating_add(right),
             y: self.y.saturating_add(below),
         }
     }
 
-    /// The point so far to the left.
-    pub fn left_by(self, left: u64) -> Point {
+    /// The point moved to the left.
+    pub fn to_the_left(self, left: u64) -> Point {
         Point {
             x: self.x.saturating_sub(left),
             y: self.y,
         }
     }
 
-    /// The point so far to the left and above.
+    /// The point moved by the margin to the left and up.
     pub fn outside(self, margin: u64) -> Point {
         Point {
             x: self.x.saturating_sub(margin),
@@ -39,7 +39,7 @@ impl Point {
     }
 }
 
-/// A rectangle of this style.
+/// Writes a rectangle of this style.
 pub(crate) fn write_box<W: Write>(
     out: &mut W,
     style: &str,
@@ -52,7 +52,7 @@ pub(crate) fn write_box<W: Write>(
     writeln!(out, " width=\"{width}\" height=\"{height}\" rx=\"5\"/>")
 }
 
-/// A straight line of this style.
+/// Writes a straight line of this style.
 pub(crate) fn write_line<W: Write>(
     out: &mut W,
     style: &str,
@@ -67,13 +67,13 @@ pub(crate) fn write_line<W: Write>(
     writeln!(out, " x2=\"{}\" y2=\"{}\"/>", to.x, to.y)
 }
 
-/// A mark that the head defines, round this point.
+/// Writes a mark that the head defines, around this point.
 pub(crate) fn write_mark<W: Write>(out: &mut W, mark: &str, at: Point) -> io::Result<()> {
     let Point { x, y } = at;
     writeln!(out, "<use href=\"#{mark}\" x=\"{x}\" y=\"{y}\"/>")
 }
 
-/// A text of this style, whose bytes are as XML writes them.
+/// Writes a text of this style. Its bytes must not need escapes in XML.
 pub(crate) fn write_text<W: Write>(
     out: &mut W,
     style: &str,
@@ -86,7 +86,7 @@ pub(crate) fn write_text<W: Write>(
     out.write_all(b"</text>\n")
 }
 
-/// Words and a number, in this style.
+/// Writes words and a number in this style.
 pub(crate) fn write_count<W: Write>(
     out: &mut W,
     style: &str,

@@ -1,10 +1,10 @@
--- Which loads are taken.
+-- The sizes of loads.
 use Rattle.std.specs.Prelude.{◌≡◌, ℕ, ◌%◌, ◌≤◌}
 
--- 1, 4, 7, 10, 13 or 16 nodes
-abbrev pub IsCrew : ℕ → Type 0
-IsCrew nodes = (nodes ≤ 16) × (nodes % 3 ≡ 1)
+-- the number of nodes is 1, 4, 7, 10, 13 or 16
+abbrev pub IsNodeCount : ℕ → Type 0
+IsNodeCount nodes = (nodes ≤ 16) × (nodes % 3 ≡ 1)
 
--- 1 to 32 rounds
-abbrev pub AreRounds : ℕ → Type 0
-AreRounds rounds = (1 ≤ rounds) × (rounds ≤ 32)
+-- the number of rounds is 1 to 32
+abbrev pub IsRoundCount : ℕ → Type 0
+IsRoundCount rounds = (1 ≤ rounds) × (rounds ≤ 32)

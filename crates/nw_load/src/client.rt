@@ -1,7 +1,7 @@
-//! The client thread of a node: it opens the node's own blocks, and walks them.
+//! The client thread of a node. It opens a causal read of each of the node's own blocks, and walks it.
 use crate::fault::End;
-use crate::node::Shop;
-use crate::post::ClientNews;
+use crate::network::ClientChannel;
+use crate::node::LoadContext;
 use crate::store::ClientCalls;
 use nw_digest::Digest;
 use nw_intake::{Gate, Point, pass_start};
@@ -10,46 +10,46 @@ use nw_store::{Home, Ticket};
 use std::alloc::Global;
 use std::sync::Wait;
 
-/// What a client works with.
+/// A client: the calls that it may make, its channel, and its gate.
 #[derive(Drop)]
 pub(crate) struct Client<'a, L: Home, G: Gate> {
     alloc: Global,
     node: u32,
     rounds: u32,
     store: ClientCalls<'a, L>,
-    news: ClientNews,
+    news: ClientChannel,
     gate: &'a G,
 }
 
 impl<'a, L: Home, G: Gate> Client<'a, L, G> {
     /// The client of the node.
     pub(crate) fn new<R>(
-        shop: &Shop<'a, R, G>,
+        context: &LoadContext<'a, R, G>,
         node: u16,
         store: ClientCalls<'a, L>,
-        news: ClientNews,
+        news: ClientChannel,
     ) -> Client<'a, L, G> {
         Client {
-            alloc: shop.alloc,
+            alloc: context.alloc,
             node: u32::from(node),
-            rounds: shop.rounds,
+            rounds: context.rounds,
             store,
             news,
-            gate: shop.gate,
+            gate: context.gate,
         }
     }
 
-    /// Opens and walks the node's block of each round, once told of it. Answers how many blocks the last walk listed.
+    /// Reads the node's block of each round after it is certified. Returns the number of blocks in the last list.
     pub(crate) fn run<R: Wait>(&mut self, rt: &R) -> Result<usize, End> {
         let mut last = 0;
         for round in 0..self.rounds {
-            let digest = self.news.hear(rt)?;
+            let digest = self.news.receive(rt)?;
             last = self.read(rt, round, digest)?;
         }
         Ok(last)
     }
 
-    /// Opens the block of the round, and walks the ticket. Answers how many blocks the walk listed.
+    /// Opens a causal read of the round's block and walks it. Returns the number of blocks in the list.
     fn read<R: Wait>(&mut self, rt: &R, round: u32, digest: Digest) -> Result<usize, End> {
         let node = self.node;
         match self.store.open(rt, self.alloc, digest)? {
@@ -62,7 +62,7 @@ impl<'a, L: Home, G: Gate> Client<'a, L, G> {
         }
     }
 
-    /// Walks the ticket between two points. It has no leave to wait, and so takes no lock.
+    /// Walks the ticket between two points of the gate. It has no handle to wait with, so it takes no lock.
     fn walk(&self, number: u32, ticket: &Ticket<DemoScheme>) -> Result<usize, End> {
         let node = self.node;
         pass_start(self.gate, Point::WalkStart { node, number })?;

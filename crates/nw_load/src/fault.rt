@@ -1,4 +1,4 @@
-//! Why a load gives no report, and why a thread of it ends early.
+//! Faults of a load and of its threads.
 use nw_codec::EncodeError;
 use nw_desk::LineFault;
 use nw_digest::NoMemory;
@@ -6,17 +6,17 @@ use nw_intake::GateShut;
 use std::alloc::{AllocError, AllocFailed};
 use thiserror::Error;
 
-/// Why a load gives no report. The first two are tested before anything else and take no memory; where several of the others
-/// happened, the first in this order is answered.
+/// Why a load has no report. The first two are tested before anything is allocated. If several of the others happened, the load
+/// returns the first in this order.
 #[derive(Clone, Copy, Debug, PartialEq, Eq, Error)]
 pub enum LoadFault {
-    /// The nodes are not 1, 4, 7, 10, 13 or 16.
+    /// The number of nodes is not 1, 4, 7, 10, 13 or 16.
     #[error("nodes")]
     BadNodes,
-    /// The rounds are not 1 to 32.
+    /// The number of rounds is not 1 to 32.
     #[error("rounds")]
     BadRounds,
-    /// Memory was refused.
+    /// An allocation failed.
     #[error("memory")]
     NoMemory,
     /// A thread was not started.
@@ -25,15 +25,15 @@ pub enum LoadFault {
     /// The gate did not let a write or a walk start.
     #[error("gate")]
     GateShut,
-    /// A node's causal read of its own block of the round was not ready.
+    /// The node's own block of the round was not complete when the node opened its causal read.
     #[error("causal")]
     Causal { node: u32, round: u32 },
-    /// The sessions of the node's store do not settle, or a call of it was refused that no load asks for.
+    /// The sessions of the node's store do not settle, or the store refused a call for a reason other than memory.
     #[error("unsettled")]
     Unsettled { node: u32 },
 }
 
-/// Why a thread ends early.
+/// Why a thread ended early.
 #[derive(Clone, Copy)]
 pub(crate) enum End {
     NoMemory,
@@ -41,21 +41,21 @@ pub(crate) enum End {
     GateShut,
     Causal { node: u32, round: u32 },
     Unsettled { node: u32 },
-    /// Another thread ended early, and what this one waits for will not come. It is what no load asks for, too.
+    /// Another thread ended early, so the channel that this one waits on is closed. Also stands for errors that no load can cause.
     CutOff,
 }
 
 impl End {
-    /// The one of two ends that counts: the first in the order of the kinds, or this one where both are of one kind.
-    pub(crate) fn or(self, other: End) -> End {
-        if other.place() < self.place() {
+    /// The one of two ends whose kind comes first in the order of kinds. If both have one kind, it is this one.
+    pub(crate) fn first_of(self, other: End) -> End {
+        if other.rank() < self.rank() {
             other
         } else {
             self
         }
     }
 
-    fn place(self) -> u8 {
+    fn rank(self) -> u8 {
         match self {
             End::NoMemory => 0,
             End::Spawn => 1,
@@ -96,7 +96,7 @@ impl From<GateShut> for End {
     }
 }
 
-// A load has no more than the formats take.
+// Blocks and certificates of a load are within the limits of the formats.
 impl From<EncodeError> for End {
     fn from(error: EncodeError) -> End {
         match error {
@@ -106,7 +106,7 @@ impl From<EncodeError> for End {
     }
 }
 
-// A load has as many members as a committee may have.
+// The nodes of a load always form a committee.
 impl From<LineFault> for End {
     fn from(fault: LineFault) -> End {
         match fault {

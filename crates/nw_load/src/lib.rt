@@ -1,26 +1,27 @@
-//! The load: a committee whose nodes make, certify and read blocks of a few rounds, each in two threads of its own.
+//! Runs a committee of nodes under load: each makes, certifies and reads blocks over a few rounds, with a store and two threads.
 //!
-//! Its contract: other numbers of nodes and of rounds than are taken are refused, each before anything else (`load`). What a
-//! load reports is shown by tests; that it ends is not claimed, since its threads wait for one another. What a thread may do
-//! is seen in the type of its work: a link writes, certifies and sends (`Link`), a client opens and walks (`Client`). It stands
-//! on `nw_store` for the stores, on `nw_check` for the messages, on `nw_desk` for the committee and the messages that nodes
-//! make, and on `nw_intake` for the gates.
+//! It is proved that `load` refuses numbers of nodes and rounds out of range before anything else. Tests show what it reports. Its
+//! threads wait for one another, and no contract says that they end. The type of a thread shows what it may do: a link writes,
+//! certifies and sends (`Link`), and a client opens and walks (`Client`).
+//!
+//! The stores are from `nw_store`, the checks from `nw_check`, the committee and the messages from `nw_desk`, the gates from
+//! `nw_intake`.
 #![tactic(auto)]
 
 mod client;
-mod crew;
 mod fault;
+mod launch;
 mod link;
 mod message;
+mod network;
 mod node;
-mod post;
 mod program;
 mod report;
 mod size;
 mod store;
 mod table;
 
-pub use crew::load;
 pub use fault::LoadFault;
+pub use launch::load;
 pub use program::{print_outcome, run};
 pub use report::NodeReport;

@@ -1,8 +1,8 @@
-//! The link thread of a node: it makes the node's blocks, and writes, votes and certifies.
+//! The link thread of a node. It makes the node's blocks, and writes, votes for and certifies the blocks of all nodes.
 use crate::fault::End;
 use crate::message::{text_of_block, text_of_certificate};
-use crate::node::Shop;
-use crate::post::LinkPost;
+use crate::network::LinkChannels;
+use crate::node::LoadContext;
 use crate::store::LinkCalls;
 use crate::table::Table;
 use nw_check::{
@@ -19,7 +19,7 @@ use nw_store::Home;
 use std::alloc::Global;
 use std::sync::Wait;
 
-/// What a link works with, and where it stands.
+/// A link and its progress.
 #[derive(Drop)]
 pub(crate) struct Link<'a, L: Home, G: Gate> {
     alloc: Global,
@@ -28,38 +28,38 @@ pub(crate) struct Link<'a, L: Home, G: Gate> {
     nodes: u16,
     rounds: u32,
     store: LinkCalls<'a, L>,
-    post: LinkPost<'a>,
+    channels: LinkChannels<'a>,
     gate: &'a G,
-    /// What is held and certified here.
+    /// The blocks that the node's store holds, and those that are certified.
     table: Table,
     /// The votes for the node's last block, until they reach the quorum.
     gather: Option<Gather<DemoScheme>>,
-    /// How many blocks of its own the node made.
+    /// The number of blocks that the node made.
     made: u32,
-    /// How many blocks were written.
+    /// The number of blocks written to its store.
     written: u32,
-    /// How many certificates were certified.
+    /// The number of certificates handed to its store.
     certified: u32,
 }
 
 impl<'a, L: Home, G: Gate> Link<'a, L, G> {
-    /// The link of the node, which has made nothing yet.
+    /// The link of the node, before its first block.
     pub(crate) fn new<R>(
-        shop: &Shop<'a, R, G>,
+        context: &LoadContext<'a, R, G>,
         node: u16,
         store: LinkCalls<'a, L>,
-        post: LinkPost<'a>,
+        channels: LinkChannels<'a>,
     ) -> Link<'a, L, G> {
         Link {
-            alloc: shop.alloc,
-            committee: shop.committee,
+            alloc: context.alloc,
+            committee: context.committee,
             node,
-            nodes: shop.nodes,
-            rounds: shop.rounds,
+            nodes: context.nodes,
+            rounds: context.rounds,
             store,
-            post,
-            gate: shop.gate,
-            table: Table::new(shop.alloc),
+            channels,
+            gate: context.gate,
+            table: Table::new(context.alloc),
             gather: None,
             made: 0,
             written: 0,
@@ -67,8 +67,8 @@ impl<'a, L: Home, G: Gate> Link<'a, L, G> {
         }
     }
 
-    /// Makes the block of each round, and answers what other nodes send, until all blocks of all nodes are written and
-    /// certified.
+    /// Makes the block of each round and handles the messages of other nodes, until its store has all blocks of all nodes written
+    /// and certified.
     pub(crate) fn run<R: Wait>(&mut self, rt: &R) -> Result<(), End> {
         self.table.add_rounds(self.alloc, self.rounds, self.nodes)?;
         let none = Vec::new(self.alloc);
@@ -77,30 +77,30 @@ impl<'a, L: Home, G: Gate> Link<'a, L, G> {
             if self.is_done() {
                 return Ok(());
             }
-            let text = self.post.receive(rt)?;
-            self.take(rt, &text)?;
+            let text = self.channels.receive(rt)?;
+            self.handle(rt, &text)?;
             self.make_next(rt)?;
         }
         Err(End::CutOff)
     }
 
-    /// Whether all blocks of all nodes are written and certified.
+    /// Whether its store has all blocks of all nodes written and certified.
     fn is_done(&self) -> bool {
         let all = u64::from(self.nodes) * u64::from(self.rounds);
         u64::from(self.written) >= all && u64::from(self.certified) >= all
     }
 
-    /// Checks the text and does what it asks for. A text that is no good message is dropped.
-    fn take<R: Wait>(&mut self, rt: &R, text: &[u8]) -> Result<(), End> {
+    /// Checks the message, and then writes its block, certifies its certificate or counts its vote. A bad message is dropped.
+    fn handle<R: Wait>(&mut self, rt: &R, text: &[u8]) -> Result<(), End> {
         match check_message(self.alloc, self.committee, text)? {
             Checked::Block(block) => self.write(rt, &block),
             Checked::Cert(certificate) => self.certify(rt, &certificate),
-            Checked::Vote(vote) => self.count(rt, &vote),
+            Checked::Vote(vote) => self.count_vote(rt, &vote),
             Checked::BadText(_) | Checked::BadBlock(_) | Checked::BadCert(_) => Ok(()),
         }
     }
 
-    /// Makes the node's next block, if one is left and the blocks of all nodes of the round before are held and certified here.
+    /// Makes the node's next block, if one is left and its store has all blocks of the preceding round written and certified.
     fn make_next<R: Wait>(&mut self, rt: &R) -> Result<(), End> {
         if self.made >= self.rounds {
             return Ok(());
@@ -114,7 +114,7 @@ impl<'a, L: Home, G: Gate> Link<'a, L, G> {
         }
     }
 
-    /// Makes the node's block of the next round over these parents, sends it to all others, and writes it.
+    /// Makes the node's block of the next round with these parents, sends it to all other nodes, and writes it.
     fn make<R: Wait>(&mut self, rt: &R, parents: Vec<Ref>) -> Result<(), End> {
         let text = text_of_block(self.alloc, &self.block(parents))?;
         self.made = self.made.saturating_add(1);
@@ -128,7 +128,7 @@ impl<'a, L: Home, G: Gate> Link<'a, L, G> {
         }
     }
 
-    /// The node's block of the next round over these parents.
+    /// The node's block of the next round with these parents.
     fn block(&self, parents: Vec<Ref>) -> Block {
         Block {
             author: self.node,
@@ -138,7 +138,7 @@ impl<'a, L: Home, G: Gate> Link<'a, L, G> {
         }
     }
 
-    /// No votes yet for the node's own block.
+    /// A gatherer for the node's own block, without votes.
     fn gather_for(&self, block: &CheckedBlock<DemoScheme>) -> Result<Gather<DemoScheme>, End> {
         let round = block.block().get().round;
         match Gather::new(self.alloc, self.committee, block.digest(), round, self.node) {
@@ -148,7 +148,7 @@ impl<'a, L: Home, G: Gate> Link<'a, L, G> {
         }
     }
 
-    /// Writes the block between two points, and votes for it where the store does.
+    /// Writes the block between two points of the gate, and sends the node's vote to its author if the store voted for it.
     fn write<R: Wait>(&mut self, rt: &R, checked: &CheckedBlock<DemoScheme>) -> Result<(), End> {
         let node = u32::from(self.node);
         let number = self.written.saturating_add(1);
@@ -163,11 +163,11 @@ impl<'a, L: Home, G: Gate> Link<'a, L, G> {
             return Ok(());
         }
         let text = vote_message(self.alloc, self.node, digest, block)?;
-        self.post.send(rt, block.author, text)
+        self.channels.send(rt, block.author, text)
     }
 
-    /// Counts the vote for the node's own block, which is certified once the votes reach the quorum. Any other is dropped.
-    fn count<R: Wait>(&mut self, rt: &R, vote: &Vote) -> Result<(), End> {
+    /// Counts a vote for the node's own block, and certifies the block when the votes reach the quorum. Any other vote is dropped.
+    fn count_vote<R: Wait>(&mut self, rt: &R, vote: &Vote) -> Result<(), End> {
         let Some(gather) = &mut self.gather else {
             return Ok(());
         };
@@ -182,7 +182,7 @@ impl<'a, L: Home, G: Gate> Link<'a, L, G> {
         }
     }
 
-    /// Certifies the node's own block, tells the client, and sends the certificate to all others.
+    /// Certifies the node's own block, tells the client, and sends the certificate to all other nodes.
     fn announce<R: Wait>(
         &mut self,
         rt: &R,
@@ -191,11 +191,11 @@ impl<'a, L: Home, G: Gate> Link<'a, L, G> {
         let digest = certificate.digest();
         let text = text_of_certificate(self.alloc, certificate.certificate().get())?;
         self.certify(rt, &certificate)?;
-        self.post.tell(rt, digest)?;
+        self.channels.tell_client(rt, digest)?;
         self.send_to_others(rt, &text)
     }
 
-    /// Certifies what the certificate is for.
+    /// Hands the certificate to the store.
     fn certify<R: Wait>(
         &mut self,
         rt: &R,
@@ -210,11 +210,11 @@ impl<'a, L: Home, G: Gate> Link<'a, L, G> {
         Ok(())
     }
 
-    /// Sends the text to all other nodes.
+    /// Sends the message to all other nodes.
     fn send_to_others<R: Wait>(&self, rt: &R, text: &[u8]) -> Result<(), End> {
         for node in 0..self.nodes {
             if node != self.node {
-                self.post.send(rt, node, text.to_vec(self.alloc)?)?;
+                self.channels.send(rt, node, text.to_vec(self.alloc)?)?;
             }
         }
         Ok(())

@@ -1,11 +1,11 @@
-//! The messages that nodes send, as texts, but for votes.
+//! The encoded messages of blocks and certificates.
 use crate::fault::End;
 use nw_codec::{Block, Certificate, Message, block_digest, encode_message};
 use nw_desk::block_message;
 use nw_digest::Sequence;
 use std::alloc::Global;
 
-/// The text of the block, signed by its author. A block of a load is within the limits.
+/// The encoded message of the block, signed by its author. A block of a load is always within the limits.
 pub(crate) fn text_of_block(alloc: Global, block: &Block) -> Result<Vec<u8>, End> {
     if !block.fits() {
         return Err(End::CutOff);
@@ -14,7 +14,7 @@ pub(crate) fn text_of_block(alloc: Global, block: &Block) -> Result<Vec<u8>, End
     Ok(block_message(alloc, block.author, &digest, block)?)
 }
 
-/// The text of the certificate.
+/// The encoded message of the certificate.
 pub(crate) fn text_of_certificate(
     alloc: Global,
     certificate: &Certificate,

@@ -1,4 +1,4 @@
-//! One node: its store, its two threads, and what it reports.
+//! A node of a load: its store, its two threads and its report.
 ghost use Rattle.std.specs.Prelude.{◌≡◌};
 ghost use Rattle.nw_history.specs.Story.{first_origin};
 ghost use Rattle.nw_store.specs.Kept.{parts_of_a_ledger};
@@ -6,7 +6,7 @@ ghost use Rattle.nw_store.specs.Kept.{parts_of_a_ledger};
 use crate::client::Client;
 use crate::fault::End;
 use crate::link::Link;
-use crate::post::{ClientNews, LinkPost, Mailbox, Office};
+use crate::network::{ClientChannel, Inbox, LinkChannels, Network};
 use crate::report::NodeReport;
 use crate::store::{ClientCalls, LinkCalls};
 use crossbeam_channel::{Receiver, Sender, unbounded};
@@ -32,48 +32,48 @@ const LIMITS: Limits = Limits {
     sessions: 2,
 };
 
-/// What all nodes of a load share.
+/// The values that all nodes of a load share.
 #[derive(Drop)]
-pub(crate) struct Shop<'a, R, G> {
+pub(crate) struct LoadContext<'a, R, G> {
     pub(crate) rt: &'a R,
     pub(crate) alloc: Global,
     pub(crate) committee: &'a Shared<Committee>,
-    pub(crate) office: &'a Office,
+    pub(crate) network: &'a Network,
     pub(crate) nodes: u16,
     pub(crate) rounds: u32,
     pub(crate) gate: &'a G,
 }
 
-/// Runs the node's two threads, of which this is the link's, on a store of its own, and settles it. Where one of them ends early
-/// the office is closed, so that no other thread waits for ever.
+/// Runs the node on a store of its own, and settles the store. This thread becomes the link; the client gets another.
+/// If either ends early, it closes the network, so that no thread waits forever.
 pub(crate) fn run_node<R: Threads + Wait + Sync, G: Gate + Sync>(
-    shop: &Shop<'_, R, G>,
+    context: &LoadContext<'_, R, G>,
     node: u16,
-    mailbox: Mailbox,
+    inbox: Inbox,
 ) -> Result<NodeReport, End> {
-    let outcome = open_store(shop, node, &mailbox);
+    let outcome = open_store(context, node, &inbox);
     if outcome.is_err() {
-        shop.office.close(shop.rt);
+        context.network.close(context.rt);
     }
     outcome
 }
 
-/// Runs the node on a new store.
+/// Runs the node on a new store, under a new brand.
 fn open_store<R: Threads + Wait + Sync, G: Gate + Sync>(
-    shop: &Shop<'_, R, G>,
+    context: &LoadContext<'_, R, G>,
     node: u16,
-    mailbox: &Mailbox,
+    inbox: &Inbox,
 ) -> Result<NodeReport, End> {
-    let opening = Opening::new(shop.alloc)?;
-    let committee = shop.committee.try_clone()?;
-    run_store::<Brand, R, G>(shop, node, mailbox, opening, committee, LIMITS)
+    let opening = Opening::new(context.alloc)?;
+    let committee = context.committee.try_clone()?;
+    run_store::<Brand, R, G>(context, node, inbox, opening, committee, LIMITS)
 }
 
 /// Runs the node on the store that `L` names.
 fn run_store<L: Home, R: Threads + Wait + Sync, G: Gate + Sync>(
-    shop: &Shop<'_, R, G>,
+    context: &LoadContext<'_, R, G>,
     node: u16,
-    mailbox: &Mailbox,
+    inbox: &Inbox,
     opening: Opening<DemoScheme>,
     committee: Shared<Committee>,
     limits: Limits,
@@ -82,9 +82,9 @@ fn run_store<L: Home, R: Threads + Wait + Sync, G: Gate + Sync>(
     requires ledger { (opening.ledger ≡ L.name) × (L.parts ≡ parts_of_a_ledger) }
     requires origin { first_origin committee limits ≡ L.origin }
 {
-    let store = new_store::<L>(shop.alloc, opening, committee, limits)?;
-    match run_threads(shop, node, mailbox, &store) {
-        Ok((last, sessions)) => settled(node, store, sessions, last),
+    let store = new_store::<L>(context.alloc, opening, committee, limits)?;
+    match run_threads(context, node, inbox, &store) {
+        Ok((last, sessions)) => settle_node(node, store, sessions, last),
         Err(end) => {
             drop(store);
             Err(end)
@@ -92,7 +92,7 @@ fn run_store<L: Home, R: Threads + Wait + Sync, G: Gate + Sync>(
     }
 }
 
-/// The store. Its limits are in their ranges.
+/// A new store. The limits are within their ranges, so `BadLimits` never comes.
 fn new_store<L: Home>(
     alloc: Global,
     opening: Opening<DemoScheme>,
@@ -110,13 +110,13 @@ fn new_store<L: Home>(
     }
 }
 
-/// One more session of the store, which makes two.
+/// A new session of the store. The store allows two.
 fn new_session<L: Home, R: Wait, G>(
-    shop: &Shop<'_, R, G>,
+    context: &LoadContext<'_, R, G>,
     node: u16,
     store: &Store<DemoScheme, L>,
 ) -> Result<Session<DemoScheme, L>, End> {
-    match store.session(shop.rt, shop.alloc) {
+    match store.session(context.rt, context.alloc) {
         Ok(session) => Ok(session),
         Err(_too_many) => Err(End::Unsettled {
             node: u32::from(node),
@@ -124,20 +124,20 @@ fn new_session<L: Home, R: Wait, G>(
     }
 }
 
-/// How many blocks the last walk listed, and both sessions.
-type Worked<L> = (usize, Vec<Session<DemoScheme, L>>);
+/// The number of blocks in the last list, and both sessions.
+type Finished<L> = (usize, Vec<Session<DemoScheme, L>>);
 
-/// Runs the node's two threads, each with a session of the store.
+/// Runs the link and the client, each with a session of the store.
 fn run_threads<L: Home, R: Threads + Wait + Sync, G: Gate + Sync>(
-    shop: &Shop<'_, R, G>,
+    context: &LoadContext<'_, R, G>,
     node: u16,
-    mailbox: &Mailbox,
+    inbox: &Inbox,
     store: &Store<DemoScheme, L>,
-) -> Result<Worked<L>, End> {
-    let (client, news) = unbounded(shop.alloc)?;
-    let first = new_session(shop, node, store)?;
-    match new_session(shop, node, store) {
-        Ok(second) => run_both(shop, node, mailbox, store, (first, second), (client, news)),
+) -> Result<Finished<L>, End> {
+    let (client, news) = unbounded(context.alloc)?;
+    let first = new_session(context, node, store)?;
+    match new_session(context, node, store) {
+        Ok(second) => run_both(context, node, inbox, store, (first, second), (client, news)),
         Err(end) => {
             drop(first);
             Err(end)
@@ -145,21 +145,21 @@ fn run_threads<L: Home, R: Threads + Wait + Sync, G: Gate + Sync>(
     }
 }
 
-/// Runs the client in a thread of its own, and the link in this one, over the channel from the link to the client.
+/// Runs the client in a new thread and the link in this one. `client` and `news` are the ends of the channel between them.
 fn run_both<L: Home, R: Threads + Wait + Sync, G: Gate + Sync>(
-    shop: &Shop<'_, R, G>,
+    context: &LoadContext<'_, R, G>,
     node: u16,
-    mailbox: &Mailbox,
+    inbox: &Inbox,
     store: &Store<DemoScheme, L>,
     (first, second): (Session<DemoScheme, L>, Session<DemoScheme, L>),
     (client, news): (Sender<Digest>, Receiver<Digest>),
-) -> Result<Worked<L>, End> {
-    thread::scope(thread::scope_env(), shop.rt, move |scope| {
-        match start_client(scope, shop, node, store, second, news) {
+) -> Result<Finished<L>, End> {
+    thread::scope(thread::scope_env(), context.rt, move |scope| {
+        match start_client(scope, context, node, store, second, news) {
             Ok(started) => {
-                let (first, linked) = run_link(shop, node, store, first, mailbox, client);
-                let (second, walked) = started.join(shop.rt);
-                kept(shop.alloc, first, second, both(linked, walked))
+                let (first, linked) = run_link(context, node, store, first, inbox, client);
+                let (second, walked) = started.join(context.rt);
+                both_sessions(context.alloc, first, second, combined(linked, walked))
             }
             Err(end) => {
                 drop(first);
@@ -169,13 +169,13 @@ fn run_both<L: Home, R: Threads + Wait + Sync, G: Gate + Sync>(
     })
 }
 
-/// Both sessions, where both threads came to their ends.
-fn kept<L: Home>(
+/// Both sessions and the number of blocks in the last list, or the end of a thread that ended early.
+fn both_sessions<L: Home>(
     alloc: Global,
     first: Session<DemoScheme, L>,
     second: Session<DemoScheme, L>,
     last: Result<usize, End>,
-) -> Result<Worked<L>, End> {
+) -> Result<Finished<L>, End> {
     match last {
         Ok(last) => Ok((last, vec![in alloc; first, second]?)),
         Err(end) => {
@@ -186,56 +186,56 @@ fn kept<L: Home>(
     }
 }
 
-/// A session that is handed back, and how many blocks its last walk listed.
-type Walked<L> = (Session<DemoScheme, L>, Result<usize, End>);
+/// The client's session, and the number of blocks in its last list.
+type ClientOutcome<L> = (Session<DemoScheme, L>, Result<usize, End>);
 
-/// Starts the client.
+/// Starts the client thread.
 fn start_client<'s, 'e, L: Home, R: Threads + Wait + Sync, G: Gate + Sync>(
     scope: &Scope<'s, &'e ()>,
-    shop: &'e Shop<'e, R, G>,
+    context: &'e LoadContext<'e, R, G>,
     node: u16,
     store: &'e Store<DemoScheme, L>,
     session: Session<DemoScheme, L>,
     news: Receiver<Digest>,
-) -> Result<JoinHandle<Walked<L>>, End> {
-    match scope.spawn(move || run_client(shop, node, store, session, news)) {
+) -> Result<JoinHandle<ClientOutcome<L>>, End> {
+    match scope.spawn(move || run_client(context, node, store, session, news)) {
         Ok(started) => Ok(started),
         Err(_) => Err(End::Spawn),
     }
 }
 
-/// What both threads give, or the first in order of why they ended early.
-fn both(linked: Result<(), End>, walked: Result<usize, End>) -> Result<usize, End> {
+/// The result of the client if neither thread ended early, else the end whose kind comes first.
+fn combined(linked: Result<(), End>, walked: Result<usize, End>) -> Result<usize, End> {
     match (linked, walked) {
         (Ok(()), walked) => walked,
         (Err(end), Ok(_)) => Err(end),
-        (Err(one), Err(other)) => Err(one.or(other)),
+        (Err(one), Err(other)) => Err(one.first_of(other)),
     }
 }
 
-/// Runs the link, and hands its session back. Where it ends early the office is closed, so that no other thread waits for ever.
+/// Runs the link and returns its session. If the link ends early, it closes the network, so that no thread waits forever.
 fn run_link<L: Home, R: Wait, G: Gate>(
-    shop: &Shop<'_, R, G>,
+    context: &LoadContext<'_, R, G>,
     node: u16,
     store: &Store<DemoScheme, L>,
     mut session: Session<DemoScheme, L>,
-    mailbox: &Mailbox,
+    inbox: &Inbox,
     client: Sender<Digest>,
 ) -> (Session<DemoScheme, L>, Result<(), End>) {
-    let linked = link_with(&*shop, node, &*store, &mut session, &*mailbox, client);
+    let linked = run_link_on(&*context, node, &*store, &mut session, &*inbox, client);
     if linked.is_err() {
-        shop.office.close(shop.rt);
+        context.network.close(context.rt);
     }
     (session, linked)
 }
 
 /// Runs the link with the session.
-fn link_with<'a, L: Home, R: Wait, G: Gate>(
-    shop: &'a Shop<'a, R, G>,
+fn run_link_on<'a, L: Home, R: Wait, G: Gate>(
+    context: &'a LoadContext<'a, R, G>,
     node: u16,
     store: &'a Store<DemoScheme, L>,
     session: &'a mut Session<DemoScheme, L>,
-    mailbox: &'a Mailbox,
+    inbox: &'a Inbox,
     client: Sender<Digest>,
 ) -> Result<(), End> {
     let store = LinkCalls {
@@ -243,35 +243,35 @@ fn link_with<'a, L: Home, R: Wait, G: Gate>(
         store,
         session,
     };
-    let post = LinkPost {
-        office: shop.office,
-        mailbox,
+    let channels = LinkChannels {
+        network: context.network,
+        inbox,
         client,
     };
-    let mut link = Link::new(shop, node, store, post);
-    let linked = link.run(shop.rt);
+    let mut link = Link::new(context, node, store, channels);
+    let linked = link.run(context.rt);
     drop(link);
     linked
 }
 
-/// Runs the client, and hands its session back. Where it ends early the office is closed, so that its link ends too.
+/// Runs the client and returns its session. If the client ends early, it closes the network, so that its link ends too.
 fn run_client<L: Home, R: Wait, G: Gate>(
-    shop: &Shop<'_, R, G>,
+    context: &LoadContext<'_, R, G>,
     node: u16,
     store: &Store<DemoScheme, L>,
     mut session: Session<DemoScheme, L>,
     link: Receiver<Digest>,
-) -> Walked<L> {
-    let walked = walk_with(&*shop, node, &*store, &mut session, link);
+) -> ClientOutcome<L> {
+    let walked = run_client_on(&*context, node, &*store, &mut session, link);
     if walked.is_err() {
-        shop.office.close(shop.rt);
+        context.network.close(context.rt);
     }
     (session, walked)
 }
 
 /// Runs the client with the session.
-fn walk_with<'a, L: Home, R: Wait, G: Gate>(
-    shop: &'a Shop<'a, R, G>,
+fn run_client_on<'a, L: Home, R: Wait, G: Gate>(
+    context: &'a LoadContext<'a, R, G>,
     node: u16,
     store: &'a Store<DemoScheme, L>,
     session: &'a mut Session<DemoScheme, L>,
@@ -282,15 +282,14 @@ fn walk_with<'a, L: Home, R: Wait, G: Gate>(
         store,
         session,
     };
-    let mut client = Client::new(shop, node, store, ClientNews { link });
-    let walked = client.run(shop.rt);
+    let mut client = Client::new(context, node, store, ClientChannel { link });
+    let walked = client.run(context.rt);
     drop(client);
     walked
 }
 
-/// What the node reports, once both sessions settle: how many events the history has, and this last walk. The store goes with the
-/// process.
-fn settled<L: Home>(
+/// Settles the store with both sessions and returns the report. It does not free the settled store: the end of the process does.
+fn settle_node<L: Home>(
     node: u16,
     store: Store<DemoScheme, L>,
     sessions: Vec<Session<DemoScheme, L>>,

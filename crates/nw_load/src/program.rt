@@ -1,24 +1,25 @@
-//! The load as a program's words ask for it.
-use crate::crew::load;
+//! A load from the arguments of a program.
 use crate::fault::LoadFault;
+use crate::launch::load;
 use crate::report::NodeReport;
 use nw_intake::FreeGate;
-use nw_script::weight;
+use nw_script::number_u32;
 use std::alloc::Global;
 use std::io::{self, Write};
 use std::sync::Wait;
 use std::thread::Threads;
 
-/// The status where the report was printed.
+/// The exit status if the report was printed.
 const DONE: u8 = 0;
-/// The status where it can't be written.
+/// The exit status if the output could not be written.
 const NOT_WRITTEN: u8 = 1;
-/// The status where the words ask for no load. Nothing is run then, and nothing printed.
+/// The exit status if the words do not name a load. Then nothing is run or printed.
 const BAD_WORDS: u8 = 2;
-/// The status where the load gives no report.
+/// The exit status if the load has no report.
 const REFUSED: u8 = 3;
 
-/// Runs the load that the words ask for, `load` and two numbers, prints what it reports, and answers the exit status.
+/// Runs the load that the words name, prints its report or fault, and returns the exit status: 2 if the words are not `load`,
+/// a number of nodes and a number of rounds, else that of `print_outcome`.
 pub fn run<R: Threads + Wait + Sync, W: Write>(
     rt: &R,
     alloc: Global,
@@ -31,8 +32,8 @@ pub fn run<R: Threads + Wait + Sync, W: Write>(
     print_outcome(&load(rt, alloc, nodes, rounds, &FreeGate), out)
 }
 
-/// Prints the report of a load, or why there is none, and returns the exit status: 0 for a report, 3 for a refusal, and 1 if the
-/// line cannot be written.
+/// Prints the report or the fault of a load, and returns the exit status: 0 for a report, 3 for a fault, and 1 if the output
+/// cannot be written.
 pub fn print_outcome<W: Write>(outcome: &Result<Vec<NodeReport>, LoadFault>, out: &mut W) -> u8 {
     let (written, status) = match outcome {
         Ok(reports) => (print_reports(reports, out), DONE),
@@ -44,11 +45,11 @@ pub fn print_outcome<W: Write>(outcome: &Result<Vec<NodeReport>, LoadFault>, out
     }
 }
 
-/// How many nodes and rounds the words ask for, or `None` where they are others than `load` and two numbers below 2^32.
+/// The numbers of nodes and rounds, or `None` if the words are not `load` and two numbers below 2^32.
 fn numbers(words: &[String]) -> Option<(u32, u32)> {
     match words {
         [command, nodes, rounds] if command.as_str() == "load" => {
-            Some((weight(nodes.as_str())?, weight(rounds.as_str())?))
+            Some((number_u32(nodes.as_str())?, number_u32(rounds.as_str())?))
         }
         _ => None,
     }

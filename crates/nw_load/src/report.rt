@@ -1,12 +1,12 @@
-//! What a load reports.
+//! The report of a load.
 use std::fmt;
 
-/// What a node reports, once its store is settled.
+/// The report of a node, after its store settled.
 #[derive(Clone, Copy, Debug, PartialEq, Eq)]
 pub struct NodeReport {
-    /// How many calls the store answered.
+    /// The number of calls that the store answered.
     pub events: usize,
-    /// How many blocks the last walk listed.
+    /// The number of blocks in the list of the last walk.
     pub last: usize,
 }
 

@@ -1,4 +1,4 @@
-//! What the threads of a node may ask of its store: each has a type of its own, with the calls that it makes.
+//! The calls of a node's threads. Each thread has a type with the calls that it may make.
 use crate::fault::End;
 use nw_check::{CheckedBlock, CheckedCert};
 use nw_digest::Digest;
@@ -8,7 +8,7 @@ use nw_store::{Home, NoStep, Session, Store, Ticket};
 use std::alloc::Global;
 use std::sync::Wait;
 
-/// What a link may ask.
+/// The calls of a link.
 #[derive(Drop)]
 pub(crate) struct LinkCalls<'a, L: Home> {
     pub(crate) node: u32,
@@ -17,7 +17,7 @@ pub(crate) struct LinkCalls<'a, L: Home> {
 }
 
 impl<'a, L: Home> LinkCalls<'a, L> {
-    /// Writes the block: whether the store votes for it.
+    /// Writes the block, and returns whether the store votes for it.
     pub(crate) fn write<R: Wait>(
         &mut self,
         rt: &R,
@@ -33,11 +33,11 @@ impl<'a, L: Home> LinkCalls<'a, L> {
                 drop(done);
                 Ok(vote)
             }
-            Err(refusal) => Err(not_taken(self.node, refusal)),
+            Err(refusal) => Err(end_of_refusal(self.node, refusal)),
         }
     }
 
-    /// Certifies what the certificate is for.
+    /// Certifies the digest of the certificate.
     pub(crate) fn certify<R: Wait>(
         &mut self,
         rt: &R,
@@ -49,12 +49,12 @@ impl<'a, L: Home> LinkCalls<'a, L> {
                 drop(done);
                 Ok(())
             }
-            Err(refusal) => Err(not_taken(self.node, refusal)),
+            Err(refusal) => Err(end_of_refusal(self.node, refusal)),
         }
     }
 }
 
-/// What a client may ask.
+/// The calls of a client.
 #[derive(Drop)]
 pub(crate) struct ClientCalls<'a, L: Home> {
     pub(crate) node: u32,
@@ -63,7 +63,7 @@ pub(crate) struct ClientCalls<'a, L: Home> {
 }
 
 impl<'a, L: Home> ClientCalls<'a, L> {
-    /// Opens a causal read, or answers `None` where it is not ready.
+    /// Opens a causal read. Returns `None` if the digest is not complete.
     pub(crate) fn open<R: Wait>(
         &mut self,
         rt: &R,
@@ -72,13 +72,13 @@ impl<'a, L: Home> ClientCalls<'a, L> {
     ) -> Result<Option<Ticket<DemoScheme>>, End> {
         match self.store.open_causal(rt, alloc, self.session, digest) {
             Ok(answer) => Ok(answer.ok()),
-            Err(refusal) => Err(not_taken(self.node, refusal)),
+            Err(refusal) => Err(end_of_refusal(self.node, refusal)),
         }
     }
 }
 
-// A load asks for no call that is refused, but where memory is.
-fn not_taken(node: u32, refusal: NoStep) -> End {
+// The calls of a load are refused only if an allocation fails.
+fn end_of_refusal(node: u32, refusal: NoStep) -> End {
     match refusal {
         NoStep::NoMemory => End::NoMemory,
         NoStep::OutOfTurn | NoStep::OtherCommittee | NoStep::HistoryFull => End::Unsettled { node },

@@ -1,9 +1,9 @@
-//! What a link knows of the blocks of each round.
+//! The progress of each round's blocks, as a link knows it.
 use nw_codec::Ref;
 use nw_digest::{Digest, NoMemory};
 use std::alloc::Global;
 
-/// What is held and what is certified for one round and author.
+/// The held and the certified digest of one slot.
 #[derive(Clone, Copy)]
 struct Slot {
     held: Option<Digest>,
@@ -17,28 +17,28 @@ impl Slot {
         certified: None,
     };
 
-    /// The digest of the block that is held and certified, if there is one.
+    /// The digest that is both held and certified, if there is one.
     fn parent(&self) -> Option<Digest> {
         let held = self.held?;
         (self.certified == Some(held)).then_some(held)
     }
 }
 
-/// What is held and what is certified in each round, by author.
+/// The slots of each round, by author.
 #[derive(Drop)]
 pub(crate) struct Table {
     rounds: Vec<Vec<Slot>>,
 }
 
 impl Table {
-    /// A table of no round.
+    /// A table without rounds. It allocates nothing.
     pub(crate) fn new(alloc: Global) -> Table {
         Table {
             rounds: Vec::new(alloc),
         }
     }
 
-    /// So many rounds more of so many authors, of which nothing is held or certified yet.
+    /// Adds `rounds` rounds of `nodes` authors, with nothing held or certified.
     pub(crate) fn add_rounds(
         &mut self,
         alloc: Global,
@@ -52,14 +52,14 @@ impl Table {
         Ok(())
     }
 
-    /// The block of the digest is held from now on.
+    /// Records that the digest is held.
     pub(crate) fn hold(&mut self, round: u64, author: u16, digest: Digest) {
         if let Some(slot) = self.slot(round, author) {
             slot.held = Some(digest);
         }
     }
 
-    /// The digest is certified from now on.
+    /// Records that the digest is certified.
     pub(crate) fn certify(&mut self, round: u64, author: u16, digest: Digest) {
         if let Some(slot) = self.slot(round, author) {
             slot.certified = Some(digest);
@@ -72,8 +72,7 @@ impl Table {
             .get_mut(usize::from(author))
     }
 
-    /// References to the blocks of so many authors in the round, ascending by author, or `None` where one is not held and
-    /// certified.
+    /// References to the round's blocks of all `nodes` authors, ascending by author, or `None` if one is not held and certified.
     pub(crate) fn parents(
         &self,
         alloc: Global,
@@ -90,7 +89,7 @@ impl Table {
         Ok(Some(parents))
     }
 
-    /// The digest of the author's block that is held and certified, if there is one.
+    /// The digest of the author's block in the round, if it is held and certified.
     fn parent(&self, round: u64, author: u16) -> Option<Digest> {
         self.rounds
             .get(round as usize)?

@@ -1,11 +1,11 @@
-//! Reads a script as `nw` does, and prints an SVG of what it leaves: rounds from left to right, authors from top to bottom.
+//! Draws the blocks that a script leaves in its store, as SVG.
 //!
-//! A script that `nw` does not play to its end has the same exit status here, and what `nw` says of the fault is printed, without the
-//! answers before it. It stands on `nw_play`, which plays the script twice: as it is, and once more with questions behind it.
+//! It reads a script from standard input. The player (`nw_play`) plays it twice: as it is, and then followed by questions to the store.
+//! If `nw` would not play the script to its end, the exit status is that of `nw`. Then only the text of the fault is printed.
 #![tactic(auto)]
 
-mod notes;
 mod questions;
+mod recorder;
 mod run;
 mod scene;
 mod tiles;
@@ -18,7 +18,7 @@ fn main(rt: HostRuntime) -> ExitCode {
     ExitCode::from(status(run(&rt, rt.alloc(), rt.stdin(), rt.stdout())))
 }
 
-// The same as that of `nw`.
+// The exit status, as that of `nw`.
 fn status(outcome: Result<(), PlayFault>) -> u8 {
     match outcome {
         Ok(()) => 0,

@@ -1,20 +1,22 @@
-//! Questions behind a script, whose answers tell what it leaves.
+//! Questions after a script, whose answers show what it leaves.
 
-use crate::notes::text_of;
+use crate::recorder::text_of;
 use crate::scene::Scene;
 use std::alloc::{AllocError, Global};
 use std::collections::BTreeSet;
 
-/// A script with questions, and how many more its history has room for.
+/// A script followed by questions.
 #[derive(Drop)]
-struct Asked {
+struct Extended {
     text: String,
+    /// The limit on events of a history.
     events: u32,
+    /// The number of calls that the current history still has room for.
     room: u32,
 }
 
-impl Asked {
-    // Makes room in the history for one more call: a settled store that goes on has none in it.
+impl Extended {
+    // Makes room for one more call. If the history is full, the store settles and reopens, with an empty history.
     fn make_room(&mut self) -> Result<(), AllocError> {
         if self.room == 0 {
             self.text.push_str("settle\nreopen\n")?;
@@ -25,74 +27,74 @@ impl Asked {
     }
 }
 
-/// The script with the questions behind it.
+/// The script followed by the questions. An error means that an allocation failed.
 pub fn with_questions(
     alloc: Global,
     script: &[u8],
     scene: &Scene<'_>,
 ) -> Result<String, AllocError> {
-    let mut asked = Asked {
+    let mut extended = Extended {
         text: String::from_str(alloc, text_of(script))?,
         events: scene.events,
         room: 0,
     };
-    match ask_all(&mut asked, scene) {
+    match add_all(&mut extended, scene) {
         Ok(()) => {
-            let Asked { text, .. } = asked;
+            let Extended { text, .. } = extended;
             Ok(text)
         }
         Err(refused) => {
-            drop(asked);
+            drop(extended);
             Err(refused)
         }
     }
 }
 
-fn ask_all(asked: &mut Asked, scene: &Scene<'_>) -> Result<(), AllocError> {
-    asked
+fn add_all(extended: &mut Extended, scene: &Scene<'_>) -> Result<(), AllocError> {
+    extended
         .text
         .push_str(if scene.is_settled { "\nreopen\n" } else { "\n" })?;
-    ask_digests(asked, scene)?;
-    ask_store(asked)?;
+    add_digests(extended, scene)?;
+    add_store_questions(extended)?;
     if let Some(ticket) = scene.ticket {
-        write!(asked.text, "walk {ticket}\n")?;
+        write!(extended.text, "walk {ticket}\n")?;
     }
-    ask_blocks(asked, scene)
+    add_opens(extended, scene)
 }
 
-// Which blocks have one digest.
-fn ask_digests(asked: &mut Asked, scene: &Scene<'_>) -> Result<(), AllocError> {
-    for noted in &scene.blocks {
-        let name = noted.line.name;
-        write!(asked.text, "digest {name}\n")?;
+// Which blocks have the same digest?
+fn add_digests(extended: &mut Extended, scene: &Scene<'_>) -> Result<(), AllocError> {
+    for block in &scene.blocks {
+        let name = block.line.name;
+        write!(extended.text, "digest {name}\n")?;
     }
     Ok(())
 }
 
-// What is wanted, and the garbage round.
-fn ask_store(asked: &mut Asked) -> Result<(), AllocError> {
-    asked.make_room()?;
-    asked.text.push_str("missing 65535\n")?;
-    asked.make_room()?;
-    asked.text.push_str("status\n")
+// Which parents are wanted, and what is the garbage round?
+fn add_store_questions(extended: &mut Extended) -> Result<(), AllocError> {
+    extended.make_room()?;
+    extended.text.push_str("missing 65535\n")?;
+    extended.make_room()?;
+    extended.text.push_str("status\n")
 }
 
-// What a causal read of each block is answered, by tickets whose names are free.
-fn ask_blocks(asked: &mut Asked, scene: &Scene<'_>) -> Result<(), AllocError> {
+// What does a causal read of each block answer? The tickets have unused names.
+fn add_opens(extended: &mut Extended, scene: &Scene<'_>) -> Result<(), AllocError> {
     let mut next = 0;
-    for noted in &scene.blocks {
-        let ticket = free_from(&scene.taken, next);
-        let name = noted.line.name;
-        asked.make_room()?;
-        write!(asked.text, "open q{ticket} {name}\n")?;
+    for block in &scene.blocks {
+        let ticket = unused_from(&scene.ticket_numbers, next);
+        let name = block.line.name;
+        extended.make_room()?;
+        write!(extended.text, "open q{ticket} {name}\n")?;
         next = ticket.saturating_add(1);
     }
     Ok(())
 }
 
-// The first number from this one on that is not taken.
-fn free_from(taken: &BTreeSet<u64>, from: u64) -> u64 {
+// The first number from this one on that is not used.
+fn unused_from(used: &BTreeSet<u64>, from: u64) -> u64 {
     (from..u64::MAX)
-        .find(|number| !taken.contains(number))
+        .find(|number| !used.contains(number))
         .unwrap_or(u64::MAX)
 }

@@ -1,56 +1,56 @@
-//! What a script says and was answered: its blocks, and what is known of each. What was answered last counts.
+//! The blocks of a script, and what its answers say of each. If two answers differ, the last one counts.
 
 use nw_script::{BlockLine, Name};
 use std::alloc::{AllocError, Global};
 use std::collections::{BTreeMap, BTreeSet};
 
-// How many events a history has where no line says it.
+// The limit on events of a script without a `limits` line.
 const DEFAULT_EVENTS: u32 = 1024;
 
-/// What a causal read tells of a block.
+/// The answer to a causal read of a block.
 #[derive(Clone, Copy, PartialEq, Eq)]
-pub enum Standing {
+pub enum CausalAnswer {
     Unknown,
     Uncertified,
     Incomplete,
     Ready,
 }
 
-/// A block that a line bound to a name, and what a causal read of it was answered.
+/// A named block, and the answer to the last causal read of it.
 #[derive(Drop)]
-pub struct Noted<'a> {
+pub struct SceneBlock<'a> {
     pub line: BlockLine<'a>,
-    pub standing: Standing,
+    pub answer: CausalAnswer,
 }
 
-/// What is known of a script.
+/// The blocks and tickets of a script, with the answers so far.
 #[derive(Drop)]
 pub struct Scene<'a> {
     /// The blocks in the order of their lines.
-    pub blocks: Vec<Noted<'a>>,
-    /// Of each name the number of its block: of the first one with the same digest, once digests were asked for.
+    pub blocks: Vec<SceneBlock<'a>>,
+    /// For each name, the place of its block in `blocks`. After a `digest` answer, that of the first block with the digest.
     pub numbers: BTreeMap<Name<'a>, usize>,
-    /// Of each digest in hex the number of its first block.
+    /// For each digest in hex, the number of its first block.
     pub digests: BTreeMap<&'a str, usize>,
-    /// Blocks that got the vote of their round and author.
+    /// The blocks that the store voted for.
     pub voted: Vec<Name<'a>>,
-    /// Blocks that are wanted.
+    /// The wanted parents.
     pub wanted: Vec<Name<'a>>,
-    /// Blocks that the last walk listed.
+    /// The blocks that the last walk listed.
     pub walked: Vec<Name<'a>>,
-    /// The ticket that was opened last.
+    /// The last opened ticket.
     pub ticket: Option<Name<'a>>,
-    /// The numbers behind a `q` in the names of tickets.
-    pub taken: BTreeSet<u64>,
+    /// The numbers of tickets whose name is `q` and a number.
+    pub ticket_numbers: BTreeSet<u64>,
     pub garbage_round: u64,
-    /// How many events a history has.
+    /// The limit on events of a history.
     pub events: u32,
     /// Whether the store is settled.
     pub is_settled: bool,
 }
 
 impl<'a> Scene<'a> {
-    /// Nothing is known yet. It takes no memory.
+    /// The scene before the first line. It allocates nothing.
     pub fn new(alloc: Global) -> Scene<'a> {
         Scene {
             blocks: Vec::new(alloc),
@@ -60,36 +60,36 @@ impl<'a> Scene<'a> {
             wanted: Vec::new(alloc),
             walked: Vec::new(alloc),
             ticket: None,
-            taken: BTreeSet::new(alloc),
+            ticket_numbers: BTreeSet::new(alloc),
             garbage_round: 0,
             events: DEFAULT_EVENTS,
             is_settled: false,
         }
     }
 
-    /// The number of the name's block, where the name is bound.
+    /// The number of the named block, if the name is bound.
     pub fn number(&self, name: Name<'a>) -> Option<usize> {
         self.numbers.get(&name).copied()
     }
 
-    /// Whether no block before this one, which has the number, has the same digest.
+    /// Whether the block with this number and name is the first with its digest.
     pub fn is_first(&self, number: usize, name: Name<'a>) -> bool {
         self.number(name) == Some(number)
     }
 
-    /// Binds the block's name to it.
+    /// Adds the block of the line, and binds its name.
     pub fn bind(&mut self, line: BlockLine<'a>) -> Result<(), AllocError> {
         let name = line.name;
         self.numbers.insert(name, self.blocks.len())?;
-        self.blocks.push(Noted {
+        self.blocks.push(SceneBlock {
             line,
-            standing: Standing::Unknown,
+            answer: CausalAnswer::Unknown,
         })?;
         Ok(())
     }
 
-    /// Lets the name stand for the first block with this digest.
-    pub fn unite(&mut self, name: Name<'a>, hex: &'a str) -> Result<(), AllocError> {
+    /// Records the digest of the named block: the name is then bound to the first block with this digest.
+    pub fn record_digest(&mut self, name: Name<'a>, hex: &'a str) -> Result<(), AllocError> {
         if let Some(number) = self.number(name) {
             let first = *self.digests.entry(hex)?.or_insert(number);
             self.numbers.insert(name, first)?;
@@ -97,12 +97,12 @@ impl<'a> Scene<'a> {
         Ok(())
     }
 
-    /// Keeps what a causal read of the name was answered.
-    pub fn stand(&mut self, name: Name<'a>, standing: Standing) {
+    /// Records the answer to a causal read of the named block.
+    pub fn record_answer(&mut self, name: Name<'a>, answer: CausalAnswer) {
         if let Some(number) = self.number(name)
-            && let Some(noted) = self.blocks.get_mut(number)
+            && let Some(block) = self.blocks.get_mut(number)
         {
-            noted.standing = standing;
+            block.answer = answer;
         }
     }
 }

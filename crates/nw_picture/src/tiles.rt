@@ -1,23 +1,23 @@
-//! The picture of what is known.
+//! The picture of a scene.
 
-use crate::scene::{Noted, Scene, Standing};
-use nw_drawing::{Link, Picture, State, Tile};
+use crate::scene::{CausalAnswer, Scene, SceneBlock};
+use nw_drawing::{Arrow, Picture, State, Tile};
 use nw_script::Name;
 use std::alloc::{AllocError, Global};
 use std::collections::BTreeSet;
 
-/// The picture of a script, once each question was answered.
+/// The picture of a scene in which all questions were answered. An error means that an allocation failed.
 pub fn picture(alloc: Global, scene: &Scene<'_>) -> Result<Picture, AllocError> {
     let tiles = tiles_of(alloc, scene)?;
     let places = places_of(alloc, scene)?;
     Ok(Picture {
         tiles,
-        links: links_of(alloc, scene, &places)?,
+        arrows: arrows_of(alloc, scene, &places)?,
         garbage_round: scene.garbage_round,
     })
 }
 
-// What is known of blocks by their numbers.
+// The numbers of the blocks with a vote, of wanted parents, and of the blocks of the last walk.
 #[derive(Drop)]
 struct Known {
     voted: BTreeSet<usize>,
@@ -25,7 +25,7 @@ struct Known {
     walked: BTreeSet<usize>,
 }
 
-// The tiles of all blocks that are no other's again, in the order of their lines.
+// The tiles of all blocks, in the order of their lines. A block with the digest of an earlier one has no tile.
 fn tiles_of(alloc: Global, scene: &Scene<'_>) -> Result<Vec<Tile>, AllocError> {
     let known = Known {
         voted: numbers_of(alloc, scene, &scene.voted)?,
@@ -33,9 +33,9 @@ fn tiles_of(alloc: Global, scene: &Scene<'_>) -> Result<Vec<Tile>, AllocError> {
         walked: numbers_of(alloc, scene, &scene.walked)?,
     };
     let mut tiles = Vec::new(alloc);
-    for (number, noted) in scene.blocks.iter().enumerate() {
-        if scene.is_first(number, noted.line.name) {
-            tiles.push(tile(alloc, scene, &known, number, noted)?)?;
+    for (number, block) in scene.blocks.iter().enumerate() {
+        if scene.is_first(number, block.line.name) {
+            tiles.push(tile(alloc, scene, &known, number, block)?)?;
         }
     }
     Ok(tiles)
@@ -46,36 +46,36 @@ fn tile(
     scene: &Scene<'_>,
     known: &Known,
     number: usize,
-    noted: &Noted<'_>,
+    block: &SceneBlock<'_>,
 ) -> Result<Tile, AllocError> {
-    let name = noted.line.name;
-    let state = state(noted, known.wanted.contains(&number), scene.garbage_round);
+    let name = block.line.name;
+    let state = state(block, known.wanted.contains(&number), scene.garbage_round);
     Ok(Tile {
         name: format!(in alloc; "{name}")?,
-        round: noted.line.round.get(),
-        author: noted.line.author,
+        round: block.line.round.get(),
+        author: block.line.author,
         state,
-        has_vote: is_held(noted) && known.voted.contains(&number),
+        has_vote: is_held(block) && known.voted.contains(&number),
         is_read: known.walked.contains(&number),
     })
 }
 
-fn is_held(noted: &Noted<'_>) -> bool {
-    noted.standing != Standing::Unknown
+fn is_held(block: &SceneBlock<'_>) -> bool {
+    block.answer != CausalAnswer::Unknown
 }
 
-fn state(noted: &Noted<'_>, is_wanted: bool, garbage_round: u64) -> State {
-    match noted.standing {
-        Standing::Ready => State::Complete,
-        Standing::Incomplete => State::Certified,
-        Standing::Uncertified => State::Held,
-        Standing::Unknown if noted.line.round.get() < garbage_round => State::Collected,
-        Standing::Unknown if is_wanted => State::Wanted,
-        Standing::Unknown => State::Absent,
+fn state(block: &SceneBlock<'_>, is_wanted: bool, garbage_round: u64) -> State {
+    match block.answer {
+        CausalAnswer::Ready => State::Complete,
+        CausalAnswer::Incomplete => State::Certified,
+        CausalAnswer::Uncertified => State::Held,
+        CausalAnswer::Unknown if block.line.round.get() < garbage_round => State::Collected,
+        CausalAnswer::Unknown if is_wanted => State::Wanted,
+        CausalAnswer::Unknown => State::Absent,
     }
 }
 
-// The numbers of the names' blocks.
+// The numbers of the named blocks.
 fn numbers_of<'a>(
     alloc: Global,
     scene: &Scene<'a>,
@@ -90,13 +90,13 @@ fn numbers_of<'a>(
     Ok(numbers)
 }
 
-// Of each block the place of its tile among all tiles; where it is another's again, how many tiles are before it.
+// For each block, the place of its tile among all tiles. For a block without a tile, the number of tiles before it.
 fn places_of(alloc: Global, scene: &Scene<'_>) -> Result<Vec<usize>, AllocError> {
     let mut places = Vec::new(alloc);
     let mut next = 0usize;
-    for (number, noted) in scene.blocks.iter().enumerate() {
+    for (number, block) in scene.blocks.iter().enumerate() {
         places.push(next)?;
-        if scene.is_first(number, noted.line.name) {
+        if scene.is_first(number, block.line.name) {
             next = next.saturating_add(1);
         }
     }
@@ -104,45 +104,48 @@ fn places_of(alloc: Global, scene: &Scene<'_>) -> Result<Vec<usize>, AllocError>
 }
 
 // The references of all blocks that have tiles.
-fn links_of(alloc: Global, scene: &Scene<'_>, places: &[usize]) -> Result<Vec<Link>, AllocError> {
-    let mut links = Vec::new(alloc);
-    for (number, noted) in scene.blocks.iter().enumerate() {
-        if scene.is_first(number, noted.line.name) {
-            push_links(&mut links, scene, places, number, noted)?;
+fn arrows_of(alloc: Global, scene: &Scene<'_>, places: &[usize]) -> Result<Vec<Arrow>, AllocError> {
+    let mut arrows = Vec::new(alloc);
+    for (number, block) in scene.blocks.iter().enumerate() {
+        if scene.is_first(number, block.line.name) {
+            push_arrows(&mut arrows, scene, places, number, block)?;
         }
     }
-    Ok(links)
+    Ok(arrows)
 }
 
 // Adds the references of the block with this number.
-fn push_links<'a>(
-    links: &mut Vec<Link>,
+fn push_arrows<'a>(
+    arrows: &mut Vec<Arrow>,
     scene: &Scene<'a>,
     places: &[usize],
     number: usize,
-    noted: &Noted<'a>,
+    block: &SceneBlock<'a>,
 ) -> Result<(), AllocError> {
-    for name in &noted.line.parents {
+    for name in &block.line.parents {
         if let Some(parent) = scene.number(*name)
-            && let Some(link) = link(scene, places, number, parent)
+            && let Some(arrow) = arrow(scene, places, number, parent)
         {
-            links.push(link)?;
+            arrows.push(arrow)?;
         }
     }
     Ok(())
 }
 
 // The reference of a block to its parent, by their numbers.
-fn link(scene: &Scene<'_>, places: &[usize], child: usize, parent: usize) -> Option<Link> {
-    Some(Link {
+fn arrow(scene: &Scene<'_>, places: &[usize], child: usize, parent: usize) -> Option<Arrow> {
+    Some(Arrow {
         child: places.get(child).copied()?,
         parent: places.get(parent).copied()?,
-        is_met: is_met(scene.blocks.get(child)?, scene.blocks.get(parent)?),
+        is_satisfied: is_satisfied(scene.blocks.get(child)?, scene.blocks.get(parent)?),
     })
 }
 
-// Whether the parent is held and certified, in the round before the child's.
-fn is_met(child: &Noted<'_>, parent: &Noted<'_>) -> bool {
-    let stands = matches!(parent.standing, Standing::Incomplete | Standing::Ready);
+// Whether the parent is held and certified, and of the round preceding the child's.
+fn is_satisfied(child: &SceneBlock<'_>, parent: &SceneBlock<'_>) -> bool {
+    let stands = matches!(
+        parent.answer,
+        CausalAnswer::Incomplete | CausalAnswer::Ready
+    );
     stands && child.line.round.before() == Some(parent.line.round)
 }

@@ -1,8 +1,8 @@
--- Lines that are left of a script.
+-- The remaining lines of a script.
 use Rattle.std.specs.Prelude.{ℕ, ◌+◌, List, Option, Some, None, length}
 use denote.Ref.{Bor}
 
--- no more lines than this are left: one for each byte, and one
+-- an upper bound on the number of remaining lines: the number of remaining bytes plus one
 abbrev pub lines_left : Option (Bor (List ℕ)) → ℕ
 lines_left None = 0
 lines_left (Some rest) = length rest.now + 1

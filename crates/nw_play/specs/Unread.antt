@@ -1,8 +1,8 @@
--- Why a script is not read whole.
+-- Faults of a script that was not read to its end.
 use Rattle.nw_play.specs.declared.fault.PlayFault.{PlayFault}
 use Rattle.nw_play.specs.declared.fault.PlayFault.TheVariants as fault
 
--- the script is too long, or its reader failed or an allocation did before that was known
+-- the script is too long, or its reader or an allocation failed before that was known
 abbrev pub IsUnread : PlayFault → Type 0
 IsUnread fault.TooLong = Unit {0}
 IsUnread fault.Read = Unit {0}

@@ -9,7 +9,7 @@ use nw_sig::DemoScheme;
 use nw_store::{Book, Limits};
 use std::alloc::Global;
 
-// The limits of a script without a line of its own for them.
+// The limits of a script without a `limits` line.
 const DEFAULT_LIMITS: Limits = Limits {
     blocks: 1024,
     events: 1024,
@@ -21,48 +21,48 @@ const DEFAULT_LIMITS: Limits = Limits {
 #[derive(Drop)]
 pub struct Start {
     pub book: Book<DemoScheme>,
-    /// Whether its first line may be that with the limits.
-    pub may_limit: bool,
+    /// Whether its first line may be a `limits` line.
+    pub may_set_limits: bool,
 }
 
 impl Start {
-    /// The start behind a line that no limits may follow.
-    pub fn behind(book: Book<DemoScheme>) -> Start {
+    /// A start after which no `limits` line may come.
+    pub fn without_limits_line(book: Book<DemoScheme>) -> Start {
         Start {
             book,
-            may_limit: false,
+            may_set_limits: false,
         }
     }
 }
 
-/// The committee of a script, which the first line that counts has.
-pub fn first_committee(
+/// Reads the committee, which the first line that is not skipped must have. `BadLine` if it has none.
+pub fn read_committee(
     alloc: Global,
     lines: &mut Lines<'_>,
 ) -> Result<Shared<Committee>, PlayFault> {
     match lines.next_line(alloc)? {
-        Some(Line::Committee(line)) => match shared(alloc, &line) {
+        Some(Line::Committee(line)) => match shared_committee(alloc, &line) {
             Ok(committee) => Ok(committee),
-            Err(fault) => Err(PlayFault::at(lines.taken(), fault)),
+            Err(fault) => Err(PlayFault::at(lines.last_number(), fault)),
         },
-        _ => Err(lines.bad()),
+        _ => Err(lines.bad_last_line()),
     }
 }
 
-/// The start of a script of this committee, under the default limits.
-pub fn first(
+/// The start of a script: an empty book under the default limits. `number` is that of the line to blame.
+pub fn default_start(
     alloc: Global,
     committee: &Shared<Committee>,
     number: usize,
 ) -> Result<Start, PlayFault> {
     Ok(Start {
         book: new_book(alloc, committee, DEFAULT_LIMITS, number)?,
-        may_limit: true,
+        may_set_limits: true,
     })
 }
 
-/// The start of a store of this committee with the limits that the line of this number sets.
-pub fn limited(
+/// The start after a `limits` line, which has this number: an empty book under its limits. `BadLine` if one is out of range.
+pub fn start_with_limits(
     alloc: Global,
     committee: &Shared<Committee>,
     line: LimitsLine,
@@ -74,14 +74,14 @@ pub fn limited(
         window: line.window,
         sessions: line.sessions,
     };
-    Ok(Some(Start::behind(new_book(alloc, committee, limits, number)?)))
+    Ok(Some(Start::without_limits_line(new_book(alloc, committee, limits, number)?)))
 }
 
-fn shared(alloc: Global, line: &CommitteeLine) -> Result<Shared<Committee>, LineFault> {
+fn shared_committee(alloc: Global, line: &CommitteeLine) -> Result<Shared<Committee>, LineFault> {
     Ok(Shared::new(alloc, committee(alloc, line)?)?)
 }
 
-// A book with these limits, for the line of this number.
+// An empty book with these limits. `number` is that of the line to blame.
 fn new_book(
     alloc: Global,
     committee: &Shared<Committee>,

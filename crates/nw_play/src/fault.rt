@@ -1,4 +1,4 @@
-//! Why a script ends before its end.
+//! Faults of a play.
 ghost use Rattle.std.specs.Prelude.{◌≡◌};
 
 use nw_desk::{Answer, LineFault};
@@ -8,7 +8,7 @@ use std::alloc::{AllocError, AllocFailed};
 use std::io::{self, Write};
 use thiserror::Error;
 
-/// Why a script was not played to its end. What was printed before stands.
+/// Why a script was not played to its end. The answers printed before the fault remain.
 #[derive(Clone, Copy, Debug, PartialEq, Eq, Error)]
 pub enum PlayFault {
     /// The reader failed. Nothing was played.
@@ -17,16 +17,16 @@ pub enum PlayFault {
     /// The writer failed.
     #[error("the answers can't be written")]
     Write,
-    /// The script has more than 1,048,576 bytes, or the reader was asked 1,048,577 times. Nothing was played.
+    /// The script has more than 1,048,576 bytes, or 1,048,577 reads did not reach its end. Nothing was played.
     #[error("the script is too long")]
     TooLong,
-    /// The line of this number, from 1, is not one of a script, or can't be played after those before it.
+    /// The line of this number, counted from 1, is not a line of a script, or can't be played after the lines before it.
     #[error("line {line} bad")]
     BadLine { line: usize },
-    /// Memory was refused.
+    /// An allocation failed.
     #[error("out of memory")]
     NoMemory,
-    /// The sessions of a store do not settle: the first by its id that is not one of those that the store made.
+    /// The sessions of a store do not settle: the least stray id (docs/MODEL.md). No script causes it.
     #[error("differs {session} 0")]
     Differs { session: u16 },
 }
@@ -55,7 +55,7 @@ impl From<AllocError> for PlayFault {
 }
 
 impl PlayFault {
-    /// The fault of the script, where this is that of its line with this number.
+    /// The fault of a script whose line of this number has the given fault.
     pub(crate) fn at(line: usize, fault: LineFault) -> PlayFault {
         match fault {
             LineFault::Bad => PlayFault::BadLine { line },
@@ -63,7 +63,7 @@ impl PlayFault {
         }
     }
 
-    /// The fault of the script, whose line with this number settles. It gives all sessions.
+    /// The fault of a script whose `settle` line, of this number, is refused. The player gives all sessions, so `Unfinished` never comes.
     pub(crate) fn unsettled(line: usize, fault: SettleFault) -> PlayFault {
         match fault {
             SettleFault::Unfinished { .. } => PlayFault::BadLine { line },
@@ -72,13 +72,13 @@ impl PlayFault {
     }
 }
 
-/// Prints the line of the answer.
+/// Prints the answer on a line.
 pub(crate) fn print<W: Write>(out: &mut W, answer: &Answer<'_>) -> Result<(), PlayFault> {
-    written(answer.write(out))
+    write_outcome(answer.write(out))
 }
 
-/// The fault of the script, where this is that of its writer.
-pub(crate) fn written(outcome: io::Result<()>) -> Result<(), PlayFault> {
+/// The outcome of writing, with `Write` for any error of the writer.
+pub(crate) fn write_outcome(outcome: io::Result<()>) -> Result<(), PlayFault> {
     match outcome {
         Ok(()) => Ok(()),
         Err(_) => Err(PlayFault::Write),

@@ -7,11 +7,13 @@ use crate::PlayFault;
 use std::alloc::Global;
 use std::io::{ErrorKind, Read};
 
-/// How many bytes a script has at most.
+/// The largest size of a script, in bytes.
 pub const MAX_SCRIPT: usize = 1_048_576;
 
-/// All that the reader gives up to its end: at most `MAX_SCRIPT` bytes, for which it is asked once more at most.
-/// A read that was interrupted is asked again.
+/// Reads the reader to its end, in at most `MAX_SCRIPT` + 1 reads. An interrupted read counts and is repeated.
+///
+/// `TooLong` if the reader gives more than `MAX_SCRIPT` bytes, or these reads do not reach its end. `Read` if it fails, and
+/// `NoMemory` if an allocation fails.
 pub fn read_script<R: Read>(alloc: Global, reader: &mut R) -> Result<Vec<u8>, PlayFault>
     ensures within { IfOk result (λ script. vec_len script ≤ MAX_SCRIPT) }
     ensures whole { IfOk result (λ script.

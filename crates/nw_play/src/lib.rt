@@ -1,17 +1,17 @@
-//! The player of scripts: a text of requests, played line by line on a store with its sessions.
+//! Plays a script: makes the calls of its lines, one after another, on a store with its sessions, and prints the answers.
 //!
-//! What a script prints is shown by tests. Proved is that each call returns, whatever the reader gives and however the
-//! writer fails, but for waiting for its store's lock, which nobody else holds. It stands on `nw_script` for the lines, on
-//! `nw_desk` for what needs no store, and on `nw_store`; its members sign by the demonstration scheme.
+//! It is proved that each call returns, whatever the reader gives and however the writer fails. The only wait is for the lock of its
+//! own store, which no other thread holds. Tests and scripts show what is printed. `nw_script` reads the lines, `nw_desk` does the
+//! part that needs no store, and `nw_store` takes the calls. Members sign with the demonstration scheme.
 #![tactic(auto)]
 
 mod books;
-mod calls;
 mod fault;
 mod input;
 mod lines;
+mod player;
 mod script;
-mod settled;
+mod settlement;
 mod stores;
 
 pub use fault::PlayFault;

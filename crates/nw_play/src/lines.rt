@@ -7,12 +7,12 @@ use nw_desk::LineFault;
 use nw_script::{Line, parse_line};
 use std::alloc::Global;
 
-/// The lines of a script that are not yet taken, each with its number, from 1. A script has at least one line, which may be
+/// The lines of a script that are still to come, each with its number, counted from 1. A script has at least one line, which may be
 /// empty.
 #[derive(Drop)]
 pub struct Lines<'a> {
     rest: Option<&'a [u8]>,
-    taken: usize,
+    last_number: usize,
 }
 
 impl<'a> Lines<'a> {
@@ -20,21 +20,23 @@ impl<'a> Lines<'a> {
     pub fn new(script: &'a [u8]) -> Lines<'a> {
         Lines {
             rest: Some(script),
-            taken: 0,
+            last_number: 0,
         }
     }
 
-    /// How many lines were taken: the number of the last of them.
-    pub fn taken(&self) -> usize {
-        self.taken
+    /// The number of the line read last, or 0 before the first.
+    pub fn last_number(&self) -> usize {
+        self.last_number
     }
 
-    /// That the line that was taken last is bad.
-    pub fn bad(&self) -> PlayFault {
-        PlayFault::BadLine { line: self.taken }
+    /// The fault if the line read last is bad.
+    pub fn bad_last_line(&self) -> PlayFault {
+        PlayFault::BadLine {
+            line: self.last_number,
+        }
     }
 
-    /// The next line that counts, which is then the last that was taken, or `None` where none is left.
+    /// Reads the next line that is not skipped, or returns `None` at the end.
     pub fn next_line(&mut self, alloc: Global) -> Result<Option<Line<'a>>, PlayFault> {
         for (number, text) in self.by_ref() {
             match read_line(alloc, number, text)? {
@@ -53,18 +55,18 @@ impl<'a> Iterator for Lines<'a> {
 
     fn next(&mut self) -> Option<(usize, &'a [u8])> {
         let rest = self.rest.take()?;
-        self.taken = self.taken.saturating_add(1);
+        self.last_number = self.last_number.saturating_add(1);
         match rest.iter().position(|byte| *byte == b'\n') {
-            None => Some((self.taken, rest)),
+            None => Some((self.last_number, rest)),
             Some(end) => {
                 self.rest = Some(&rest[end + 1..]);
-                Some((self.taken, &rest[..end]))
+                Some((self.last_number, &rest[..end]))
             }
         }
     }
 }
 
-/// What the line with this number says.
+/// Parses the line, which has this number.
 pub fn read_line(alloc: Global, number: usize, text: &[u8]) -> Result<Line<'_>, PlayFault> {
     match parse_line(alloc, text) {
         Ok(line) => Ok(line),

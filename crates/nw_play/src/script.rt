@@ -3,12 +3,12 @@ ghost use Rattle.std.specs.Prelude.{◌<◌, length, IfSome, IsErrAnd};
 ghost use Rattle.nw_play.specs.declared.input.TheConstants.{MAX_SCRIPT};
 ghost use Rattle.nw_play.specs.Unread.{IsUnread};
 
-use crate::books::{Start, first, first_committee};
-use crate::fault::{PlayFault, written};
+use crate::books::{Start, default_start, read_committee};
+use crate::fault::{PlayFault, write_outcome};
 use crate::input::read_script;
 use crate::lines::Lines;
 use crate::stores::play_store;
-use nw_desk::Desk;
+use nw_desk::Interpreter;
 use nw_store::Opening;
 use std::alloc::Global;
 use std::io::{BufWriter, Read, Write};
@@ -16,13 +16,14 @@ use std::marker::Brand;
 use std::mem::forget;
 use std::sync::Wait;
 
-/// Plays the script that the reader gives, and prints its answers to the writer, a line each.
+/// Plays the script that the reader gives, and prints each answer to the writer on a line.
 ///
-/// The whole script is read before its first line is played. What was printed before a fault stands, and a bad line
-/// prints its fault, as sessions do that differ. `Read` and `TooLong` print nothing. A script of more than 1,048,576 bytes is
-/// answered with `TooLong`, unless its reader fails or an allocation does before that is known. It waits for the lock of its stores,
-/// which nobody else holds. What the names and tickets of the script take is not given back, nor, where there was no fault,
-/// what its last store takes: it goes with the process, at once and not owner by owner.
+/// It reads the whole script before it plays the first line. `Read` and `TooLong` print nothing. `BadLine` and `Differs` print their
+/// text after the answers before them. A script of more than 1,048,576 bytes gives `TooLong`, unless the reader or an allocation
+/// fails first. It locks its own stores only, so no other thread holds their locks.
+///
+/// It does not free the script's names and tickets, and after success not its last store either: the end of the process frees
+/// them at once.
 pub fn play<Rt: Wait, R: Read + Drop, W: Write + Drop>(
     rt: &Rt,
     alloc: Global,
@@ -39,9 +40,9 @@ pub fn play<Rt: Wait, R: Read + Drop, W: Write + Drop>(
     let played = play_script(rt, alloc, script.as_slice(), &mut out);
     let outcome = match played {
         Err(PlayFault::Write) => Err(PlayFault::Write),
-        _ => written(out.flush()).and(played),
+        _ => write_outcome(out.flush()).and(played),
     };
-    // What a failed writer did not take is not offered again.
+    // Dropping the parts does not flush again after a failed write.
     drop(out.into_parts());
     outcome
 }
@@ -54,12 +55,12 @@ fn play_script<Rt: Wait, W: Write>(
 ) -> Result<(), PlayFault> {
     let played = play_stores(rt, alloc, script, out);
     if let Err(fault @ (PlayFault::BadLine { .. } | PlayFault::Differs { .. })) = played {
-        written(writeln!(out, "{fault}"))?;
+        write_outcome(writeln!(out, "{fault}"))?;
     }
     played
 }
 
-// Each store but the first goes on behind a line of its own, so that there are no more stores than lines.
+// Each store after the first has a line that starts it, so there are at most as many stores as lines.
 fn play_stores<Rt: Wait, W: Write>(
     rt: &Rt,
     alloc: Global,
@@ -67,27 +68,35 @@ fn play_stores<Rt: Wait, W: Write>(
     out: &mut W,
 ) -> Result<(), PlayFault> {
     let mut lines = Lines::new(script);
-    let committee = first_committee(alloc, &mut lines)?;
-    let start = first(alloc, &committee, lines.taken())?;
-    let mut desk = Desk::new(alloc, committee);
-    let played = play_from(rt, alloc, start, &mut desk, &mut lines, out, script.len());
-    forget(desk);
+    let committee = read_committee(alloc, &mut lines)?;
+    let start = default_start(alloc, &committee, lines.last_number())?;
+    let mut interpreter = Interpreter::new(alloc, committee);
+    let played = play_from(
+        rt,
+        alloc,
+        start,
+        &mut interpreter,
+        &mut lines,
+        out,
+        script.len(),
+    );
+    forget(interpreter);
     played
 }
 
-// Plays a store, and so many more at most that go on behind it.
+// Plays a store, and at most `more` stores after it.
 fn play_from<'a, Rt: Wait, W: Write>(
     rt: &Rt,
     alloc: Global,
     start: Start,
-    desk: &mut Desk<'a>,
+    interpreter: &mut Interpreter<'a>,
     lines: &mut Lines<'a>,
     out: &mut W,
     more: usize,
 ) -> Result<(), PlayFault> {
     let mut start = start;
     for _ in 0..=more {
-        match play_next(rt, alloc, start, desk, lines, out)? {
+        match play_next(rt, alloc, start, interpreter, lines, out)? {
             Some(next) => start = next,
             None => return Ok(()),
         }
@@ -95,17 +104,25 @@ fn play_from<'a, Rt: Wait, W: Write>(
     Ok(())
 }
 
-// Plays a store of its own name.
+// Plays a store under a new brand, and returns the start of the next one.
 fn play_next<'a, Rt: Wait, W: Write>(
     rt: &Rt,
     alloc: Global,
     start: Start,
-    desk: &mut Desk<'a>,
+    interpreter: &mut Interpreter<'a>,
     lines: &mut Lines<'a>,
     out: &mut W,
 ) -> Result<Option<Start>, PlayFault> {
     match Opening::new(alloc) {
-        Ok(opening) => play_store::<Brand, Rt, W>(rt, alloc, opening, start, desk, lines, out),
+        Ok(opening) => play_store::<Brand, Rt, W>(
+            rt,
+            alloc,
+            opening,
+            start,
+            interpreter,
+            lines,
+            out,
+        ),
         Err(_) => Err(PlayFault::NoMemory),
     }
 }

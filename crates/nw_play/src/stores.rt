@@ -3,12 +3,12 @@ ghost use Rattle.std.specs.Prelude.{◌≡◌};
 ghost use Rattle.nw_store.specs.Journal.{origin_of};
 ghost use Rattle.nw_store.specs.Kept.{parts_of_a_ledger};
 
-use crate::books::{Start, limited};
-use crate::calls::Calls;
+use crate::books::{Start, start_with_limits};
 use crate::fault::{PlayFault, print};
 use crate::lines::{Lines, read_line};
-use crate::settled::settled;
-use nw_desk::Desk;
+use crate::player::Player;
+use crate::settlement::settle_store;
+use nw_desk::Interpreter;
 use nw_script::{LimitsLine, Line, Request};
 use nw_sig::DemoScheme;
 use nw_store::{Home, Opening};
@@ -17,23 +17,23 @@ use std::io::Write;
 use std::mem::forget;
 use std::sync::Wait;
 
-/// What a store is not asked any more behind.
+/// Why no more lines are played on a store.
 enum End {
-    /// The script has no more lines.
+    /// The script ended.
     Script,
-    /// Another store is to be made, with these limits.
+    /// A `limits` line: another store with these limits takes its place.
     Limits(LimitsLine),
-    /// The store is to be settled.
+    /// A `settle` line.
     Settle,
 }
 
-/// Plays lines on a store; gives the start of the store that goes on behind them, or `None` at the end of the script.
+/// Plays lines on a new store. Returns the start of the store that continues the script, or `None` at its end.
 pub fn play_store<'a, L: Home, R: Wait, W: Write>(
     rt: &R,
     alloc: Global,
     opening: Opening<DemoScheme>,
     start: Start,
-    desk: &mut Desk<'a>,
+    interpreter: &mut Interpreter<'a>,
     lines: &mut Lines<'a>,
     out: &mut W,
 ) -> Result<Option<Start>, PlayFault>
@@ -41,59 +41,59 @@ pub fn play_store<'a, L: Home, R: Wait, W: Write>(
     requires ledger { (opening.ledger ≡ L.name) × (L.parts ≡ parts_of_a_ledger) }
     requires origin { origin_of start.book ≡ L.origin }
 {
-    match Calls::<L>::over(alloc, opening, start) {
-        Ok(calls) => play_calls(rt, alloc, calls, desk, lines, out),
-        Err(fault) => Err(PlayFault::at(lines.taken(), fault)),
+    match Player::<L>::new(alloc, opening, start) {
+        Ok(player) => play_to_end(rt, alloc, player, interpreter, lines, out),
+        Err(fault) => Err(PlayFault::at(lines.last_number(), fault)),
     }
 }
 
-// Plays lines by calls of the store, and ends it as they say.
-fn play_calls<'a, L: Home, R: Wait, W: Write>(
+// Plays lines on the store until it ends, and then settles, replaces or forgets it.
+fn play_to_end<'a, L: Home, R: Wait, W: Write>(
     rt: &R,
     alloc: Global,
-    mut calls: Calls<L>,
-    desk: &mut Desk<'a>,
+    mut player: Player<L>,
+    interpreter: &mut Interpreter<'a>,
     lines: &mut Lines<'a>,
     out: &mut W,
 ) -> Result<Option<Start>, PlayFault> {
-    match play_all(rt, alloc, &mut calls, desk, lines, out) {
-        Ok(End::Settle) => settled(alloc, calls, lines, out),
+    match play_all(rt, alloc, &mut player, interpreter, lines, out) {
+        Ok(End::Settle) => settle_store(alloc, player, lines, out),
         Ok(End::Limits(line)) => {
-            drop(calls);
-            limited(alloc, desk.committee(), line, lines.taken())
+            drop(player);
+            start_with_limits(alloc, interpreter.committee(), line, lines.last_number())
         }
         Ok(End::Script) => {
-            forget(calls);
+            forget(player);
             Ok(None)
         }
         Err(fault) => {
-            drop(calls);
+            drop(player);
             Err(fault)
         }
     }
 }
 
-// Makes the first session, and plays lines.
+// Makes the first session and plays lines.
 fn play_all<'a, L: Home, R: Wait, W: Write>(
     rt: &R,
     alloc: Global,
-    calls: &mut Calls<L>,
-    desk: &mut Desk<'a>,
+    player: &mut Player<L>,
+    interpreter: &mut Interpreter<'a>,
     lines: &mut Lines<'a>,
     out: &mut W,
 ) -> Result<End, PlayFault> {
-    match calls.add_session(rt, alloc) {
-        Ok(_) => play_lines(rt, alloc, calls, desk, lines, out),
-        Err(fault) => Err(PlayFault::at(lines.taken(), fault)),
+    match player.add_session(rt, alloc) {
+        Ok(_) => play_lines(rt, alloc, player, interpreter, lines, out),
+        Err(fault) => Err(PlayFault::at(lines.last_number(), fault)),
     }
 }
 
-// Plays the lines that ask the store, up to and with that behind which it is not asked any more.
+// Plays lines on the store, up to and including the line that ends it.
 fn play_lines<'a, L: Home, R: Wait, W: Write>(
     rt: &R,
     alloc: Global,
-    calls: &mut Calls<L>,
-    desk: &mut Desk<'a>,
+    player: &mut Player<L>,
+    interpreter: &mut Interpreter<'a>,
     lines: &mut Lines<'a>,
     out: &mut W,
 ) -> Result<End, PlayFault> {
@@ -101,34 +101,34 @@ fn play_lines<'a, L: Home, R: Wait, W: Write>(
         match read_line(alloc, number, text)? {
             Line::Skipped => {}
             Line::Request(request) => {
-                play_request(rt, alloc, calls, desk, number, &request, out)?;
+                play_request(rt, alloc, player, interpreter, number, &request, out)?;
             }
-            line => return end_of(line, calls.may_limit, number),
+            line => return end_of(line, player.may_set_limits, number),
         }
     }
     Ok(End::Script)
 }
 
-// What the line of this number, which asks nothing, says of the store.
-fn end_of(line: Line<'_>, may_limit: bool, number: usize) -> Result<End, PlayFault> {
+// The end that the line causes, which is not a request. `number` is that of the line.
+fn end_of(line: Line<'_>, may_set_limits: bool, number: usize) -> Result<End, PlayFault> {
     match line {
-        Line::Limits(line) if may_limit => Ok(End::Limits(line)),
+        Line::Limits(line) if may_set_limits => Ok(End::Limits(line)),
         Line::Settle => Ok(End::Settle),
         _ => Err(PlayFault::BadLine { line: number }),
     }
 }
 
-// Prints the answer to the request, which stands in the line of this number.
+// Plays the request of the line with this number, and prints the answer.
 fn play_request<'a, L: Home, R: Wait, W: Write>(
     rt: &R,
     alloc: Global,
-    calls: &mut Calls<L>,
-    desk: &mut Desk<'a>,
+    player: &mut Player<L>,
+    interpreter: &mut Interpreter<'a>,
     number: usize,
     request: &Request<'a>,
     out: &mut W,
 ) -> Result<(), PlayFault> {
-    match calls.answer(rt, alloc, desk, request) {
+    match player.answer(rt, alloc, interpreter, request) {
         Ok(answer) => print(out, &answer),
         Err(fault) => Err(PlayFault::at(number, fault)),
     }

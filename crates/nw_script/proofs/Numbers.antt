@@ -1,4 +1,4 @@
--- `parse` at the texts that `decimal` writes
+-- Parsing decimal texts gives their numbers.
 use Rattle.std.proofs.Common.{◌≡◌, ◌<◌, ◌^◌, ℕ, suc, zero, List, arith, Result, Ok, Err, IfSome, sym, ap, subst, ◌∙◌, refl}
 use Rattle.std.specs.Fmt.{decimal}
 use Rattle.std.specs.Str.Parse.{ParsesUnsigned}
@@ -7,7 +7,7 @@ use Rattle.std.proofs.lemmas.Str.Parse.{numerals_by_value, tells_digits, parse_p
 use Rattle.std.proofs.lemmas.Fmt.{decimal_digit, first_decimal, decimal_nonempty, decimal-digits_value}
 use Rattle.nw_script.specs.Word.{IsPlain}
 
--- a plain text that is a number is its decimal text
+-- a plain text that parses as n is the decimal text of n
 pub spelled_by_parse : {E : Type 0} (word : List ℕ) (r : Result ℕ E) → ParsesUnsigned 64 10 word r → IsPlain word → IfSome (result_ok r) (λ n. word ≡ decimal n)
 spelled_by_parse {E} word (Ok n) h plain =
     let own = numerals_by_value _ tells_digits in

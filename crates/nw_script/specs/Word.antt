@@ -8,19 +8,27 @@ use Rattle.nw_script.specs.declared.word.TheConstants.{LONGEST_NAME}
 abbrev pub is_word_byte : ℕ → Bool
 is_word_byte b = is_ascii_lowercase b || is_ascii_digit b
 
--- 1 to so many letters and digits
+-- the bytes are a word of 1 to `most` letters and digits
 pub record IsWord (most : ℕ) (word : List ℕ) : Type 0 where
+  -- it has a byte
   pub not_empty : 1 ≤ length word
+  -- it has at most `most` bytes
   pub short : length word ≤ most
+  -- each byte is a small letter or a digit
   pub letters_and_digits : AllPass is_word_byte word
 
--- a word that is no longer than a name may be, a letter first
+-- the word is a name
 pub record IsName (word : List ℕ) : Type 0 where
+  -- it is a word of at most `LONGEST_NAME` bytes
   pub short_word : IsWord LONGEST_NAME word
+  -- its first byte is a small letter
   pub letter_first : is_ascii_lowercase (slice_index word 0) ≡ true
 
--- neither a plus sign nor a zero before other digits comes first
+-- the word has neither a plus sign nor leading zeros
 pub record IsPlain (word : List ℕ) : Type 0 where
+  -- it has a byte
   pub not_empty : 1 ≤ length word
+  -- its first byte is not `+`
   pub unsigned : slice_index word 0 ≢ 43
+  -- if its first byte is `0`, it has no other byte
   pub no_leading_zero : slice_index word 0 ≡ 48 → length word ≡ 1

@@ -1,16 +1,16 @@
-//! Why a line has no meaning.
+//! Faults of parsing.
 ghost use Rattle.std.specs.Prelude.{◌≡◌};
 
 use std::alloc::{AllocError, AllocFailed};
 use thiserror::Error;
 
-/// Why a line was not read.
+/// Why a line was not parsed.
 #[derive(Clone, Copy, Debug, PartialEq, Eq, Error)]
 pub enum LineFault {
-    /// The line is none of a script.
+    /// It is not a line of a script.
     #[error("bad line")]
     Bad,
-    /// Memory was refused.
+    /// An allocation failed.
     #[error("out of memory")]
     NoMemory,
 }

@@ -1,7 +1,7 @@
-//! The lines of a script: words, names, numbers and lists, and what each line asks for.
+//! Parses the lines of a script.
 //!
-//! Its contract: what is a name, a transaction, a number and a list of these is exactly what the format says. How a
-//! whole line is read is shown by tests. It stands on `nw_digest`.
+//! It is proved that names, transactions, numbers and lists of these are exactly as docs/FORMATS.md says. Tests show how whole lines
+//! are parsed.
 #![tactic(auto)]
 
 mod fault;
@@ -13,4 +13,4 @@ mod words;
 pub use fault::LineFault;
 pub use line::{BlockLine, CommitteeLine, LimitsLine, Line, Request, parse_line};
 pub use lists::list;
-pub use word::{Name, member, number, transaction, weight};
+pub use word::{Name, number, number_u16, number_u32, transaction};

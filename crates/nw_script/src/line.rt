@@ -6,7 +6,7 @@ use crate::words::Words;
 use nw_digest::Round;
 use std::alloc::Global;
 
-/// What a line says, before it is known whether it can be played there.
+/// A parsed line. Whether it can be played at its place is not tested yet.
 #[derive(Drop)]
 pub enum Line<'a> {
     /// An empty line or a comment.
@@ -19,33 +19,33 @@ pub enum Line<'a> {
     Settle,
     /// `reopen`
     Reopen,
-    /// A line that asks a store that is not settled.
+    /// A request to a store that is not settled.
     Request(Request<'a>),
 }
 
 /// The members of the committee.
 #[derive(Drop)]
 pub enum CommitteeLine {
-    /// `committee v1 <members>`: so many members of equal weight.
+    /// `committee v1 <members>`: the number of members, of equal weight.
     Equal { members: u32 },
-    /// `committee v2 <weights>`: a member for each weight.
+    /// `committee v2 <weights>`: the weight of each member.
     Weighted { weights: Vec<u32> },
 }
 
-/// `limits <blocks> <events> <window> <sessions>`: the numbers as they stand, in range or not.
+/// `limits <blocks> <events> <window> <sessions>`: the numbers as written, which may be out of range.
 #[derive(Clone, Copy, Debug, PartialEq, Eq)]
 pub struct LimitsLine {
-    /// How many blocks, and how many certificates, may stand.
+    /// The limit on held blocks, and separately on certificates.
     pub blocks: u32,
-    /// How many events the history may have.
+    /// The limit on events of the history.
     pub events: u32,
-    /// How many rounds are taken.
+    /// The number of rounds that the store accepts.
     pub window: u32,
-    /// How many sessions there may be.
+    /// The limit on sessions.
     pub sessions: u32,
 }
 
-/// `block <name> <author> <round> <parents> <words>`: a block by the names of its parents, and its transactions.
+/// `block <name> <author> <round> <parents> <words>`: a block with the names of its parents and the words of its transactions.
 #[derive(Drop)]
 pub struct BlockLine<'a> {
     pub name: Name<'a>,
@@ -55,7 +55,7 @@ pub struct BlockLine<'a> {
     pub transactions: Vec<&'a str>,
 }
 
-/// A line that asks a store that is not settled, and prints an answer.
+/// A request to a store that is not settled. Each prints an answer.
 #[derive(Drop)]
 pub enum Request<'a> {
     /// `block <name> <author> <round> <parents> <words>`
@@ -64,9 +64,9 @@ pub enum Request<'a> {
     Body(Name<'a>),
     /// `digest <name>`
     Digest(Name<'a>),
-    /// `hash <word>`, without the `-` of the empty text
+    /// `hash <word>`; the empty text in place of `-`
     Hash(&'a str),
-    /// `write <name> [<signer>]`, signed by the author where no signer is named
+    /// `write <name> [<signer>]`; without a signer the author signs
     Write { name: Name<'a>, signer: Option<u16> },
     /// `read <name>`
     Read(Name<'a>),
@@ -96,9 +96,11 @@ pub enum Request<'a> {
     Session(u16),
 }
 
-/// The line that the bytes spell, without their line end. It is bad where they are not ASCII, or no line of the grammar.
+/// Parses a line, given without its line end, by the grammar of docs/FORMATS.md.
+///
+/// `Bad` if the bytes are not ASCII or are not a line of the grammar. `NoMemory` if an allocation fails.
 pub fn parse_line(alloc: Global, bytes: &[u8]) -> Result<Line<'_>, LineFault> {
-    // What is not ASCII is no comment, nor a word that a line may have.
+    // Bytes that are not ASCII are neither a comment nor a word of any line.
     if bytes.is_empty() || (bytes[0] == b'#' && bytes.is_ascii()) {
         return Ok(Line::Skipped);
     }
@@ -117,7 +119,7 @@ pub fn parse_line(alloc: Global, bytes: &[u8]) -> Result<Line<'_>, LineFault> {
     Err(LineFault::Bad)
 }
 
-// The request that begins with this word and goes on with these. Words that ask the same are told apart by `named` and `signed`.
+// The request with this keyword and these further words.
 fn read_request<'a>(
     alloc: Global,
     keyword: &[u8],
@@ -126,17 +128,17 @@ fn read_request<'a>(
     Ok(match keyword {
         b"block" => Request::Block(block(alloc, words)?),
         b"body" | b"digest" | b"read" | b"certificate" | b"causal" | b"walk" => {
-            named(keyword, words.name()?)
+            request_of_name(keyword, words.name()?)
         }
-        b"hash" => Request::Hash(hashed(words)?),
+        b"hash" => Request::Hash(hash_word(words)?),
         b"write" => write(words)?,
-        b"certify" | b"valid" | b"gather" => signed(alloc, keyword, words)?,
+        b"certify" | b"valid" | b"gather" => request_of_signers(alloc, keyword, words)?,
         b"open" => open(words)?,
         b"collect" => Request::Collect(words.round()?),
-        b"missing" => Request::Missing(words.member()?),
+        b"missing" => Request::Missing(words.number_u16()?),
         b"status" => Request::Status,
         b"compact" => Request::Compact,
-        b"session" => Request::Session(words.member()?),
+        b"session" => Request::Session(words.number_u16()?),
         _ => return Err(LineFault::Bad),
     })
 }
@@ -144,7 +146,7 @@ fn read_request<'a>(
 fn block<'a>(alloc: Global, words: &mut Words<'a>) -> Result<BlockLine<'a>, LineFault> {
     Ok(BlockLine {
         name: words.name()?,
-        author: words.member()?,
+        author: words.number_u16()?,
         round: words.round()?,
         parents: words.names(alloc)?,
         transactions: words.transactions(alloc)?,
@@ -165,8 +167,8 @@ fn open<'a>(words: &mut Words<'a>) -> Result<Request<'a>, LineFault> {
     })
 }
 
-// What is asked of one name alone.
-fn named<'a>(keyword: &[u8], name: Name<'a>) -> Request<'a> {
+// The request with this keyword, which takes one name.
+fn request_of_name<'a>(keyword: &[u8], name: Name<'a>) -> Request<'a> {
     match keyword {
         b"body" => Request::Body(name),
         b"digest" => Request::Digest(name),
@@ -177,8 +179,8 @@ fn named<'a>(keyword: &[u8], name: Name<'a>) -> Request<'a> {
     }
 }
 
-// What is asked with the signatures of these members.
-fn signed<'a>(
+// The request with this keyword, which takes a name and a list of signers.
+fn request_of_signers<'a>(
     alloc: Global,
     keyword: &[u8],
     words: &mut Words<'a>,
@@ -195,7 +197,7 @@ fn signed<'a>(
 fn committee(alloc: Global, words: &mut Words<'_>) -> Result<CommitteeLine, LineFault> {
     match words.next()? {
         b"v1" => Ok(CommitteeLine::Equal {
-            members: words.limit()?,
+            members: words.number_u32()?,
         }),
         b"v2" => Ok(CommitteeLine::Weighted {
             weights: words.weights(alloc)?,
@@ -206,24 +208,24 @@ fn committee(alloc: Global, words: &mut Words<'_>) -> Result<CommitteeLine, Line
 
 fn limits(words: &mut Words<'_>) -> Result<LimitsLine, LineFault> {
     Ok(LimitsLine {
-        blocks: words.limit()?,
-        events: words.limit()?,
-        window: words.limit()?,
-        sessions: words.limit()?,
+        blocks: words.number_u32()?,
+        events: words.number_u32()?,
+        window: words.number_u32()?,
+        sessions: words.number_u32()?,
     })
 }
 
-// The last word, where there is one more.
+// The signer in the last word, if there is one more word.
 fn signer(words: &mut Words<'_>) -> Result<Option<u16>, LineFault> {
     if words.is_empty() {
         Ok(None)
     } else {
-        Ok(Some(words.member()?))
+        Ok(Some(words.number_u16()?))
     }
 }
 
-// The next word, of which `-` is the empty text.
-fn hashed<'a>(words: &mut Words<'a>) -> Result<&'a str, LineFault> {
+// The next word, a transaction, or the empty text if it is `-`.
+fn hash_word<'a>(words: &mut Words<'a>) -> Result<&'a str, LineFault> {
     match words.text()? {
         "-" => Ok(""),
         word => transaction(word).ok_or(LineFault::Bad),

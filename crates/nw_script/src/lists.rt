@@ -1,13 +1,13 @@
-//! Lists in a word.
+//! Lists in a word, separated by commas.
 ghost use Rattle.std.specs.Prelude.{◌≡◌, IfOk, Err, map};
-ghost use Rattle.nw_script.specs.List.{AreElements, HasOther, parts_of};
+ghost use Rattle.nw_script.specs.List.{AreElements, HasNonElement, parts_of};
 
 use crate::LineFault;
 use std::alloc::{AllocError, Global};
 
-/// The elements of a list: of the parts between its commas, or none of `-`.
+/// Parses a list: each part between its commas is an element by the function `element`. `-` is the empty list.
 ///
-/// `Bad` where a part is no element. Memory may be wanted first, and an answer Ok or `Bad` is right all the same.
+/// `Bad` if some part is not an element. `NoMemory` if an allocation fails, which may come before such a part is found.
 pub fn list<'a, T: Drop, F: Fn(&'a str) -> Option<T>>(
     alloc: Global,
     text: &'a str,
@@ -16,13 +16,13 @@ pub fn list<'a, T: Drop, F: Fn(&'a str) -> Option<T>>(
     requires { F.IsAlwaysCallable element }
     ensures elements { IfOk result
         (λ list. AreElements F.Fn element (parts_of text.now) list.items) }
-    ensures bad { result ≡ Err LineFault.Bad → HasOther F.Fn element (parts_of text.now) }
+    ensures bad { result ≡ Err LineFault.Bad → HasNonElement F.Fn element (parts_of text.now) }
 {
     let parts = split_parts(alloc, text)?;
     all_elements(alloc, &parts, element)
 }
 
-/// The parts of the list between its commas, or none of `-`.
+/// The parts between the commas of the list. `-` has none.
 fn split_parts(alloc: Global, text: &str) -> Result<Vec<&str>, AllocError>
     ensures { IfOk result (λ parts. map (λ part. part.now) parts.items ≡ parts_of text.now) }
 {
@@ -32,7 +32,7 @@ fn split_parts(alloc: Global, text: &str) -> Result<Vec<&str>, AllocError>
     text.split(',').collect(alloc)
 }
 
-/// The elements of the parts, or `Bad` where a part is none.
+/// The elements of the parts, or `Bad` if some part is not an element.
 fn all_elements<'a, T: Drop, F: Fn(&'a str) -> Option<T>>(
     alloc: Global,
     parts: &[&'a str],
@@ -42,7 +42,7 @@ fn all_elements<'a, T: Drop, F: Fn(&'a str) -> Option<T>>(
     ensures elements { IfOk result
         (λ list. AreElements F.Fn element (map (λ part. part.now) parts.now) list.items) }
     ensures bad { result ≡ Err LineFault.Bad
-        → HasOther F.Fn element (map (λ part. part.now) parts.now) }
+        → HasNonElement F.Fn element (map (λ part. part.now) parts.now) }
 {
     let mut elements = Vec::new(alloc);
     for part in parts {

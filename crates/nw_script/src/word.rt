@@ -6,19 +6,19 @@ ghost use Rattle.nw_script.specs.Word.{IsName, IsPlain, IsWord, is_word_byte};
 
 use std::fmt;
 
-/// How many bytes a name has at most.
+/// The largest number of bytes of a name.
 const LONGEST_NAME: usize = 16;
-/// How many bytes a transaction's word has at most.
+/// The largest number of bytes of a transaction's word.
 const LONGEST_TRANSACTION: usize = 64;
 
-/// A name: 1 to 16 bytes of `a` to `z` and `0` to `9`, a letter first.
+/// A name: 1 to 16 bytes from `a` to `z` and `0` to `9`, the first a letter.
 #[derive(Clone, Copy, Debug, PartialEq, Eq, PartialOrd, Ord)]
 pub struct Name<'a> {
     text: &'a str,
 }
 
 impl<'a> Name<'a> {
-    /// The name that the word is, or `None` where it is not one.
+    /// The word as a name, or `None` if it is not a name.
     pub fn new(word: &'a str) -> Option<Name<'a>>
         ensures found { IsSome result ↔ IsName word.now }
         ensures value { IfSome result (λ name. name.text.now ≡ word.now) }
@@ -26,7 +26,7 @@ impl<'a> Name<'a> {
         is_name(word.as_bytes()).then_some(Name { text: word })
     }
 
-    /// The word that the name is.
+    /// The name as a string.
     pub fn as_str(&self) -> &'a str
         ensures { result.now ≡ self.now.text.now }
     {
@@ -46,7 +46,7 @@ fn is_name(word: &[u8]) -> bool
     is_word(word, LONGEST_NAME) && word[0].is_ascii_lowercase()
 }
 
-/// The transaction that the word is, 1 to 64 bytes of `a` to `z` and `0` to `9`, or `None` where it is not one.
+/// The word, if it is a transaction: 1 to 64 bytes from `a` to `z` and `0` to `9`. `None` if it is not.
 pub fn transaction(word: &str) -> Option<&str>
     ensures found { IsSome result ↔ IsWord LONGEST_TRANSACTION word.now }
     ensures value { IfSome result (λ bytes. bytes.now ≡ word.now) }
@@ -54,7 +54,7 @@ pub fn transaction(word: &str) -> Option<&str>
     is_word(word.as_bytes(), LONGEST_TRANSACTION).then_some(word)
 }
 
-// Whether the word is so many letters and digits at most.
+// Whether the word has 1 to `most` bytes, all letters or digits.
 fn is_word(word: &[u8], most: usize) -> bool
     ensures { IsTrue result ↔ IsWord most word.now }
 {
@@ -69,7 +69,7 @@ fn are_word_bytes(bytes: &[u8]) -> bool
         .all(|byte| byte.is_ascii_lowercase() || byte.is_ascii_digit())
 }
 
-/// The number that the word spells, decimal and without leading zeros, or `None` where it spells none below 2^64.
+/// The decimal number in the word, or `None` if it has leading zeros, is 2^64 or larger, or is not a number.
 pub fn number(word: &str) -> Option<u64>
     ensures spelled { IfSome result (λ n. word.now ≡ decimal n) }
     ensures found { (n : ℕ) → n < 2 ^ 64 → word.now ≡ decimal n → result ≡ Some n }
@@ -81,23 +81,23 @@ pub fn number(word: &str) -> Option<u64>
     }
 }
 
-/// The number of a member that the word spells, or `None` where it spells none up to 65,535.
-pub fn member(word: &str) -> Option<u16>
+/// The decimal number in the word, or `None` if it has leading zeros, is 2^16 or larger, or is not a number.
+pub fn number_u16(word: &str) -> Option<u16>
     ensures spelled { IfSome result (λ n. word.now ≡ decimal n) }
     ensures found { (n : ℕ) → n < 2 ^ 16 → word.now ≡ decimal n → result ≡ Some n }
 {
     u16::try_from(number(word)?).ok()
 }
 
-/// The weight of a member, or another number below 2^32, that the word spells, or `None` where it spells none.
-pub fn weight(word: &str) -> Option<u32>
+/// The decimal number in the word, or `None` if it has leading zeros, is 2^32 or larger, or is not a number.
+pub fn number_u32(word: &str) -> Option<u32>
     ensures spelled { IfSome result (λ n. word.now ≡ decimal n) }
     ensures found { (n : ℕ) → n < 2 ^ 32 → word.now ≡ decimal n → result ≡ Some n }
 {
     u32::try_from(number(word)?).ok()
 }
 
-// Without the plus sign and the leading zeros that `parse` takes as well.
+// Whether the word has neither a plus sign nor leading zeros, which `parse` would accept.
 fn is_plain(word: &[u8]) -> bool
     ensures { IsTrue result ↔ IsPlain word.now }
 {

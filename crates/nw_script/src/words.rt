@@ -1,24 +1,24 @@
-//! The words of a line, one after another.
+//! Reading the words of a line, one after another.
 
 use crate::LineFault;
 use crate::lists::list;
-use crate::word::{Name, member, number, transaction, weight};
+use crate::word::{Name, number, number_u16, number_u32, transaction};
 use nw_digest::Round;
 use std::alloc::Global;
 
-/// The words of a line that are not yet read, parted by one space. A line has at least one word, which may be empty.
+/// The unread words of a line, separated by one space. A line has at least one word, which may be empty.
 #[derive(Drop)]
 pub struct Words<'a> {
     rest: Option<&'a [u8]>,
 }
 
 impl<'a> Words<'a> {
-    /// The words of the line.
+    /// All words of the line.
     pub fn new(line: &'a [u8]) -> Words<'a> {
         Words { rest: Some(line) }
     }
 
-    /// The next word. The line is bad where it has no more.
+    /// The next word. `Bad` if there is none. The methods below are also `Bad` if it is not of their kind.
     pub fn next(&mut self) -> Result<&'a [u8], LineFault> {
         let rest = self.rest.take().ok_or(LineFault::Bad)?;
         match rest.iter().position(|byte| *byte == b' ') {
@@ -30,12 +30,12 @@ impl<'a> Words<'a> {
         }
     }
 
-    /// The next word, which must be a text.
+    /// The next word, which must be UTF-8.
     pub fn text(&mut self) -> Result<&'a str, LineFault> {
         str::from_utf8(self.next()?).ok().ok_or(LineFault::Bad)
     }
 
-    /// Whether each word was read.
+    /// Whether all words were read.
     pub fn is_empty(&self) -> bool {
         self.rest.is_none()
     }
@@ -51,8 +51,8 @@ impl<'a> Words<'a> {
     }
 
     /// The next word, which must be a number below 2^32.
-    pub fn limit(&mut self) -> Result<u32, LineFault> {
-        weight(self.text()?).ok_or(LineFault::Bad)
+    pub fn number_u32(&mut self) -> Result<u32, LineFault> {
+        number_u32(self.text()?).ok_or(LineFault::Bad)
     }
 
     /// The next word, which must be the number of a round.
@@ -60,9 +60,9 @@ impl<'a> Words<'a> {
         Round::new(self.number()?).ok_or(LineFault::Bad)
     }
 
-    /// The next word, which must be a number below 2^16: a member's or a session's.
-    pub fn member(&mut self) -> Result<u16, LineFault> {
-        member(self.text()?).ok_or(LineFault::Bad)
+    /// The next word, which must be a number below 2^16.
+    pub fn number_u16(&mut self) -> Result<u16, LineFault> {
+        number_u16(self.text()?).ok_or(LineFault::Bad)
     }
 
     /// The next word, which must be a list of names.
@@ -72,12 +72,12 @@ impl<'a> Words<'a> {
 
     /// The next word, which must be a list of members.
     pub fn members(&mut self, alloc: Global) -> Result<Vec<u16>, LineFault> {
-        list(alloc, self.text()?, member)
+        list(alloc, self.text()?, number_u16)
     }
 
     /// The next word, which must be a list of weights.
     pub fn weights(&mut self, alloc: Global) -> Result<Vec<u32>, LineFault> {
-        list(alloc, self.text()?, weight)
+        list(alloc, self.text()?, number_u32)
     }
 
     /// The next word, which must be a list of transactions.

@@ -1,6 +1,6 @@
-//! Tests of formats: digests, messages as bytes, what is signed, and lines of a script.
+//! Tests the formats: digests, encoded messages, signed texts, and the lines of a script.
 //!
-//! Its contract: it has tests alone, and nothing stands on it.
+//! It has only tests, and no crate uses it.
 #![tactic(auto)]
 
 #[cfg(test)]

@@ -1,6 +1,6 @@
-//! Tests of loads: what each node reports, which words are refused, and that a client walks beside the link without the lock.
+//! Tests loads: the report of each node, bad arguments, and that a client walks beside the link without the lock.
 //!
-//! Its contract: it has tests alone, and nothing stands on it.
+//! It has only tests, and no crate uses it.
 #![tactic(auto)]
 
 #[cfg(test)]

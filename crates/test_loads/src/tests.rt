@@ -1,3 +1,3 @@
-//! What loads report.
+//! The reports of loads.
 mod gates;
 mod programs;

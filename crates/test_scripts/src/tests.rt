@@ -9,17 +9,17 @@ const SCRIPT: &[u8] = b"committee v1 1\nblock a 0 0 - x\nwrite a\nread a\n";
 
 const PRINTS: &[u8] = b"block a 18\na stored vote\na found 18\n";
 
-/// A reader that gives one byte at a time, fails after so many, and counts how often it is asked.
+/// A reader that gives one byte at a time, fails after `left` bytes, and counts its reads.
 #[derive(Drop)]
 struct Drip<'a> {
     rest: &'a [u8],
     left: usize,
-    asked: usize,
+    reads: usize,
 }
 
 impl Read for Drip<'_> {
     fn read(&mut self, buf: &mut [u8]) -> io::Result<usize> {
-        self.asked = self.asked.saturating_add(1);
+        self.reads = self.reads.saturating_add(1);
         if self.left == 0 {
             return Err(io::Error::other("dry"));
         }
@@ -35,7 +35,7 @@ impl Read for Drip<'_> {
     }
 }
 
-/// A writer that takes no memory, takes so many lines and then fails, and counts how often it failed.
+/// A writer that allocates nothing, takes `lines` lines and then fails, and counts its failures.
 #[derive(Drop)]
 struct Page {
     bytes: [u8; 512],
@@ -68,7 +68,7 @@ impl Write for Page {
     }
 }
 
-/// A page that takes so many lines.
+/// An empty page that takes this number of lines.
 fn empty_page(lines: usize) -> Page {
     Page {
         bytes: [0; 512],
@@ -78,8 +78,8 @@ fn empty_page(lines: usize) -> Page {
     }
 }
 
-/// What a reader gives before it fails, how many lines a writer takes, the outcome, how often the one is asked, how many bytes of
-/// what the script prints are written, and how often the other failed.
+/// The number of bytes that the reader gives before it fails, and of lines that the writer takes; the outcome; and the numbers of
+/// reads, of bytes written, and of failed writes.
 type Case = (usize, usize, Result<(), PlayFault>, usize, usize, usize);
 
 #[test]
@@ -92,15 +92,15 @@ fn readers_and_writers_fail(rt: HostRuntime) {
             (99, 1, Err(PlayFault::Write), 47, 11, 1),
         ),
     ];
-    for (shows, (left, lines, outcome, asked, used, failed)) in cases {
+    for (shows, (left, lines, outcome, reads, used, failed)) in cases {
         let mut reader = Drip {
             rest: SCRIPT,
             left,
-            asked: 0,
+            reads: 0,
         };
         let mut page = empty_page(lines);
         let played = play(&rt, rt.alloc(), &mut reader, &mut page);
-        assert_eq!(rt; (played, reader.asked), (outcome, asked), "{shows}");
+        assert_eq!(rt; (played, reader.reads), (outcome, reads), "{shows}");
         assert_eq!(rt; (page.used, page.failed), (used, failed), "{shows}");
         assert!(rt;
             page.bytes.starts_with(PRINTS.get(..used).unwrap_or(&[])),
@@ -122,11 +122,11 @@ fn the_longest_script_is_played_and_a_longer_one_is_not(rt: HostRuntime) -> Resu
         let mut reader = Drip {
             rest: script.get(..length).ok_or("the script is shorter")?,
             left: usize::MAX,
-            asked: 0,
+            reads: 0,
         };
         let mut page = empty_page(9);
         let played = play(&rt, rt.alloc(), &mut reader, &mut page);
-        assert_eq!(rt; (played, reader.asked), (Err(fault), 1_048_577), "{length}");
+        assert_eq!(rt; (played, reader.reads), (Err(fault), 1_048_577), "{length}");
         assert_eq!(rt; page.bytes.get(..page.used), Some(prints), "{length}");
     }
     Ok(())
@@ -172,9 +172,9 @@ b unknown
 b unknown
 ";
 
-// `rt try --test --fail-alloc N` refuses the Nth allocation. Only that one is refused, so the next play prints all.
+// `rt try --test --fail-alloc N` makes the Nth allocation fail. Only that one fails, so the next play prints everything.
 #[test]
-fn a_play_without_memory_prints_a_front_and_the_next_one_all(rt: HostRuntime) {
+fn a_failed_allocation_ends_a_play_after_its_first_answers_but_not_the_next(rt: HostRuntime) {
     let mut page = empty_page(99);
     let played = play(&rt, rt.alloc(), LATE, &mut page);
     let printed = page.bytes.get(..page.used).unwrap_or(&[]);

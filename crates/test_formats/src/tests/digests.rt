@@ -1,4 +1,4 @@
-//! Digests, and rounds of values.
+//! Digests, and the rounds of shared values.
 use nw_digest::{Digest, InRound, Round, Shared, digest_of};
 use std::test::Fail;
 
@@ -24,7 +24,7 @@ fn digests_of_known_texts(rt: HostRuntime) {
     assert!(rt; found == OF_ABC_AND_NOTHING.map(Digest));
 }
 
-/// A round that stands for itself.
+/// A value that consists of its round.
 #[derive(Drop)]
 struct Numbered(Round);
 
@@ -41,7 +41,7 @@ fn round_of<T: InRound>(item: &T) -> u64 {
 }
 
 #[test]
-fn a_shared_value_tells_the_round_that_it_is_in(rt: HostRuntime) -> Result<(), Fail> {
+fn a_shared_value_has_the_round_of_its_value(rt: HostRuntime) -> Result<(), Fail> {
     let seventh = Round::new(7).ok_or("a round has 48 bits")?;
     let first = Shared::new(rt.alloc(), Numbered(seventh))?;
     let second = first.try_clone()?;

@@ -39,7 +39,7 @@ const OF_LINES: [(LineFault, &str); 2] = [
     (LineFault::NoMemory, "out of memory"),
 ];
 
-/// The first of these texts that is not its error's, if there is one.
+/// The first of these texts that its error does not have, if there is one.
 fn wrong_text<T: Display>(
     alloc: Global,
     table: &[(T, &'static str)],

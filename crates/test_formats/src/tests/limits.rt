@@ -4,7 +4,7 @@ use nw_digest::{Digest, Round, Sequence};
 use std::alloc::{AllocError, Global};
 use std::test::Fail;
 
-/// A block of author 0 and round 0 over so many, with transactions of these lengths.
+/// A block of author 0 and round 0 with this number of parents, and transactions of these lengths.
 fn block(alloc: Global, parents: u16, lengths: &[usize]) -> Result<Block, EncodeError> {
     let mut refs = Vec::new(alloc);
     for author in 0..parents {
@@ -25,7 +25,7 @@ fn block(alloc: Global, parents: u16, lengths: &[usize]) -> Result<Block, Encode
     })
 }
 
-/// How many bytes the body of such a block has.
+/// The number of bytes in the body of such a block.
 fn sized(alloc: Global, parents: u16, lengths: &[usize]) -> Result<usize, EncodeError> {
     Ok(encode_body(alloc, &block(alloc, parents, lengths)?)?.len())
 }
@@ -71,8 +71,8 @@ fn sizes_at_the_limit(rt: HostRuntime) -> Result<(), Fail> {
     Ok(())
 }
 
-/// The message, written out byte by byte, of a block of author 0 and round 0 without parents, with 15 transactions of 65,536
-/// bytes and one of `last` bytes.
+/// The message of a block of author 0 and round 0 without parents, byte by byte. It has 15 transactions of 65,536 bytes and one of
+/// `last` bytes.
 fn message(alloc: Global, last: u32) -> Result<Vec<u8>, AllocError> {
     let mut text = [1, 1, 0, 0, 0, 0, 0, 0, 0, 0, 0, 0, 0, 16].to_vec(alloc)?;
     for number in 1..=16 {

@@ -1,9 +1,9 @@
-//! Lines of a script, as they are read.
+//! Parsing the lines of a script.
 use nw_script::{BlockLine, CommitteeLine, Line, LineFault, Request, parse_line};
 use std::alloc::{AllocError, Global};
 use std::test::Fail;
 
-// Lines of each kind, with the least and the greatest numbers that they take, and what is read of each.
+// Lines of each kind, with the smallest and the largest numbers that they take, and a description of each parsed line.
 const LINES: [(&str, &str); 31] = [
     ("", "skipped"),
     ("# a comment", "skipped"),
@@ -47,7 +47,7 @@ const LINES: [(&str, &str); 31] = [
     ),
 ];
 
-// Lines that are none of a script.
+// Bad lines, and what each shows.
 const BAD: [(&str, &str); 30] = [
     ("a request with a word too few", "read"),
     ("a request with a word too many", "read a a"),
@@ -72,32 +72,32 @@ const BAD: [(&str, &str); 30] = [
     ("gather of a name that is none", "gather 1 0"),
     ("a collection of no round", "collect 281474976710656"),
     ("more missing than 65535", "missing 65536"),
-    ("a word behind status", "status 0"),
-    ("a word behind compact", "compact t"),
+    ("a word after status", "status 0"),
+    ("a word after compact", "compact t"),
     ("a session over 65535", "session 65536"),
     ("a session that is a name", "session a"),
-    ("a word behind settle", "settle 0"),
-    ("a word behind reopen", "reopen a"),
+    ("a word after settle", "settle 0"),
+    ("a word after reopen", "reopen a"),
     ("a byte over 127", "read \u{e9}"),
 ];
 
-/// What a block's line says.
-fn told_of_block(alloc: Global, block: &BlockLine<'_>) -> Result<String, AllocError> {
+/// The description of a block's line.
+fn describe_block(alloc: Global, block: &BlockLine<'_>) -> Result<String, AllocError> {
     let (name, author, round) = (block.name.as_str(), block.author, block.round.get());
-    let mut told = format!(in alloc; "block {name} of {author} in {round} over")?;
+    let mut text = format!(in alloc; "block {name} of {author} in {round} over")?;
     for parent in &block.parents {
-        told.push(' ')?;
-        told.push_str(parent.as_str())?;
+        text.push(' ')?;
+        text.push_str(parent.as_str())?;
     }
     let transactions = format!(in alloc; " with {:?}", block.transactions)?;
-    told.push_str(&transactions)?;
-    Ok(told)
+    text.push_str(&transactions)?;
+    Ok(text)
 }
 
-/// What a request's line says, but for a block's.
-fn told_of_request(alloc: Global, request: &Request<'_>) -> Result<String, AllocError> {
+/// The description of a request.
+fn describe_request(alloc: Global, request: &Request<'_>) -> Result<String, AllocError> {
     match request {
-        Request::Block(block) => told_of_block(alloc, block),
+        Request::Block(block) => describe_block(alloc, block),
         Request::Body(name) => format!(in alloc; "body of {}", name.as_str()),
         Request::Digest(name) => format!(in alloc; "digest of {}", name.as_str()),
         Request::Hash(word) => format!(in alloc; "hash {word:?}"),
@@ -129,8 +129,8 @@ fn told_of_request(alloc: Global, request: &Request<'_>) -> Result<String, Alloc
     }
 }
 
-/// What a line says.
-fn told(alloc: Global, line: &Line<'_>) -> Result<String, AllocError> {
+/// The description of a parsed line.
+fn describe(alloc: Global, line: &Line<'_>) -> Result<String, AllocError> {
     match line {
         Line::Skipped => format!(in alloc; "skipped"),
         Line::Committee(CommitteeLine::Equal { members }) => {
@@ -142,26 +142,26 @@ fn told(alloc: Global, line: &Line<'_>) -> Result<String, AllocError> {
         Line::Limits(limits) => format!(in alloc; "{limits:?}"),
         Line::Settle => format!(in alloc; "settle"),
         Line::Reopen => format!(in alloc; "reopen"),
-        Line::Request(request) => told_of_request(alloc, request),
+        Line::Request(request) => describe_request(alloc, request),
     }
 }
 
-/// Whether this is read of the line.
-fn says(alloc: Global, line: &str, wanted: &str) -> Result<bool, Fail> {
+/// Whether the parsed line has this description.
+fn is_described(alloc: Global, line: &str, wanted: &str) -> Result<bool, Fail> {
     let read = parse_line(alloc, line.as_bytes())?;
-    Ok(told(alloc, &read)?.as_str() == wanted)
+    Ok(describe(alloc, &read)?.as_str() == wanted)
 }
 
 #[test]
 fn each_kind_of_line_is_read(rt: HostRuntime) -> Result<(), Fail> {
     for (line, wanted) in &LINES {
-        assert!(rt; says(rt.alloc(), line, wanted)?, "{line}");
+        assert!(rt; is_described(rt.alloc(), line, wanted)?, "{line}");
     }
     Ok(())
 }
 
 #[test]
-fn a_line_of_no_kind_is_bad(rt: HostRuntime) {
+fn lines_outside_the_grammar_are_bad(rt: HostRuntime) {
     for (shows, line) in &BAD {
         let fault = parse_line(rt.alloc(), line.as_bytes()).err();
         assert!(rt; fault == Some(LineFault::Bad), "{shows}");
@@ -169,7 +169,7 @@ fn a_line_of_no_kind_is_bad(rt: HostRuntime) {
 }
 
 #[test]
-fn bytes_that_are_no_text_are_bad_in_a_word_and_in_a_comment(rt: HostRuntime) {
+fn bytes_that_are_not_ascii_are_bad_in_a_word_and_in_a_comment(rt: HostRuntime) {
     for line in [b"read \xff", b"hash \xff", b"# no \xff"] {
         let fault = parse_line(rt.alloc(), line.as_slice()).err();
         assert!(rt; fault == Some(LineFault::Bad));

@@ -1,4 +1,4 @@
-//! Messages, and their bytes.
+//! Messages and their bytes.
 use nw_codec::{
     Block, Certificate, DecodeError, EncodeError, Message, Ref, Seal, Signature, Transactions,
     Vote, block_digest, decode_message, encode_body, encode_message,
@@ -7,7 +7,7 @@ use nw_digest::{Digest, Round, Sequence, digest_of};
 use std::alloc::{AllocError, Global};
 use std::test::Fail;
 
-/// The body of the block of author 0 and round 0 that has no parents and one transaction, the byte `x`.
+/// The body of a block of author 0 and round 0, without parents and with one transaction, the byte `x`.
 const BODY: [u8; 18] = [
     1, // version
     0, 0, // author
@@ -17,7 +17,7 @@ const BODY: [u8; 18] = [
     0, 0, 0, 1, 0x78, // `x`, with its length
 ];
 
-/// The digest of the block that votes and certificates are for, its round and its author; then the number of votes.
+/// The digest, round and author in votes and certificates, followed by the number of votes.
 const VOTED: [u8; 42] = [
     9, 9, 9, 9, 9, 9, 9, 9, 9, 9, 9, 9, 9, 9, 9, 9, // digest
     9, 9, 9, 9, 9, 9, 9, 9, 9, 9, 9, 9, 9, 9, 9, 9, //
@@ -26,7 +26,7 @@ const VOTED: [u8; 42] = [
     0, 3, // three votes
 ];
 
-/// A block of author 0 over blocks of these authors, in round 1 where there are some, with one transaction, the byte `x`.
+/// A block of author 0 with parents of these authors and one transaction, the byte `x`. Its round is 1 if it has parents, else 0.
 fn block(alloc: Global, parents: &[u16]) -> Result<Block, Fail> {
     let mut refs = Vec::new(alloc);
     for author in parents {
@@ -102,7 +102,7 @@ fn of_vote(alloc: Global) -> Result<(Message, Vec<u8>), Fail> {
     Ok((Message::Vote(vote), text))
 }
 
-/// Whether each proper front of the text is short, and one byte more trails.
+/// Whether each proper prefix of the text is `Short`, and the text with one more byte is `Trailing`.
 fn ends_exactly(alloc: Global, text: &[u8]) -> Result<bool, AllocError> {
     for length in 0..text.len() {
         if decode_message(alloc, &text[..length]).err() != Some(DecodeError::Short) {
@@ -114,9 +114,9 @@ fn ends_exactly(alloc: Global, text: &[u8]) -> Result<bool, AllocError> {
     Ok(decode_message(alloc, &longer).err() == Some(DecodeError::Trailing))
 }
 
-/// Whether the message is spelled by these bytes, so many, and they and no others are read as it.
-fn is_spelled(alloc: Global, sent: (Message, Vec<u8>), length: usize) -> Result<bool, Fail> {
-    let (message, text) = sent;
+/// Whether the message encodes as these bytes, of this length, and decodes from them but not from fewer or more.
+fn has_bytes(alloc: Global, encoded: (Message, Vec<u8>), length: usize) -> Result<bool, Fail> {
+    let (message, text) = encoded;
     Ok(
         text.len() == length
             && encode_message(alloc, &message)? == text
@@ -128,16 +128,16 @@ fn is_spelled(alloc: Global, sent: (Message, Vec<u8>), length: usize) -> Result<
 #[test]
 fn a_message_ends_exactly(rt: HostRuntime) -> Result<(), Fail> {
     let alloc = rt.alloc();
-    assert!(rt; is_spelled(alloc, of_block(alloc, &[])?, 83)?, "a block");
+    assert!(rt; has_bytes(alloc, of_block(alloc, &[])?, 83)?, "a block");
     assert!(rt;
-        is_spelled(alloc, of_block(alloc, &[2, 258])?, 151)?,
+        has_bytes(alloc, of_block(alloc, &[2, 258])?, 151)?,
         "a block over two"
     );
     assert!(rt;
-        is_spelled(alloc, of_certificate(alloc, [0, 2, 258])?, 241)?,
+        has_bytes(alloc, of_certificate(alloc, [0, 2, 258])?, 241)?,
         "a certificate"
     );
-    assert!(rt; is_spelled(alloc, of_vote(alloc)?, 107)?, "a vote");
+    assert!(rt; has_bytes(alloc, of_vote(alloc)?, 107)?, "a vote");
     Ok(())
 }
 
@@ -145,10 +145,10 @@ fn a_message_ends_exactly(rt: HostRuntime) -> Result<(), Fail> {
 fn a_certificate_whose_signers_do_not_ascend_is_refused(rt: HostRuntime) -> Result<(), Fail> {
     for signers in [[0, 2, 2], [0, 2, 1], [2, 0, 3]] {
         let (message, text) = of_certificate(rt.alloc(), signers)?;
-        let unsent = encode_message(rt.alloc(), &message).err();
-        let unread = decode_message(rt.alloc(), &text).err();
-        assert!(rt; unsent == Some(EncodeError::OverLimit));
-        assert!(rt; unread == Some(DecodeError::VoteOrder));
+        let encode_fault = encode_message(rt.alloc(), &message).err();
+        let decode_fault = decode_message(rt.alloc(), &text).err();
+        assert!(rt; encode_fault == Some(EncodeError::OverLimit));
+        assert!(rt; decode_fault == Some(DecodeError::VoteOrder));
     }
     Ok(())
 }

@@ -1,11 +1,11 @@
-//! What is signed, and the demonstration scheme.
+//! Signed texts, and the demonstration scheme.
 use nw_committee::Key;
 use nw_digest::{Digest, Round};
 use nw_sig::{DemoSigner, Scheme, Signer, block_text, vote_text};
 use std::test::Fail;
 
 #[test]
-fn four_letters_stand_before_what_is_signed(rt: HostRuntime) -> Result<(), Fail> {
+fn signed_texts_begin_with_four_letters(rt: HostRuntime) -> Result<(), Fail> {
     let round = Round::new(0x0102_0304_0506).ok_or("a round has 48 bits")?;
     let of_block = block_text(&Digest([7; 32]));
     let of_vote = vote_text(&Digest([7; 32]), round, 0x0809);
@@ -18,7 +18,7 @@ fn four_letters_stand_before_what_is_signed(rt: HostRuntime) -> Result<(), Fail>
     Ok(())
 }
 
-/// Whether the signer's own scheme accepts what it signs, and not for another text.
+/// Whether the signer's scheme accepts its signature of a text, and rejects it for another text.
 fn accepts_its_own<S: Signer>(signer: &S) -> bool {
     let signature = signer.sign(b"abc");
     S::Scheme::verify(&signer.key(), b"abc", &signature)

@@ -6,8 +6,8 @@ use std::sync::atomic::Ordering::SeqCst;
 use std::test::Fail;
 use std::thread::yield_now;
 
-/// A gate that passes the second write once the first walk was reached, and the first walk once the second write was done. It
-/// yields before it says no.
+/// A gate that lets the second write start after the first walk was reached, and the first walk after the second write was done.
+/// It yields before it refuses.
 #[derive(Drop)]
 struct Interlocked {
     walk_reached: AtomicBool,
@@ -58,12 +58,12 @@ fn a_walk_starts_before_a_write_and_ends_after_it(rt: HostRuntime) -> Result<(),
 
 // Fails only if the gate is shut. Then one thread waited for the other, as on one thread or under one lock.
 #[test]
-fn neither_thread_of_a_node_holds_the_other_up(rt: HostRuntime) {
+fn neither_thread_of_a_node_blocks_the_other(rt: HostRuntime) {
     let reports = load(&rt, rt.alloc(), 1, 2, &Interlocked::new());
     assert!(rt; reports != Err(LoadFault::GateShut));
 }
 
-/// Passes the starts in turn on one thread, and reaches the end of each before the next one.
+/// Passes the starts in order on one thread, and reaches the end of each before the next one.
 fn passed(gate: &Interlocked, starts: &[(Point, Point)]) -> Result<(), GateShut> {
     for (start, done) in starts {
         pass_start(gate, *start)?;
@@ -98,14 +98,14 @@ fn on_one_thread_the_gate_is_shut(rt: HostRuntime) {
     }
 }
 
-/// A gate that never passes some starts.
+/// A gate that refuses some starts.
 #[derive(Clone, Copy, Debug, Drop)]
 enum Shut {
-    /// It passes none.
+    /// It refuses every start.
     Wall,
-    /// It passes no walk, so that each client ends early.
+    /// It refuses every walk, so each client ends early.
     Walks,
-    /// It passes no write of the last node of four, so that its link ends early.
+    /// It refuses every write of the last of four nodes, so that node's link ends early.
     WritesOfTheLast,
 }
 

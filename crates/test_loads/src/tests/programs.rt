@@ -1,4 +1,4 @@
-//! What the words of a program are answered.
+//! The output and the exit status of a program that runs loads.
 use nw_load::{LoadFault, print_outcome, run};
 use std::alloc::Global;
 use std::io::{self, Write};
@@ -6,7 +6,7 @@ use std::sync::Wait;
 use std::test::Fail;
 use std::thread::Threads;
 
-/// A program's words, what it prints, and its status.
+/// The arguments of the program, what it prints, and its exit status.
 struct Row {
     words: &'static str,
     prints: &'static str,
@@ -125,7 +125,7 @@ fn words_of(alloc: Global, line: &str) -> Result<Vec<String>, Fail> {
     Ok(words)
 }
 
-/// What the program prints, and its status.
+/// What the program prints, and its exit status.
 fn printed<R: Threads + Wait + Sync>(
     rt: &R,
     alloc: Global,
@@ -151,7 +151,7 @@ fn loads_and_refused_loads(rt: HostRuntime) -> Result<(), Fail> {
     Ok(())
 }
 
-/// Why a load gives no report, and what is printed of it.
+/// A fault of a load, and the line that it prints.
 struct Refusal {
     fault: LoadFault,
     prints: &'static str,
@@ -188,7 +188,7 @@ const REFUSED: [Refusal; 7] = [
     },
 ];
 
-/// Whether the refusal is printed so, with status 3.
+/// Whether the fault prints its line, with status 3.
 fn is_printed(alloc: Global, refusal: &Refusal) -> bool {
     let outcome = Err(refusal.fault);
     let mut out = Vec::new(alloc);

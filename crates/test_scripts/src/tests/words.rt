@@ -1,7 +1,7 @@
-//! Words that no script prints. It would need two blocks with one digest, a member that signs with another member's key, or a store
-//! that settles sessions that it did not make.
+//! Words that no script prints. They need two blocks with one digest, a vote signed with another member's key, or a settlement with
+//! sessions of another store.
 use nw_check::CertFault;
-use nw_desk::{Answer, Desk, committee};
+use nw_desk::{Answer, Interpreter, committee};
 use nw_digest::Shared;
 use nw_model::{CertifyReply, Reply, WriteReply};
 use nw_play::PlayFault;
@@ -9,7 +9,7 @@ use nw_script::{CommitteeLine, Name};
 use std::alloc::Global;
 use std::test::Fail;
 
-/// Replies to a write and to a certificate of the block `a`, and what a script prints of each.
+/// Replies to a write and to a certificate of the block `a`, and the line that a script prints for each.
 const WRITTEN: [(WriteReply, &str); 2] = [
     (WriteReply::Clash, "a clash\n"),
     (WriteReply::Misfit, "a misfit\n"),
@@ -17,7 +17,7 @@ const WRITTEN: [(WriteReply, &str); 2] = [
 
 const CERTIFIED: [(CertifyReply, &str); 1] = [(CertifyReply::Misfit, "a misfit\n")];
 
-/// Faults of the certificate of the block `a`, and what a script prints of each.
+/// Faults of the certificate of the block `a`, and the line that a script prints for each.
 const REFUSED: [(CertFault, &str); 2] = [
     (
         CertFault::Signature { signer: 0 },
@@ -29,21 +29,21 @@ const REFUSED: [(CertFault, &str); 2] = [
     ),
 ];
 
-/// The line of the answer.
+/// The line that the answer prints.
 fn line_of(alloc: Global, answer: &Answer<'_>) -> Result<Vec<u8>, Fail> {
     let mut line = Vec::new(alloc);
     answer.write(&mut line)?;
     Ok(line)
 }
 
-/// The line that tells the reply of the name.
-fn told(
+/// The line for the reply to a call on the named block.
+fn line_for(
     alloc: Global,
-    desk: &Desk<'static>,
+    interpreter: &Interpreter<'static>,
     name: Name<'static>,
     reply: &Reply,
 ) -> Result<Vec<u8>, Fail> {
-    match desk.told(alloc, Some(name), reply) {
+    match interpreter.answer_to(alloc, Some(name), reply) {
         Ok(answer) => {
             let line = line_of(alloc, &answer);
             drop(answer);
@@ -53,25 +53,25 @@ fn told(
     }
 }
 
-/// A desk of one member, without names.
-fn desk_of_one(alloc: Global) -> Result<Desk<'static>, Fail> {
+/// A interpreter of one member, without names.
+fn interpreter_of_one_member(alloc: Global) -> Result<Interpreter<'static>, Fail> {
     match committee(alloc, &CommitteeLine::Equal { members: 1 }) {
-        Ok(one) => Ok(Desk::new(alloc, Shared::new(alloc, one)?)),
+        Ok(one) => Ok(Interpreter::new(alloc, Shared::new(alloc, one)?)),
         Err(_) => Err(Fail::from("there is a committee of one")),
     }
 }
 
 #[test]
-fn replies_that_no_script_meets_have_their_words(rt: HostRuntime) -> Result<(), Fail> {
+fn replies_that_no_script_gets_have_their_words(rt: HostRuntime) -> Result<(), Fail> {
     let alloc = rt.alloc();
     let name = Name::new("a").ok_or("a letter is a name")?;
-    let desk = desk_of_one(alloc)?;
+    let interpreter = interpreter_of_one_member(alloc)?;
     for (reply, prints) in WRITTEN {
-        let line = told(alloc, &desk, name, &Reply::Write(reply))?;
+        let line = line_for(alloc, &interpreter, name, &Reply::Write(reply))?;
         assert_eq!(rt; line.as_slice(), prints.as_bytes());
     }
     for (reply, prints) in CERTIFIED {
-        let line = told(alloc, &desk, name, &Reply::Certify(reply))?;
+        let line = line_for(alloc, &interpreter, name, &Reply::Certify(reply))?;
         assert_eq!(rt; line.as_slice(), prints.as_bytes());
     }
     for (fault, prints) in REFUSED {
@@ -81,7 +81,7 @@ fn replies_that_no_script_meets_have_their_words(rt: HostRuntime) -> Result<(), 
     Ok(())
 }
 
-/// Why a script is not played to its end, in words. Those of a bad line and of sessions that differ are printed.
+/// The text of each fault. Those of a bad line and of sessions that differ are printed.
 const FAULTS: [(PlayFault, &str); 6] = [
     (PlayFault::Read, "the script can't be read"),
     (PlayFault::Write, "the answers can't be written"),

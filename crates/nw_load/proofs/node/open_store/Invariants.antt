@@ -10,6 +10,6 @@ ghosts-run_store-L-Ledger g a = record { name = a.opening.ledger; parts = parts_
 abbrev pub ghosts-run_store-L-Place : goal.ghosts-run_store-L-Place
 ghosts-run_store-L-Place g a = record { log = a.opening.log }
 
--- what the store starts with
+-- the origin of the new store
 abbrev pub ghosts-run_store-L-Home : goal.ghosts-run_store-L-Home
 ghosts-run_store-L-Home g a = record { origin = first_origin a.committee a.limits }

@@ -14,10 +14,10 @@ use Rattle.nw_sig.specs.contracts.demo.DemoSchemeScheme.TheImpl as demo_is
 use Rattle.nw_store.proofs.Sent.{session_send, store_sync}
 use Rattle.nw_store.proofs.Crossing.{along_send}
 use Rattle.nw_store.proofs.Crossing.Sends.{none, also}
-use Rattle.nw_load.proofs.node.Shop.TheSendSync as shop
+use Rattle.nw_load.proofs.node.LoadContext.TheSendSync as context
 use Rattle.nw_load.proofs.node.start_client.Goals as goal
 
--- what the closure captures: what all nodes share, the node, the store, the session and the news
+-- the values that the closure captures: the load's context, the node, the store, the session and the channel
 pub spawn-requires-send-F : goal.spawn-requires-send-F
 spawn-requires-send-F g c κs within =
     let store = store_sync demo.the_row (param 0 g.row.L) demo_is.ghosts g.L.Home g.L.Place g.L.Ledger in
@@ -25,7 +25,7 @@ spawn-requires-send-F g c κs within =
     let news : IsSend (receivers.the_row digests.the_row heap.the_row ghosts) = search (receiver.the_send, digest.the_send, send, sync, frees) depth 20 in
     let node : IsSend (UInt w16) = search sendable in
     along_send _ _ _ _ (
-    also _ _ (shr_send _ _ _ (shop.the_sync (record { mir = _; lft = _ }) (param 1 g.row.R) (param 2 g.row.G) c.type_bounds.sync-R c.type_bounds.sync-G))
+    also _ _ (shr_send _ _ _ (context.the_sync (record { mir = _; lft = _ }) (param 1 g.row.R) (param 2 g.row.G) c.type_bounds.sync-R c.type_bounds.sync-G))
     (also _ _ node (also _ _ (shr_send _ _ _ store) (also _ _ session (also _ _ news none))))
     )
 

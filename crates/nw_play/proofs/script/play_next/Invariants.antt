@@ -10,6 +10,6 @@ ghosts-play_store-L-Ledger g a = record { name = a.opening.ledger; parts = parts
 abbrev pub ghosts-play_store-L-Place : goal.ghosts-play_store-L-Place
 ghosts-play_store-L-Place g a = record { log = a.opening.log }
 
--- what the book starts with
+-- the origin of the book
 abbrev pub ghosts-play_store-L-Home : goal.ghosts-play_store-L-Home
 ghosts-play_store-L-Home g a = record { origin = origin_of a.start.book }

@@ -1,11 +1,11 @@
 use Rattle.std.proofs.Common.{◌≡◌, None, Some, arith}
-use Rattle.nw_script.proofs.Elements.{one_more, one_other}
+use Rattle.nw_script.proofs.Elements.{one_more, not_an_element}
 use Rattle.nw_script.proofs.lists.all_elements.Goals as goal
 
 pub returns-in_err-ok_or-clause-bad : goal.returns-in_err-ok_or-clause-bad
 returns-in_err-ok_or-clause-bad g c =
     let none : c.element.result ≡ None = grind (arith, c.in_err-ok_or.was, c.ok_or.ensures.ok_part) in
-    λ _. one_other g.F.Fn c.args.element c.args.parts.now c.loop-part.part-index _ c.element.result c.loop-part-test.true c.element.ensures none
+    λ _. not_an_element g.F.Fn c.args.element c.args.parts.now c.loop-part.part-index _ c.element.result c.loop-part-test.true c.element.ensures none
 
 pub loop-part-preserved : goal.loop-part-preserved
 loop-part-preserved g c =

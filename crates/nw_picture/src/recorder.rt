@@ -1,17 +1,17 @@
-//! Noting the lines of a script with their answers.
+//! Recording the lines of a script with their answers in a scene.
 
-use crate::scene::{Scene, Standing};
+use crate::scene::{CausalAnswer, Scene};
 use nw_script::{Line, LineFault, Name, Request, number, parse_line};
 use std::alloc::{AllocError, Global};
 
-/// What the script says and was answered, line by line.
+/// The scene after the script, which was played with these answers. An error means that an allocation failed.
 pub fn scene_of<'a>(
     alloc: Global,
     script: &'a [u8],
     answers: &'a [u8],
 ) -> Result<Scene<'a>, AllocError> {
     let mut scene = Scene::new(alloc);
-    match note_all(alloc, &mut scene, text_of(script), text_of(answers)) {
+    match record_lines(alloc, &mut scene, text_of(script), text_of(answers)) {
         Ok(()) => Ok(scene),
         Err(refused) => {
             drop(scene);
@@ -20,13 +20,13 @@ pub fn scene_of<'a>(
     }
 }
 
-/// The text that the bytes are. A script that was played is ASCII, and so is what it prints.
+/// The bytes as a string, or "" if they are not UTF-8. A played script and its answers are ASCII.
 pub fn text_of(bytes: &[u8]) -> &str {
     str::from_utf8(bytes).unwrap_or("")
 }
 
-// Each line that asks has one line of the answers.
-fn note_all<'a>(
+// Records all lines. Each `settle`, `reopen` and request has one line of answers.
+fn record_lines<'a>(
     alloc: Global,
     scene: &mut Scene<'a>,
     script: &'a str,
@@ -35,14 +35,14 @@ fn note_all<'a>(
     let mut rest = answers;
     for text in script.split('\n') {
         let line = line_of(alloc, text)?;
-        let (answer, behind) = parted(rest, is_answered(&line));
-        rest = behind;
-        note(alloc, scene, line, answer)?;
+        let (answer, left) = split_answer(rest, is_answered(&line));
+        rest = left;
+        record_line(alloc, scene, line, answer)?;
     }
     Ok(())
 }
 
-// What the line says. A script that was played has no bad one.
+// The parsed line. A script that was played has no bad line.
 fn line_of(alloc: Global, text: &str) -> Result<Line<'_>, AllocError> {
     match parse_line(alloc, text.as_bytes()) {
         Ok(line) => Ok(line),
@@ -55,9 +55,9 @@ fn is_answered(line: &Line<'_>) -> bool {
     matches!(line, Line::Settle | Line::Reopen | Line::Request(_))
 }
 
-// The first line, where one is taken, and what is left then.
-fn parted(text: &str, is_taken: bool) -> (&str, &str) {
-    if is_taken {
+// The first line of answers and those left, or "" and all of them if the line has no answer.
+fn split_answer(text: &str, is_answered: bool) -> (&str, &str) {
+    if is_answered {
         text.split_once('\n').unwrap_or((text, ""))
     } else {
         ("", text)
@@ -71,8 +71,8 @@ fn last_word(text: &str) -> &str {
     }
 }
 
-// Notes the line with its answer.
-fn note<'a>(
+// Records the line with its answer.
+fn record_line<'a>(
     alloc: Global,
     scene: &mut Scene<'a>,
     line: Line<'a>,
@@ -82,13 +82,13 @@ fn note<'a>(
         Line::Limits(limits) => scene.events = limits.events,
         Line::Settle => scene.is_settled = true,
         Line::Reopen => scene.is_settled = false,
-        Line::Request(request) => note_request(alloc, scene, request, answer)?,
+        Line::Request(request) => record_request(alloc, scene, request, answer)?,
         Line::Skipped | Line::Committee(_) => {}
     }
     Ok(())
 }
 
-fn note_request<'a>(
+fn record_request<'a>(
     alloc: Global,
     scene: &mut Scene<'a>,
     request: Request<'a>,
@@ -96,12 +96,12 @@ fn note_request<'a>(
 ) -> Result<(), AllocError> {
     match request {
         Request::Block(line) if !answer.ends_with(" refused over limit") => scene.bind(line)?,
-        Request::Digest(name) => scene.unite(name, last_word(answer))?,
+        Request::Digest(name) => scene.record_digest(name, last_word(answer))?,
         Request::Write { name, .. } if answer.ends_with(" stored vote") => {
             scene.voted.push(name)?;
         }
         Request::Open { ticket, name } => {
-            note_open(alloc, scene, ticket, name, last_word(answer))?;
+            record_open(alloc, scene, ticket, name, last_word(answer))?;
         }
         Request::Walk(_) => scene.walked = listed(alloc, answer)?,
         Request::Missing(_) => scene.wanted = wanted(alloc, answer)?,
@@ -111,8 +111,8 @@ fn note_request<'a>(
     Ok(())
 }
 
-// Notes a causal read, which is answered with this word. A full history tells nothing of the block.
-fn note_open<'a>(
+// Records a causal read that was answered with this word. Any other answer is a refusal, which leaves the last one.
+fn record_open<'a>(
     alloc: Global,
     scene: &mut Scene<'a>,
     ticket: Name<'a>,
@@ -121,30 +121,34 @@ fn note_open<'a>(
 ) -> Result<(), AllocError> {
     match word {
         "ready" => {
-            scene.stand(name, Standing::Ready);
+            scene.record_answer(name, CausalAnswer::Ready);
             scene.ticket = Some(ticket);
-            take_number(alloc, scene, ticket)?;
+            record_ticket_number(alloc, scene, ticket)?;
         }
-        "incomplete" => scene.stand(name, Standing::Incomplete),
-        "uncertified" => scene.stand(name, Standing::Uncertified),
-        "unknown" => scene.stand(name, Standing::Unknown),
+        "incomplete" => scene.record_answer(name, CausalAnswer::Incomplete),
+        "uncertified" => scene.record_answer(name, CausalAnswer::Uncertified),
+        "unknown" => scene.record_answer(name, CausalAnswer::Unknown),
         _ => {}
     }
     Ok(())
 }
 
-// Keeps the number of a ticket that is named by a `q` and a number.
-fn take_number(alloc: Global, scene: &mut Scene<'_>, ticket: Name<'_>) -> Result<(), AllocError> {
+// Records the number of a ticket whose name is `q` and a number. Questions must not use that name.
+fn record_ticket_number(
+    alloc: Global,
+    scene: &mut Scene<'_>,
+    ticket: Name<'_>,
+) -> Result<(), AllocError> {
     let text = format!(in alloc; "{ticket}")?;
-    let taken = number_behind(text.as_str(), "q");
+    let number = number_after(text.as_str(), "q");
     drop(text);
-    if let Some(taken) = taken {
-        scene.taken.insert(taken)?;
+    if let Some(number) = number {
+        scene.ticket_numbers.insert(number)?;
     }
     Ok(())
 }
 
-// The names behind the first two words.
+// The names after the first two words.
 fn listed<'a>(alloc: Global, answer: &'a str) -> Result<Vec<Name<'a>>, AllocError> {
     let mut names = Vec::new(alloc);
     for word in answer.split(' ').skip(2) {
@@ -155,7 +159,7 @@ fn listed<'a>(alloc: Global, answer: &'a str) -> Result<Vec<Name<'a>>, AllocErro
     Ok(names)
 }
 
-// The names behind the last dots of the words.
+// The names after the last dots of the words.
 fn wanted<'a>(alloc: Global, answer: &'a str) -> Result<Vec<Name<'a>>, AllocError> {
     let mut names = Vec::new(alloc);
     for word in answer.split(' ') {
@@ -168,15 +172,15 @@ fn wanted<'a>(alloc: Global, answer: &'a str) -> Result<Vec<Name<'a>>, AllocErro
     Ok(names)
 }
 
-// The number behind `g=`, in the second word.
+// The number after `g=`, in the second word.
 fn garbage_round(answer: &str) -> u64 {
     let word = answer.split(' ').nth(1).unwrap_or("");
-    number_behind(word, "g=").unwrap_or(0)
+    number_after(word, "g=").unwrap_or(0)
 }
 
-// The number that the text is behind this front.
-fn number_behind(text: &str, front: &str) -> Option<u64> {
-    match text.strip_prefix(front) {
+// The number that follows this prefix of the text, if there is one.
+fn number_after(text: &str, prefix: &str) -> Option<u64> {
+    match text.strip_prefix(prefix) {
         Some(digits) => number(digits),
         None => None,
     }

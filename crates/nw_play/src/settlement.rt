@@ -1,8 +1,8 @@
-//! Settlements, and what goes on behind them.
+//! Settlement, and the store that a script reopens after it.
 use crate::books::Start;
-use crate::calls::Calls;
 use crate::fault::{PlayFault, print};
 use crate::lines::Lines;
+use crate::player::Player;
 use nw_desk::Answer;
 use nw_script::Line;
 use nw_sig::DemoScheme;
@@ -11,32 +11,32 @@ use std::alloc::Global;
 use std::io::Write;
 use std::mem::forget;
 
-/// Settles the store with all its sessions, and gives the start of the store that goes on behind it, if one does.
-pub fn settled<L: Home, W: Write>(
+/// Settles the store with all its sessions and prints the counts. Returns the start of the reopened store if the next line is `reopen`.
+pub fn settle_store<L: Home, W: Write>(
     alloc: Global,
-    calls: Calls<L>,
+    player: Player<L>,
     lines: &mut Lines<'_>,
     out: &mut W,
 ) -> Result<Option<Start>, PlayFault> {
-    match settle(calls.store, calls.sessions) {
-        Ok(settled) => told(alloc, settled, lines, out),
+    match settle(player.store, player.sessions) {
+        Ok(settled) => finish(alloc, settled, lines, out),
         Err(refused) => {
-            let fault = PlayFault::unsettled(lines.taken(), refused.fault);
+            let fault = PlayFault::unsettled(lines.last_number(), refused.fault);
             drop(refused);
             Err(fault)
         }
     }
 }
 
-// Prints the tally of the settlement, and gives what goes on behind it.
-fn told<L: Home, W: Write>(
+// Prints the counts of the settlement, and returns the start of the reopened store, if the script reopens.
+fn finish<L: Home, W: Write>(
     alloc: Global,
     settled: Settled<DemoScheme, L>,
     lines: &mut Lines<'_>,
     out: &mut W,
 ) -> Result<Option<Start>, PlayFault> {
-    match goes_on(alloc, &settled, lines, out) {
-        Ok(true) => reopened(alloc, settled, out),
+    match is_reopened(alloc, &settled, lines, out) {
+        Ok(true) => reopen(alloc, settled, out),
         Ok(false) => {
             forget(settled);
             Ok(None)
@@ -48,8 +48,8 @@ fn told<L: Home, W: Write>(
     }
 }
 
-// Prints the tally of the settlement. Whether the script goes on behind it, which it may by one line alone.
-fn goes_on<L: Home, W: Write>(
+// Prints the counts of the settlement, and returns whether the next line reopens the store. Any other line is bad.
+fn is_reopened<L: Home, W: Write>(
     alloc: Global,
     settled: &Settled<DemoScheme, L>,
     lines: &mut Lines<'_>,
@@ -59,18 +59,18 @@ fn goes_on<L: Home, W: Write>(
     match lines.next_line(alloc)? {
         None => Ok(false),
         Some(Line::Reopen) => Ok(true),
-        Some(_) => Err(lines.bad()),
+        Some(_) => Err(lines.bad_last_line()),
     }
 }
 
-// The start of the store that goes on with what is settled.
-fn reopened<L: Home, W: Write>(
+// Reopens the settled store: the start of the next one.
+fn reopen<L: Home, W: Write>(
     alloc: Global,
     settled: Settled<DemoScheme, L>,
     out: &mut W,
 ) -> Result<Option<Start>, PlayFault> {
     match settled.reopen(alloc) {
-        Ok(book) => printed(Start::behind(book), out),
+        Ok(book) => print_reopened(Start::without_limits_line(book), out),
         Err(refused) => {
             drop(refused);
             Err(PlayFault::NoMemory)
@@ -78,8 +78,8 @@ fn reopened<L: Home, W: Write>(
     }
 }
 
-// The start, once its line is printed.
-fn printed<W: Write>(start: Start, out: &mut W) -> Result<Option<Start>, PlayFault> {
+// Prints the line of the reopened store, and returns its start.
+fn print_reopened<W: Write>(start: Start, out: &mut W) -> Result<Option<Start>, PlayFault> {
     match print(out, &Answer::Words("reopened")) {
         Ok(()) => Ok(Some(start)),
         Err(fault) => {
@@ -89,7 +89,7 @@ fn printed<W: Write>(start: Start, out: &mut W) -> Result<Option<Start>, PlayFau
     }
 }
 
-// How many events the history has, and each session has calls.
+// The number of events of the history, followed by the number of calls of each session.
 fn tally<'a, L: Home>(
     alloc: Global,
     settled: &Settled<DemoScheme, L>,
@@ -105,7 +105,7 @@ fn tally<'a, L: Home>(
     Ok(Answer::Settled(counts))
 }
 
-// How many calls the session made, or `None` where no session has this id.
+// The number of calls of the session, or `None` if no session has this id.
 fn calls_of<L: Home>(settled: &Settled<DemoScheme, L>, session: u16) -> Option<usize> {
     match settled.journal(session) {
         Some(journal) => Some(journal.len()),

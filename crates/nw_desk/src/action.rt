@@ -1,7 +1,7 @@
-//! What lines ask of a store.
+//! From the requests of a script to calls of a store.
 
-use crate::desk::Desk;
 use crate::fault::LineFault;
+use crate::interpreter::Interpreter;
 use crate::print::Answer;
 use nw_book::Command;
 use nw_check::{Checked, check_message};
@@ -11,31 +11,41 @@ use nw_script::{Name, Request};
 use nw_sig::DemoScheme;
 use std::alloc::Global;
 
-/// What a line asks of a store, once all was done that needs none.
+/// What the player still has to do for a request.
 #[derive(Drop)]
-pub enum Asked<'a> {
-    /// Nothing more: this is the answer.
-    Nothing(Answer<'a>),
-    /// A call, whose reply is told of the name where it has one.
+pub enum Action<'a> {
+    /// Print the answer. The request needs no store.
+    Print(Answer<'a>),
+    /// Make the call, and print its reply (`Interpreter::answer_to`).
     Call {
+        /// The block that the answer names, if it names one.
         name: Option<Name<'a>>,
         command: Command<DemoScheme>,
     },
-    /// A causal read of the digest. It is told of the name, which is bound to the ticket or else has its list told at once.
+    /// Make a causal read of the digest, and print the ticket (`Interpreter::answer_to_ticket`) or the reply.
     Open {
+        /// The name in the answer: that of the ticket if it is kept, else that of the block.
         name: Name<'a>,
         digest: Digest,
+        /// Whether the ticket is kept under the name. If not, its list is printed at once.
         is_kept: bool,
     },
-    /// That this session makes the calls from here on.
+    /// Make all later calls by this session.
     Session(u16),
-    /// That later tickets share one copy of what is complete.
+    /// Compact the store: later tickets share one list of the complete blocks.
     Compact,
 }
 
-impl<'a> Desk<'a> {
-    /// What the request asks of a store of the committee. All is done that needs no store.
-    pub fn asked(&mut self, alloc: Global, request: &Request<'a>) -> Result<Asked<'a>, LineFault> {
+impl<'a> Interpreter<'a> {
+    /// Does the part of the request that needs no store, and returns the rest.
+    ///
+    /// `Bad` if the request can't be played: a name is unbound or bound already, or a message does not decode. `NoMemory` if an
+    /// allocation fails.
+    pub fn action_for(
+        &mut self,
+        alloc: Global,
+        request: &Request<'a>,
+    ) -> Result<Action<'a>, LineFault> {
         match request {
             Request::Write { name, signer } => self.write(alloc, *name, *signer),
             Request::Certify { name, signers } => self.certify(alloc, *name, signers),
@@ -43,19 +53,19 @@ impl<'a> Desk<'a> {
             Request::Collect(_) | Request::Missing(_) | Request::Status => self.call(request),
             Request::Causal(name) => self.open(*name, *name, false),
             Request::Open { ticket, name } => self.open(*ticket, *name, true),
-            Request::Session(id) => Ok(Asked::Session(*id)),
-            Request::Compact => Ok(Asked::Compact),
-            _ => Ok(Asked::Nothing(self.answer(alloc, request)?)),
+            Request::Session(id) => Ok(Action::Session(*id)),
+            Request::Compact => Ok(Action::Compact),
+            _ => Ok(Action::Print(self.answer(alloc, request)?)),
         }
     }
 
-    // The answer to a request that needs no store.
+    // The answer to a request that needs no store. Any other is `Bad`.
     fn answer(&mut self, alloc: Global, request: &Request<'a>) -> Result<Answer<'a>, LineFault> {
         match request {
             Request::Block(line) => self.block(alloc, line),
             Request::Body(name) => self.body(alloc, *name),
             Request::Digest(name) => self.digest(alloc, *name),
-            Request::Hash(word) => Desk::hash(alloc, word),
+            Request::Hash(word) => Interpreter::hash(alloc, word),
             Request::Valid { name, signers } => self.valid(alloc, *name, signers),
             Request::Gather { name, signers } => self.gather(alloc, *name, signers),
             Request::Walk(ticket) => self.walk(alloc, *ticket),
@@ -63,8 +73,8 @@ impl<'a> Desk<'a> {
         }
     }
 
-    // The call that the request is, which hands in nothing.
-    fn call(&self, request: &Request<'a>) -> Result<Asked<'a>, LineFault> {
+    // The call of a request that hands in neither a block nor a certificate. Any other is `Bad`.
+    fn call(&self, request: &Request<'a>) -> Result<Action<'a>, LineFault> {
         let (name, command) = match request {
             Request::Certificate(name) => {
                 (Some(*name), Command::Certificate(self.digest_of(*name)?))
@@ -75,66 +85,66 @@ impl<'a> Desk<'a> {
             Request::Status => (None, Command::Status),
             _ => return Err(LineFault::Bad),
         };
-        Ok(Asked::Call { name, command })
+        Ok(Action::Call { name, command })
     }
 
-    // The block, sent as a message that its author signs, or the member with this number.
+    // The write of the block after its message is encoded, decoded and checked. The given member or its author signs it.
     fn write(
         &self,
         alloc: Global,
         name: Name<'a>,
         signer: Option<u16>,
-    ) -> Result<Asked<'a>, LineFault> {
+    ) -> Result<Action<'a>, LineFault> {
         let text = self.block_text(alloc, name, signer)?;
-        checked(alloc, &self.committee, name, &text)
+        checked_command(alloc, &self.committee, name, &text)
     }
 
-    // A certificate of the block with the signers' votes in this order, sent as a message.
+    // The certification of the block, with the votes in the order of `signers`, after the message is encoded, decoded and checked.
     fn certify(
         &self,
         alloc: Global,
         name: Name<'a>,
         signers: &[u16],
-    ) -> Result<Asked<'a>, LineFault> {
+    ) -> Result<Action<'a>, LineFault> {
         match self.certificate_text(alloc, name, signers)? {
-            Some(text) => checked(alloc, &self.committee, name, &text),
-            None => Ok(Asked::Nothing(Answer::over_limit(name))),
+            Some(text) => checked_command(alloc, &self.committee, name, &text),
+            None => Ok(Action::Print(Answer::over_limit(name))),
         }
     }
 
-    // The causal read of the block, which is told of another name that is kept for the ticket, and free.
+    // The causal read of the block `name`, answered under `printed_as`. That name must be free if the ticket is kept.
     fn open(
         &self,
-        told_of: Name<'a>,
+        printed_as: Name<'a>,
         name: Name<'a>,
         is_kept: bool,
-    ) -> Result<Asked<'a>, LineFault> {
-        if is_kept && self.has_ticket(told_of) {
+    ) -> Result<Action<'a>, LineFault> {
+        if is_kept && self.has_ticket(printed_as) {
             return Err(LineFault::Bad);
         }
-        Ok(Asked::Open {
-            name: told_of,
+        Ok(Action::Open {
+            name: printed_as,
             digest: self.digest_of(name)?,
             is_kept,
         })
     }
 }
 
-// The call that hands in what the message has, or the answer that tells which rule it breaks.
-fn checked<'a>(
+// The call that hands in the block or certificate of the message, or the answer with the rule that it breaks.
+fn checked_command<'a>(
     alloc: Global,
     committee: &Shared<Committee>,
     name: Name<'a>,
     text: &[u8],
-) -> Result<Asked<'a>, LineFault> {
+) -> Result<Action<'a>, LineFault> {
     let command = match check_message(alloc, committee, text)? {
         Checked::Block(block) => Command::Write(block),
         Checked::Cert(certificate) => Command::Certify(certificate),
-        Checked::BadBlock(fault) => return Ok(Asked::Nothing(Answer::BadBlock { name, fault })),
-        Checked::BadCert(fault) => return Ok(Asked::Nothing(Answer::BadCert { name, fault })),
+        Checked::BadBlock(fault) => return Ok(Action::Print(Answer::BadBlock { name, fault })),
+        Checked::BadCert(fault) => return Ok(Action::Print(Answer::BadCert { name, fault })),
         Checked::Vote(_) | Checked::BadText(_) => return Err(LineFault::Bad),
     };
-    Ok(Asked::Call {
+    Ok(Action::Call {
         name: Some(name),
         command,
     })

@@ -1,13 +1,13 @@
-//! The load: a committee of nodes, each with its threads.
+//! Starting a load: a thread for each node of a committee.
 ghost use Rattle.std.specs.Prelude.{◌↔◌, IsErrOf};
-ghost use Rattle.nw_load.specs.Size.{IsCrew, AreRounds};
+ghost use Rattle.nw_load.specs.Size.{IsNodeCount, IsRoundCount};
 ghost use Rattle.nw_load.specs.declared.fault.LoadFault.TheVariants as LoadFault;
 
 use crate::fault::{End, LoadFault};
-use crate::node::{Shop, run_node};
-use crate::post::{Mailbox, Office};
+use crate::network::{Inbox, Network};
+use crate::node::{LoadContext, run_node};
 use crate::report::NodeReport;
-use crate::size::{are_rounds, is_crew};
+use crate::size::{is_node_count, is_round_count};
 use nw_committee::Committee;
 use nw_desk::committee;
 use nw_digest::Shared;
@@ -18,15 +18,13 @@ use std::sync::Wait;
 use std::thread;
 use std::thread::{JoinHandle, Scope, Threads};
 
-/// A node's thread, and what it gives.
-type Started = JoinHandle<Result<NodeReport, End>>;
+/// The thread of a node.
+type NodeThread = JoinHandle<Result<NodeReport, End>>;
 
-/// Lets so many nodes make, certify and read so many rounds of blocks, each node in two threads on a store of its own, and gives
-/// their reports in the order of the nodes.
+/// Runs a load of `nodes` nodes over `rounds` rounds, and returns the nodes' reports in order. Each node has a store and two threads.
 ///
-/// The fault is the first of these that applies: `BadNodes`, and then `BadRounds`, before anything else and without memory;
-/// `NoMemory`; `Spawn`; `GateShut`; `Causal`; `Unsettled`. All threads that were started have ended when it returns, and it waits
-/// for them. What a settled store takes is not given back: it goes with the process, at once and not owner by owner.
+/// If several faults apply, it returns the first in the order of `LoadFault`. `BadNodes` and `BadRounds` are tested before anything
+/// is allocated. It waits for all threads that it started. It does not free the settled stores: the end of the process frees them.
 pub fn load<G: Gate + Sync, R: Threads + Wait + Sync>(
     rt: &R,
     alloc: Global,
@@ -34,14 +32,14 @@ pub fn load<G: Gate + Sync, R: Threads + Wait + Sync>(
     rounds: u32,
     gate: &G,
 ) -> Result<Vec<NodeReport>, LoadFault>
-    ensures bad_nodes { IsErrOf result LoadFault.BadNodes ↔ (IsCrew nodes → ⊥) }
+    ensures bad_nodes { IsErrOf result LoadFault.BadNodes ↔ (IsNodeCount nodes → ⊥) }
     ensures bad_rounds { IsErrOf result LoadFault.BadRounds
-        ↔ (IsCrew nodes × (AreRounds rounds → ⊥)) }
+        ↔ (IsNodeCount nodes × (IsRoundCount rounds → ⊥)) }
 {
-    if !is_crew(nodes) {
+    if !is_node_count(nodes) {
         return Err(LoadFault::BadNodes);
     }
-    if !are_rounds(rounds) {
+    if !is_round_count(rounds) {
         return Err(LoadFault::BadRounds);
     }
     match run_all(rt, alloc, nodes as u16, rounds, gate) {
@@ -63,20 +61,20 @@ fn run_all<G: Gate + Sync, R: Threads + Wait + Sync>(
     gate: &G,
 ) -> Result<Vec<NodeReport>, End> {
     let committee = committee_of(alloc, nodes)?;
-    let (office, boxes) = Office::new(alloc, nodes)?;
-    let shop = Shop {
+    let (network, inboxes) = Network::new(alloc, nodes)?;
+    let context = LoadContext {
         rt,
         alloc,
         committee: &committee,
-        office: &office,
+        network: &network,
         nodes,
         rounds,
         gate,
     };
-    run_nodes(&shop, boxes)
+    run_nodes(&context, inboxes)
 }
 
-/// The committee of so many members.
+/// A committee of members with equal weight, one for each node.
 fn committee_of(alloc: Global, nodes: u16) -> Result<Shared<Committee>, End> {
     let members = u32::from(nodes);
     let committee = committee(alloc, &CommitteeLine::Equal { members })?;
@@ -85,32 +83,32 @@ fn committee_of(alloc: Global, nodes: u16) -> Result<Shared<Committee>, End> {
 
 /// Runs each node in a thread.
 fn run_nodes<G: Gate + Sync, R: Threads + Wait + Sync>(
-    shop: &Shop<'_, R, G>,
-    boxes: Vec<Mailbox>,
+    context: &LoadContext<'_, R, G>,
+    inboxes: Vec<Inbox>,
 ) -> Result<Vec<NodeReport>, End> {
-    thread::scope(thread::scope_env(), shop.rt, |scope| {
-        match start_all(scope, shop, boxes) {
-            Ok(handles) => joined(shop, handles),
+    thread::scope(thread::scope_env(), context.rt, |scope| {
+        match start_all(scope, context, inboxes) {
+            Ok(handles) => join_all(context, handles),
             Err(end) => {
-                shop.office.close(shop.rt);
+                context.network.close(context.rt);
                 Err(end)
             }
         }
     })
 }
 
-/// Starts a thread for each node, until one does not start: the office is closed then.
+/// Starts a thread for each node. If one does not start, it closes the network and starts no more.
 fn start_all<'s, 'e, G: Gate + Sync, R: Threads + Wait + Sync>(
     scope: &Scope<'s, &'e ()>,
-    shop: &'e Shop<'e, R, G>,
-    boxes: Vec<Mailbox>,
-) -> Result<Vec<Started>, End> {
-    let mut handles = Vec::with_capacity(shop.alloc, boxes.len())?;
-    for (node, mailbox) in (0..shop.nodes).zip(boxes) {
-        match scope.spawn(move || run_node(shop, node, mailbox)) {
+    context: &'e LoadContext<'e, R, G>,
+    inboxes: Vec<Inbox>,
+) -> Result<Vec<NodeThread>, End> {
+    let mut handles = Vec::with_capacity(context.alloc, inboxes.len())?;
+    for (node, inbox) in (0..context.nodes).zip(inboxes) {
+        match scope.spawn(move || run_node(context, node, inbox)) {
             Ok(handle) => handles.push(handle)?,
             Err(_) => {
-                shop.office.close(shop.rt);
+                context.network.close(context.rt);
                 return Ok(handles);
             }
         }
@@ -118,22 +116,22 @@ fn start_all<'s, 'e, G: Gate + Sync, R: Threads + Wait + Sync>(
     Ok(handles)
 }
 
-/// Waits for the threads. The reports of all nodes, or the end that counts where one gave none or was not started.
-fn joined<G: Gate, R: Threads>(
-    shop: &Shop<'_, R, G>,
-    handles: Vec<Started>,
+/// Waits for the threads and returns the reports of all nodes. If a node has none, it returns the first end in the order of kinds.
+fn join_all<G: Gate, R: Threads>(
+    context: &LoadContext<'_, R, G>,
+    handles: Vec<NodeThread>,
 ) -> Result<Vec<NodeReport>, End> {
-    let nodes = usize::from(shop.nodes);
+    let nodes = usize::from(context.nodes);
     let mut end = if handles.len() < nodes {
         End::Spawn
     } else {
         End::CutOff
     };
-    let mut reports = Vec::with_capacity(shop.alloc, nodes)?;
+    let mut reports = Vec::with_capacity(context.alloc, nodes)?;
     for handle in handles {
-        match handle.join(shop.rt) {
+        match handle.join(context.rt) {
             Ok(report) => reports.push(report)?,
-            Err(other) => end = end.or(other),
+            Err(other) => end = end.first_of(other),
         }
     }
     if reports.len() < nodes {

@@ -1,10 +1,10 @@
-//! A store, and the calls that lines make of it.
+//! A store and its sessions, which make the calls of a script.
 ghost use Rattle.std.specs.Prelude.{◌≡◌};
 ghost use Rattle.nw_store.specs.Journal.{origin_of};
 ghost use Rattle.nw_store.specs.Kept.{parts_of_a_ledger};
 
 use crate::books::Start;
-use nw_desk::{Answer, Asked, Desk, LineFault};
+use nw_desk::{Action, Answer, Interpreter, LineFault};
 use nw_digest::Digest;
 use nw_script::{Name, Request};
 use nw_sig::DemoScheme;
@@ -12,34 +12,37 @@ use nw_store::{Command, Done, Home, NoStep, Opening, Session, Store, Ticket};
 use std::alloc::Global;
 use std::sync::Wait;
 
-/// A store, its sessions in the order in which they were made, and which of them makes the next call.
+/// A store, its sessions by id, and the one that makes the next call.
 #[derive(Drop)]
-pub struct Calls<L: Home> {
+pub struct Player<L: Home> {
     pub store: Store<DemoScheme, L>,
     pub sessions: Vec<Session<DemoScheme, L>>,
     current: usize,
-    /// Whether the next line may be that with the limits.
-    pub may_limit: bool,
+    /// Whether the next line may be a `limits` line.
+    pub may_set_limits: bool,
 }
 
-impl<L: Home> Calls<L> {
-    /// No call yet, and no session, of a store over the book of the start, whose history is empty.
-    pub fn over(
+impl<L: Home> Player<L> {
+    /// A player without sessions, of a new store over the book of the start. `Bad` if the book's history is not empty.
+    pub fn new(
         alloc: Global,
         opening: Opening<DemoScheme>,
         start: Start,
-    ) -> Result<Calls<L>, LineFault>
+    ) -> Result<Player<L>, LineFault>
         requires log { opening.log ≡ L.log }
         requires ledger { (opening.ledger ≡ L.name) × (L.parts ≡ parts_of_a_ledger) }
         requires origin { origin_of start.book ≡ L.origin }
     {
-        let Start { book, may_limit } = start;
+        let Start {
+            book,
+            may_set_limits,
+        } = start;
         match Store::over(opening, book) {
-            Ok(store) => Ok(Calls {
+            Ok(store) => Ok(Player {
                 store,
                 sessions: Vec::new(alloc),
                 current: 0,
-                may_limit,
+                may_set_limits,
             }),
             Err(book) => {
                 drop(book);
@@ -48,49 +51,49 @@ impl<L: Home> Calls<L> {
         }
     }
 
-    /// The answer to the request.
+    /// Plays the request and returns its answer. `Bad` if it can't be played, `NoMemory` if an allocation fails.
     pub fn answer<'a, R: Wait>(
         &mut self,
         rt: &R,
         alloc: Global,
-        desk: &mut Desk<'a>,
+        interpreter: &mut Interpreter<'a>,
         request: &Request<'a>,
     ) -> Result<Answer<'a>, LineFault> {
-        self.may_limit = false;
-        match desk.asked(alloc, request)? {
-            Asked::Nothing(answer) => Ok(answer),
-            Asked::Call { name, command } => {
-                let answer = self.call(rt, alloc, desk, name, &command);
+        self.may_set_limits = false;
+        match interpreter.action_for(alloc, request)? {
+            Action::Print(answer) => Ok(answer),
+            Action::Call { name, command } => {
+                let answer = self.call(rt, alloc, interpreter, name, &command);
                 drop(command);
                 answer
             }
-            Asked::Open {
+            Action::Open {
                 name,
                 digest,
                 is_kept,
-            } => self.open(rt, alloc, desk, name, digest, is_kept),
-            Asked::Session(id) => self.select(rt, alloc, id),
-            Asked::Compact => self.compact(rt, alloc),
+            } => self.open(rt, alloc, interpreter, name, digest, is_kept),
+            Action::Session(id) => self.select_session(rt, alloc, id),
+            Action::Compact => self.compact(rt, alloc),
         }
     }
 
-    // Makes the call, whose reply is told of the name where it has one.
+    // Makes the call. The answer names the block if there is a name.
     fn call<'a, R: Wait>(
         &mut self,
         rt: &R,
         alloc: Global,
-        desk: &Desk<'a>,
+        interpreter: &Interpreter<'a>,
         name: Option<Name<'a>>,
         command: &Command<DemoScheme>,
     ) -> Result<Answer<'a>, LineFault> {
-        match self.step(rt, alloc, command) {
-            Ok(done) => told(alloc, desk, name, done),
-            Err(refusal) => refused(refusal),
+        match self.make_call(rt, alloc, command) {
+            Ok(done) => answer_of(alloc, interpreter, name, done),
+            Err(refusal) => answer_to_refusal(refusal),
         }
     }
 
-    // The next call of the current session.
-    fn step<R: Wait>(
+    // Makes the command the next call of the current session.
+    fn make_call<R: Wait>(
         &mut self,
         rt: &R,
         alloc: Global,
@@ -111,25 +114,25 @@ impl<L: Home> Calls<L> {
         }
     }
 
-    // Opens a causal read, which is told of the name.
+    // Makes a causal read, answered under the name.
     fn open<'a, R: Wait>(
         &mut self,
         rt: &R,
         alloc: Global,
-        desk: &mut Desk<'a>,
+        interpreter: &mut Interpreter<'a>,
         name: Name<'a>,
         digest: Digest,
         is_kept: bool,
     ) -> Result<Answer<'a>, LineFault> {
-        match self.step_open(rt, alloc, digest) {
-            Ok(Ok(ticket)) => desk.opened(alloc, name, ticket, is_kept),
-            Ok(Err(done)) => told(alloc, desk, Some(name), done),
-            Err(refusal) => refused(refusal),
+        match self.open_ticket(rt, alloc, digest) {
+            Ok(Ok(ticket)) => interpreter.answer_to_ticket(alloc, name, ticket, is_kept),
+            Ok(Err(done)) => answer_of(alloc, interpreter, Some(name), done),
+            Err(refusal) => answer_to_refusal(refusal),
         }
     }
 
-    // The causal read as the next call of the current session.
-    fn step_open<R: Wait>(
+    // Makes the causal read the next call of the current session.
+    fn open_ticket<R: Wait>(
         &mut self,
         rt: &R,
         alloc: Global,
@@ -141,15 +144,15 @@ impl<L: Home> Calls<L> {
         }
     }
 
-    // Lets later tickets share one copy of what is complete.
+    // Compacts the store.
     fn compact<'a, R: Wait>(&self, rt: &R, alloc: Global) -> Result<Answer<'a>, LineFault> {
         self.store.compact(rt, alloc)?;
         Ok(Answer::Words("compacted"))
     }
 
-    // Lets this session make the calls from here on. The next one is made by the store, if it makes one more. The line is bad
-    // where the session is beyond the next.
-    fn select<'a, R: Wait>(
+    // Makes this session the current one. The next unused id makes a new session, unless the store has its limit of them. `Bad` if
+    // the id is larger.
+    fn select_session<'a, R: Wait>(
         &mut self,
         rt: &R,
         alloc: Global,
@@ -163,13 +166,13 @@ impl<L: Home> Calls<L> {
             return Ok(Answer::Words("refused too many"));
         }
         self.current = place;
-        Ok(Answer::Counted {
+        Ok(Answer::Count {
             words: "session ",
             number: u64::from(id),
         })
     }
 
-    /// One more session, or `false` where the store makes no more. The first makes the first call.
+    /// Adds a session, and returns whether the store made one. The first one added is current at the start.
     pub fn add_session<R: Wait>(&mut self, rt: &R, alloc: Global) -> Result<bool, LineFault> {
         self.sessions.reserve(1)?;
         match self.store.session(rt, alloc) {
@@ -182,21 +185,21 @@ impl<L: Home> Calls<L> {
     }
 }
 
-// What the call was answered, told of the name where the reply has one.
-fn told<'a>(
+// The answer with the reply of the call.
+fn answer_of<'a>(
     alloc: Global,
-    desk: &Desk<'a>,
+    interpreter: &Interpreter<'a>,
     name: Option<Name<'a>>,
     done: Done<DemoScheme>,
 ) -> Result<Answer<'a>, LineFault> {
-    let answer = desk.told(alloc, name, done.reply());
+    let answer = interpreter.answer_to(alloc, name, done.reply());
     drop(done);
     answer
 }
 
-// A full history is an answer; another refusal ends the play. Each number is in turn, and what is handed in
-// was checked under the store's committee.
-fn refused<'a>(refusal: NoStep) -> Result<Answer<'a>, LineFault> {
+// A full history is an answer; any other refusal ends the play. The last two never come: each call has its session's next
+// number, and each handed in value was checked under the store's committee.
+fn answer_to_refusal<'a>(refusal: NoStep) -> Result<Answer<'a>, LineFault> {
     match refusal {
         NoStep::HistoryFull => Ok(Answer::Words("refused history full")),
         NoStep::NoMemory => Err(LineFault::NoMemory),

@@ -1,7 +1,7 @@
-//! What the names of a script stand for.
+//! The committee and the bound names of a script.
 
 use crate::fault::LineFault;
-use crate::names::{Bound, Names};
+use crate::names::{NamedBlock, Names};
 use crate::print::Answer;
 use nw_book::Ticket;
 use nw_committee::Committee;
@@ -11,45 +11,48 @@ use nw_sig::DemoScheme;
 use std::alloc::Global;
 use std::collections::HashMap;
 
-/// The committee of a script, and the blocks and tickets that are bound to names, whatever store is asked.
+/// The committee of a script and its named blocks and tickets. They outlive the stores of the script.
 #[derive(Drop)]
-pub struct Desk<'a> {
+pub struct Interpreter<'a> {
     pub(crate) committee: Shared<Committee>,
     pub(crate) names: Names<'a>,
     tickets: HashMap<&'a str, Ticket<DemoScheme>>,
 }
 
-impl<'a> Desk<'a> {
-    /// No names. It takes no memory.
-    pub fn new(alloc: Global, committee: Shared<Committee>) -> Desk<'a> {
-        Desk {
+impl<'a> Interpreter<'a> {
+    /// An interpreter without names. It allocates nothing.
+    pub fn new(alloc: Global, committee: Shared<Committee>) -> Interpreter<'a> {
+        Interpreter {
             committee,
             names: Names::new(alloc),
             tickets: HashMap::new(alloc),
         }
     }
 
-    /// The committee.
+    /// The committee of the script.
     pub fn committee(&self) -> &Shared<Committee> {
         &self.committee
     }
 
-    /// The digest of the block. The line is bad where the name is not bound.
+    /// The digest of the named block. `Bad` if the name is not bound.
     pub(crate) fn digest_of(&self, name: Name<'a>) -> Result<Digest, LineFault> {
-        Ok(self.bound(name)?.digest)
+        Ok(self.named_block(name)?.digest)
     }
 
-    pub(crate) fn bound(&self, name: Name<'a>) -> Result<&Bound, LineFault> {
-        self.names.bound(name)
+    /// The named block. `Bad` if the name is not bound.
+    pub(crate) fn named_block(&self, name: Name<'a>) -> Result<&NamedBlock, LineFault> {
+        self.names.named_block(name)
     }
 
-    /// Whether the name stands for a ticket.
+    /// Whether the name is bound to a ticket.
     pub(crate) fn has_ticket(&self, name: Name<'a>) -> bool {
         self.tickets.contains_key(name.as_str())
     }
 
-    /// The answer to a causal read that has a list: binds the name to the ticket, or else tells the list.
-    pub fn opened(
+    /// The answer to a causal read that gave a ticket. If `is_kept`, it binds the name to the ticket; if not, it walks the ticket.
+    ///
+    /// `NoMemory` if an allocation fails. `Bad` if a block of the list has no name, which never happens in a script.
+    pub fn answer_to_ticket(
         &mut self,
         alloc: Global,
         name: Name<'a>,
@@ -57,24 +60,24 @@ impl<'a> Desk<'a> {
         is_kept: bool,
     ) -> Result<Answer<'a>, LineFault> {
         if !is_kept {
-            let listed = self.listed(alloc, name, &ticket);
+            let answer = self.walk_ticket(alloc, name, &ticket);
             drop(ticket);
-            return listed;
+            return answer;
         }
         drop(self.tickets.insert(name.as_str(), ticket)?);
-        Ok(Answer::Told {
+        Ok(Answer::Named {
             name,
             words: " ready",
         })
     }
 
-    /// Walks the ticket of the name.
+    /// The answer with the list of the named ticket. `Bad` if the name is not bound to a ticket.
     pub(crate) fn walk(&self, alloc: Global, name: Name<'a>) -> Result<Answer<'a>, LineFault> {
         let ticket = self.tickets.get(name.as_str()).ok_or(LineFault::Bad)?;
-        self.listed(alloc, name, ticket)
+        self.walk_ticket(alloc, name, ticket)
     }
 
-    /// The digest of the word's bytes in hex.
+    /// The answer with SHA-256 of the word's bytes in hex.
     pub(crate) fn hash(alloc: Global, word: &str) -> Result<Answer<'a>, LineFault> {
         let Digest(bytes) = digest_of(word.as_bytes());
         Ok(Answer::Hash(hex::encode(alloc, bytes.as_slice())?))

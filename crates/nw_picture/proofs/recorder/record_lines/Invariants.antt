@@ -1,6 +1,6 @@
 use denote.Text.{Utf8}
 use denote.Shadow.{shadow}
-use Rattle.nw_picture.proofs.notes.note_all.Given as goal
+use Rattle.nw_picture.proofs.recorder.record_lines.Given as goal
 
 -- the lines end, and what is left of the answers is text
 abbrev pub invariant-loop-text : goal.invariant-loop-text
