@@ -2,14 +2,14 @@ use Rattle.nw_store.specs.Journal.{origin_of}
 use Rattle.nw_store.specs.Kept.{parts_of_a_ledger}
 use Rattle.nw_bench.proofs.node.take_from.Given as goal
 
--- the ledger that was opened
+-- the opening's ledger
 abbrev pub ghosts-take_in-L-Ledger : goal.ghosts-take_in-L-Ledger
 ghosts-take_in-L-Ledger g a = record { name = a.opening.ledger; parts = parts_of_a_ledger }
 
--- the log that was opened
+-- the opening's log
 abbrev pub ghosts-take_in-L-Place : goal.ghosts-take_in-L-Place
 ghosts-take_in-L-Place g a = record { log = a.opening.log }
 
--- what the book starts with
+-- the origin of the book's history
 abbrev pub ghosts-take_in-L-Home : goal.ghosts-take_in-L-Home
 ghosts-take_in-L-Home g a = record { origin = origin_of a.book }
