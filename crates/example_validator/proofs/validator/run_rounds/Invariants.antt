@@ -1,6 +1,6 @@
 use Rattle.nw_store.specs.Journal.{origin_of}
 use Rattle.nw_store.specs.Kept.{parts_of_a_ledger}
-use Rattle.example_validator.proofs.validator.go_on.Given as goal
+use Rattle.example_validator.proofs.validator.run_rounds.Given as goal
 
 -- the opening's ledger
 abbrev pub ghosts-open-L-Ledger : goal.ghosts-open-L-Ledger
