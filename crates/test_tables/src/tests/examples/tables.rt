@@ -1,4 +1,4 @@
-//! The examples. Blocks are named by their round (K, L, M, N and U for 0 to 4, Z for the last) and author; an `X` stands behind the
+//! The worked examples. A block's name is its round (K, L, M, N and U for 0 to 4, Z for the last) and its author, with an `X` for the
 //! other block of that slot.
 use super::*;
 
