@@ -175,7 +175,7 @@ pub(super) const MISNAMED: Example = Example {
 };
 
 pub(super) const KEPT: Example = Example {
-    purpose: "blocks of the new garbage round stay, later blocks wait for them, and certificates without blocks are dropped with their round",
+    purpose: "blocks of the new garbage round stay, later blocks wait for them, and certificates without blocks go with their round",
     room: 16,
     calls: &[
         (Write(K0, &[]), Is("stored vote")),
