@@ -125,7 +125,8 @@ def main():
     members, before = Members(MEMBERS), load()
     keys = [secret.public_key() for secret in members.secrets]
     blocks, certificates = made(members, options.rounds)
-    print(f"a block has {len(blocks[0].message)} bytes, a certificate {len(certificates[0].message)}; the least of {options.runs} runs:")
+    sizes = len(blocks[0].message), len(certificates[0].message)
+    print(f"a block has {sizes[0]} bytes, a certificate {sizes[1]}; the least of {options.runs} runs:")
     print("messages           signatures  workers        ms  gain  machine  messages/s  signatures/s   OpenSSL  times   digests")
     with tempfile.TemporaryDirectory(prefix="nw-checks-") as folder:
         together = [message for both in zip(blocks, certificates) for message in both]
