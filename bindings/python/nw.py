@@ -171,8 +171,8 @@ class Store(Handle):
 
     def status(self):
         self.make("book_status")
-        told = self.answer.read("answer_status", Status)
-        return {name: getattr(told, name) for name, _ in Status._fields_}
+        status = self.answer.read("answer_status", Status)
+        return {name: getattr(status, name) for name, _ in Status._fields_}
 
     def history(self):
         """The events that explain the last answer: session, number, call and reply."""

@@ -3,8 +3,8 @@
 //! Each line of standard input is a message in hex, or `causal` and a digest in hex. For each message the node prints the result, and
 //! for each causal read the listed blocks. docs/EMBEDDING.md explains the program.
 //!
-//! The exit status is 1 if a line is neither, if the input can't be read or the output can't be written, or if memory runs out. It is
-//! also 1 if the store refuses a call, as after 1,024 calls, when the history is full.
+//! The program ends with status 1 at the first line of another form and at the first refused call. It does so too if reading, writing or an
+//! allocation fails. After 1,024 calls the history is full, and the next call is refused.
 #![tactic(auto)]
 
 ghost use Rattle.std.specs.Prelude.{◌≡◌};

@@ -131,8 +131,8 @@ impl<'a, L: Home, R: Threads + Wait + Sync> Intake<'a, L, R> {
         Ok(Certified { slot, digest })
     }
 
-    /// Writes the block, and returns whether to write it again later. That is so if the store is full, if the round is too far ahead, or
-    /// if another block of the slot came first and this one is not certified.
+    /// Writes the block, and returns whether to write it again later. That is so if the store is full or the round is too far ahead. It is
+    /// also so if another block of the slot came first and this block is not certified.
     fn write(&mut self, block: &CheckedBlock<NetworkScheme>) -> Result<bool, End> {
         let Host { rt, alloc, .. } = *self.host;
         let done = self.store.write(rt, alloc, &mut self.session, block)?;

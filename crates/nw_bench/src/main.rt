@@ -17,9 +17,10 @@
 //! - the time that all threads together spent in calls that write and certify, in milliseconds;
 //! - the time that one thread takes for only the digests of the bodies, in milliseconds.
 //!
-//! No time includes that of making or reading messages. The exit status is 0 if no message was refused, and 2 if the arguments are bad. It
-//! is 1 otherwise: a message was refused, memory ran out, a thread did not start, the committee is not one, the input or the clock could
-//! not be read, or the line could not be printed.
+//! No time includes that of making or reading messages.
+//!
+//! The exit status is 0 if no message was refused, and 2 if the arguments are bad. It is 1 for all other faults. They are a refused message
+//! or committee, a failed allocation, a thread that did not start, and an input, clock or output that failed.
 #![tactic(auto)]
 
 use crate::node::{Report, timed_node};

@@ -112,7 +112,7 @@ fn has_four(base: &Base) -> bool {
 }
 
 #[test]
-fn a_plain_store_answers_and_one_over_its_base_goes_on(rt: HostRuntime) {
+fn a_plain_store_replies_and_another_continues_from_its_base(rt: HostRuntime) {
     let mut plain = Plain::new(rt.alloc(), 64, 64);
     assert_eq!(rt;
         count_expected(&mut plain, rt.alloc(), &EXAMPLE[..8]),

@@ -54,8 +54,8 @@ fn count(view: &View) -> (u32, u32) {
     (found, missed)
 }
 
-// Each search looks at some hundred entries. If each search went through the entries one by one, all searches would look at some
-// 270,000,000 entries, which is too slow for the interpreter of `rt try --test`.
+// Each search looks at some hundred entries. Linear searches would look at some 270,000,000 entries together, which is too slow for the
+// interpreter of `rt try --test`.
 #[test]
 fn searches_among_8192_crowded_digests_end_soon(rt: HostRuntime) {
     let view = view_of_all(rt.alloc()).expect(&rt, "there is memory");

@@ -131,6 +131,6 @@ fn replies_of(alloc: Global, calls: u32) -> Option<usize> {
 }
 
 #[test]
-fn random_calls_are_answered_as_by_the_plain_store(rt: HostRuntime) {
+fn random_calls_get_the_replies_of_the_plain_store(rt: HostRuntime) {
     assert_eq!(rt; replies_of(rt.alloc(), CALLS), Some(REPLIES));
 }
