@@ -11,8 +11,8 @@
 //! has the most transactions of 512 bytes that are allowed, and one for its certificate. THREADS threads, 1 to 256, check them and write
 //! and certify them in one store. They read one block of each round causally. The program prints these five numbers:
 //!
-//! - the blocks that were written and certified;
-//! - the blocks that the walks listed;
+//! - how many blocks were written and certified;
+//! - how many blocks the walks listed;
 //! - the time of the run, in milliseconds;
 //! - the time that all threads together spent in calls that write and certify, in milliseconds;
 //! - the time that one thread takes for only the digests of the bodies, in milliseconds.

@@ -20,7 +20,7 @@ pub struct Plan {
 }
 
 impl Plan {
-    /// Reads the program's name and three numbers. `None` if there are more than `MOST_BYTES` bytes, or not 1 to `MOST_WORKERS` workers.
+    /// Reads the program's name and three numbers. `None` for other words, more than `MOST_BYTES` bytes, or not 1 to `MOST_WORKERS` workers.
     pub fn read(words: &[String]) -> Option<Plan>
         ensures bytes { IfSome result (λ plan. plan.bytes ≤ MOST_BYTES) }
         ensures workers { IfSome result
@@ -48,7 +48,7 @@ pub struct InputPlan {
 }
 
 impl InputPlan {
-    /// Reads the program's name, the word `ed25519` and three numbers. `None` if there are not 1 to `MOST_WORKERS` workers.
+    /// Reads the program's name, the word `ed25519` and three numbers. `None` for other words, or not 1 to `MOST_WORKERS` workers.
     pub fn read(words: &[String]) -> Option<InputPlan>
         ensures { IfSome result
             (λ plan. (1 ≤ plan.workers) × (plan.workers ≤ MOST_WORKERS)) }
@@ -78,7 +78,7 @@ pub struct NodePlan {
 }
 
 impl NodePlan {
-    /// Reads the program's name, the word `node` and three numbers. `None` if there are not 1 to `MOST_SESSIONS` threads, since each thread
+    /// Reads the program's name, the word `node` and three numbers. `None` for other words, or not 1 to `MOST_SESSIONS` threads. Each thread
     /// has its own session.
     pub fn read(words: &[String]) -> Option<NodePlan>
         ensures { IfSome result
