@@ -55,7 +55,8 @@ fn key(member: u16) -> Key {
     Key([member.to_be_bytes()[1]; 32])
 }
 
-/// The messages of the rounds. `blocks` are those of the round before, and then those of the last round.
+/// The messages of the rounds. It takes references to the blocks of the preceding round in `blocks`, and leaves those of the last round
+/// there.
 fn rounds(
     alloc: Global,
     rounds: Range<u64>,
