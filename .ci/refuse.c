@@ -1,10 +1,10 @@
-/* Makes allocations fail in the program that it is preloaded into (.ci/refusals).
+/* A library that makes allocations fail in the program that preloads it (.ci/refusals).
 
-   REFUSE_NTH=N fails the Nth allocation, counted from 1 in all threads since this library was started: the dynamic linker's own
-   allocations come before that, those of main and of all threads after it. An allocation is a call of malloc, calloc, realloc,
-   aligned_alloc, posix_memalign or memalign. After an allocation of REFUSE_ALL bytes, which succeeds, every later one fails, until
-   one of REFUSE_NONE bytes. REFUSE_TELL is a file descriptor, to which one byte is written each time: "l" when the library starts,
-   "r" when it fails the Nth allocation, and "a" when all allocations begin to fail. */
+   If REFUSE_NTH is N, the Nth allocation fails. Allocations are counted from 1, in all threads together, from the start of this library.
+   The dynamic linker's own allocations come before the start, and all those of main and of threads come after it. An allocation is a call
+   of malloc, calloc, realloc, aligned_alloc, posix_memalign or memalign. After an allocation of REFUSE_ALL bytes, which succeeds, all
+   allocations fail until one of REFUSE_NONE bytes. REFUSE_TELL is a file descriptor, to which the library writes single bytes: "l" when it
+   starts, "r" when it fails the Nth allocation, and "a" when all allocations begin to fail. */
 #include <errno.h>
 #include <stdlib.h>
 #include <unistd.h>

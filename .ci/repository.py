@@ -1,4 +1,4 @@
-"""What the commands beside this file share: the files of the repository, its crates, and its worked scripts."""
+"""Functions for the commands in this folder: the files of the repository, its crates, its worked scripts, and wrong bodies."""
 import functools
 import glob
 import os
@@ -6,15 +6,15 @@ import re
 import subprocess
 
 ROOT = os.path.dirname(os.path.dirname(os.path.abspath(__file__)))
-# So many programs or crates run at once.
+# The number of programs or crates that run at once.
 AT_ONCE = min(os.cpu_count() or 1, 4)
-# One run of a program may take so many seconds.
+# The most seconds that one run of a program may take.
 SECONDS = 60
 SCRIPTS = "crates/nw/scripts"
 
 
 def content(path):
-    """The text of a file, named from the top of the repository."""
+    """The text of a file. Its path starts at the top of the repository."""
     return content_in_bytes(path).decode()
 
 
@@ -24,24 +24,24 @@ def content_in_bytes(path):
 
 
 def paths(pattern):
-    """The files that match the pattern, named from the top of the repository, in order."""
+    """The sorted paths of the files that match the pattern. Paths and pattern start at the top of the repository."""
     return [os.path.relpath(path, ROOT) for path in sorted(glob.glob(f"{ROOT}/{pattern}", recursive=True))]
 
 
 def crates():
-    """The names in crates.txt."""
+    """The names of the crates in crates.txt."""
     return re.findall(r"^(\w+)[^:\n]*:", content("crates.txt"), re.M)
 
 
 @functools.cache
 def more_seconds():
-    """The flag that gives a test five minutes in place of one, where this kit has it: a test may be slow beside others."""
+    """The flag that gives a test five minutes instead of one, if this kit has it: a test may be slow beside others."""
     usage = subprocess.run(["rt", "help"], stdin=subprocess.DEVNULL, capture_output=True, text=True).stdout
     return ["--seconds", "300"] if "--seconds" in usage else []
 
 
 def tried(folder):
-    """The status and the output of the tests of the crate in this folder, which run without proofs."""
+    """Runs the tests of the crate in this folder without proofs. Returns the exit status and the output."""
     ran = subprocess.run(
         ["rt", "try", "--test", *more_seconds()], cwd=folder, stdin=subprocess.DEVNULL, stdout=subprocess.PIPE, stderr=subprocess.STDOUT, text=True
     )
@@ -50,12 +50,12 @@ def tried(folder):
 
 @functools.cache
 def uses():
-    """For each crate, the crates and the kit's libraries that crates.txt names for it."""
+    """For each crate, the crates and the kit's libraries that it uses, from crates.txt."""
     return {crate: rest.split() for crate, rest in re.findall(r"^(\w+)[^:\n]*:(.*)$", content("crates.txt"), re.M)}
 
 
 def below(crate):
-    """The crates of the repository that this one stands on, each after those that it uses."""
+    """The crates of the repository that this crate uses, directly or not. Each comes after those that it uses."""
     found, used = [], uses()
     for name in used[crate]:
         if name in used:
@@ -64,19 +64,19 @@ def below(crate):
 
 
 def program(crate):
-    """The program that `rt run` or `rt ci` made of the crate."""
+    """The path of the program that `rt run` or `rt ci` built from the crate."""
     return f"{ROOT}/crates/{crate}/out/{crate}"
 
 
 def worked_scripts():
-    """Each worked script: its subject, its name, the script, and the output that it must have."""
+    """For each worked script: its subject, its name, the script, and its expected output."""
     for path in paths(f"{SCRIPTS}/*/*.script"):
         subject, name = path.removesuffix(".script").split("/")[-2:]
         yield subject, name, content_in_bytes(path), content_in_bytes(path.removesuffix("script") + "prints")
 
 
 def status_of(prints):
-    """The exit status of a play with this output: 2 after a bad line, 3 if sessions differ, else 0."""
+    """The expected exit status of a play with this output: 2 after a bad line, 3 if sessions differ, and otherwise 0."""
     last = prints.rpartition(b"\n")[0].rpartition(b"\n")[2]
     if re.fullmatch(rb"line \d+ bad", last):
         return 2
@@ -84,11 +84,11 @@ def status_of(prints):
 
 
 class Misfit(Exception):
-    """A wrong body does not fit the file that it changes."""
+    """A wrong body does not fit its file: an `old` line does not occur exactly once."""
 
 
 def plant(body, root, kind):
-    """Changes the copy of the repository at this root as the wrong body says, and returns what its lines of this kind name."""
+    """Applies the wrong body to the copy of the repository at this root. Returns the names in its lines `KIND: NAME`."""
     named, path, old = set(), "", None
     for line in content(body).splitlines():
         word, _, rest = line.partition(":")

@@ -1,4 +1,4 @@
-"""The names in the sources of a crate: its functions with their clauses, its laws, the types with an invariant, its tests and its edits."""
+"""Reads the names in the sources of a crate: functions with their clauses, laws, types with an invariant, tests and edits."""
 import functools
 import os
 import re
@@ -13,7 +13,7 @@ GHOST = re.compile(rf"\s*ghost ({NAME})(:| =)")
 
 
 class Names:
-    """Of one crate. A function of a type or a trait is named with it; a clause without a name is the empty one."""
+    """The names of one crate. A function of a type or a trait has its name in front. A clause without a name has the empty name."""
 
     def __init__(self, folder):
         self.functions, self.public, self.laws, self.types, self.tests = {}, set(), set(), set(), set()
@@ -45,7 +45,7 @@ class Names:
                 self.read_ghost(owner, ghost[1], ghost[2] == ":")
 
     def read_ghost(self, owner, name, is_law):
-        """A law of a trait, an invariant, or what the impl of a trait says that a function is."""
+        """Reads a law of a trait, an invariant, or a ghost function that an impl of a trait defines."""
         if is_law:
             self.laws.add(f"{owner}::{name}")
         elif name == "invariant":
@@ -66,14 +66,14 @@ def files(pattern):
 
 @functools.cache
 def names_of(crate):
-    """The names of a crate below crates, or of the Rust crate."""
+    """The names of a crate below crates, or of the Rust crate, which is given by its path."""
     folder = crate if "/" in crate else f"crates/{crate}"
     return Names(folder)
 
 
 @functools.cache
 def words():
-    """Each word that stands in a source, a specification or a proof, in crates.txt or the drawn script, or in the name of a file beside these."""
+    """All words in sources, specifications and proofs, in crates.txt and the drawn script, and in the names of files in their folders."""
     crates, bindings = ("src/**/*.rt", "specs/**/*.antt", "proofs/**/*.antt"), ("c/*.[ch]", "rust/src/**/*.rs")
     sources = [*(f"crates/*/{it}" for it in crates), *(f"bindings/{it}" for it in bindings), "crates.txt", "crates/nw_picture/stdin"]
     texts = [content(path) for source in sources for path in paths(source)] + paths("crates/*/[mpsw]*/**/*") + paths("bindings/*/*")

@@ -1,16 +1,20 @@
 #!/usr/bin/env python3
-"""Times the checks of messages that are signed by Ed25519, beside OpenSSL on the same signatures.
+"""Times the checks of messages with Ed25519 signatures, and compares them with OpenSSL on the same signatures.
 
     bench/checks.py [--rounds N] [--runs R]
 
 A committee of 100 makes the messages of N rounds (2). Each block has 100 parents and 100 transactions of 512 bytes, and each certificate
 has the votes of 67 members. The program nw_bench, which `rt run` in crates/nw_bench makes, checks the blocks, the certificates, and both
-together, by 1, 2 and 4 workers. All times are in ms.
+together, with 1, 2 and 4 workers. All times are in ms. The columns are:
 
-`ms` is the least time of R runs (5), and `gain` says how many times as fast as by 1 worker that is. `machine` says how many times as much
-as one process so many get done at that time that only count. `OpenSSL` is the least processor time of R runs in which OpenSSL verifies
-the signatures alone on one thread (python3-cryptography), and `times` is ms / OpenSSL. `digests` is that of Python's SHA-256 for the
-bodies, which a check digests too. Last comes the load of the machine.
+- `ms`: the least time of R runs (5);
+- `gain`: how many times as fast as with 1 worker that is;
+- `machine`: how many times as much as one process, that many processes count at once at that time;
+- `OpenSSL`: the least processor time of R runs in which OpenSSL (python3-cryptography) verifies only the signatures on one thread;
+- `times`: ms / OpenSSL;
+- `digests`: the least processor time of Python's SHA-256 for the bodies, which a check digests too.
+
+The last line is the load of the machine.
 """
 import argparse
 import hashlib
@@ -33,14 +37,14 @@ TRANSACTIONS, LENGTH = 100, 512     # of a block, and the bytes of each
 
 
 class Claim(NamedTuple):
-    """What is signed: the member that signs, the text and the signature."""
+    """A claim: the member that signs, the text and the signature."""
     signer: int
     text: bytes
     signature: bytes
 
 
 class Signed(NamedTuple):
-    """A message, the bodies of blocks in it, and its signatures."""
+    """A message, the bodies of its blocks, and its signatures."""
     message: bytes
     bodies: list
     claims: list
@@ -58,7 +62,7 @@ def signed_certificate(members, block):
 
 
 def made(members, rounds):
-    """The blocks and the certificates of the rounds from 1 on, each block over all of the round before."""
+    """The blocks and the certificates of rounds 1, 2, .. Each block has all blocks of the preceding round as parents."""
     every, before = [], [Block(author, 0) for author in range(MEMBERS)]
     for round_ in range(1, rounds + 1):
         links = [block.link() for block in before]
@@ -69,7 +73,7 @@ def made(members, rounds):
 
 
 def written(folder, name, members, messages):
-    """The path of a file for nw_bench."""
+    """Writes a file for nw_bench. Returns its path."""
     path = os.path.join(folder, name)
     keys = [members.keys[i:i + 32] for i in range(0, len(members.keys), 32)]
     with open(path, "w") as lines:
@@ -78,7 +82,7 @@ def written(folder, name, members, messages):
 
 
 def checked(path, count, workers):
-    """The ms of one check by so many workers."""
+    """The ms of one check by this number of workers."""
     with open(path, "rb") as given:
         run = subprocess.run([CHECKER, "ed25519", str(MEMBERS), str(count), str(workers)], stdin=given, stdout=subprocess.PIPE, check=True)
     return float(run.stdout)
@@ -93,7 +97,7 @@ def processor_time(work, items):
 
 
 def measure(path, messages, keys, runs):
-    """The least ms by each number of workers, what the machine gave to as many, and the least ms of OpenSSL and of SHA-256."""
+    """The least ms for each number of workers, what the machine gave to that many processes, and the least ms of OpenSSL and SHA-256."""
     claims = [claim for message in messages for claim in message.claims]
     bodies = [body for message in messages for body in message.bodies]
     took, given = {workers: [] for workers in WORKERS}, {workers: [] for workers in WORKERS}
@@ -115,19 +119,20 @@ def main():
     parser = argparse.ArgumentParser(description=__doc__, formatter_class=argparse.RawDescriptionHelpFormatter)
     parser.add_argument("--rounds", type=int, default=2)
     parser.add_argument("--runs", type=int, default=5)
-    told = parser.parse_args()
+    options = parser.parse_args()
     if not os.access(CHECKER, os.X_OK):
         parser.error(f"no program at {CHECKER}: `rt run` in crates/nw_bench makes it")
     members, before = Members(MEMBERS), load()
     keys = [secret.public_key() for secret in members.secrets]
-    blocks, certificates = made(members, told.rounds)
-    print(f"a block has {len(blocks[0].message)} bytes, a certificate {len(certificates[0].message)}; the least of {told.runs} runs:")
+    blocks, certificates = made(members, options.rounds)
+    sizes = len(blocks[0].message), len(certificates[0].message)
+    print(f"a block has {sizes[0]} bytes, a certificate {sizes[1]}; the least of {options.runs} runs:")
     print("messages           signatures  workers        ms  gain  machine  messages/s  signatures/s   OpenSSL  times   digests")
     with tempfile.TemporaryDirectory(prefix="nw-checks-") as folder:
         together = [message for both in zip(blocks, certificates) for message in both]
         for name, messages in (("blocks", blocks), ("certificates", certificates), ("together", together)):
             count, signatures = len(messages), sum(len(message.claims) for message in messages)
-            took, given, verified, digested = measure(written(folder, name, members, messages), messages, keys, told.runs)
+            took, given, verified, digested = measure(written(folder, name, members, messages), messages, keys, options.runs)
             for workers, ms in took.items():
                 print(f"{count:5} {name:12} {signatures:10}  {workers:7}  {ms:8.1f}  {took[1] / ms:4.2f}  {given[workers]:7.2f}"
                       f"  {count / ms * 1000:10.0f}  {signatures / ms * 1000:12.0f}  {verified:8.1f}  {ms / verified:5.2f}  {digested:8.1f}")

@@ -1,12 +1,11 @@
 #!/usr/bin/env python3
-"""The reference of Ed25519's verification, by whole numbers and plain coordinates, and the vectors that it answers.
+"""A reference implementation of Ed25519's verification, and the test vectors that it answers.
 
-    bench/ed25519.py DIR             writes DIR/stdin (a line `key message signature` in hex each) and DIR/stdout (`yes` or `no`)
+    bench/ed25519.py DIR             writes DIR/stdin (lines `key message signature` in hex) and DIR/stdout (`yes` or `no` for each)
     bench/ed25519.py speed PROGRAM   times the program and OpenSSL on the same 10,000 signatures, by processor time
 
-Keys and signatures are made by python3-cryptography, which is OpenSSL; the answers are this file's own. The sum of points is
-the curve's law for x and y, with divisions, and the multiples go from the lowest bit up: other formulas and another order than
-the program's.
+python3-cryptography, which is OpenSSL, makes the keys and signatures; this file computes the answers. It uses Python's integers and other
+formulas than the program: sums of points are the curve's law for x and y, with divisions, and multiples start with the lowest bit.
 """
 import hashlib
 import os
@@ -22,7 +21,7 @@ I = pow(2, (P - 1) // 4, P)
 
 def added(a, b):
     m = D * a[0] * b[0] * a[1] * b[1] % P
-    both = pow(1 - m * m, -1, P)  # of 1 + m and of 1 - m
+    both = pow(1 - m * m, -1, P)  # the inverse of (1 + m)(1 - m)
     x = (a[0] * b[1] + b[0] * a[1]) * (1 - m) * both % P
     y = (a[1] * b[1] + a[0] * b[0]) * (1 + m) * both % P
     return x, y
@@ -117,7 +116,7 @@ def torsion():
 
 
 def small_orders(draw):
-    """Keys and R of small order, the encodings that are not canonical among them."""
+    """Keys and R of small order, also in encodings that are not canonical."""
     points = torsion()
     forms = {encoded(t) for t in points}
     forms |= {flipped(f, 255) for f in forms}
@@ -135,7 +134,7 @@ def small_orders(draw):
                 yield key, message, r + number(s)
 
 
-# The standard's vector of 1,023 bytes (RFC 8032, 7.1): its key, message and signature.
+# The standard's vector with a message of 1,023 bytes (RFC 8032, 7.1): its key, message and signature.
 LONG = (
     "278117fc144c72340f67d0f2316e8386ceffbf2b2428c9c51fef7c597f1d426e",
     (

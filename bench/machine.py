@@ -1,12 +1,12 @@
-"""What the machine gives to several processes at once. On a busy machine that is less than its cores."""
+"""Measures what the machine gives to several processes at once. On a busy machine this is less than its number of cores."""
 import os
 import time
 
-COUNTED = 1_000_000         # to which a process that tells what the machine gives counts
+COUNTED = 1_000_000         # the number up to which each process counts
 
 
 def counting(processes):
-    """The seconds that so many processes, which count and do nothing else, take at once."""
+    """The seconds that this number of processes take at once. They only count."""
     start, pids = time.monotonic(), []
     for _ in range(processes):
         pid = os.fork()
@@ -21,5 +21,5 @@ def counting(processes):
 
 
 def gains(seconds):
-    """How many times as much as one process so many get done, by the least of their times."""
+    """How many times as much as one process each number of processes gets done, by the least of their times."""
     return {processes: processes * min(seconds[1]) / min(times) for processes, times in seconds.items()}

@@ -1,9 +1,10 @@
-/* A validator of a committee of four takes a block and its certificate, and reads the block with its causal history.
+/* An example of a validator in C. It stores a block and its certificate, and reads the block causally.
 
        cc -std=c99 -I bindings/c bindings/c/example.c bindings/c/alloc.c bindings/prebuilt/x86_64-linux/libnw.a -o /tmp/example
        /tmp/example
 
-   The messages were signed by OpenSSL. Each line shows what was answered; the status is 1 if memory ran out. */
+   OpenSSL signed the messages. The committee has four members. Each printed line has a call and its code. The exit status is 1 if memory
+   runs out. */
 #include "nw.h"
 #include <stdio.h>
 #include <stdlib.h>
@@ -16,7 +17,7 @@ static const char KEYS[] = "b1e281447549fd943d16645ad3dc9eadac410bf57b088568b283
 /* The first member's block of round 0, with the transaction "x". */
 static const char BLOCK[] = "01010000000000000000000000010000000178100df078007058a2a433eb0e865f10d7120fa20e3f6c89ac9c35510f7d4e6a92"
 			    "faa7cc8417b30d9dbcdbc42b864b0828ad172bee46ecebf8f0aa3572d4c65406";
-/* Its certificate by members 0, 1 and 3. */
+/* The block's certificate, with the votes of members 0, 1 and 3. */
 static const char CERTIFICATE[] = "02ad5f105076afa169e3887acc36005405d73a816843e97e749449384f3c19f2050000000000000000000300009af1d253"
 				  "3135fb248c8f10d4cc4553277987ca1d852e79d4f63b0762f35cfe4177e47693ee5d3b12f7c6687209012153b24a019108"
 				  "72017e1ac6663d4d51940b0001f5ec3d8ffa342a1d86a25996f8a9197715ada0a4304927a1dd8283bda92c8821f86c1eae"

@@ -1,6 +1,6 @@
-"""The verified block store of a Narwhal validator, in Python: for trying and testing, in a shell.
+"""The verified block store of a Narwhal validator, for trials and tests in a Python shell.
 
-It is a thin layer of ctypes over the C interface (bindings/c/nw.h). For a validator use the Rust crate or C. Make the shared object first:
+It is a thin ctypes layer over the C interface (bindings/c/nw.h). For a validator use the Rust crate or C. Build the shared object first:
 
     bindings/python/make && cd bindings/python && python3           # make writes bindings/out/libnw.so
     >>> from nw import Committee, Store, HERE
@@ -14,7 +14,7 @@ It is a thin layer of ctypes over the C interface (bindings/c/nw.h). For a valid
     [True]
 
 Keys, digests and messages are bytes-like objects or strings of hex digits; a slot has its digest in hex. A wrong length or a number out of
-range raises ValueError. Calls raise NwError with the name of the code, as nw.h lists it. One Store is one session: use it in one thread.
+range raises ValueError. A refused call raises NwError with the name of its code in nw.h. A Store has one session: use it in one thread.
 """
 import ctypes
 import os
@@ -30,7 +30,7 @@ except OSError as why:
 
 
 def names(what):
-    """The names of the codes in the enum of nw.h that this comment stands before."""
+    """The names of the codes in the enum of nw.h that follows this comment."""
     with open(f"{HERE}/../c/nw.h") as file:
         body = re.search(rf"/\* {re.escape(what)} \*/\nenum {{(.*?)\n}};", file.read(), re.S)[1]
     return {int(number): name for name, number in re.findall(r"\bNW_(\w+) = (\d+),", body)}
@@ -54,7 +54,7 @@ Status = record("Status", floor=c_uint64, blocks=c_uint64, certificates=c_uint64
 
 
 class NwError(Exception):
-    """A code other than NW_DONE."""
+    """A call returned a code other than NW_DONE. The text is the code's name in nw.h."""
 
 
 def call(name, *arguments):
@@ -73,7 +73,7 @@ def text(name, *arguments):
 
 
 def octets(value, length=None):
-    """The bytes of a bytes-like object or of a string of hex digits, as an array of ctypes."""
+    """The bytes of a bytes-like object or of a string of hex digits, as a ctypes array. A wrong length raises ValueError."""
     given = bytes.fromhex(value) if isinstance(value, str) else bytes(memoryview(value))
     if length not in (None, len(given)):
         raise ValueError(f"{len(given)} bytes were given: {length} are needed")
@@ -81,7 +81,7 @@ def octets(value, length=None):
 
 
 def number(value, kind):
-    """The number as an unsigned integer of ctypes."""
+    """The number as an unsigned ctypes integer. A number out of range raises ValueError."""
     if not 0 <= value < 1 << 8 * ctypes.sizeof(kind):
         raise ValueError(f"{value} is outside the range of {kind.__name__[2:]}")
     return kind(value)
@@ -104,12 +104,12 @@ class Handle:
 
 
 def place(slot):
-    """Round, author and the digest in hex."""
+    """The round, the author and the digest in hex."""
     return slot.round, slot.author, bytes(slot.digest.bytes).hex()
 
 
 class Committee(Handle):
-    """Members as pairs of a key and a weight."""
+    """A committee. Its members are pairs of a key and a weight."""
 
     def __init__(self, members):
         members = [Member(octets(key, 32), number(weight, c_uint32)) for key, weight in members]
@@ -121,7 +121,7 @@ class Committee(Handle):
 
 
 class Checked(Handle):
-    """A checked text. `kind` is BLOCK, CERTIFICATE, VOTE, or the rule that the text breaks."""
+    """The result of a message's check. `kind` is BLOCK, CERTIFICATE, VOTE, or the rule that the message breaks."""
 
     kind = property(lambda self: KINDS[self.read("checked_told", Message).kind])
     slot = property(lambda self: place(self.read("checked_told", Message).slot))
@@ -133,7 +133,7 @@ class Block(Handle):
 
 
 class Store(Handle):
-    """A book of one session. Each call returns the name of its reply, or what the reply holds."""
+    """A book with one session. Each call returns the name of its reply, or the reply's content."""
 
     def __init__(self, committee, blocks=65_536, events=65_536, window=4_096):
         limits = (number(limit, c_uint32) for limit in (blocks, events, window, 1))
@@ -146,7 +146,7 @@ class Store(Handle):
         return REPLIES[self.answer.read("answer_reply", Told).kind]
 
     def take(self, checked):
-        """Writes a checked block, or hands in a checked certificate."""
+        """Writes a checked block, or certifies with a checked certificate."""
         return self.make("book_take", checked.ref)
 
     def read_block(self, digest):
@@ -171,8 +171,8 @@ class Store(Handle):
 
     def status(self):
         self.make("book_status")
-        told = self.answer.read("answer_status", Status)
-        return {name: getattr(told, name) for name, _ in Status._fields_}
+        status = self.answer.read("answer_status", Status)
+        return {name: getattr(status, name) for name, _ in Status._fields_}
 
     def history(self):
         """The events that explain the last answer: session, number, call and reply."""

@@ -1,4 +1,4 @@
-"""Tries nw.py with the messages of bindings/c/example.c, and ends with status 1 if an answer is another."""
+"""Tests nw.py with the messages of bindings/c/example.c. The exit status is 1 if a result is not the expected one."""
 import doctest
 import re
 

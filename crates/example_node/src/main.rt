@@ -1,9 +1,10 @@
-//! A node of one thread over the store: it checks the messages of a committee, keeps them, and reads blocks causally.
+//! A single-threaded node that checks a committee's messages, stores them, and reads blocks causally.
 //!
-//! Each line of standard input is a message in hex, or `causal` and a digest in hex. Of each message the node prints what became of it,
-//! and of each causal read the blocks that the walk lists. docs/EMBEDDING.md explains the program.
+//! Each line of standard input is a message in hex, or `causal` and a digest in hex. For each message the node prints the result, and
+//! for each causal read the listed blocks. docs/EMBEDDING.md explains the program.
 //!
-//! The exit status is 1 if a line is neither, if the input can't be read or the output written, or if memory runs out.
+//! The program ends with status 1 at the first line of another form and at the first refused call. It does so too if reading, writing or an
+//! allocation fails. After 1,024 calls the history is full, and the next call is refused.
 #![tactic(auto)]
 
 ghost use Rattle.std.specs.Prelude.{◌≡◌};
@@ -43,7 +44,7 @@ fn main(rt: HostRuntime) -> Result<()> {
     open(&rt, rt.alloc())
 }
 
-/// Opens the store of the committee, and takes the input.
+/// Makes the committee and an opening, and runs the node on a new store.
 fn open<R: Wait + Input + Print>(rt: &R, alloc: Global) -> Result<()> {
     let mut keys = Vec::new(alloc);
     for key in KEYS {
@@ -55,7 +56,7 @@ fn open<R: Wait + Input + Print>(rt: &R, alloc: Global) -> Result<()> {
     run::<Brand, R>(rt, alloc, &shared, opening, committee, LIMITS)
 }
 
-/// Takes the input on the store that `L` names.
+/// Opens the store named by `L`, and runs the node on it.
 fn run<L: Home, R: Wait + Input + Print>(
     rt: &R,
     alloc: Global,
@@ -77,14 +78,14 @@ fn run<L: Home, R: Wait + Input + Print>(
             store: &store,
             session,
         }
-        .take_all(),
+        .handle_lines(),
         Err(refused) => Err(refused.into()),
     };
     drop(store);
     outcome
 }
 
-/// The store, with the one session that makes all calls.
+/// A store and its one session, which makes all calls.
 #[derive(Drop)]
 struct Node<'a, L: Home, R> {
     rt: &'a R,
@@ -95,33 +96,33 @@ struct Node<'a, L: Home, R> {
 }
 
 impl<'a, L: Home, R: Wait + Input + Print> Node<'a, L, R> {
-    /// Takes each line of the input.
-    fn take_all(mut self) -> Result<()> {
+    /// Handles each line of the input.
+    fn handle_lines(mut self) -> Result<()> {
         for line in self.rt.lines(self.alloc) {
             let line = line?;
             match line.as_str().strip_prefix("causal ") {
                 Some(digest) => self.read(Digest(<[u8; 32] as FromHex>::from_hex(digest)?))?,
-                None => self.take(line.as_str())?,
+                None => self.handle_message(line.as_str())?,
             }
         }
         Ok(())
     }
 
-    /// Checks a message, which takes no lock, and hands in the block or the certificate that it is.
-    fn take(&mut self, line: &str) -> Result<()> {
+    /// Checks a message without the store's lock. Then stores its block or certificate, and prints the result.
+    fn handle_message(&mut self, line: &str) -> Result<()> {
         let text = hex::decode(self.alloc, line)?;
         match check_message(self.alloc, self.committee, text.as_slice())? {
             Checked::Block(block) => {
                 let done = self
                     .store
                     .write(self.rt, self.alloc, &mut self.session, &block)?;
-                self.tell(block.digest(), &done)
+                self.print_reply(block.digest(), &done)
             }
             Checked::Cert(certificate) => {
                 let done = self
                     .store
                     .certify(self.rt, self.alloc, &mut self.session, &certificate)?;
-                self.tell(certificate.digest(), &done)
+                self.print_reply(certificate.digest(), &done)
             }
             Checked::Vote(vote) => Ok(println!(self.rt; "a vote by member {}", vote.signer)?),
             Checked::BadText(fault) => Ok(println!(self.rt; "refused: {fault}")?),
@@ -130,8 +131,8 @@ impl<'a, L: Home, R: Wait + Input + Print> Node<'a, L, R> {
         }
     }
 
-    /// Prints what the store answered.
-    fn tell(&self, digest: Digest, done: &Done<Ed25519>) -> Result<()> {
+    /// Prints the store's reply.
+    fn print_reply(&self, digest: Digest, done: &Done<Ed25519>) -> Result<()> {
         let digest = hex::encode(self.alloc, digest.0)?;
         match done.reply() {
             // A validator signs `vote_text` here, and sends the vote.
@@ -143,16 +144,16 @@ impl<'a, L: Home, R: Wait + Input + Print> Node<'a, L, R> {
         Ok(())
     }
 
-    /// Reads the digest causally, and prints the blocks that the walk lists.
+    /// Reads the digest causally, and prints the listed blocks, or the reply if there is no ticket.
     fn read(&mut self, digest: Digest) -> Result<()> {
         match self
             .store
             .open_causal(self.rt, self.alloc, &mut self.session, digest)?
         {
-            Err(done) => self.tell(digest, &done),
+            Err(done) => self.print_reply(digest, &done),
             Ok(ticket) => {
                 for block in ticket.walk(self.alloc)? {
-                    self.print(block.get())?;
+                    self.print_block(block.get())?;
                 }
                 Ok(())
             }
@@ -160,7 +161,7 @@ impl<'a, L: Home, R: Wait + Input + Print> Node<'a, L, R> {
     }
 
     /// Prints the slot and the transactions of a block.
-    fn print(&self, block: &Block) -> Result<()> {
+    fn print_block(&self, block: &Block) -> Result<()> {
         print!(self.rt; "round {}, author {}:", block.round.get(), block.author)?;
         for transaction in block.transactions.iter() {
             print!(self.rt; " {:?}", str::from_utf8(transaction).unwrap_or("bytes"))?;

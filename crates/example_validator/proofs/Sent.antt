@@ -1,4 +1,4 @@
--- What is decided, what the thread of the consensus owns, and what it hands back, may cross to another thread.
+-- Consensus, Decider and Decided may cross to another thread.
 use denote.RattleType.{RattleType}
 use denote.Ref.{NamedLft}
 use denote.Param.Send.{IsSend, IsSync, sendable}

@@ -1,4 +1,4 @@
-//! The consensus: it decides leaders, and gives out the blocks of their causal reads in one order.
+//! The consensus: it decides leaders, and delivers the blocks of their causal lists in one order.
 ghost use Rattle.std.specs.Prelude.{IfOk, IsTrue};
 ghost use Rattle.nw_book.specs.Ticket.{HaveOneList};
 
@@ -11,35 +11,35 @@ use nw_store::{Agreement, Block, Digest, Home, NoMemory, Round, Session, Shared,
 use std::alloc::Global;
 use std::sync::Wait;
 
-/// A round and an author, of which one block is certified at most.
+/// A round and an author. At most one of its blocks is certified.
 #[derive(Clone, Copy, Debug, PartialEq, Eq)]
 pub(crate) struct Slot {
     pub(crate) round: Round,
     pub(crate) author: u16,
 }
 
-/// A slot, and the digest that is certified for it.
+/// A slot and its certified digest.
 #[derive(Clone, Copy, Debug, PartialEq, Eq)]
 pub(crate) struct Certified {
     pub(crate) slot: Slot,
     pub(crate) digest: Digest,
 }
 
-/// What is decided. It outlives the store.
+/// The decisions so far. They outlive the store.
 #[derive(Drop)]
 pub(crate) struct Consensus {
     /// The round whose leader is decided next.
     next: u64,
-    /// Leaders that are certified.
+    /// The certified leaders.
     leaders: Vec<Certified>,
-    /// The blocks that were given out, in their order.
+    /// The delivered blocks, in order.
     pub(crate) order: Vec<Slot>,
-    /// The causal read of the last leader that was decided.
+    /// The causal read of the last decided leader.
     pub(crate) last: Option<Ticket<NetworkScheme>>,
 }
 
 impl Consensus {
-    /// Nothing is decided yet.
+    /// A consensus without decisions.
     pub(crate) fn new(alloc: Global) -> Consensus {
         Consensus {
             next: 2,
@@ -49,8 +49,8 @@ impl Consensus {
         }
     }
 
-    /// Keeps the leaders among what was certified.
-    fn hear(&mut self, certified: &[Certified]) -> Result<(), End> {
+    /// Keeps the leaders among the certified digests.
+    fn add_leaders(&mut self, certified: &[Certified]) -> Result<(), End> {
         for one in certified {
             if is_leader(one.slot) {
                 self.leaders.push(*one)?;
@@ -59,8 +59,8 @@ impl Consensus {
         Ok(())
     }
 
-    /// The digest of the leader that is decided next, if it is certified.
-    fn leader(&self) -> Option<Digest> {
+    /// The digest of the next leader to decide, if it is certified.
+    fn next_leader(&self) -> Option<Digest> {
         let leader = self
             .leaders
             .iter()
@@ -68,8 +68,8 @@ impl Consensus {
         Some(leader.digest)
     }
 
-    /// Gives out the blocks that were not given out yet, in this order.
-    fn give_out(&mut self, blocks: &[Shared<Block>]) -> Result<(), End> {
+    /// Delivers the blocks that it has not delivered yet, in this order.
+    fn deliver(&mut self, blocks: &[Shared<Block>]) -> Result<(), End> {
         for block in blocks {
             let slot = Slot {
                 round: block.get().round,
@@ -83,13 +83,13 @@ impl Consensus {
     }
 }
 
-/// Whether the author leads the round: every second round has a leader, by turns.
+/// Whether the author leads the round: every second round has a leader, in round-robin order.
 fn is_leader(slot: Slot) -> bool {
     let round = slot.round.get();
     round % 2 == 0 && round / 2 % u64::from(MEMBERS) == u64::from(slot.author)
 }
 
-/// What the thread of the consensus owns.
+/// The values of the consensus thread.
 #[derive(Drop)]
 pub(crate) struct Decider<'a, L: Home, R> {
     pub(crate) host: &'a Host<'a, R>,
@@ -99,7 +99,7 @@ pub(crate) struct Decider<'a, L: Home, R> {
     pub(crate) intake: Receiver<Vec<Certified>>,
 }
 
-/// What the thread of the consensus hands back, and why it ended.
+/// The values that the consensus thread returns, and how it ended.
 #[derive(Drop)]
 pub(crate) struct Decided<L: Home> {
     pub(crate) session: Session<NetworkScheme, L>,
@@ -108,9 +108,9 @@ pub(crate) struct Decided<L: Home> {
 }
 
 impl<'a, L: Home, R: Wait> Decider<'a, L, R> {
-    /// Decides until the intake ends.
+    /// Decides leaders until the intake ends.
     pub(crate) fn run(mut self) -> Decided<L> {
-        let outcome = self.hear_all();
+        let outcome = self.run_all();
         Decided {
             session: self.session,
             consensus: self.consensus,
@@ -118,39 +118,39 @@ impl<'a, L: Home, R: Wait> Decider<'a, L, R> {
         }
     }
 
-    /// Decides leaders as the intake tells what is certified, until it ends.
-    fn hear_all(&mut self) -> Result<(), End> {
+    /// Decides leaders each time when the intake sends certified digests, until it ends.
+    fn run_all(&mut self) -> Result<(), End> {
         for _ in 0..u64::MAX {
             let Ok(certified) = self.intake.recv(self.host.rt) else {
                 return Ok(());
             };
-            again!(self.consensus.hear(&certified))?;
+            retry_once!(self.consensus.add_leaders(&certified))?;
             self.decide_all()?;
         }
         Ok(())
     }
 
-    /// Decides one leader after the other, as long as they are complete.
+    /// Decides one leader after the other, until the next one is not complete.
     fn decide_all(&mut self) -> Result<(), End> {
         for _ in 0..u64::MAX {
-            if !again!(self.decide())? {
+            if !retry_once!(self.decide())? {
                 return Ok(());
             }
         }
         Ok(())
     }
 
-    /// Decides the next leader, if it is complete, and raises the garbage round to the one before it.
+    /// Decides the next leader if it is complete, and raises the garbage round to the round before it. Returns whether it did.
     fn decide(&mut self) -> Result<bool, End> {
-        let Some(digest) = self.consensus.leader() else {
+        let Some(digest) = self.consensus.next_leader() else {
             return Ok(false);
         };
         let Some(ticket) = self.open(digest)? else {
             return Ok(false);
         };
-        let given = self.walk(&ticket);
+        let delivered = self.walk(&ticket);
         self.consensus.last = Some(ticket);
-        given?;
+        delivered?;
         let floor = Round::new(self.consensus.next.saturating_sub(1)).unwrap_or(Round::ZERO);
         let Host { rt, alloc, .. } = *self.host;
         drop(self.store.collect(rt, alloc, &mut self.session, floor)?);
@@ -166,23 +166,23 @@ impl<'a, L: Home, R: Wait> Decider<'a, L, R> {
             .open_causal(rt, alloc, &mut self.session, digest)?
         {
             Ok(ticket) => Ok(Some(ticket)),
-            Err(why_not) => {
-                drop(why_not);
+            Err(refusal) => {
+                drop(refusal);
                 Ok(None)
             }
         }
     }
 
-    /// Gives out what the ticket lists. It takes no lock, so the intake goes on meanwhile.
+    /// Delivers the ticket's causal list. It takes no lock of the store, so the intake continues meanwhile.
     fn walk(&mut self, ticket: &Ticket<NetworkScheme>) -> Result<(), End> {
         let blocks = ticket.walk(self.host.alloc)?;
-        let given = self.consensus.give_out(&blocks);
+        let delivered = self.consensus.deliver(&blocks);
         drop(blocks);
-        given
+        delivered
     }
 }
 
-/// Whether the lists of two tickets are equal, which are for one digest and have one garbage round.
+/// Whether the lists of two tickets are equal. It is `false` if the tickets have different digests or garbage rounds.
 pub(crate) fn have_one_list(
     alloc: Global,
     one: &Ticket<NetworkScheme>,

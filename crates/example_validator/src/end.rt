@@ -11,19 +11,19 @@ use thiserror::Error;
 /// Why a validator ends.
 #[derive(Clone, Copy, Debug, Error)]
 pub(crate) enum End {
-    #[error("memory is refused")]
+    #[error("out of memory")]
     NoMemory,
     #[error("the output can't be written")]
     NotWritten,
-    #[error("the example asks for no such thing")]
-    Unasked,
-    #[error("a call is refused: {0}")]
+    #[error("this does not happen in the example")]
+    Unexpected,
+    #[error("a call was refused: {0}")]
     Step(#[from] NoStep),
-    #[error("messages are not checked: {0}")]
+    #[error("messages were not checked: {0}")]
     Intake(#[from] IntakeFault),
-    #[error("no store is opened: {0}")]
+    #[error("no store was opened: {0}")]
     Book(#[from] BookError),
-    #[error("no session is made: {0}")]
+    #[error("no session was made: {0}")]
     Session(#[from] TooMany),
     #[error("no committee: {0}")]
     Committee(#[from] CommitteeFault),

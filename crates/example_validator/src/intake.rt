@@ -1,4 +1,4 @@
-//! The intake: it checks what the network sends, and writes and certifies it.
+//! The intake: it checks the network's messages, and stores their blocks and certificates.
 use crate::consensus::{Certified, Slot};
 use crate::end::End;
 use crate::scheme::NetworkScheme;
@@ -11,30 +11,30 @@ use nw_store::{Home, Session, Store};
 use std::sync::Wait;
 use std::thread::Threads;
 
-/// A message, as it comes from the network.
+/// The bytes of a message from the network.
 pub(crate) type Text = Vec<u8>;
-/// Where messages come, some at once. It ends where nobody sends any more.
+/// The channel of the network's messages, in batches. It ends after the last sender is dropped.
 pub(crate) type Inbox = Receiver<Vec<Text>>;
 
-/// By how many threads messages are checked.
+/// The number of threads that check messages.
 const WORKERS: usize = 2;
 
-/// How many messages are checked at once, at most.
+/// The most messages that are checked at once.
 const MOST_TEXTS: usize = 1024;
 
-/// What the thread of the intake owns.
+/// The values of the intake thread.
 #[derive(Drop)]
 pub(crate) struct Intake<'a, L: Home, R> {
     pub(crate) host: &'a Host<'a, R>,
     pub(crate) store: &'a Store<NetworkScheme, L>,
     pub(crate) session: Session<NetworkScheme, L>,
     pub(crate) inbox: &'a Inbox,
-    /// Messages of blocks that may be stored later.
+    /// The messages of refused blocks that may be stored later.
     pub(crate) kept: Vec<Text>,
     pub(crate) consensus: Sender<Vec<Certified>>,
 }
 
-/// What the thread of the intake hands back, and why it ended.
+/// The values that the intake thread returns, and how it ended.
 #[derive(Drop)]
 pub(crate) struct Taken<L: Home> {
     pub(crate) session: Session<NetworkScheme, L>,
@@ -43,9 +43,9 @@ pub(crate) struct Taken<L: Home> {
 }
 
 impl<'a, L: Home, R: Threads + Wait + Sync> Intake<'a, L, R> {
-    /// Takes what comes, until the inbox ends.
+    /// Stores messages until the inbox ends.
     pub(crate) fn run(mut self) -> Taken<L> {
-        let outcome = self.take_all();
+        let outcome = self.store_all();
         Taken {
             session: self.session,
             kept: self.kept,
@@ -53,27 +53,28 @@ impl<'a, L: Home, R: Threads + Wait + Sync> Intake<'a, L, R> {
         }
     }
 
-    /// Takes one batch after another, until the inbox ends.
-    fn take_all(&mut self) -> Result<(), End> {
+    /// Stores one batch after another, each with the kept messages, until the inbox ends.
+    fn store_all(&mut self) -> Result<(), End> {
         for _ in 0..u64::MAX {
             let Ok(mut texts) = self.inbox.recv(self.host.rt) else {
                 return Ok(());
             };
-            again!(texts.append(&mut self.kept))?;
-            self.kept = again!(self.take(&texts))?;
+            retry_once!(texts.append(&mut self.kept))?;
+            self.kept = retry_once!(self.check_and_store(&texts))?;
         }
         Ok(())
     }
 
-    /// Checks the messages, and takes them: those of blocks that may be stored later. Asked again, it finds most of them there.
-    fn take(&mut self, texts: &[Text]) -> Result<Vec<Text>, End> {
+    /// Checks and stores the messages, and returns those of blocks that may be stored later. If it is repeated after a refusal, the store
+    /// has most of them already.
+    fn check_and_store(&mut self, texts: &[Text]) -> Result<Vec<Text>, End> {
         let checked = self.check(texts)?;
-        let kept = self.take_checked(texts, &checked);
+        let kept = self.store_checked(texts, &checked);
         drop(checked);
         kept
     }
 
-    /// Checks the messages, by several threads. A check uses its texts up, so it gets copies.
+    /// Checks the messages on several threads. `check_all` consumes its input, so it gets copies.
     fn check(&self, texts: &[Text]) -> Result<Vec<Checked<NetworkScheme>>, End> {
         let Host {
             rt,
@@ -85,13 +86,13 @@ impl<'a, L: Home, R: Threads + Wait + Sync> Intake<'a, L, R> {
             copies.push(text.to_vec(alloc)?)?;
         }
         if copies.len() > MOST_TEXTS {
-            return Err(End::Unasked);
+            return Err(End::Unexpected);
         }
         Ok(check_all(rt, alloc, committee, copies, WORKERS, &FreeGate)?)
     }
 
-    /// Takes certificates before blocks: so a certified block is stored, though another one of its slot came first.
-    fn take_checked(
+    /// Stores certificates before blocks. So a certified block is stored even if another block of its slot came first.
+    fn store_checked(
         &mut self,
         texts: &[Text],
         checked: &[Checked<NetworkScheme>],
@@ -114,7 +115,7 @@ impl<'a, L: Home, R: Threads + Wait + Sync> Intake<'a, L, R> {
         Ok(kept)
     }
 
-    /// Certifies what the certificate is for, and tells what that is.
+    /// Stores the certificate, and returns its slot and digest.
     fn certify(&mut self, certificate: &CheckedCert<NetworkScheme>) -> Result<Certified, End> {
         let Host { rt, alloc, .. } = *self.host;
         drop(
@@ -130,7 +131,8 @@ impl<'a, L: Home, R: Threads + Wait + Sync> Intake<'a, L, R> {
         Ok(Certified { slot, digest })
     }
 
-    /// Writes the block: whether it is to be written again later, since it is early, or not certified and not the first of its slot.
+    /// Writes the block, and returns whether to write it again later. That is so if the store is full or the round is too far ahead. It is
+    /// also so if another block of the slot came first and this block is not certified.
     fn write(&mut self, block: &CheckedBlock<NetworkScheme>) -> Result<bool, End> {
         let Host { rt, alloc, .. } = *self.host;
         let done = self.store.write(rt, alloc, &mut self.session, block)?;

@@ -1,16 +1,16 @@
-//! An example: four validators, each with a store of its own, put the blocks of one network into one order.
+//! An example of a consensus layer: four validators, each with its own store, put the blocks of one network into one order.
 //!
-//! `scheme` says how the network signs, and `messages` makes what it sends. Of each validator one thread takes what comes
-//! (`intake`) and another decides (`consensus`); `validator` opens the store for both, settles and reopens it. docs/EMBEDDING.md
-//! walks through all of it. The exit status is 1 where memory is refused twice, or the output can't be written.
+//! `scheme` is the network's signature scheme, and `messages` makes the network's messages. Each validator has two threads: one stores
+//! the messages (`intake`), and the other decides (`consensus`). `validator` opens their store, settles it and reopens it.
+//! docs/EMBEDDING.md explains the program. The exit status is 1 if memory runs out twice at one place, or if the output can't be written.
 #![tactic(auto)]
 
-/// What the call answers; where it is refused, what it answers when it is asked again. A refusal changes nothing.
-macro_rules! again {
-    ($ask:expr) => {
-        match $ask {
-            Err(_) => $ask,
-            answer => answer,
+/// The result of the call, or of a second attempt if the first is refused. Use it only for calls that can be repeated.
+macro_rules! retry_once {
+    ($call:expr) => {
+        match $call {
+            Err(_) => $call,
+            result => result,
         }
     };
 }
@@ -41,7 +41,7 @@ fn main(rt: HostRuntime) -> ExitCode {
 
 /// Makes the messages of the network, and runs the validators on them.
 fn run<R: Threads + Wait + Sync, W: Write>(rt: &R, alloc: Global, out: &mut W) -> Result<(), End> {
-    let network = again!(Network::new(alloc))?;
+    let network = retry_once!(Network::new(alloc))?;
     let mut validators = Vec::new(alloc);
     let outcome = run_all(rt, alloc, &network, &mut validators, out);
     drop(validators);
@@ -49,7 +49,7 @@ fn run<R: Threads + Wait + Sync, W: Write>(rt: &R, alloc: Global, out: &mut W) -
     outcome
 }
 
-/// Runs one validator after the other, and prints what they decided.
+/// Runs one validator after the other, and prints their orders.
 fn run_all<R: Threads + Wait + Sync, W: Write>(
     rt: &R,
     alloc: Global,
@@ -64,13 +64,17 @@ fn run_all<R: Threads + Wait + Sync, W: Write>(
         committee,
     };
     for number in 0..MEMBERS {
-        again!(validators.push(Validator::new(alloc)))?;
+        retry_once!(validators.push(Validator::new(alloc)))?;
         if let Some(validator) = validators.last_mut() {
             run_validator(&host, validator, network, number)?;
         }
     }
     let agree = match validators.as_slice() {
-        [one, other, ..] => again!(have_one_last_list(alloc, &one.consensus, &other.consensus))?,
+        [one, other, ..] => retry_once!(have_one_last_list(
+            alloc,
+            &one.consensus,
+            &other.consensus
+        ))?,
         _ => false,
     };
     match print(validators, agree, out) {
@@ -79,7 +83,7 @@ fn run_all<R: Threads + Wait + Sync, W: Write>(
     }
 }
 
-/// Whether the lists of the last leader are equal.
+/// Whether both decided a last leader, and its lists are equal.
 fn have_one_last_list(alloc: Global, one: &Consensus, other: &Consensus) -> Result<bool, End> {
     match (&one.last, &other.last) {
         (Some(one), Some(other)) => Ok(have_one_list(alloc, one, other)?),
@@ -87,7 +91,7 @@ fn have_one_last_list(alloc: Global, one: &Consensus, other: &Consensus) -> Resu
     }
 }
 
-/// Prints the order of each validator, its blocks by round and author, and what is equal.
+/// Prints the order of each validator, with its blocks by round and author, and whether lists and orders are equal.
 fn print<W: Write>(validators: &[Validator], agree: bool, out: &mut W) -> io::Result<()> {
     let mut equal = true;
     for (number, validator) in validators.iter().enumerate() {

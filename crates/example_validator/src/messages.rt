@@ -16,16 +16,16 @@ use std::alloc::Global;
 use std::ops::Range;
 use std::sync::Wait;
 
-/// How many validators there are.
+/// The number of validators.
 pub(crate) const MEMBERS: u16 = 4;
-/// The round and author of two blocks, and those of a block that comes with a bad signature, too.
+/// The round and author with two blocks.
 const TWO_BLOCKS: (u64, u16) = (3, 1);
-
+/// The round and author of the block that also comes with a bad signature.
 const BAD_SIGNATURE: (u64, u16) = (5, 2);
-/// How many messages come at once.
-const AT_ONCE: usize = 5;
+/// The number of messages in a batch.
+const BATCH: usize = 5;
 
-/// The committee, and all messages: of seven rounds, and of two more.
+/// The committee and all messages: those of the first seven rounds, and those of two more.
 #[derive(Drop)]
 pub(crate) struct Network {
     pub(crate) committee: Shared<Committee>,
@@ -34,7 +34,7 @@ pub(crate) struct Network {
 }
 
 impl Network {
-    /// The network of four members, of whom each makes a block in each round, for which all vote.
+    /// A network of four members. Each member makes a block in each round, and all vote for it.
     pub(crate) fn new(alloc: Global) -> Result<Network, End> {
         let mut keys = Vec::new(alloc);
         for member in 0..MEMBERS {
@@ -55,7 +55,8 @@ fn key(member: u16) -> Key {
     Key([member.to_be_bytes()[1]; 32])
 }
 
-/// The messages of the rounds, whose first has these blocks before it.
+/// The messages of the rounds. It takes references to the blocks of the preceding round in `blocks`, and leaves those of the last round
+/// there.
 fn rounds(
     alloc: Global,
     rounds: Range<u64>,
@@ -75,7 +76,7 @@ fn rounds(
     Ok(texts)
 }
 
-/// The blocks, without that of one author.
+/// The blocks without that of one author.
 fn all_but(alloc: Global, blocks: &[Ref], author: u32) -> Result<Vec<Ref>, End> {
     let mut others = Vec::new(alloc);
     for block in blocks {
@@ -86,7 +87,7 @@ fn all_but(alloc: Global, blocks: &[Ref], author: u32) -> Result<Vec<Ref>, End> 
     Ok(others)
 }
 
-/// Adds the messages of the slot, and gives the digest of its block.
+/// Adds the messages of the slot, and returns the digest of its block.
 fn add_messages(
     alloc: Global,
     slot: (u64, u16),
@@ -109,7 +110,7 @@ fn add_messages(
     Ok(digest)
 }
 
-/// The digest of the slot's block with this transaction, and its message, which ends with the signature.
+/// The slot's block with this transaction: its digest and its message, which ends with the signature.
 fn signed_block(
     alloc: Global,
     (round, author): (u64, u16),
@@ -125,14 +126,14 @@ fn signed_block(
         transactions,
     };
     if !block.fits() {
-        return Err(End::Unasked);
+        return Err(End::Unexpected);
     }
     let digest = block_digest(&block);
     let signature = sign(key(author), &block_text(&digest));
     Ok((digest, encode_block(alloc, &block, &signature)?))
 }
 
-/// The message of the certificate of the slot's block, for which all members vote.
+/// The message of the certificate for the slot's block, with the votes of all members.
 fn certificate(alloc: Global, (round, author): (u64, u16), digest: Digest) -> Result<Text, End> {
     let round = Round::new(round).unwrap_or(Round::ZERO);
     let mut votes = Vec::new(alloc);
@@ -150,7 +151,7 @@ fn certificate(alloc: Global, (round, author): (u64, u16), digest: Digest) -> Re
     Ok(encode_message(alloc, &Message::Certificate(certificate))?)
 }
 
-/// The messages in an order that is the validator's own: a few late, and a few twice. Nobody sends more.
+/// An inbox with the messages in the validator's own order: a few are late, and a few come twice. It has no further sender.
 pub(crate) fn inbox<R: Wait>(
     rt: &R,
     alloc: Global,
@@ -160,16 +161,16 @@ pub(crate) fn inbox<R: Wait>(
     let mut random = Pcg32::new(7, u64::from(validator) + 1);
     let mut arrivals = Vec::new(alloc);
     for (place, text) in texts.iter().enumerate() {
-        let (word, sent) = (random.next_word(), 4 * (place % 1024) as u32);
+        let (word, time) = (random.next_word(), 4 * (place % 1024) as u32);
         let late = if word % 16 == 1 { 150 } else { 0 };
-        arrivals.push((sent + late + word % 48, place, text))?;
+        arrivals.push((time + late + word % 48, place, text))?;
         if word % 16 == 2 {
-            arrivals.push((sent + 100, place, text))?;
+            arrivals.push((time + 100, place, text))?;
         }
     }
     arrivals.sort_unstable_by_key(|(time, place, _)| (*time, *place));
     let (network, inbox) = unbounded(alloc)?;
-    for chunk in arrivals.chunks(AT_ONCE) {
+    for chunk in arrivals.chunks(BATCH) {
         let mut batch = Vec::new(alloc);
         for (_, _, text) in chunk {
             batch.push(text.to_vec(alloc)?)?;

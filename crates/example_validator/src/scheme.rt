@@ -7,7 +7,7 @@ use nw_committee::Key;
 use nw_sig::{DemoScheme, DemoSigner, Scheme, Signer};
 use sha2::{Digest, Sha256};
 
-/// The demonstration's scheme, for texts under the name of this network: what is signed in another one is not accepted here.
+/// The demonstration scheme, for texts under the name of this network. It accepts no signature that was made for another network.
 #[derive(Clone, Copy, Debug, PartialEq, Eq)]
 pub(crate) struct NetworkScheme;
 
@@ -19,12 +19,12 @@ impl Scheme for NetworkScheme {
     }
 }
 
-/// The signature of the text by the member with this key.
+/// The signature of the text under this key.
 pub(crate) fn sign(key: Key, text: &[u8]) -> Signature {
     DemoSigner::new(key).sign(&named(text))
 }
 
-/// What is signed in place of the text: SHA-256 of the network's name and the text.
+/// SHA-256 of the network's name and the text. Members sign this in place of the text.
 fn named(text: &[u8]) -> [u8; 32]
     ensures { result ≡ named text.now }
 {

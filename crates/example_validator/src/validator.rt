@@ -1,4 +1,4 @@
-//! One validator: its store, its two threads, and how it goes on once the history is long.
+//! One validator: its store, its two threads, and how it settles and reopens the store.
 ghost use Rattle.std.specs.Prelude.{◌≡◌};
 ghost use Rattle.nw_store.specs.Journal.{origin_of};
 ghost use Rattle.nw_store.specs.Kept.{parts_of_a_ledger};
@@ -25,7 +25,7 @@ const LIMITS: Limits = Limits {
     sessions: 2,
 };
 
-/// What all validators work with.
+/// The runtime, the allocator and the committee, which all validators share.
 #[derive(Drop)]
 pub(crate) struct Host<'a, R> {
     pub(crate) rt: &'a R,
@@ -33,7 +33,7 @@ pub(crate) struct Host<'a, R> {
     pub(crate) committee: &'a Shared<Committee>,
 }
 
-/// What a validator keeps beside its store.
+/// The state that a validator keeps beside its store.
 #[derive(Drop)]
 pub(crate) struct Validator {
     pub(crate) consensus: Consensus,
@@ -41,7 +41,7 @@ pub(crate) struct Validator {
 }
 
 impl Validator {
-    /// A validator that has seen nothing.
+    /// A validator that has seen no message.
     pub(crate) fn new(alloc: Global) -> Validator {
         Validator {
             consensus: Consensus::new(alloc),
@@ -50,29 +50,29 @@ impl Validator {
     }
 }
 
-/// Runs the validator on the first rounds, settles and reopens its store, and runs it on the others.
+/// Runs the validator on the first rounds, settles and reopens its store, and runs it on the remaining rounds.
 pub(crate) fn run_validator<R: Threads + Wait + Sync>(
     host: &Host<'_, R>,
     validator: &mut Validator,
     network: &Network,
     number: u16,
 ) -> Result<(), End> {
-    let book = again!(Book::new(host.alloc, host.committee.try_clone()?, LIMITS))?;
-    let book = go_on(host, validator, book, &network.first, number)?;
-    let book = go_on(host, validator, book, &network.second, number)?;
+    let book = retry_once!(Book::new(host.alloc, host.committee.try_clone()?, LIMITS))?;
+    let book = run_rounds(host, validator, book, &network.first, number)?;
+    let book = run_rounds(host, validator, book, &network.second, number)?;
     drop(book);
     Ok(())
 }
 
-/// Lets the validator take the messages, on a store that goes on with the book. Gives the book for the next store.
-fn go_on<R: Threads + Wait + Sync>(
+/// Runs the validator on the messages, with a store that continues from the book. Returns the book for the next store.
+fn run_rounds<R: Threads + Wait + Sync>(
     host: &Host<'_, R>,
     validator: &mut Validator,
     book: Book<NetworkScheme>,
     texts: &[Text],
     number: u16,
 ) -> Result<Book<NetworkScheme>, End> {
-    match again!(prepare(host, texts, number)) {
+    match retry_once!(prepare(host, texts, number)) {
         Ok((opening, inbox)) => {
             let next = open::<Brand, R>(host, validator, &inbox, opening, book);
             drop(inbox);
@@ -85,7 +85,7 @@ fn go_on<R: Threads + Wait + Sync>(
     }
 }
 
-/// What a store is opened with, and what will come.
+/// The opening of a store, and the inbox with the messages.
 fn prepare<R: Wait>(
     host: &Host<'_, R>,
     texts: &[Text],
@@ -95,7 +95,7 @@ fn prepare<R: Wait>(
     Ok((Opening::new(host.alloc)?, inbox))
 }
 
-/// Opens the store that `L` names, runs it until the inbox ends, settles it, and gives the book for the next store.
+/// Opens the store named by `L`, runs it until the inbox ends, and settles it. Returns the book for the next store.
 fn open<L: Home, R: Threads + Wait + Sync>(
     host: &Host<'_, R>,
     validator: &mut Validator,
@@ -111,12 +111,12 @@ fn open<L: Home, R: Threads + Wait + Sync>(
         Ok(store) => run_store(host, validator, inbox, store),
         Err(book) => {
             drop(book);
-            Err(End::Unasked)
+            Err(End::Unexpected)
         }
     }
 }
 
-/// Runs the store until the inbox ends, settles it, and gives the book for the next store.
+/// Runs the store until the inbox ends, and settles it. Returns the book for the next store.
 fn run_store<L: Home, R: Threads + Wait + Sync>(
     host: &Host<'_, R>,
     validator: &mut Validator,
@@ -142,8 +142,8 @@ fn run_threads<L: Home, R: Threads + Wait + Sync>(
     store: &Store<NetworkScheme, L>,
     sessions: &mut Vec<Session<NetworkScheme, L>>,
 ) -> Result<(), End> {
-    again!(sessions.reserve(2))?;
-    let channel = again!(unbounded(host.alloc))?;
+    retry_once!(sessions.reserve(2))?;
+    let channel = retry_once!(unbounded(host.alloc))?;
     let one = store.session(host.rt, host.alloc);
     let other = store.session(host.rt, host.alloc);
     match (one, other) {
@@ -165,12 +165,12 @@ fn run_threads<L: Home, R: Threads + Wait + Sync>(
             drop(one);
             drop(other);
             drop(channel);
-            Err(End::Unasked)
+            Err(End::Unexpected)
         }
     }
 }
 
-/// Runs the consensus in a thread of its own, and the intake in this one; without a second thread, one after the other.
+/// Runs the consensus in a new thread and the intake in this one, or one after the other if no thread starts.
 fn run_both<L: Home, R: Threads + Wait + Sync>(
     host: &Host<'_, R>,
     store: &Store<NetworkScheme, L>,
@@ -198,7 +198,7 @@ fn run_both<L: Home, R: Threads + Wait + Sync>(
     thread::join(rt, move || decider.run(), move || intake.run())
 }
 
-/// Settles the sessions, which are all, and gives the book for the next store.
+/// Settles the store with all its sessions. Returns the book for the next store.
 fn close<L: Home>(
     alloc: Global,
     store: Store<NetworkScheme, L>,
@@ -208,12 +208,12 @@ fn close<L: Home>(
         Ok(settled) => reopen(alloc, settled),
         Err(refused) => {
             drop(refused);
-            Err(End::Unasked)
+            Err(End::Unexpected)
         }
     }
 }
 
-/// The book for the next store. A refusal gives back what was settled.
+/// The book for the next store. It tries twice, since a refused reopening hands back the settled store.
 fn reopen<L: Home>(
     alloc: Global,
     settled: Settled<NetworkScheme, L>,

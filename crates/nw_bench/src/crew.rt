@@ -1,4 +1,4 @@
-//! What each thread of a node does.
+//! The work of each thread of a node.
 
 use crate::dag::Pair;
 use anyhow::Error;
@@ -13,22 +13,22 @@ use std::sync::atomic::AtomicU64;
 use std::sync::atomic::Ordering::SeqCst;
 use std::time::{Clock, Instant};
 
-/// The messages that threads share out, and what they count.
+/// The messages that the threads divide among themselves, and their shared counters.
 #[derive(Drop)]
 pub struct Crew {
     pub committee: Shared<Committee>,
     pub pairs: Vec<Pair>,
     pub threads: u16,
-    /// How many blocks were written and certified.
+    /// The number of blocks that were written and certified.
     taken: AtomicU64,
-    /// How many blocks walks listed.
+    /// The number of blocks that walks listed.
     listed: AtomicU64,
-    /// How many nanoseconds calls took that write and certify.
+    /// The time of the calls that write and certify, in nanoseconds.
     called: AtomicU64,
 }
 
 impl Crew {
-    /// Nothing is taken yet.
+    /// A crew that has taken no message.
     pub fn new(committee: Shared<Committee>, pairs: Vec<Pair>, threads: u16) -> Crew {
         Crew {
             committee,
@@ -40,7 +40,7 @@ impl Crew {
         }
     }
 
-    /// How many blocks were written and certified, how many walks listed, and how many nanoseconds those calls took.
+    /// The number of written and certified blocks, the number of listed blocks, and the time of the writing calls in nanoseconds.
     pub fn counted(&self) -> (u64, u64, u64) {
         (
             self.taken.load(SeqCst),
@@ -50,7 +50,7 @@ impl Crew {
     }
 }
 
-/// Takes each message of the thread at this place. One that cannot be taken is not counted.
+/// Takes each pair of messages that is due to the thread at this place. It does not count a pair that is refused.
 pub fn work<L: Home, R: Wait + Clock>(
     rt: &R,
     alloc: Global,
@@ -68,7 +68,7 @@ pub fn work<L: Home, R: Wait + Clock>(
     }
 }
 
-/// Checks both messages, hands in what they are, and reads the block of member 0 causally.
+/// Checks both messages, and writes and certifies the block. If its author is member 0, reads it causally.
 fn take<L: Home, R: Wait + Clock>(
     rt: &R,
     alloc: Global,
@@ -95,7 +95,7 @@ fn take<L: Home, R: Wait + Clock>(
     Ok(())
 }
 
-/// Writes and certifies the block, and counts the time that this takes.
+/// Writes and certifies the block, and adds the time that this took.
 fn keep<L: Home, R: Wait + Clock>(
     rt: &R,
     alloc: Global,
@@ -114,7 +114,7 @@ fn keep<L: Home, R: Wait + Clock>(
     Ok(())
 }
 
-/// How many blocks a causal read of the digest lists: none where an ancestor has not come yet.
+/// The number of blocks that a causal read of the digest lists. It is 0 if an ancestor is missing.
 fn read<L: Home, R: Wait>(
     rt: &R,
     alloc: Global,

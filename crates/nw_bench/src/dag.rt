@@ -1,4 +1,4 @@
-//! The messages of a full DAG, whose blocks are as large as transactions of 512 bytes make them.
+//! Makes the messages of a full DAG. Its blocks have the most transactions of 512 bytes that are allowed.
 
 use anyhow::Error;
 use nw_codec::{
@@ -10,13 +10,13 @@ use nw_digest::{Digest, Round, Sequence, Shared};
 use nw_sig::{DemoSigner, Signer, block_text, vote_text};
 use std::alloc::Global;
 
-/// How many transactions a block has: as many as it may.
+/// The number of transactions of a block: the most that are allowed.
 const TRANSACTIONS: usize = 1_024;
 
-/// How many bytes a transaction has.
+/// The number of bytes of a transaction.
 const BYTES: usize = 512;
 
-/// A block's author and digest, and the texts of its message and of its certificate's.
+/// A block's author and digest, its message, and the message of its certificate.
 #[derive(Drop)]
 pub struct Pair {
     pub author: u16,
@@ -25,7 +25,7 @@ pub struct Pair {
     pub certificate: Vec<u8>,
 }
 
-/// A committee of so many equal members.
+/// A committee of `members` members of equal weight.
 pub fn committee(alloc: Global, members: u16) -> Result<Shared<Committee>, Error> {
     let mut keys = Vec::new(alloc);
     for member in 0..members {
@@ -44,7 +44,7 @@ fn sign(member: u16, text: &[u8]) -> Signature {
     DemoSigner::new(key(member)).sign(text)
 }
 
-/// The messages of so many rounds of the members, each block over all of the round before.
+/// The messages of `rounds` rounds. Each block has all blocks of the preceding round as parents.
 pub fn full_dag(
     alloc: Global,
     committee: &Committee,
@@ -62,7 +62,7 @@ pub fn full_dag(
     Ok(pairs)
 }
 
-/// Adds the messages of the round over these, and gives the references to its blocks.
+/// Adds the messages of the round's blocks, which have these parents. Returns the references to the blocks.
 fn add_round(
     alloc: Global,
     committee: &Committee,
@@ -83,7 +83,7 @@ fn add_round(
     Ok(references)
 }
 
-/// The messages of the author's block of the round over these.
+/// The messages of the author's block in the round, with these parents.
 fn messages_of(
     alloc: Global,
     committee: &Committee,
@@ -106,11 +106,11 @@ fn messages_of(
         author,
         digest,
         block: text,
-        certificate: certified(alloc, committee, digest, round, author)?,
+        certificate: certificate_message(alloc, committee, digest, round, author)?,
     })
 }
 
-/// As many transactions as a block has at most, each of the author's number and zeros.
+/// The most transactions that a block may have. Each is the author's number and zeros.
 fn transactions(alloc: Global, author: u16) -> Result<Transactions, EncodeError> {
     let mut transaction = [0; BYTES];
     transaction[..2].copy_from_slice(&author.to_be_bytes());
@@ -121,8 +121,8 @@ fn transactions(alloc: Global, author: u16) -> Result<Transactions, EncodeError>
     Ok(transactions)
 }
 
-/// The message of a certificate with as many votes as reach the quorum.
-fn certified(
+/// The message of a certificate, with exactly as many votes as reach the quorum.
+fn certificate_message(
     alloc: Global,
     committee: &Committee,
     digest: Digest,

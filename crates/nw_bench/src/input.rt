@@ -1,4 +1,4 @@
-//! A committee and its messages, read line by line in hex.
+//! Reads a committee and its messages, line by line in hex.
 ghost use Rattle.std.specs.Prelude.{◌≡◌, IfOk, vec_len, length};
 
 use anyhow::Error;
@@ -8,7 +8,7 @@ use nw_digest::Shared;
 use std::alloc::Global;
 use std::io::BufRead;
 
-/// A committee of so many equal members, with the public key of each on a line.
+/// Reads a committee of `members` members of equal weight: one public key on each line.
 pub fn read_committee<B: BufRead>(
     alloc: Global,
     reader: &mut B,
@@ -24,7 +24,7 @@ pub fn read_committee<B: BufRead>(
     Ok(Shared::new(alloc, Committee::new(alloc, keys)?)?)
 }
 
-/// So many messages, each on a line.
+/// Reads `count` messages, one on each line.
 pub fn read_messages<B: BufRead>(
     alloc: Global,
     reader: &mut B,

@@ -1,21 +1,26 @@
-//! Times what a node does with the messages that it gets.
+//! A benchmark program: it measures how long a node takes to check and store messages.
 //!
-//! `nw_bench MESSAGES BYTES WORKERS` makes so many messages, each of a block with one transaction of so many bytes, signed by the
-//! one member of a committee, checks them all with so many workers, and prints the milliseconds that the check took.
+//! `nw_bench MESSAGES BYTES WORKERS` makes MESSAGES messages. Each has a block with one transaction of BYTES bytes, signed by the only
+//! member of a committee. WORKERS threads check them. The program prints how long the check took, in milliseconds.
 //!
-//! `nw_bench ed25519 MEMBERS MESSAGES WORKERS` reads standard input, whose lines are in hex: the Ed25519 public key of each of so many
-//! members, then so many messages of blocks and certificates. It checks the messages with so many workers, and prints the milliseconds
-//! that the check took.
+//! `nw_bench ed25519 MEMBERS MESSAGES WORKERS` reads lines in hex from standard input: the Ed25519 public keys of MEMBERS members, and
+//! then MESSAGES messages of blocks and certificates. WORKERS threads check the messages. The program prints how long the check took, in
+//! milliseconds.
 //!
-//! `nw_bench node MEMBERS ROUNDS THREADS` makes the messages of a full DAG of so many members and rounds: of each block, which has
-//! as many transactions of 512 bytes as it may, and of its certificate. So many threads, 1 to 256, decode and check them, write and
-//! certify them in one store, and read a block of each round causally. It prints how many blocks were written and certified, how many
-//! the walks listed, and in milliseconds how long it all took, how long the threads together were in calls that write and certify,
-//! and how long one thread needs for the digests of the bodies alone.
+//! `nw_bench node MEMBERS ROUNDS THREADS` makes the messages of a full DAG of MEMBERS members and ROUNDS rounds: one for each block, which
+//! has the most transactions of 512 bytes that are allowed, and one for its certificate. THREADS threads, 1 to 256, check them and write
+//! and certify them in one store. They read one block of each round causally. The program prints these five numbers:
 //!
-//! The time of making or reading messages does not count. The exit status is 0 if each answer was as it is to be, and 2 if the
-//! arguments are bad. It is 1 if an answer was another one, memory or a thread was refused, the input or the clock could not be read,
-//! or the line not printed.
+//! - how many blocks were written and certified;
+//! - how many blocks the walks listed;
+//! - the time of the run, in milliseconds;
+//! - the time that all threads together spent in calls that write and certify, in milliseconds;
+//! - the time that one thread takes for only the digests of the bodies, in milliseconds.
+//!
+//! No time includes that of making or reading messages.
+//!
+//! The exit status is 0 if no message was refused, and 2 if the arguments are bad. It is 1 for all other faults. They are a refused message
+//! or committee, a failed allocation, a thread that did not start, and an input, clock or output that failed.
 #![tactic(auto)]
 
 use crate::node::{Report, timed_node};
@@ -36,10 +41,10 @@ mod node;
 mod plan;
 mod run;
 
-// The status of bad arguments, which are judged before anything is made.
+// The exit status if the arguments are bad. They are tested before any message is made.
 const BAD_ARGUMENTS: u8 = 2;
 
-/// A time in milliseconds, with three digits behind the point.
+/// Prints a time in milliseconds, with three decimal places.
 #[derive(Drop)]
 struct Millis(Duration);
 
@@ -85,7 +90,7 @@ fn print_time<R: Print>(rt: &R, took: Result<Duration, Error>) -> ExitCode {
     }
 }
 
-/// Prints what a node reports.
+/// Prints the report of a node.
 fn print_report<R: Print>(rt: &R, report: &Report) -> ExitCode {
     let [whole, called, digested] = [report.whole, report.called, report.digested].map(Millis);
     match println!(rt;

@@ -1,4 +1,4 @@
-//! The messages that are checked, and who signs them.
+//! The messages to check, and the committee of their one signer.
 ghost use Rattle.std.specs.Prelude.{◌≡◌, IfOk, vec_len, length};
 
 use anyhow::Error;
@@ -11,7 +11,7 @@ use std::alloc::Global;
 // The key of the one member.
 const KEY: Key = Key([0; 32]);
 
-/// The committee of one.
+/// The committee with one member.
 pub fn committee(alloc: Global) -> Result<Shared<Committee>, Error>
     ensures { IfOk result (λ committee. length committee ≡ 1) }
 {
@@ -20,7 +20,7 @@ pub fn committee(alloc: Global) -> Result<Shared<Committee>, Error>
     Ok(Shared::new(alloc, Committee::new(alloc, keys)?)?)
 }
 
-/// So many messages, of blocks whose transactions have so many bytes.
+/// Makes `count` messages of blocks, each with one transaction of `bytes` bytes.
 pub fn messages(alloc: Global, count: u32, bytes: usize) -> Result<Vec<Vec<u8>>, Error>
     ensures { IfOk result (λ texts. vec_len texts ≡ count) }
 {
@@ -48,7 +48,7 @@ fn message(alloc: Global, number: u32, bytes: usize) -> Result<Vec<u8>, Error> {
     Ok(encode_block(alloc, &block, &signature)?)
 }
 
-/// The bytes of the number, as far as there is room, and zeros.
+/// A transaction of `bytes` bytes: the number, lowest byte first, cut to this length or followed by zeros.
 fn transaction(alloc: Global, number: u32, bytes: usize) -> Result<Vec<u8>, NoMemory>
     ensures { IfOk result (λ transaction. vec_len transaction ≡ bytes) }
 {

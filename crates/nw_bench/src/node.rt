@@ -1,4 +1,4 @@
-//! A node: a store, and threads that take the messages of a full DAG.
+//! A node: a store, and threads that check and store the messages of a full DAG.
 ghost use Rattle.std.specs.Prelude.{◌≡◌};
 ghost use Rattle.nw_store.specs.Journal.{origin_of};
 ghost use Rattle.nw_store.specs.Kept.{parts_of_a_ledger};
@@ -27,22 +27,22 @@ const LIMITS: Limits = Limits {
     sessions: MOST_SESSIONS,
 };
 
-/// What a node did, and how long it took.
+/// The work of a node, and its times.
 #[derive(Clone, Copy, Debug)]
 pub struct Report {
-    /// How many blocks were written and certified.
+    /// The number of blocks that were written and certified.
     pub taken: u64,
-    /// How many blocks the walks listed.
+    /// The number of blocks that the walks listed.
     pub listed: u64,
-    /// How long all of it took.
+    /// The time of the whole run.
     pub whole: Duration,
-    /// How long the threads together were in calls that write and certify.
+    /// The time that all threads together spent in calls that write and certify.
     pub called: Duration,
-    /// How long one thread needs for the digests of the bodies alone.
+    /// The time that one thread takes for only the digests of the bodies.
     pub digested: Duration,
 }
 
-/// What the node of the plan reports. An error where a message was not taken.
+/// Runs the node of the plan. Fails if a message was not taken.
 pub fn timed_node<R: Threads + Wait + Sync + Clock>(
     rt: &R,
     alloc: Global,
@@ -70,11 +70,11 @@ pub fn timed_node<R: Threads + Wait + Sync + Clock>(
     }
 }
 
-/// How long the digests of all bodies take, one after the other.
+/// The time of the digests of all bodies, one after the other. Fails if a digest is not that of its pair.
 fn digest_all<R: Clock>(rt: &R, pairs: &[Pair]) -> Result<Duration, Error> {
     let started = Instant::now(rt)?;
     for pair in pairs {
-        // (the tag stands before the body, and the signature behind it)
+        // (the tag precedes the body, and the signature follows it)
         let body = pair.block.get(1..pair.block.len().saturating_sub(64));
         if digest_of(body.unwrap_or(&[])) != pair.digest {
             return Err(Error::msg("a digest is another one"));
@@ -83,29 +83,29 @@ fn digest_all<R: Clock>(rt: &R, pairs: &[Pair]) -> Result<Duration, Error> {
     Ok(started.elapsed(rt)?)
 }
 
-/// Lets the crew take all messages in a new store, and gives the time.
+/// Lets the crew take all messages with a new store, and returns the time.
 fn take_all<R: Threads + Wait + Sync + Clock>(
     rt: &R,
     alloc: Global,
     crew: &Crew,
 ) -> Result<Duration, Error> {
     let book = Book::new(alloc, crew.committee.try_clone()?, LIMITS)?;
-    take_from(rt, alloc, book, crew)
+    take_with_book(rt, alloc, book, crew)
 }
 
-/// The same in a store of its own name, which goes on with the book.
-fn take_from<R: Threads + Wait + Sync + Clock>(
+/// The same, with a store that continues from the book.
+fn take_with_book<R: Threads + Wait + Sync + Clock>(
     rt: &R,
     alloc: Global,
     book: Book<DemoScheme>,
     crew: &Crew,
 ) -> Result<Duration, Error> {
     let opening = Opening::new(alloc)?;
-    take_in::<Brand, R>(rt, alloc, opening, book, crew)
+    take_with_store::<Brand, R>(rt, alloc, opening, book, crew)
 }
 
-/// The same in the store that `L` names.
-fn take_in<L: Home, R: Threads + Wait + Sync + Clock>(
+/// The same, with the store that `L` names.
+fn take_with_store<L: Home, R: Threads + Wait + Sync + Clock>(
     rt: &R,
     alloc: Global,
     opening: Opening<DemoScheme>,
@@ -118,7 +118,7 @@ fn take_in<L: Home, R: Threads + Wait + Sync + Clock>(
 {
     match Store::<DemoScheme, L>::over(opening, book) {
         Ok(store) => {
-            let took = take_by_sessions(rt, alloc, &store, crew);
+            let took = take_with_sessions(rt, alloc, &store, crew);
             drop(store);
             took
         }
@@ -129,8 +129,8 @@ fn take_in<L: Home, R: Threads + Wait + Sync + Clock>(
     }
 }
 
-/// The same by a session for each thread.
-fn take_by_sessions<L: Home, R: Threads + Wait + Sync + Clock>(
+/// The same, with a session for each thread.
+fn take_with_sessions<L: Home, R: Threads + Wait + Sync + Clock>(
     rt: &R,
     alloc: Global,
     store: &Store<DemoScheme, L>,
@@ -138,14 +138,14 @@ fn take_by_sessions<L: Home, R: Threads + Wait + Sync + Clock>(
 ) -> Result<Duration, Error> {
     let mut sessions = Vec::new(alloc);
     let took = match make_sessions(rt, alloc, store, &mut sessions, crew.threads) {
-        Ok(()) => in_threads(rt, alloc, store, sessions.as_mut_slice(), crew),
+        Ok(()) => timed_threads(rt, alloc, store, sessions.as_mut_slice(), crew),
         Err(error) => Err(error),
     };
     drop(sessions);
     took
 }
 
-/// Makes so many sessions.
+/// Makes `count` sessions.
 fn make_sessions<L: Home, R: Wait>(
     rt: &R,
     alloc: Global,
@@ -159,8 +159,8 @@ fn make_sessions<L: Home, R: Wait>(
     Ok(())
 }
 
-/// Lets each session take its share in a thread of its own, and gives the time.
-fn in_threads<L: Home, R: Threads + Wait + Sync + Clock>(
+/// Lets each session take its share in its own thread, and returns the time.
+fn timed_threads<L: Home, R: Threads + Wait + Sync + Clock>(
     rt: &R,
     alloc: Global,
     store: &Store<DemoScheme, L>,
@@ -168,12 +168,12 @@ fn in_threads<L: Home, R: Threads + Wait + Sync + Clock>(
     crew: &Crew,
 ) -> Result<Duration, Error> {
     let started = Instant::now(rt)?;
-    share(rt, alloc, store, sessions, crew);
+    run_threads(rt, alloc, store, sessions, crew);
     Ok(started.elapsed(rt)?)
 }
 
-/// Lets each session take its share in a thread of its own.
-fn share<L: Home, R: Threads + Wait + Sync + Clock>(
+/// Lets each session take its share in its own thread.
+fn run_threads<L: Home, R: Threads + Wait + Sync + Clock>(
     rt: &R,
     alloc: Global,
     store: &Store<DemoScheme, L>,

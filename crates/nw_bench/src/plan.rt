@@ -1,17 +1,17 @@
-//! What the arguments ask for.
+//! The plans that the program's arguments describe.
 ghost use Rattle.std.specs.Prelude.{◌≤◌, IfSome};
 ghost use Rattle.nw_bench.specs.declared.plan.TheConstants.{MOST_BYTES, MOST_WORKERS};
 ghost use Rattle.nw_history.specs.declared.limits.TheConstants.{MOST_SESSIONS};
 
 use nw_store::MOST_SESSIONS;
 
-// The most workers that a check takes.
+// The most threads that check messages.
 const MOST_WORKERS: usize = 16;
 
-// The most bytes that a transaction has.
+// The most bytes of a transaction.
 const MOST_BYTES: usize = 65_536;
 
-/// How many messages are checked, how many bytes the transaction of each has, and by how many workers.
+/// The number of messages, the bytes of each one's transaction, and the number of threads that check them.
 #[derive(Clone, Copy, Debug, PartialEq, Eq)]
 pub struct Plan {
     pub messages: u32,
@@ -20,7 +20,7 @@ pub struct Plan {
 }
 
 impl Plan {
-    /// The plan of the program's name and three numbers: at most `MOST_BYTES` bytes and 1 to `MOST_WORKERS` workers.
+    /// Reads the program's name and three numbers. `None` for other words, more than `MOST_BYTES` bytes, or not 1 to `MOST_WORKERS` workers.
     pub fn read(words: &[String]) -> Option<Plan>
         ensures bytes { IfSome result (λ plan. plan.bytes ≤ MOST_BYTES) }
         ensures workers { IfSome result
@@ -39,7 +39,7 @@ impl Plan {
     }
 }
 
-/// How many members and messages are read, and by how many workers the messages are checked.
+/// The numbers of members and messages to read, and of threads that check the messages.
 #[derive(Clone, Copy, Debug, PartialEq, Eq)]
 pub struct InputPlan {
     pub members: u16,
@@ -48,7 +48,7 @@ pub struct InputPlan {
 }
 
 impl InputPlan {
-    /// The plan of the program's name, the word `ed25519` and three numbers: 1 to `MOST_WORKERS` workers.
+    /// Reads the program's name, the word `ed25519` and three numbers. `None` for other words, or not 1 to `MOST_WORKERS` workers.
     pub fn read(words: &[String]) -> Option<InputPlan>
         ensures { IfSome result
             (λ plan. (1 ≤ plan.workers) × (plan.workers ≤ MOST_WORKERS)) }
@@ -69,7 +69,7 @@ impl InputPlan {
     }
 }
 
-/// Of how many members and rounds the full DAG is that a node takes, and by how many threads.
+/// The members and rounds of the full DAG that a node takes, and the number of its threads.
 #[derive(Clone, Copy, Debug, PartialEq, Eq)]
 pub struct NodePlan {
     pub members: u16,
@@ -78,7 +78,8 @@ pub struct NodePlan {
 }
 
 impl NodePlan {
-    /// The plan of the program's name, the word `node` and three numbers: 1 to `MOST_SESSIONS` threads, each with a session of its own.
+    /// Reads the program's name, the word `node` and three numbers. `None` for other words, or not 1 to `MOST_SESSIONS` threads. Each thread
+    /// has its own session.
     pub fn read(words: &[String]) -> Option<NodePlan>
         ensures { IfSome result
             (λ plan. (1 ≤ plan.threads) × (plan.threads ≤ MOST_SESSIONS)) }

@@ -1,4 +1,4 @@
-//! One check of all messages, and its time.
+//! Measures one check of all messages.
 ghost use Rattle.std.specs.Prelude.{◌↔◌, ◌^◌, ◌<◌, IsTrue, All, vec_len};
 ghost use Rattle.nw_bench.specs.Blocks.{IsBlock, IsVerified};
 
@@ -17,7 +17,7 @@ use std::sync::Wait;
 use std::thread::Threads;
 use std::time::{Clock, Duration, Instant};
 
-/// The time of the check of messages that are made. An error if an answer is not a checked block.
+/// Makes messages, and measures their check. Fails if a message is not a well-formed block.
 pub fn timed_made<R: Threads + Wait + Sync + Clock>(
     rt: &R,
     alloc: Global,
@@ -33,7 +33,7 @@ pub fn timed_made<R: Threads + Wait + Sync + Clock>(
     }
 }
 
-/// The time of the check of messages that are read. An error if an answer is neither a checked block nor a checked certificate.
+/// Reads messages, and measures their check. Fails if a message is neither a well-formed block nor a valid certificate.
 pub fn timed_read<S: Scheme + Send, R: Threads + Wait + Sync + Clock + Input>(
     rt: &R,
     alloc: Global,
@@ -50,7 +50,7 @@ pub fn timed_read<S: Scheme + Send, R: Threads + Wait + Sync + Clock + Input>(
     }
 }
 
-/// The time of the check of the texts by the monotonic clock, and its answers.
+/// The time of the check of the texts, by the monotonic clock, and its results.
 fn timed<S: Scheme + Send, R: Threads + Wait + Sync + Clock>(
     rt: &R,
     alloc: Global,
@@ -74,7 +74,7 @@ fn are_blocks<S: Scheme>(answers: &[Checked<S>]) -> bool
         .all(|answer| matches!(answer, Checked::Block(_)))
 }
 
-/// Whether each answer is a checked block or a checked certificate, whose signatures were verified.
+/// Whether each answer is a checked block or a checked certificate, so that all signatures were verified.
 fn are_verified<S: Scheme>(answers: &[Checked<S>]) -> bool
     ensures { IsTrue result ↔ All IsVerified answers.now }
 {

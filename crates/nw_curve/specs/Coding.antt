@@ -8,43 +8,44 @@ use Rattle.nw_field.specs.Field.{prime, plus, minus, times, negative, power, inv
 use Rattle.nw_curve.specs.Curve.{curve_d}
 use Rattle.nw_curve.specs.declared.point.Point.{Point}
 
+-- the number is odd
 abbrev pub is_odd : ℕ → Bool
 is_odd n = n % 2 == 1
 
--- 2 to the power (p - 1) / 4 of the prime p: its square is -1
+-- a square root of -1: 2 to the power (p - 1) / 4, for the prime p
 unfoldable pub root_of_minus_one : ℕ
 root_of_minus_one = 19681161376707505956807079304988542015446066515923890162744021073123829784752
 
--- a square root of u / v: the candidate u v^3 (u v^7)^((p - 5) / 8), or else that times the root of -1, if either is one
+-- a square root of u / v: the candidate u v^3 (u v^7)^((p - 5) / 8), or that times the root of -1, or None if neither is a root
 unfoldable pub root : ℕ → ℕ → Option ℕ
 root u v =
     let r = times (times u (power v 3)) (power (times u (power v 7)) ((prime - 5) / 8)) in
     let s = times v (times r r) in
     if s == u then Some r else (if s == negative u then Some (times r root_of_minus_one) else None)
 
--- of x and -x the one that is odd or even, as the sign says; 0 has no odd one
-abbrev pub signed : Bool → Option ℕ → Option ℕ
-signed sign None = None
-signed sign (Some x) =
+-- x or -x: the odd one if the sign is set, and otherwise the even one; None if x is 0 and the sign is set
+abbrev pub with_sign : Bool → Option ℕ → Option ℕ
+with_sign sign None = None
+with_sign sign (Some x) =
     if (x == 0) && sign then None else (if beq (is_odd x) sign then Some x else Some (negative x))
 
--- the x of the points of this y, with this sign
+-- the x of the point with this y and sign, or None if there is none
 unfoldable pub recovered : ℕ → Bool → Option ℕ
-recovered y sign = let y2 = times y y in signed sign (root (minus y2 1) (plus (times curve_d y2) 1))
+recovered y sign = let y2 = times y y in with_sign sign (root (minus y2 1) (plus (times curve_d y2) 1))
 
--- the point of x and y
+-- the point with these x and y, if there is an x
 abbrev pub affine : ℕ → Option ℕ → Option Point
 affine y None = None
 affine y (Some x) = Some (record { x = x; y = y; z = 1; t = times x y })
 
--- the point that 32 bytes are: 255 bits of y, which is below the prime, and the sign of x
+-- the point that 32 bytes encode: 255 bits of y, which must be below the prime, and then the sign of x
 unfoldable pub decoded : List ℕ → Option Point
 decoded bytes =
     let n = number_of bytes in
     let y = n % 2 ^ 255 in
     if nat_lt y prime then affine y (recovered y (bit_at n 255 == 1)) else None
 
--- the 32 bytes of a point
+-- the encoding of a point: 255 bits of y, and then the lowest bit of x
 unfoldable pub encoded : Point → List ℕ
 encoded p =
     let i = inverse p.z in

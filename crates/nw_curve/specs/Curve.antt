@@ -1,16 +1,17 @@
--- The curve -x^2 + y^2 = 1 + d x^2 y^2 modulo the prime: its points in extended coordinates, and their sums (RFC 8032, 5.1.4).
+-- The curve -x^2 + y^2 = 1 + d x^2 y^2 modulo the prime: points in extended coordinates, and their sums (RFC 8032, 5.1.4).
 use Rattle.std.specs.Prelude.{ℕ, zero, suc, ◌==◌, ◌/◌, ◌%◌, if◌then◌else◌}
 use Rattle.nw_field.specs.Field.{plus, minus, times, negative}
 use Rattle.nw_curve.specs.declared.point.Point.{Point}
 
--- d: it is -121665 / 121666
+-- the constant d, which is -121665 / 121666
 unfoldable pub curve_d : ℕ
 curve_d = 37095705934669439343138083508754565189542113879843219016388785533085940283555
 
+-- twice a, modulo the prime
 abbrev pub twice : ℕ → ℕ
 twice a = plus a a
 
--- the neutral point: x is 0, and y is 1
+-- the neutral element: x is 0, and y is 1
 abbrev pub identity : Point
 identity = record { x = 0; y = 1; z = 1; t = 0 }
 
@@ -23,7 +24,7 @@ base = record {
   t = 46827403850823179245072216630277197565144205554125654976674165829533817101731;
 }
 
--- what a sum and a doubling end with
+-- the last four products of a sum or a doubling
 abbrev pub finished : ℕ → ℕ → ℕ → ℕ → Point
 finished e f g h = record { x = times e f; y = times g h; z = times f g; t = times e h }
 
@@ -53,11 +54,11 @@ doubled p =
     let f = plus c g in
     finished e f g h
 
--- the point on the other side of x = 0
+-- the negative of a point: the same y, and -x
 abbrev pub negated : Point → Point
 negated p = record { x = negative p.x; y = p.y; z = p.z; t = negative p.t }
 
--- n times a point, for the lowest bits of n, by doubling and adding from the highest of them
+-- the point p times the lowest bits of n, as many as the first argument says, by double-and-add from the highest bit
 unfoldable pub multiple : ℕ → ℕ → Point → Point
 multiple zero n p = identity
 multiple (suc bits) n p =

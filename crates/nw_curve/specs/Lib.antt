@@ -1,3 +1,3 @@
 pub mod Curve
 pub mod Coding
-pub mod Endings
+pub mod Completed

@@ -1,14 +1,14 @@
 //! Points as 32 bytes.
 ghost use Rattle.std.specs.Prelude.{◌≡◌, ◌==◌, ◌<◌, length};
-ghost use Rattle.nw_curve.specs.Coding.{root, recovered, signed, decoded, encoded, is_odd};
+ghost use Rattle.nw_curve.specs.Coding.{root, recovered, with_sign, decoded, encoded, is_odd};
 
 use crate::Point;
 use crate::constants::{minus_one_root, the_d};
 use nw_field::{Number, Whole};
 
 impl Point {
-    /// The point that 32 bytes are, or `None` where they are none: y is not below the prime, no x belongs to it, or x is 0 and
-    /// its sign is set.
+    /// The point that 32 bytes encode (RFC 8032, 5.1.3). `None` if y is not below the prime, if no point has this y, or if x is 0 and its
+    /// sign bit is set.
     #[tactic(auto, unfolding(crate::specs::Coding::decoded))]
     pub fn decoded(bytes: &[u8]) -> Option<Point>
         requires { length bytes.now ≡ 32 }
@@ -25,7 +25,7 @@ impl Point {
         })
     }
 
-    /// The 32 bytes of the point.
+    /// The point's encoding of 32 bytes (RFC 8032, 5.1.2).
     #[tactic(auto, unfolding(crate::specs::Coding::encoded))]
     pub fn encoded(&self) -> [u8; 32]
         ensures { result ≡ encoded self.now }
@@ -37,22 +37,22 @@ impl Point {
     }
 }
 
-/// The x of the points of this y, with this sign.
+/// The x of the point with this y and sign bit, or `None` if there is none.
 #[tactic(auto, unfolding(crate::specs::Coding::recovered))]
 fn recovered(y: &Number, sign: bool) -> Option<Number>
     ensures { result ≡ recovered y.now sign }
 {
     let square = y.square();
     let one = Number::one();
-    signed(
+    with_sign(
         sign,
         root(&square.minus(&one), &the_d().times(&square).plus(&one)),
     )
 }
 
-/// Of x and -x the one that is odd or even, as the sign says.
-fn signed(sign: bool, root: Option<Number>) -> Option<Number>
-    ensures { result ≡ signed sign root }
+/// The root or its negative: the odd one if `sign` is set, and otherwise the even one. `None` if the root is 0 and `sign` is set.
+fn with_sign(sign: bool, root: Option<Number>) -> Option<Number>
+    ensures { result ≡ with_sign sign root }
 {
     let x = root?;
     if sign && x.equals(&Number::zero()) {
@@ -64,7 +64,7 @@ fn signed(sign: bool, root: Option<Number>) -> Option<Number>
     }
 }
 
-/// A square root of u / v.
+/// A square root of u / v, or `None` if there is none.
 #[tactic(auto, unfolding(crate::specs::Coding::root))]
 fn root(u: &Number, v: &Number) -> Option<Number>
     ensures { result ≡ root u.now v.now }

@@ -1,11 +1,11 @@
-//! The curve's numbers.
+//! The constants of the curve.
 ghost use Rattle.std.specs.Prelude.{◌≡◌};
 ghost use Rattle.nw_curve.specs.Curve.{base, curve_d, twice};
 ghost use Rattle.nw_curve.specs.Coding.{root_of_minus_one};
 
 use nw_field::{Number, Whole};
 
-/// The curve's d.
+/// The curve's constant d.
 #[tactic(auto, unfolding(crate::specs::Curve::curve_d, nw_field::specs::Field::prime))]
 pub fn the_d() -> Number
     ensures { result ≡ curve_d }
@@ -16,7 +16,7 @@ pub fn the_d() -> Number
     ))
 }
 
-/// Twice the curve's d.
+/// Twice the curve's constant d.
 #[tactic(auto, unfolding(crate::specs::Curve::curve_d, nw_field::specs::Field::prime))]
 pub fn twice_d() -> Number
     ensures { result ≡ twice curve_d }

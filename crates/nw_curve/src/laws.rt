@@ -1,10 +1,10 @@
-//! What the curve's numbers are.
+//! The law about the curve's constants.
 ghost use Rattle.std.specs.Prelude.{◌≡◌, ◌+◌, ◌*◌, ◌%◌};
 ghost use Rattle.nw_field.specs.Field.{prime, plus, minus, times};
 ghost use Rattle.nw_curve.specs.Curve.{base, curve_d};
 ghost use Rattle.nw_curve.specs.Coding.{root_of_minus_one};
 
-/// d is -121665 / 121666, the root of -1 is one, and the base point is a point: its y is 4 / 5, and its x is even.
+/// d is -121665 / 121666, and the root of -1 is a square root of -1. The base point is on the curve: its y is 4 / 5, and its x is even.
 #[tactic(auto, unfolding(crate::specs::Curve::base, crate::specs::Curve::curve_d, crate::specs::Coding::root_of_minus_one, nw_field::specs::Field::prime))]
 pub fn numbers_of_the_curve()
     ensures d { plus (times curve_d 121666) 121665 ≡ 0 }

@@ -1,12 +1,12 @@
-//! Points of the twisted Edwards curve of Ed25519 (RFC 8032, section 5.1).
+//! Points of the twisted Edwards curve of Ed25519 (RFC 8032, section 5.1): sums, multiples, and points as 32 bytes.
 //!
-//! Its contract: sums and multiples of points in extended coordinates are the standard's, number by number, and points are
-//! read from and written as 32 bytes by its rules. It stands on `nw_field`, and takes no memory.
+//! Its contract: sums and multiples in extended coordinates are the standard's, number by number. Points are decoded from 32 bytes and
+//! encoded by the standard's rules. Nothing is allocated.
 #![tactic(auto)]
 
 mod coding;
+mod completed;
 mod constants;
-mod ending;
 mod laws;
 mod point;
 

@@ -2,14 +2,14 @@
 ghost use Rattle.std.specs.Prelude.{◌≡◌};
 ghost use Rattle.nw_curve.specs.Curve.{base, identity, added, doubled, negated, multiple};
 
+use crate::completed::{Addend, CompletedPoint};
 use crate::constants::{base_t, base_x, base_y};
-use crate::ending::{Addend, Ending};
 use nw_field::{Number, Whole};
 
-/// How many bits of a number multiply a point.
+/// The number of bits of a number that `multiple` uses.
 const BITS: u32 = 253;
 
-/// A point by its coordinates X, Y, Z and T: x is X / Z, y is Y / Z, and x y is T / Z.
+/// A point in extended coordinates X, Y, Z and T: x is X / Z, y is Y / Z, and x y is T / Z.
 #[derive(Debug, Drop)]
 pub struct Point {
     pub x: Number,
@@ -19,7 +19,7 @@ pub struct Point {
 }
 
 impl Point {
-    /// The neutral point.
+    /// The neutral element.
     pub fn identity() -> Point
         ensures { result ≡ identity }
     {
@@ -48,17 +48,17 @@ impl Point {
     pub fn added(&self, other: &Point) -> Point
         ensures { result ≡ added self.now other.now }
     {
-        Ending::of_sum(self, &Addend::of(other)).point()
+        CompletedPoint::of_sum(self, &Addend::of(other)).point()
     }
 
     /// Twice the point.
     pub fn doubled(&self) -> Point
         ensures { result ≡ doubled self.now }
     {
-        Ending::of_twice(&self.x, &self.y, &self.z).point()
+        CompletedPoint::of_twice(&self.x, &self.y, &self.z).point()
     }
 
-    /// The point on the other side of x = 0.
+    /// The negative of the point: the same y, and -x.
     pub fn negated(self) -> Point
         ensures { result ≡ negated self }
     {
@@ -71,16 +71,16 @@ impl Point {
         }
     }
 
-    /// The multiple by the lowest 253 bits of a number.
+    /// The point times the lowest 253 bits of a number, by double-and-add from the highest bit.
     pub fn multiple(&self, number: &Whole) -> Point
         ensures { result ≡ multiple 253 number.now self.now }
     {
         let addend = Addend::of(self);
-        let mut partial = Ending::identity();
+        let mut partial = CompletedPoint::identity();
         for done in 0..BITS {
             partial = partial.doubled();
             if number.is_set(BITS - 1 - done) {
-                partial = Ending::of_sum(&partial.point(), &addend);
+                partial = CompletedPoint::of_sum(&partial.point(), &addend);
             }
         }
         partial.point()

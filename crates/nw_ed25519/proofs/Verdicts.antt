@@ -1,4 +1,4 @@
--- The answers of a verification.
+-- The results of a verification.
 use Rattle.std.proofs.Common.{◌≡◌, ℕ, Bool, true, false, List, Some, refl, take}
 use Rattle.std.specs.Prelude.{nat_lt, slice_range}
 use Rattle.nw_field.specs.Bytes.{number_of}
@@ -9,14 +9,14 @@ use Rattle.nw_curve.specs.Coding.{decoded}
 use Rattle.nw_curve.specs.declared.point.Point.{Point}
 use Rattle.nw_ed25519.specs.Accepts.{order, challenge, expected, accepts}
 
--- s is not below the order
-pub out_of_order : (key : Key) (text : List ℕ) (signature : Signature) (s o : ℕ) → s ≡ number_of (slice_range signature.0 32 64) → o ≡ order → nat_lt s o ≡ false → false ≡ accepts key text signature
+-- s is not below the order: the signature is not accepted
+pub s_not_below_order : (key : Key) (text : List ℕ) (signature : Signature) (s o : ℕ) → s ≡ number_of (slice_range signature.0 32 64) → o ≡ order → nat_lt s o ≡ false → false ≡ accepts key text signature
 unfolding accepts
-out_of_order key text signature s o es eo h =
+s_not_below_order key text signature s o es eo h =
     let k = rw (es, eo) at h in
     rw k refl
 
--- s is below the order, and the key is a point
+-- s is below the order and the key is a point: R is compared with the expected encoding
 pub compared : (key : Key) (text : List ℕ) (signature : Signature) (s o k : ℕ) (point : Point) (bytes : List ℕ) (answer : Bool)
     → s ≡ number_of (slice_range signature.0 32 64) → o ≡ order → nat_lt s o ≡ true → decoded key.0 ≡ Some point → k ≡ challenge (take 32 signature.0) key.0 text
     → bytes ≡ expected s k point → answer ≡ same_bytes (take 32 signature.0) bytes → answer ≡ accepts key text signature

@@ -1,4 +1,4 @@
--- Which signature Ed25519 accepts (RFC 8032, 5.1.7, without the cofactor).
+-- The signatures that Ed25519 accepts (RFC 8032, 5.1.7, without the cofactor).
 use Rattle.std.specs.Prelude.{ℕ, ◌+◌, ◌%◌, ◌^◌, ◌&&◌, Bool, false, Option, Some, None, List, ◌++◌, take, slice_range, nat_lt}
 use Rattle.sha2.specs.Sha512.{sha512}
 use Rattle.nw_field.specs.Bytes.{number_of}
@@ -13,20 +13,20 @@ use Rattle.nw_curve.specs.declared.point.Point.{Point}
 unfoldable pub order : ℕ
 order = 2 ^ 252 + 27742317777372353535851937790883648493
 
--- k: the hash of R, the key and the text, modulo the order
+-- k: SHA-512 of R, the key and the text, as a number modulo the order
 unfoldable pub challenge : List ℕ → List ℕ → List ℕ → ℕ
 challenge r key text = number_of (sha512 (r ++ (key ++ text))) % order
 
--- the bytes of [s]B - [k]A
+-- the encoding of [s]B - [k]A
 unfoldable pub expected : ℕ → ℕ → Point → List ℕ
 expected s k a = encoded (added (multiple 253 s base) (negated (multiple 253 k a)))
 
--- the key is a point, and R is what is expected of it
+-- the key is a point A, and R is the encoding of [s]B - [k]A
 abbrev pub is_expected : List ℕ → ℕ → ℕ → Option Point → Bool
 is_expected r s k None = false
 is_expected r s k (Some a) = same_bytes r (expected s k a)
 
--- the signature is R and s, of 32 bytes each, and s is below the order
+-- the signature is R and s, of 32 bytes each; s is below the order, and R is the expected encoding
 unfoldable pub accepts : Key → List ℕ → Signature → Bool
 accepts key text signature =
     let r = take 32 signature.0 in

@@ -1,8 +1,7 @@
-//! Ed25519 (RFC 8032): which signatures it accepts, to the byte.
+//! Verification of Ed25519 signatures (RFC 8032), as a `Scheme` of `nw_sig`.
 //!
-//! Its contract: `verify` answers the standard's definition, without the cofactor, for every key, text and signature. It
-//! stands on `nw_curve` and `nw_field`, the kit's `sha2` for SHA-512, and `nw_sig`, whose `Scheme` it is. Its time depends on
-//! what is verified, all of which is public: no secret ever enters it.
+//! Its contract: `verify` computes the standard's definition, without the cofactor, for every key, text and signature. It has no signer.
+//! The time of a verification depends on its input, all of which is public. Nothing is allocated.
 #![tactic(auto)]
 
 mod order;

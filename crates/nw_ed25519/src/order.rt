@@ -5,7 +5,7 @@ ghost use Rattle.nw_ed25519.specs.Accepts.{order};
 
 use nw_field::Whole;
 
-/// The order of the base point.
+/// The order of the base point: the L of RFC 8032, section 5.1.
 #[tactic(auto, unfolding(crate::specs::Accepts::order))]
 pub fn the_order() -> Whole
     ensures { result ≡ order }
@@ -13,28 +13,28 @@ pub fn the_order() -> Whole
     Whole::new(27742317777372353535851937790883648493, 1 << 124)
 }
 
-/// The number of 64 bytes, lowest first, modulo the order.
+/// The number that 64 bytes encode, lowest first, modulo the order.
 pub fn modulo_order(bytes: &[u8; 64]) -> Whole
     ensures { result ≡ number_of bytes.now % order }
 {
-    let mut rest = Whole::new(0, 0);
+    let mut remainder = Whole::new(0, 0);
     for done in 0..64 {
-        rest = appended(&rest, bytes[63 - done]);
+        remainder = append_byte(&remainder, bytes[63 - done]);
     }
-    rest
+    remainder
 }
 
-/// The remainder modulo the order after one more byte, the next lower one.
+/// The remainder modulo the order after one more byte is appended below: one step of a long division.
 ///
-/// The order is a little above 2^252. So the digits from 2^252 on are the number of times that it is taken off, or one more.
-fn appended(rest: &Whole, byte: u8) -> Whole
-    requires { rest.now < order }
-    ensures { result ≡ (256 * rest.now + byte) % order }
+/// The order is a little above 2^252. So the bits from 2^252 on are the quotient, or one more than it.
+fn append_byte(remainder: &Whole, byte: u8) -> Whole
+    requires { remainder.now < order }
+    ensures { result ≡ (256 * remainder.now + byte) % order }
 {
-    let times = (rest.high() / (1 << 116)) as u64;
+    let times = (remainder.high() / (1 << 116)) as u64;
     let lower = Whole::new(
-        rest.low() % (1 << 120) * 256 + byte as u128,
-        rest.high() % (1 << 116) * 256 + rest.low() / (1 << 120),
+        remainder.low() % (1 << 120) * 256 + byte as u128,
+        remainder.high() % (1 << 116) * 256 + remainder.low() / (1 << 120),
     );
     let excess = excess(times);
     if lower.is_below(&excess) {
@@ -44,7 +44,7 @@ fn appended(rest: &Whole, byte: u8) -> Whole
     }
 }
 
-/// A multiple of what the order has above 2^252.
+/// `times` times the difference of the order and 2^252.
 #[tactic(auto, unfolding(crate::specs::Accepts::order))]
 fn excess(times: u64) -> Whole
     ensures number { result + times * 2 ^ 252 ≡ times * order }

@@ -10,7 +10,7 @@ use nw_field::Whole;
 use nw_sig::Scheme;
 use sha2::{Digest, Sha512};
 
-/// Ed25519, for which keys and signatures are made elsewhere.
+/// The Ed25519 scheme. It only verifies: keys and signatures are made elsewhere.
 #[derive(Clone, Copy, Debug, PartialEq, Eq)]
 pub struct Ed25519;
 
@@ -31,7 +31,7 @@ impl Scheme for Ed25519 {
     }
 }
 
-/// The hash of R, the key and the text, modulo the order.
+/// SHA-512 of R, the key and the text, as a number modulo the order.
 #[tactic(auto, unfolding(crate::specs::Accepts::challenge))]
 fn challenge(r: &[u8], key: &Key, text: &[u8]) -> Whole
     ensures { result ≡ challenge r.now key.now.0 text.now }
@@ -43,7 +43,7 @@ fn challenge(r: &[u8], key: &Key, text: &[u8]) -> Whole
     modulo_order(&hasher.finalize())
 }
 
-/// The bytes of the difference of s times the base point and k times the key's point.
+/// The encoding of [s]B - [k]A, for the base point B and the key's point A. A signature is accepted if its R is this.
 #[tactic(auto, unfolding(crate::specs::Accepts::expected))]
 fn expected(s: &Whole, k: &Whole, point: &Point) -> [u8; 32]
     ensures { result ≡ expected s.now k.now point.now }

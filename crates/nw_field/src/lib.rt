@@ -1,7 +1,7 @@
-//! Whole numbers of 256 bits, and numbers modulo the prime 2^255 - 19.
+//! Arithmetic for Ed25519: whole numbers of 256 bits, and numbers modulo the prime 2^255 - 19.
 //!
-//! Its contract: sums, differences, products and powers are those of whole numbers modulo the prime, and numbers are read from
-//! bytes and written as bytes exactly. It takes no memory.
+//! Its contract: sums, differences, products and powers are exact modulo the prime, and bytes are read and written exactly. Nothing is
+//! allocated.
 #![tactic(auto)]
 
 mod limbs;

@@ -1,16 +1,16 @@
-//! Four digits by the weight 2^64.
+//! Numbers below 2^256 as four digits to base 2^64 (limbs).
 ghost use Rattle.std.specs.Prelude.{◌≡◌, ◌+◌, ◌*◌, ◌/◌, ◌%◌, ◌<◌, ◌^◌};
 ghost use Rattle.nw_field.specs.Field.{prime};
-ghost use Rattle.nw_field.specs.Weights.{weighed};
+ghost use Rattle.nw_field.specs.Weights.{value_of};
 
 use crate::Whole;
 
-/// The weight of a digit.
+/// The base of the digits.
 const WEIGHT: u128 = 1 << 64;
-/// Half of it.
+/// Half of the base.
 const HALF: u64 = 1 << 63;
 
-/// Four digits, lowest first.
+/// A number below 2^256 as four digits to base 2^64, lowest first.
 #[derive(Clone, Copy, Debug)]
 pub struct Limbs {
     pub first: u64,
@@ -20,7 +20,7 @@ pub struct Limbs {
 }
 
 impl Limbs {
-    /// These digits, lowest first.
+    /// The number with these digits, lowest first.
     #[inline(always)]
     pub fn new(first: u64, second: u64, third: u64, fourth: u64) -> Limbs
         ensures first { result.first ≡ first }
@@ -37,19 +37,19 @@ impl Limbs {
     }
 }
 
-/// The sum of two digits and a carry: its digit, and the carry to the next.
+/// The sum of two digits and a carry: its digit, and the next carry.
 #[inline(always)]
-fn summed(a: u64, b: u64, carry: u64) -> (u64, u64)
+fn add_with_carry(a: u64, b: u64, carry: u64) -> (u64, u64)
     ensures { result.0 + result.1 * 2 ^ 64 ≡ a + b + carry }
 {
     let sum = a as u128 + b as u128 + carry as u128;
     ((sum % WEIGHT) as u64, (sum / WEIGHT) as u64)
 }
 
-/// The sum of a number and a multiple of another: its lowest digit, and the four above it.
+/// The sum of `sum` and `times` times `a`: its lowest digit, and the four digits above it.
 #[inline(always)]
-fn row(times: u64, a: &Limbs, sum: &Limbs) -> (u64, Limbs)
-    ensures { result.0 + 2 ^ 64 * weighed result.1 ≡ times * weighed a.now + weighed sum.now }
+fn multiply_add(times: u64, a: &Limbs, sum: &Limbs) -> (u64, Limbs)
+    ensures { result.0 + 2 ^ 64 * value_of result.1 ≡ times * value_of a.now + value_of sum.now }
 {
     let (low, carry) = times.carrying_mul_add(a.first, sum.first, 0);
     let (first, carry) = times.carrying_mul_add(a.second, sum.second, carry);
@@ -58,37 +58,37 @@ fn row(times: u64, a: &Limbs, sum: &Limbs) -> (u64, Limbs)
     (low, Limbs::new(first, second, third, fourth))
 }
 
-/// The product: its lower and its higher half.
+/// The product: its lower and its upper half.
 #[inline(always)]
 pub fn product(a: &Limbs, b: &Limbs) -> (Limbs, Limbs)
-    ensures { weighed result.0 + 2 ^ 256 * weighed result.1 ≡ weighed a.now * weighed b.now }
+    ensures { value_of result.0 + 2 ^ 256 * value_of result.1 ≡ value_of a.now * value_of b.now }
 {
-    let (first, sum) = row(a.first, b, &Limbs::new(0, 0, 0, 0));
-    let (second, sum) = row(a.second, b, &sum);
-    let (third, sum) = row(a.third, b, &sum);
-    let (fourth, high) = row(a.fourth, b, &sum);
+    let (first, sum) = multiply_add(a.first, b, &Limbs::new(0, 0, 0, 0));
+    let (second, sum) = multiply_add(a.second, b, &sum);
+    let (third, sum) = multiply_add(a.third, b, &sum);
+    let (fourth, high) = multiply_add(a.fourth, b, &sum);
     (Limbs::new(first, second, third, fourth), high)
 }
 
-/// The square: its lower and its higher half.
+/// The square: its lower and its upper half.
 #[inline(always)]
 pub fn square(a: &Limbs) -> (Limbs, Limbs)
-    ensures { weighed result.0 + 2 ^ 256 * weighed result.1 ≡ weighed a.now * weighed a.now }
+    ensures { value_of result.0 + 2 ^ 256 * value_of result.1 ≡ value_of a.now * value_of a.now }
 {
-    let (mixed, above, top) = mixed(a);
+    let (cross, above, top) = cross_products(a);
     let (first, carry) = a.first.carrying_mul(a.first, 0);
-    let (second, carry) = summed(twice(mixed.first, 0), 0, carry);
+    let (second, carry) = add_with_carry(doubled_digit(cross.first, 0), 0, carry);
     let (third, carry) = a
         .second
-        .carrying_mul_add(a.second, twice(mixed.second, mixed.first), carry);
-    let (fourth, carry) = summed(twice(mixed.third, mixed.second), 0, carry);
+        .carrying_mul_add(a.second, doubled_digit(cross.second, cross.first), carry);
+    let (fourth, carry) = add_with_carry(doubled_digit(cross.third, cross.second), 0, carry);
     let (fifth, carry) = a
         .third
-        .carrying_mul_add(a.third, twice(mixed.fourth, mixed.third), carry);
-    let (sixth, carry) = summed(twice(above, mixed.fourth), 0, carry);
+        .carrying_mul_add(a.third, doubled_digit(cross.fourth, cross.third), carry);
+    let (sixth, carry) = add_with_carry(doubled_digit(above, cross.fourth), 0, carry);
     let (seventh, carry) = a
         .fourth
-        .carrying_mul_add(a.fourth, twice(top, above), carry);
+        .carrying_mul_add(a.fourth, doubled_digit(top, above), carry);
     let eighth = top / HALF + carry;
     (
         Limbs::new(first, second, third, fourth),
@@ -96,10 +96,10 @@ pub fn square(a: &Limbs) -> (Limbs, Limbs)
     )
 }
 
-/// The sum of the products of two different digits, in six digits from the second place on.
+/// The sum of the products of two different digits, each at its place, divided by 2^64: six digits.
 #[inline(always)]
-fn mixed(a: &Limbs) -> (Limbs, u64, u64)
-    ensures { weighed result.0 + 2 ^ 256 * result.1 + 2 ^ 320 * result.2
+fn cross_products(a: &Limbs) -> (Limbs, u64, u64)
+    ensures { value_of result.0 + 2 ^ 256 * result.1 + 2 ^ 320 * result.2
         ≡ a.now.first * a.now.second + 2 ^ 64 * (a.now.first * a.now.third)
         + 2 ^ 128 * (a.now.first * a.now.fourth + a.now.second * a.now.third)
         + 2 ^ 192 * (a.now.second * a.now.fourth) + 2 ^ 256 * (a.now.third * a.now.fourth) }
@@ -113,91 +113,94 @@ fn mixed(a: &Limbs) -> (Limbs, u64, u64)
     (Limbs::new(first, second, third, fourth), fifth, sixth)
 }
 
-/// A digit of twice a number, from the number's digit there and the one below.
+/// A digit of twice a number, from the number's digit at this place and the digit below.
 #[inline(always)]
-fn twice(digit: u64, below: u64) -> u64
+fn doubled_digit(digit: u64, below: u64) -> u64
     ensures { result + digit / 2 ^ 63 * 2 ^ 64 ≡ 2 * digit + below / 2 ^ 63 }
 {
     digit % HALF * 2 + below / HALF
 }
 
-/// What a carry over 2^256 comes back as, modulo the prime.
+/// 38 times the carry. A carry is worth 2^256, which is 38 modulo the prime.
 #[inline(always)]
-fn back(carry: u64) -> u64
+fn wrapped_carry(carry: u64) -> u64
     requires { carry < 2 }
     ensures { result ≡ 38 * carry }
 {
     if carry > 0 { 38 } else { 0 }
 }
 
-/// The sum of a number and a small one, modulo the prime.
+/// The sum of a number and one below 2^32. The result is congruent, and may be above the prime.
 #[inline(always)]
-fn raised(limbs: &Limbs, more: u64) -> Limbs
+fn plus_small(limbs: &Limbs, more: u64) -> Limbs
     requires { more < 2 ^ 32 }
-    ensures { weighed result % prime ≡ (weighed limbs.now + more) % prime }
+    ensures { value_of result % prime ≡ (value_of limbs.now + more) % prime }
 {
-    let (first, carry) = summed(limbs.first, more, 0);
-    let (second, carry) = summed(limbs.second, carry, 0);
-    let (third, carry) = summed(limbs.third, carry, 0);
-    let (fourth, carry) = summed(limbs.fourth, carry, 0);
-    Limbs::new(first + back(carry), second, third, fourth)
+    let (first, carry) = add_with_carry(limbs.first, more, 0);
+    let (second, carry) = add_with_carry(limbs.second, carry, 0);
+    let (third, carry) = add_with_carry(limbs.third, carry, 0);
+    let (fourth, carry) = add_with_carry(limbs.fourth, carry, 0);
+    Limbs::new(first + wrapped_carry(carry), second, third, fourth)
 }
 
-/// The difference of a number and a small one, modulo the prime.
+/// The difference of a number and one below 2^32. The result is congruent, and may be above the prime.
 #[inline(always)]
-fn lowered(limbs: &Limbs, less: u64) -> Limbs
+fn minus_small(limbs: &Limbs, less: u64) -> Limbs
     requires { less < 2 ^ 32 }
-    ensures { (weighed result + less) % prime ≡ weighed limbs.now % prime }
+    ensures { (value_of result + less) % prime ≡ value_of limbs.now % prime }
 {
     let (first, borrow) = limbs.first.borrowing_sub(less, false);
     let (second, borrow) = limbs.second.borrowing_sub(0, borrow);
     let (third, borrow) = limbs.third.borrowing_sub(0, borrow);
     let (fourth, borrow) = limbs.fourth.borrowing_sub(0, borrow);
-    Limbs::new(first - back(borrow as u64), second, third, fourth)
+    Limbs::new(first - wrapped_carry(borrow as u64), second, third, fourth)
 }
 
-/// A number in two halves, modulo the prime: the higher half comes back 38 times.
+/// A number below 2^256 that is congruent to the number with these two halves. The upper half counts 38 times.
 #[inline(always)]
 pub fn wrapped(low: &Limbs, high: &Limbs) -> Limbs
-    ensures { weighed result % prime ≡ (weighed low.now + 2 ^ 256 * weighed high.now) % prime }
+    ensures { value_of result % prime ≡ (value_of low.now + 2 ^ 256 * value_of high.now) % prime }
 {
-    let (first, sum) = row(38, high, low);
-    raised(
+    let (first, sum) = multiply_add(38, high, low);
+    plus_small(
         &Limbs::new(first, sum.first, sum.second, sum.third),
         38 * sum.fourth,
     )
 }
 
-/// The sum, modulo the prime.
+/// A number below 2^256 that is congruent to the sum.
 #[inline(always)]
 pub fn plus(a: &Limbs, b: &Limbs) -> Limbs
-    ensures { weighed result % prime ≡ (weighed a.now + weighed b.now) % prime }
+    ensures { value_of result % prime ≡ (value_of a.now + value_of b.now) % prime }
 {
-    let (first, carry) = summed(a.first, b.first, 0);
-    let (second, carry) = summed(a.second, b.second, carry);
-    let (third, carry) = summed(a.third, b.third, carry);
-    let (fourth, carry) = summed(a.fourth, b.fourth, carry);
-    raised(&Limbs::new(first, second, third, fourth), back(carry))
+    let (first, carry) = add_with_carry(a.first, b.first, 0);
+    let (second, carry) = add_with_carry(a.second, b.second, carry);
+    let (third, carry) = add_with_carry(a.third, b.third, carry);
+    let (fourth, carry) = add_with_carry(a.fourth, b.fourth, carry);
+    plus_small(
+        &Limbs::new(first, second, third, fourth),
+        wrapped_carry(carry),
+    )
 }
 
-/// The difference, modulo the prime.
+/// A number below 2^256 that is congruent to the difference.
 #[inline(always)]
 pub fn minus(a: &Limbs, b: &Limbs) -> Limbs
-    ensures { (weighed result + weighed b.now) % prime ≡ weighed a.now % prime }
+    ensures { (value_of result + value_of b.now) % prime ≡ value_of a.now % prime }
 {
     let (first, borrow) = a.first.borrowing_sub(b.first, false);
     let (second, borrow) = a.second.borrowing_sub(b.second, borrow);
     let (third, borrow) = a.third.borrowing_sub(b.third, borrow);
     let (fourth, borrow) = a.fourth.borrowing_sub(b.fourth, borrow);
-    lowered(
+    minus_small(
         &Limbs::new(first, second, third, fourth),
-        back(borrow as u64),
+        wrapped_carry(borrow as u64),
     )
 }
 
 /// The digits of a whole number.
 pub fn unpacked(whole: &Whole) -> Limbs
-    ensures { weighed result ≡ whole.now }
+    ensures { value_of result ≡ whole.now }
 {
     let low = whole.low();
     let high = whole.high();
@@ -209,9 +212,9 @@ pub fn unpacked(whole: &Whole) -> Limbs
     )
 }
 
-/// The whole number of these digits.
+/// The whole number with these digits.
 pub fn packed(limbs: &Limbs) -> Whole
-    ensures { result ≡ weighed limbs.now }
+    ensures { result ≡ value_of limbs.now }
 {
     Whole::new(
         limbs.first as u128 + limbs.second as u128 * WEIGHT,

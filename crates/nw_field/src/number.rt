@@ -7,7 +7,7 @@ use crate::Whole;
 use crate::limbs::{Limbs, minus, packed, plus, product, square, unpacked, wrapped};
 use std::marker::Model;
 
-/// A number modulo the prime. Contracts see the number, which is below the prime.
+/// A number modulo the prime. In contracts it is a natural number below the prime.
 #[derive(Debug, Drop)]
 pub struct Number {
     limbs: Limbs,
@@ -19,9 +19,9 @@ impl Model for Number {
     ghost Value = { ℕ };
 
     ghost use Rattle.nw_field.specs.Field.{prime};
-    ghost use Rattle.nw_field.specs.Weights.{weighed};
+    ghost use Rattle.nw_field.specs.Weights.{value_of};
 
-    ghost view = { λ n. weighed n.limbs % prime };
+    ghost view = { λ n. value_of n.limbs % prime };
 }
 
 impl Number {
@@ -41,7 +41,7 @@ impl Number {
         Number::of(&Whole::new(1, 0))
     }
 
-    /// The number that a whole number is, or `None` where it is not below the prime.
+    /// The whole number as a number modulo the prime, or `None` if it is not below the prime.
     pub fn from_whole(whole: &Whole) -> Option<Number>
         ensures { result ≡ (if nat_lt whole.now prime then Some whole.now else None) }
     {
@@ -52,7 +52,7 @@ impl Number {
         }
     }
 
-    /// The number that a whole number below the prime is.
+    /// The whole number, which must be below the prime, as a number modulo the prime.
     #[tactic(auto, using(crate::proofs::Digits::wraps))]
     pub fn of(whole: &Whole) -> Number
         requires { whole.now < prime }
@@ -73,14 +73,14 @@ impl Number {
         reduced(packed(&self.limbs))
     }
 
-    /// Whether it is odd.
+    /// Whether the number, from 0 to p - 1 for the prime p, is odd.
     pub fn is_odd(&self) -> bool
         ensures { result ≡ (self.now % 2 == 1) }
     {
         self.to_whole().is_odd()
     }
 
-    /// Whether it is the other.
+    /// Whether the numbers are equal.
     pub fn equals(&self, other: &Number) -> bool
         ensures { result ≡ (self.now == other.now) }
     {
@@ -107,7 +107,7 @@ impl Number {
         }
     }
 
-    /// The negative.
+    /// The number times -1.
     pub fn negative(&self) -> Number
         ensures { result ≡ negative self.now }
     {
@@ -145,7 +145,7 @@ fn the_prime() -> Whole
     Whole::new(u128::MAX - 18, (1 << 127) - 1)
 }
 
-/// The number modulo the prime.
+/// The remainder modulo the prime.
 #[tactic(auto, using(crate::proofs::Digits::left_over, crate::proofs::Digits::wraps))]
 fn reduced(whole: Whole) -> Whole
     ensures { result ≡ whole % prime }

@@ -5,53 +5,57 @@ ghost use Rattle.nw_field.specs.Field.{prime, power, inverse};
 use crate::Number;
 
 impl Number {
-    /// The inverse, and of 0 it is 0.
+    /// The inverse. The inverse of 0 is 0.
     pub fn inverse(&self) -> Number
         ensures { result ≡ inverse self.now }
     {
-        let eleventh = self.squared(2).times(self).squared(1).times(self);
-        self.long_ones().squared(5).times(&eleventh)
+        let eleventh = self
+            .squared_times(2)
+            .times(self)
+            .squared_times(1)
+            .times(self);
+        self.power_of_250_ones().squared_times(5).times(&eleventh)
     }
 
     /// The third power.
     pub fn cube(&self) -> Number
         ensures { result ≡ power self.now 3 }
     {
-        self.squared(1).times(self)
+        self.squared_times(1).times(self)
     }
 
     /// The seventh power.
     pub fn seventh(&self) -> Number
         ensures { result ≡ power self.now 7 }
     {
-        self.cube().squared(1).times(self)
+        self.cube().squared_times(1).times(self)
     }
 
-    /// The power (p - 5) / 8 of the prime p.
+    /// The number to the power (p - 5) / 8, for the prime p. A square root is computed from it.
     pub fn root_power(&self) -> Number
         ensures { result ≡ power self.now ((prime - 5) / 8) }
     {
-        self.long_ones().squared(2).times(self)
+        self.power_of_250_ones().squared_times(2).times(self)
     }
 
-    /// The power 2^250 - 1.
-    fn long_ones(&self) -> Number
+    /// The number to the power 2^250 - 1, whose binary digits are 250 ones.
+    fn power_of_250_ones(&self) -> Number
         ensures { result ≡ power self.now (2 ^ 250 - 1) }
     {
-        let two = self.squared(1).times(self);
-        let four = joined(&two, &two, 2);
-        let five = four.squared(1).times(self);
-        let ten = joined(&five, &five, 5);
-        let twenty = joined(&ten, &ten, 10);
-        let twenty_five = joined(&twenty, &five, 5);
-        let fifty = joined(&twenty_five, &twenty_five, 25);
-        let hundred = joined(&fifty, &fifty, 50);
-        let half = joined(&hundred, &twenty_five, 25);
-        joined(&half, &half, 125)
+        let two = self.squared_times(1).times(self);
+        let four = append_ones(&two, &two, 2);
+        let five = four.squared_times(1).times(self);
+        let ten = append_ones(&five, &five, 5);
+        let twenty = append_ones(&ten, &ten, 10);
+        let twenty_five = append_ones(&twenty, &five, 5);
+        let fifty = append_ones(&twenty_five, &twenty_five, 25);
+        let hundred = append_ones(&fifty, &fifty, 50);
+        let half = append_ones(&hundred, &twenty_five, 25);
+        append_ones(&half, &half, 125)
     }
 
-    /// The power 2^times.
-    fn squared(&self, times: u32) -> Number
+    /// The number squared `times` times: its power 2^times.
+    fn squared_times(&self, times: u32) -> Number
         requires { 0 < times }
         ensures { result ≡ power self.now (2 ^ times) }
     {
@@ -63,11 +67,11 @@ impl Number {
     }
 }
 
-/// The power 2^(m + n) - 1 of what the first is the power 2^m - 1, and the second the power 2^n - 1.
-fn joined(first: &Number, second: &Number, n: u32) -> Number
+/// A number to the power 2^(m + n) - 1, from its powers 2^m - 1 (`first`) and 2^n - 1 (`second`). It appends n ones to m ones.
+fn append_ones(first: &Number, second: &Number, n: u32) -> Number
     requires { 0 < n }
     ensures { (a m : ℕ) → first.now ≡ power a (2 ^ m - 1) → second.now ≡ power a (2 ^ n - 1)
         → result ≡ power a (2 ^ (m + n) - 1) }
 {
-    first.squared(n).times(second)
+    first.squared_times(n).times(second)
 }

@@ -7,10 +7,10 @@ ghost use Rattle.nw_field.specs.Bytes.{number_of};
 
 use std::marker::Model;
 
-/// The half of 2^128.
+/// Half of 2^128.
 const HALF: u128 = 1 << 127;
 
-/// A whole number below 2^256. Contracts see the number.
+/// A whole number below 2^256. In contracts it is a natural number.
 #[derive(Debug, Drop)]
 pub struct Whole {
     low: u128,
@@ -28,14 +28,14 @@ impl Model for Whole {
 }
 
 impl Whole {
-    /// The number of a lower and a higher half.
+    /// The number with this lower and upper half, of 128 bits each.
     pub fn new(low: u128, high: u128) -> Whole
         ensures { result ≡ low + 2 ^ 128 * high }
     {
         Whole { low, high }
     }
 
-    /// The number of 32 bytes, lowest first.
+    /// The number that 32 bytes encode, lowest first.
     pub fn from_bytes(bytes: &[u8]) -> Whole
         requires { length bytes.now ≡ 32 }
         ensures number { result ≡ number_of bytes.now }
@@ -57,42 +57,42 @@ impl Whole {
         bytes
     }
 
-    /// The lower half.
+    /// The lower 128 bits.
     pub fn low(&self) -> u128
         ensures { result ≡ self.now % 2 ^ 128 }
     {
         self.low
     }
 
-    /// The higher half.
+    /// The upper 128 bits.
     pub fn high(&self) -> u128
         ensures { result ≡ self.now / 2 ^ 128 }
     {
         self.high
     }
 
-    /// Whether it is odd.
+    /// Whether the number is odd.
     pub fn is_odd(&self) -> bool
         ensures { result ≡ (self.now % 2 == 1) }
     {
         self.low % 2 == 1
     }
 
-    /// Whether it is less than the other.
+    /// Whether the number is less than the other.
     pub fn is_below(&self, other: &Whole) -> bool
         ensures { result ≡ nat_lt self.now other.now }
     {
         self.high < other.high || self.high == other.high && self.low < other.low
     }
 
-    /// Whether it is the other.
+    /// Whether the numbers are equal.
     pub fn equals(&self, other: &Whole) -> bool
         ensures { result ≡ (self.now == other.now) }
     {
         self.high == other.high && self.low == other.low
     }
 
-    /// Whether the bit of this place is set.
+    /// Whether the bit at this place is set. Place 0 is the lowest bit.
     pub fn is_set(&self, place: u32) -> bool
         requires { place < 256 }
         ensures { result ≡ (bit_at self.now place == 1) }
@@ -114,7 +114,7 @@ impl Whole {
         }
     }
 
-    /// The number with this bit as bit 255.
+    /// The number with `top` as its bit 255, which must be clear.
     pub fn with_top(&self, top: bool) -> Whole
         requires { self.now < 2 ^ 255 }
         ensures { result ≡ self.now + (if top then 2 ^ 255 else 0) }
@@ -125,7 +125,7 @@ impl Whole {
         }
     }
 
-    /// The difference.
+    /// The difference. The other number must not be larger.
     pub fn minus(&self, other: &Whole) -> Whole
         requires { other.now ≤ self.now }
         ensures { result ≡ self.now - other.now }
@@ -144,7 +144,7 @@ impl Whole {
     }
 }
 
-/// The number of 16 bytes, lowest first.
+/// The number that 16 bytes encode, lowest first.
 fn half_of(bytes: &[u8]) -> u128
     requires { length bytes.now ≡ 16 }
     ensures { result ≡ number_of bytes.now }

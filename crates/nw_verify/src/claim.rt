@@ -1,4 +1,4 @@
-//! One line: a key, a message, and a signature that may be its.
+//! A claim: one line with a key, a message and a signature.
 ghost use Rattle.std.specs.Prelude.{◌≡◌};
 ghost use Rattle.nw_ed25519.specs.Accepts.{accepts};
 
@@ -10,18 +10,18 @@ use nw_ed25519::Ed25519;
 use nw_sig::Scheme;
 use std::alloc::Global;
 
-/// How many bytes a message has at most.
+/// The most bytes of a message.
 const MAX_MESSAGE: usize = 1_048_576;
-/// How many characters a key has, and a signature.
+/// The number of hex digits of a key.
 const KEY: usize = 64;
-
+/// The number of hex digits of a signature.
 const SIGNATURE: usize = 128;
-/// How many characters a line has at least and at most.
-const LEAST: usize = KEY + SIGNATURE + 3;
-
+/// The fewest characters of a line.
+const MIN_LINE: usize = KEY + SIGNATURE + 3;
+/// The most characters of a line.
 pub const MAX_LINE: usize = KEY + SIGNATURE + 2 + 2 * MAX_MESSAGE;
 
-/// A key, a message, and a signature that may be its.
+/// A claim: this signature of this message is valid under this key.
 #[derive(Debug, Drop)]
 pub struct Claim {
     key: Key,
@@ -30,9 +30,9 @@ pub struct Claim {
 }
 
 impl Claim {
-    /// The claim that a line is, or `None` where it is none. The message is `-`, or an even number of hex digits.
+    /// Parses a line, or gives `None` if it is not a claim. The message is `-`, or an even number of hex digits.
     pub fn parse(alloc: Global, line: &[u8]) -> Result<Option<Claim>, VerifyFault> {
-        if line.len() < LEAST || line.len() > MAX_LINE {
+        if line.len() < MIN_LINE || line.len() > MAX_LINE {
             return Ok(None);
         }
         let end = line.len() - SIGNATURE;
@@ -56,7 +56,7 @@ impl Claim {
         }))
     }
 
-    /// Whether the signature is accepted.
+    /// Whether Ed25519 accepts the signature.
     pub fn holds(&self) -> bool
         ensures { result ≡ accepts self.now.key self.now.message.items self.now.signature }
     {
@@ -64,7 +64,7 @@ impl Claim {
     }
 }
 
-// The message of these characters.
+/// The message that the text encodes, or `None` if it is neither `-` nor hex.
 fn message(alloc: Global, text: &[u8]) -> Result<Option<Vec<u8>>, VerifyFault> {
     if text == b"-".as_slice() {
         return Ok(Some(Vec::new(alloc)));

@@ -1,11 +1,11 @@
-//! Why the program ends before the end of its input.
+//! The faults that end the program.
 use std::alloc::{AllocError, AllocFailed};
 use thiserror::Error;
 
-/// Why the program ends before the end of its input. The answers to the lines before stand.
+/// Why the program ends before the end of its input. It has answered the earlier lines.
 #[derive(Clone, Copy, Debug, Error)]
 pub enum VerifyFault {
-    /// The line of this number, from 1, is none.
+    /// The line with this number, from 1, is not a claim.
     #[error("{line}")]
     BadLine { line: u64 },
     /// The input can't be read.
@@ -14,7 +14,7 @@ pub enum VerifyFault {
     /// The answers can't be written.
     #[error("the answers can't be written")]
     Write,
-    /// Memory was refused.
+    /// Memory ran out.
     #[error("out of memory")]
     NoMemory,
 }

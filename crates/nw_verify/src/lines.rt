@@ -1,10 +1,11 @@
-//! The input, line by line.
+//! Reads the input line by line, and answers each line.
 use crate::claim::{Claim, MAX_LINE};
 use crate::fault::VerifyFault;
 use std::alloc::Global;
 use std::io::{BufWriter, ErrorKind, Read, Write};
 
-/// Answers each line of the reader, a line each. It keeps one line at a time, however long the input is.
+/// Writes a line `yes` or `no` for each line of the reader. It keeps only one line in memory. It flushes the output even if it
+/// fails.
 pub fn answer_lines<R: Read, W: Write + Drop>(
     alloc: Global,
     reader: &mut R,
@@ -22,7 +23,7 @@ pub fn answer_lines<R: Read, W: Write + Drop>(
     outcome
 }
 
-// A line without an end is one where it is the last and not empty.
+/// Answers all lines. The last line needs no line end.
 fn answer_all<R: Read, W: Write>(
     alloc: Global,
     reader: &mut R,
@@ -47,7 +48,7 @@ fn answer_all<R: Read, W: Write>(
     part.finish(alloc, out)
 }
 
-/// The line that is being read, and its number.
+/// The part of a line that was read so far, and the line's number, from 1.
 #[derive(Debug, Drop)]
 struct Part {
     line: Vec<u8>,
@@ -55,7 +56,7 @@ struct Part {
 }
 
 impl Part {
-    /// Takes more bytes, and answers each line that ends in them.
+    /// Adds bytes, and answers each line that ends in them.
     fn take<W: Write>(
         &mut self,
         alloc: Global,
@@ -74,7 +75,7 @@ impl Part {
         Ok(())
     }
 
-    /// Answers the line, and begins the next.
+    /// Answers the line, and begins the next one.
     fn finish<W: Write>(&mut self, alloc: Global, out: &mut W) -> Result<(), VerifyFault> {
         let Some(claim) = Claim::parse(alloc, self.line.as_slice())? else {
             return Err(VerifyFault::BadLine { line: self.number });

@@ -1,8 +1,8 @@
-//! Verifies Ed25519 signatures: reads lines `key message signature` in hex from standard input, a message of no bytes as `-`,
-//! and prints `yes` or `no` for each.
+//! A program that verifies Ed25519 signatures.
 //!
-//! The exit status is 0 at the end of the input, and 1 where a line is none of this, whose number stands on standard error,
-//! where the input can't be read or the answers written, or memory is refused.
+//! Each line of standard input is `key message signature` in hex, with `-` for an empty message. For each line the program prints `yes` or
+//! `no`. The exit status is 0 at the end of the input. It is 1 if a line has another form, or if reading, writing or an allocation fails.
+//! Standard error then has the number of the bad line, or the cause.
 #![tactic(auto)]
 
 mod claim;
@@ -16,7 +16,7 @@ fn main(rt: HostRuntime) -> ExitCode {
     match answer_lines(rt.alloc(), &mut rt.stdin(), rt.stdout()) {
         Ok(()) => ExitCode::SUCCESS,
         Err(fault) => {
-            // Where standard error fails too, the status alone tells.
+            // If standard error fails too, only the exit status reports the fault.
             let _ = eprintln!(rt; "{fault}");
             ExitCode::FAILURE
         }

@@ -1,6 +1,6 @@
-//! Tests of Ed25519: the standard's vectors, and signatures that it must refuse or accept at its edges.
+//! Tests of Ed25519: the standard's vectors, and edge cases that it must refuse or accept.
 //!
-//! Its contract: it has tests alone, and nothing stands on it.
+//! It has only tests, and no crate uses it.
 #![tactic(auto)]
 
 #[cfg(test)]

@@ -8,7 +8,7 @@ use nw_ed25519::Ed25519;
 use nw_sig::Scheme;
 use std::alloc::Global;
 
-/// A key, a message and a signature in hex, and whether it is accepted.
+/// A key, a message and a signature (R and S) in hex, and whether the signature is accepted.
 struct Case {
     key: &'static str,
     message: &'static str,
@@ -17,7 +17,7 @@ struct Case {
     accepted: bool,
 }
 
-/// Whether the answer is the one that the case has.
+/// Whether `verify` gives the result of the case.
 fn is_right(alloc: Global, case: &Case) -> Result<bool, FromHexError> {
     let key = Key(<[u8; 32] as FromHex>::from_hex(case.key)?);
     let message = hex::decode(alloc, case.message)?;

@@ -1,9 +1,9 @@
-//! Tests of what a refusal of memory leaves of tables, frozen views and the stores over them: `.ci/refusals` runs each of them once for every allocation that it
-//! makes, with that one refused.
+//! Tests of allocation failure in tables, frozen views and the stores over them.
 //!
-//! Its contract: it has tests alone, and no store stands on it. Each test plays a worked example, and asks a call that wants memory
-//! again at once: with its input where that was handed back, and else with a copy. It then waits for exactly the example's
-//! answers. Calls that take no memory are made while all memory is refused.
+//! `.ci/refusals` runs each test once for every allocation that it makes, and lets that allocation fail. Each test is a worked example. If
+//! a call runs out of memory, the test repeats it at once, with the input that was handed back or with a copy. It must then give exactly
+//! the replies of the example. Calls that allocate nothing are made while all allocations fail. The crate has only tests, and no crate
+//! uses it.
 #![tactic(auto)]
 
 #[cfg(test)]

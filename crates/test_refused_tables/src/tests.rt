@@ -10,7 +10,7 @@ mod tables;
 mod views;
 mod without;
 
-/// A digest that begins and ends with these bytes.
+/// A digest with this first and last byte, and zeros between them.
 fn digest(first: u8, last: u8) -> Digest {
     let mut bytes = [0; 32];
     bytes[0] = first;

@@ -1,6 +1,6 @@
-//! A test of messages that another implementation of Ed25519 signed, from their bytes to a causal read.
+//! A test that takes messages, signed by OpenSSL, from their bytes to a causal read.
 //!
-//! Its contract: it has a test alone, and nothing stands on it.
+//! It has only this test, and no crate uses it.
 #![tactic(auto)]
 
 #[cfg(test)]

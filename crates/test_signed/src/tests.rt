@@ -15,7 +15,7 @@ const LIMITS: Limits = Limits {
     sessions: 1,
 };
 
-/// The members' keys.
+/// The members' public keys.
 const KEYS: [&str; 4] = [
     "b1e281447549fd943d16645ad3dc9eadac410bf57b088568b28330f362eb6440",
     "a4c8790bcd552bd37255db13022ca7099eaaa854aa4cc11ad56c412fffe96287",
@@ -29,7 +29,7 @@ const BLOCK: &str =
     6c89ac9c35510f7d4e6a92faa7cc8417b30d9dbcdbc42b864b0828ad172bee46ecebf8f0aa3572d4\
     c65406";
 
-/// Its certificate by members 0, 1 and 3, as a message.
+/// The block's certificate with the votes of members 0, 1 and 3, as a message.
 const CERTIFICATE: &str =
     "02ad5f105076afa169e3887acc36005405d73a816843e97e749449384f3c19f20500000000000000\
     00000300009af1d2533135fb248c8f10d4cc4553277987ca1d852e79d4f63b0762f35cfe4177e476\
@@ -39,7 +39,7 @@ const CERTIFICATE: &str =
     136a1499a9ad2549057a9d18964278f188ffd3f4e6143b14b950f3e078290f084e841738b7d4d830\
     0e";
 
-/// The same, but its last seal is made by member 2.
+/// The same certificate, but member 2 signed the vote of member 3.
 const FORGED: &str =
     "02ad5f105076afa169e3887acc36005405d73a816843e97e749449384f3c19f20500000000000000\
     00000300009af1d2533135fb248c8f10d4cc4553277987ca1d852e79d4f63b0762f35cfe4177e476\
@@ -49,7 +49,7 @@ const FORGED: &str =
     3dc1ca0bb8a7a0fca34fd4405feaadc08fce8e77d02960738ce63f1214d3be64ded13150198aee21\
     06";
 
-/// The committee of these members.
+/// The committee with these members.
 fn committee(alloc: Global) -> Result<Shared<Committee>, Fail> {
     let mut keys = Vec::new(alloc);
     for key in KEYS {
@@ -58,7 +58,7 @@ fn committee(alloc: Global) -> Result<Shared<Committee>, Fail> {
     Ok(Shared::new(alloc, Committee::new(alloc, keys)?)?)
 }
 
-/// What the message is found to be.
+/// The result of the message's check.
 fn checked(
     alloc: Global,
     committee: &Shared<Committee>,
@@ -68,7 +68,7 @@ fn checked(
     Ok(check_message(alloc, committee, text.as_slice())?)
 }
 
-/// The block, where the message is one.
+/// The block's digest and its write, if the message is a block.
 fn block_of(checked: Checked<Ed25519>) -> Option<(Digest, Command<Ed25519>)> {
     match checked {
         Checked::Block(block) => Some((block.digest(), Command::Write(block))),
@@ -79,7 +79,7 @@ fn block_of(checked: Checked<Ed25519>) -> Option<(Digest, Command<Ed25519>)> {
     }
 }
 
-/// The certificate, where the message is one.
+/// The certificate's call, if the message is a certificate.
 fn certificate_of(checked: Checked<Ed25519>) -> Option<Command<Ed25519>> {
     match checked {
         Checked::Cert(certificate) => Some(Command::Certify(certificate)),
@@ -90,7 +90,7 @@ fn certificate_of(checked: Checked<Ed25519>) -> Option<Command<Ed25519>> {
     }
 }
 
-/// Takes a step of the book's session.
+/// Makes the call as the session's call with this number.
 fn step(
     alloc: Global,
     book: &mut Book<Ed25519>,
@@ -103,7 +103,7 @@ fn step(
     Ok(())
 }
 
-/// Writes and certifies the block, and counts the blocks of a causal read of it.
+/// Writes and certifies the block. Returns the number of blocks in its causal list.
 fn read_back(
     alloc: Global,
     committee: &Shared<Committee>,
@@ -119,8 +119,8 @@ fn read_back(
     Ok(blocks?.len())
 }
 
-/// How many blocks the causal read gives, and whether the forged certificate is one.
-fn both(
+/// The number of blocks in the causal list, and whether the forged certificate passes its check.
+fn read_back_and_try_forged(
     alloc: Global,
     committee: &Shared<Committee>,
     book: &mut Book<Ed25519>,
@@ -134,7 +134,7 @@ fn both(
 fn a_block_and_its_certificate_are_stored(rt: HostRuntime) -> Result<(), Fail> {
     let members = committee(rt.alloc())?;
     let mut book = Book::new(rt.alloc(), members.try_clone()?, LIMITS)?;
-    let outcome = both(rt.alloc(), &members, &mut book);
+    let outcome = read_back_and_try_forged(rt.alloc(), &members, &mut book);
     drop(book);
     drop(members);
     assert_eq!(rt; outcome?, (1, false));

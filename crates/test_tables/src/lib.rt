@@ -1,6 +1,6 @@
-//! Tests of tables: what small stores are answered, and that a `Dag` answers as a `Plain`.
+//! Tests of tables: worked examples for small stores, and comparisons of a `Dag` with a `Plain`.
 //!
-//! Its contract: it has tests alone, and nothing stands on it.
+//! It has only tests, and no crate uses it.
 #![tactic(auto)]
 
 #[cfg(test)]

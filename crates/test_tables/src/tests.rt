@@ -16,15 +16,15 @@ mod words;
 /// A round and an author.
 type Slot = (u64, u16);
 
-/// A block by its round, its author, and which of that author's blocks of the round it is.
+/// The name of a block: its round, its author, and a number for the author's blocks of this round.
 type Name = (u64, u16, u8);
 
-/// The round of this number, which has 48 bits.
+/// The round with this number. Refused if the number is 2^48 or more.
 fn round(number: u64) -> Result<Round, NoMemory> {
     Round::new(number).ok_or(NoMemory)
 }
 
-/// The digest that stands for the block of that name. Digests are not in the order of the rounds.
+/// A digest for the block with this name. The digests are not in the order of the rounds.
 fn digest_of(name: Name) -> Digest {
     let mut bytes = [name.2; 32];
     bytes[..2].copy_from_slice(&name.1.to_be_bytes());
@@ -32,7 +32,7 @@ fn digest_of(name: Name) -> Digest {
     Digest(bytes)
 }
 
-/// References to blocks, with this author or else their own.
+/// References to the named blocks. If `author` is given, each reference names it instead of the block's own author.
 fn references(alloc: Global, names: &[Name], author: Option<u16>) -> Result<Vec<Ref>, NoMemory> {
     let mut references = Vec::new(alloc);
     for name in names {
@@ -44,7 +44,7 @@ fn references(alloc: Global, names: &[Name], author: Option<u16>) -> Result<Vec<
     Ok(references)
 }
 
-/// The block of the slot with these parents and this one transaction.
+/// A block for the slot, with these parents and this one transaction.
 fn block_of(
     alloc: Global,
     slot: Slot,
@@ -62,7 +62,7 @@ fn block_of(
     Shared::new(alloc, block)
 }
 
-/// A certificate of the digest for the slot.
+/// A certificate for the digest and the slot, without votes.
 fn certificate(alloc: Global, digest: Digest, slot: Slot) -> Result<Shared<Certificate>, NoMemory> {
     let certificate = Certificate {
         digest,
@@ -73,7 +73,7 @@ fn certificate(alloc: Global, digest: Digest, slot: Slot) -> Result<Shared<Certi
     Shared::new(alloc, certificate)
 }
 
-/// Writes the block of that name over these.
+/// Writes the named block with these parents.
 fn write(dag: &mut Dag, alloc: Global, name: Name, parents: &[Name]) -> Result<(), NoMemory> {
     let references = references(alloc, parents, None)?;
     let block = block_of(alloc, (name.0, name.1), references, b"")?;
@@ -81,14 +81,14 @@ fn write(dag: &mut Dag, alloc: Global, name: Name, parents: &[Name]) -> Result<(
     Ok(())
 }
 
-/// Certifies the block of that name.
+/// Certifies the named block.
 fn certify(dag: &mut Dag, alloc: Global, name: Name) -> Result<(), NoMemory> {
     let certificate = certificate(alloc, digest_of(name), (name.0, name.1))?;
     dag.certify(&certificate)?;
     Ok(())
 }
 
-/// The walk of a view from a block, which it has not below its floor.
+/// The walk of a view from the digest. Refused if the view lacks the block, or has it below its floor.
 fn walked(alloc: Global, view: &View, digest: Digest) -> Result<Vec<Shared<Block>>, NoMemory> {
     let start = view.get(&digest).ok_or(NoMemory)?.get();
     if start.round.get() < view.floor().get() {

@@ -2,14 +2,14 @@ use Rattle.nw_history.specs.Story.{first_origin}
 use Rattle.nw_store.specs.Kept.{parts_of_a_ledger}
 use Rattle.example_node.proofs.open.Given as goal
 
--- the ledger that was opened
+-- the opening's ledger
 abbrev pub ghosts-run-L-Ledger : goal.ghosts-run-L-Ledger
 ghosts-run-L-Ledger g a = record { name = a.opening.ledger; parts = parts_of_a_ledger }
 
--- the log that was opened
+-- the opening's log
 abbrev pub ghosts-run-L-Place : goal.ghosts-run-L-Place
 ghosts-run-L-Place g a = record { log = a.opening.log }
 
--- what the store starts with
+-- the origin of the store's history
 abbrev pub ghosts-run-L-Home : goal.ghosts-run-L-Home
 ghosts-run-L-Home g a = record { origin = first_origin a.committee a.limits }

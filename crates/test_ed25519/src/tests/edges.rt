@@ -1,4 +1,4 @@
-//! What is refused, and what only looks as if it were; the answers are those of bench/ed25519.py.
+//! Edge cases: signatures that are refused, and some that only look wrong. The expected results are those of bench/ed25519.py.
 use super::{Case, is_right};
 use std::test::Fail;
 
@@ -10,9 +10,9 @@ fn each_edge_has_the_answer_of_the_reference(rt: HostRuntime) -> Result<(), Fail
     Ok(())
 }
 
-/// A true signature changed, keys and R that are not canonical or of small order, and S at its bound.
+/// A valid signature with one change; keys and R that are not canonical, or of small order; and S at its bound.
 const CASES: [Case; 20] = [
-    // S and the order: S is not below the order.
+    // S plus the order, which is not below the order.
     Case {
         key: "fc51cd8e6218a1a38da47ed00230f0580816ed13ba3303ac5deb911548908025",
         message: "af82",
@@ -20,7 +20,7 @@ const CASES: [Case; 20] = [
         s: "05d391b0a77904e98404ef037747a56e4a7c15e9716ed28dc027beceea1ec41a",
         accepted: false,
     },
-    // A bit of R.
+    // One bit of R is changed.
     Case {
         key: "fc51cd8e6218a1a38da47ed00230f0580816ed13ba3303ac5deb911548908025",
         message: "af82",
@@ -28,7 +28,7 @@ const CASES: [Case; 20] = [
         s: "18ff9b538d16f290ae67f760984dc6594a7c15e9716ed28dc027beceea1ec40a",
         accepted: false,
     },
-    // A bit of S.
+    // One bit of S is changed.
     Case {
         key: "fc51cd8e6218a1a38da47ed00230f0580816ed13ba3303ac5deb911548908025",
         message: "af82",
@@ -36,7 +36,7 @@ const CASES: [Case; 20] = [
         s: "19ff9b538d16f290ae67f760984dc6594a7c15e9716ed28dc027beceea1ec40a",
         accepted: false,
     },
-    // The sign in R.
+    // The sign bit of R is changed.
     Case {
         key: "fc51cd8e6218a1a38da47ed00230f0580816ed13ba3303ac5deb911548908025",
         message: "af82",
@@ -44,7 +44,7 @@ const CASES: [Case; 20] = [
         s: "18ff9b538d16f290ae67f760984dc6594a7c15e9716ed28dc027beceea1ec40a",
         accepted: false,
     },
-    // The sign in the key.
+    // The sign bit of the key is changed.
     Case {
         key: "fc51cd8e6218a1a38da47ed00230f0580816ed13ba3303ac5deb9115489080a5",
         message: "af82",
@@ -52,7 +52,7 @@ const CASES: [Case; 20] = [
         s: "18ff9b538d16f290ae67f760984dc6594a7c15e9716ed28dc027beceea1ec40a",
         accepted: false,
     },
-    // A bit of the key.
+    // One bit of the key is changed.
     Case {
         key: "fd51cd8e6218a1a38da47ed00230f0580816ed13ba3303ac5deb911548908025",
         message: "af82",
@@ -60,7 +60,7 @@ const CASES: [Case; 20] = [
         s: "18ff9b538d16f290ae67f760984dc6594a7c15e9716ed28dc027beceea1ec40a",
         accepted: false,
     },
-    // A bit of the message.
+    // One bit of the message is changed.
     Case {
         key: "fc51cd8e6218a1a38da47ed00230f0580816ed13ba3303ac5deb911548908025",
         message: "a782",
@@ -68,7 +68,7 @@ const CASES: [Case; 20] = [
         s: "18ff9b538d16f290ae67f760984dc6594a7c15e9716ed28dc027beceea1ec40a",
         accepted: false,
     },
-    // The neutral point is a key, under which R = [S]B of any message.
+    // The key is the neutral element. Then R = [S]B is accepted for every message.
     Case {
         key: "0100000000000000000000000000000000000000000000000000000000000000",
         message: "af82",
@@ -76,7 +76,7 @@ const CASES: [Case; 20] = [
         s: "0000000000000000000000000000000000000000000000000000000000000000",
         accepted: true,
     },
-    // R is the neutral point, but its y is the prime and one.
+    // R encodes the neutral element, but with y + p for the prime p.
     Case {
         key: "0100000000000000000000000000000000000000000000000000000000000000",
         message: "af82",
@@ -84,7 +84,7 @@ const CASES: [Case; 20] = [
         s: "0000000000000000000000000000000000000000000000000000000000000000",
         accepted: false,
     },
-    // R is the neutral point, but with a sign.
+    // R encodes the neutral element, but with its sign bit set.
     Case {
         key: "0100000000000000000000000000000000000000000000000000000000000000",
         message: "af82",
@@ -92,7 +92,7 @@ const CASES: [Case; 20] = [
         s: "0000000000000000000000000000000000000000000000000000000000000000",
         accepted: false,
     },
-    // The key's y is the prime and one.
+    // The key encodes the neutral element, but with y + p for the prime p.
     Case {
         key: "eeffffffffffffffffffffffffffffffffffffffffffffffffffffffffffff7f",
         message: "af82",
@@ -100,7 +100,7 @@ const CASES: [Case; 20] = [
         s: "0000000000000000000000000000000000000000000000000000000000000000",
         accepted: false,
     },
-    // The key's x is 0, and its sign is set.
+    // The key encodes the neutral element, but with its sign bit set.
     Case {
         key: "0100000000000000000000000000000000000000000000000000000000000080",
         message: "af82",
@@ -156,7 +156,7 @@ const CASES: [Case; 20] = [
         s: "18ff9b538d16f290ae67f760984dc6594a7c15e9716ed28dc027beceea1ec40a",
         accepted: false,
     },
-    // The points are equal only eight times over.
+    // The two points differ by a point of small order. With the cofactor 8 they are equal.
     Case {
         key: "fc51cd8e6218a1a38da47ed00230f0580816ed13ba3303ac5deb911548908025",
         message: "af82",
@@ -164,7 +164,7 @@ const CASES: [Case; 20] = [
         s: "6027b1e4d5bfc5b045ec91c9ba188f77cc122235908dd1d9abe190b26509420a",
         accepted: false,
     },
-    // A signer that chose R in another way.
+    // The signer chose R in another way than the standard's.
     Case {
         key: "fc51cd8e6218a1a38da47ed00230f0580816ed13ba3303ac5deb911548908025",
         message: "af82",

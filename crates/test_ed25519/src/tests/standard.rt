@@ -1,4 +1,4 @@
-//! Vectors of RFC 8032, section 7.1.
+//! Test vectors of RFC 8032, section 7.1.
 use super::{Case, is_right};
 use std::test::Fail;
 
@@ -10,7 +10,7 @@ fn the_vectors_of_the_standard_are_accepted(rt: HostRuntime) -> Result<(), Fail>
     Ok(())
 }
 
-/// Four of its five, all that are of at most 64 bytes.
+/// Four of the five vectors: those with messages of at most 64 bytes.
 const CASES: [Case; 4] = [
     // An empty message.
     Case {

@@ -1,4 +1,4 @@
-//! The certified DAG, and what it is asked.
+//! Examples of calls on a `Dag`.
 use super::*;
 use nw_codec::{Certificate, Ref};
 use nw_dag::{Dag, DagLimits};
@@ -7,18 +7,18 @@ use nw_model::{CausalReply, CertifyReply, CollectReply, Counts, WriteReply};
 use nw_waiting::Wanted;
 use sample_blocks::block;
 
-/// Room for 64 blocks over as many rounds.
+/// Bounds for 64 blocks and 64 rounds.
 const ROOM: DagLimits = DagLimits {
     blocks: 64,
     window: 64,
 };
 
-/// A block of author 0 and the round over these.
+/// A block of author 0 for the round, with these parents.
 fn block_of(alloc: Global, round: Round, parents: &[Ref]) -> Result<Shared<Block>, NoMemory> {
     block(alloc, (round, 0), parents.to_vec(alloc)?, b"x")
 }
 
-/// A certificate of the digest for the round and author.
+/// A certificate for the digest and the slot, without votes.
 pub(super) fn certificate_of(
     alloc: Global,
     digest: Digest,
@@ -33,7 +33,7 @@ pub(super) fn certificate_of(
     Shared::new(alloc, certificate)
 }
 
-/// Writes and certifies a block of author 0 over these, under the digest. Whether both are taken.
+/// Writes and certifies a block of author 0 with these parents, under the digest. Returns whether both were stored.
 fn extend(
     dag: &mut Dag,
     alloc: Global,
@@ -48,7 +48,7 @@ fn extend(
     Ok(written == WriteReply::Stored { vote: true } && certified == CertifyReply::Certified)
 }
 
-/// The number of parts of the view for the digest, or why there is none.
+/// The number of parts of the view for the digest, or the reply if there is no view.
 fn parts_of(
     dag: &mut Dag,
     alloc: Global,
@@ -60,7 +60,7 @@ fn parts_of(
     }
 }
 
-/// Whether what is missing first is this alone, and it goes by a collection of round 1, which drops one block.
+/// Whether `wanted` is the first missing parent, and a collection to round 1 then drops one block.
 fn is_collected(dag: &mut Dag, alloc: Global, wanted: Wanted) -> Result<bool, NoMemory> {
     let missing = again!(NoMemory, dag.missing(alloc, 1))?;
     let collected = again!(NoMemory, dag.collect(round(1)))?;
@@ -70,7 +70,7 @@ fn is_collected(dag: &mut Dag, alloc: Global, wanted: Wanted) -> Result<bool, No
     )
 }
 
-/// Whether a block of round 1 waits for a parent that another author is to have, until that is its garbage round.
+/// Whether a block of round 1, whose reference names a wrong author, is incomplete until round 1 is the garbage round.
 fn needs_no_parents(dag: &mut Dag, alloc: Global) -> Result<bool, NoMemory> {
     let (p, q) = (digest(1, 0), digest(2, 0));
     let parent = Ref {
@@ -107,7 +107,7 @@ fn a_collection_completes_a_block(rt: HostRuntime) {
     assert!(rt; dag.status() == counts && dag.is_complete(&digest(2, 0)));
 }
 
-/// Adds the next block of a chain of one author. The number of parts of the view for it.
+/// Adds the next block of a chain. Returns the number of parts of its view.
 fn next_parts(dag: &mut Dag, alloc: Global, number: u8) -> Result<usize, NoMemory> {
     let link = digest(number, 0);
     let over = [Ref {
@@ -121,7 +121,7 @@ fn next_parts(dag: &mut Dag, alloc: Global, number: u8) -> Result<usize, NoMemor
     }
 }
 
-/// Whether the views of a chain of 17 blocks have 1 to 16 parts and then 2, and 1 after all is frozen anew.
+/// Whether the views of a chain of 17 blocks have 1 to 16 parts and then 2, and 1 after `compact`.
 fn are_shared(dag: &mut Dag, alloc: Global) -> Result<bool, NoMemory> {
     for number in 0..17u8 {
         let parts = if number < 16 {

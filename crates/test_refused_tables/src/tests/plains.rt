@@ -1,13 +1,12 @@
-//! The plain store, and what it is asked.
+//! Examples of calls on a `Plain`.
 use super::dags::certificate_of;
 use super::*;
 use nw_model::{Call, CausalReply, CertifyReply, CollectReply, Reply, WriteReply};
 use nw_plain::{Base, Plain};
 use sample_blocks::{block, references};
 
-/// What the plain store is asked. A round and an author name a block: those of round 0 have no parents, and that of round 1
-/// is over three of them.
-enum Asked {
+/// A call of the example. A round and an author name a block. Blocks of round 0 have no parents, and the block of round 1 has three.
+enum ExampleCall {
     Write(u8, u8),
     Certify(u8, u8),
     Causal,
@@ -15,33 +14,33 @@ enum Asked {
     Read,
 }
 
-/// The call.
-fn call_of(alloc: Global, asked: &Asked) -> Result<Call, NoMemory> {
-    Ok(match asked {
-        Asked::Write(0, author) => {
+/// The call that an entry of the example describes.
+fn call_of(alloc: Global, call: &ExampleCall) -> Result<Call, NoMemory> {
+    Ok(match call {
+        ExampleCall::Write(0, author) => {
             let slot = (Round::ZERO, u16::from(*author));
             Call::Write(
                 name(0, *author % 3),
                 block(alloc, slot, Vec::new(alloc), b"x")?,
             )
         }
-        Asked::Write(_, _) => {
+        ExampleCall::Write(_, _) => {
             Call::Write(
                 name(1, 0),
                 block(alloc, (round(1), 0), references(alloc)?, b"x")?,
             )
         }
-        Asked::Certify(number, author) => {
+        ExampleCall::Certify(number, author) => {
             let slot = (round(*number), u16::from(*author));
             Call::Certify(certificate_of(alloc, name(*number % 2, *author % 3), slot)?)
         }
-        Asked::Causal => Call::Causal(name(1, 0)),
-        Asked::Collect => Call::Collect(round(2)),
-        Asked::Read => Call::Read(name(1, 0)),
+        ExampleCall::Causal => Call::Causal(name(1, 0)),
+        ExampleCall::Collect => Call::Collect(round(2)),
+        ExampleCall::Read => Call::Read(name(1, 0)),
     })
 }
 
-/// The reply in words, where it is one of those that the example waits for.
+/// The name of a reply of the example, or `another reply`.
 fn words(reply: &Reply) -> &'static str {
     match reply {
         Reply::Write(WriteReply::Stored { vote: true }) => "stored vote",
@@ -55,50 +54,54 @@ fn words(reply: &Reply) -> &'static str {
     }
 }
 
-/// The call and its reply, which are copied first.
-fn answer_to(plain: &mut Plain, alloc: Global, asked: &Asked) -> Result<&'static str, NoMemory> {
-    let call = again!(NoMemory, call_of(alloc, asked))?;
+/// Makes a copy of the call, and names a copy of its reply.
+fn reply_to(
+    plain: &mut Plain,
+    alloc: Global,
+    call: &ExampleCall,
+) -> Result<&'static str, NoMemory> {
+    let call = again!(NoMemory, call_of(alloc, call))?;
     let copy = again!(NoMemory, call.try_clone())?;
     let reply = again!(NoMemory, plain.call(&copy))?;
     Ok(words(&again!(NoMemory, reply.try_clone(alloc))?))
 }
 
-const EXAMPLE: [(Asked, &str); 12] = [
-    (Asked::Write(0, 0), "stored vote"),
-    (Asked::Write(0, 1), "stored vote"),
-    (Asked::Write(0, 2), "stored vote"),
-    (Asked::Write(1, 0), "stored vote"),
-    (Asked::Certify(0, 0), "certified"),
-    (Asked::Certify(0, 1), "certified"),
-    (Asked::Certify(0, 2), "certified"),
-    (Asked::Certify(1, 0), "certified"),
-    (Asked::Causal, "all four"),
-    (Asked::Collect, "raised 4"),
-    (Asked::Read, "unknown"),
-    (Asked::Causal, "unknown"),
+const EXAMPLE: [(ExampleCall, &str); 12] = [
+    (ExampleCall::Write(0, 0), "stored vote"),
+    (ExampleCall::Write(0, 1), "stored vote"),
+    (ExampleCall::Write(0, 2), "stored vote"),
+    (ExampleCall::Write(1, 0), "stored vote"),
+    (ExampleCall::Certify(0, 0), "certified"),
+    (ExampleCall::Certify(0, 1), "certified"),
+    (ExampleCall::Certify(0, 2), "certified"),
+    (ExampleCall::Certify(1, 0), "certified"),
+    (ExampleCall::Causal, "all four"),
+    (ExampleCall::Collect, "raised 4"),
+    (ExampleCall::Read, "unknown"),
+    (ExampleCall::Causal, "unknown"),
 ];
 
-/// How many of these the plain store answers so, in turn, up to the first that it does not.
-fn count_answers(
+/// The number of calls that get the expected reply, up to the first that does not.
+fn count_expected(
     plain: &mut Plain,
     alloc: Global,
-    table: &[(Asked, &str)],
+    table: &[(ExampleCall, &str)],
 ) -> Result<usize, NoMemory> {
-    for (place, (call, answer)) in table.iter().enumerate() {
-        if answer_to(plain, alloc, call)? != *answer {
+    for (place, (call, expected)) in table.iter().enumerate() {
+        if reply_to(plain, alloc, call)? != *expected {
             return Ok(place);
         }
     }
     Ok(table.len())
 }
 
-/// How many answers of the last part of the example a store over the base gives.
+/// The number of expected replies of the example's last part that a store over the base gives.
 fn count_over(alloc: Global, base: &Base) -> Result<usize, NoMemory> {
     let mut plain = again!(NoMemory, Plain::over(alloc, base))?;
-    count_answers(&mut plain, alloc, &EXAMPLE[8..])
+    count_expected(&mut plain, alloc, &EXAMPLE[8..])
 }
 
-/// Whether the base has the four blocks.
+/// Whether the base has the example's state before its last part.
 fn has_four(base: &Base) -> bool {
     !base.is_opening()
         && base.floor() == Round::ZERO
@@ -109,13 +112,16 @@ fn has_four(base: &Base) -> bool {
 }
 
 #[test]
-fn a_plain_store_answers_and_one_over_its_base_goes_on(rt: HostRuntime) {
+fn a_plain_store_replies_and_another_continues_from_its_base(rt: HostRuntime) {
     let mut plain = Plain::new(rt.alloc(), 64, 64);
-    assert_eq!(rt; count_answers(&mut plain, rt.alloc(), &EXAMPLE[..8]), Ok(8));
+    assert_eq!(rt;
+        count_expected(&mut plain, rt.alloc(), &EXAMPLE[..8]),
+        Ok(8)
+    );
     let base = Base::of(plain);
     assert!(rt; has_four(&base));
     assert_eq!(rt; count_over(rt.alloc(), &base), Ok(4));
     let mut less = Plain::new(rt.alloc(), 64, 64);
-    assert_eq!(rt; count_answers(&mut less, rt.alloc(), &EXAMPLE[..7]), Ok(7));
+    assert_eq!(rt; count_expected(&mut less, rt.alloc(), &EXAMPLE[..7]), Ok(7));
     assert!(rt; !base.is_same(&Base::of(less)));
 }

@@ -1,10 +1,10 @@
-//! Tables: a trie, the slots of rounds, and what is waited for.
+//! Examples of the tables: a trie, slots, and wanted parents.
 use super::*;
 use nw_rounds::Rounds;
 use nw_trie::Trie;
 use nw_waiting::{Waiting, Wanted};
 
-/// Inserts the value, and again where it comes back.
+/// Inserts the value. If memory runs out, inserts the value that was handed back.
 fn insert(trie: &mut Trie<u64, Global>, key: Digest, value: u64) -> Result<Option<u64>, NoMemory> {
     match trie.insert(key, value) {
         Ok(old) => Ok(old),
@@ -15,7 +15,7 @@ fn insert(trie: &mut Trie<u64, Global>, key: Digest, value: u64) -> Result<Optio
     }
 }
 
-/// Whether these are the entries of the trie, in order.
+/// Whether the trie has exactly these entries, in order.
 fn has(trie: &Trie<u64, Global>, entries: &[(Digest, u64)]) -> bool {
     for ((key, value), entry) in trie.iter().zip(entries) {
         if (*key, *value) != *entry {
@@ -38,7 +38,7 @@ fn a_trie_of_three_keys(rt: HostRuntime) {
     assert_eq!(rt; trie.len(), 2);
 }
 
-/// Makes the digest the first of round 3 and the author. Whether there was none.
+/// Makes the digest the first of round 3 and the author. Returns `false` if there is one already.
 pub(super) fn put_first(
     rounds: &mut Rounds<Global>,
     author: u16,
@@ -51,7 +51,7 @@ pub(super) fn put_first(
     Ok(true)
 }
 
-/// Certifies the digest for round 3 and the author. Whether none was.
+/// Certifies the digest for round 3 and the author. Returns `false` if one is certified already.
 pub(super) fn put_certified(
     rounds: &mut Rounds<Global>,
     author: u16,
@@ -64,7 +64,7 @@ pub(super) fn put_certified(
     Ok(true)
 }
 
-/// Whether round 3 lists these digests, and so do the rounds up to it.
+/// Whether round 3 has exactly these digests, and so have all rounds up to it.
 fn is_listed(rounds: &Rounds<Global>, alloc: Global, digests: &[Digest]) -> Result<bool, NoMemory> {
     let own = again!(NoMemory, rounds.digests(alloc, round(3)))?;
     let lower = again!(NoMemory, rounds.digests_up_to(alloc, round(3)))?;
@@ -98,7 +98,7 @@ fn slots_of_a_round_and_below_it(rt: HostRuntime) {
     assert_eq!(rt; rounds.first(round(3), 1), None);
 }
 
-/// What is wanted of round 0 and the author, under the digest that begins with this byte.
+/// A wanted parent of round 0 and the author, whose digest begins with this byte.
 pub(super) fn wanted(author: u16, first: u8) -> Wanted {
     Wanted {
         round: Round::ZERO,
@@ -107,8 +107,8 @@ pub(super) fn wanted(author: u16, first: u8) -> Wanted {
     }
 }
 
-/// Lets two holders want two things. The first of what is wanted.
-pub(super) fn first_of_three(
+/// Adds two wanted parents of two holders, with three calls. Returns the first wanted parent.
+pub(super) fn want_thrice(
     waiting: &mut Waiting<Global>,
     alloc: Global,
 ) -> Result<Vec<Wanted>, NoMemory> {
@@ -119,8 +119,8 @@ pub(super) fn first_of_three(
     again!(NoMemory, waiting.first_wanted(alloc, 1))
 }
 
-/// How much there is to want, and what the holders lack.
-pub(super) fn lacked(waiting: &Waiting<Global>) -> [usize; 3] {
+/// The number of wanted parents, and how many each holder is missing.
+pub(super) fn missing_counts(waiting: &Waiting<Global>) -> [usize; 3] {
     [
         waiting.count(),
         waiting.lacks(digest(8, 0)),
@@ -131,14 +131,14 @@ pub(super) fn lacked(waiting: &Waiting<Global>) -> [usize; 3] {
 #[test]
 fn holders_of_a_wanted_parent(rt: HostRuntime) {
     let mut waiting = Waiting::new_in(rt.alloc());
-    let first = first_of_three(&mut waiting, rt.alloc()).expect(&rt, "there is memory");
+    let first = want_thrice(&mut waiting, rt.alloc()).expect(&rt, "there is memory");
     assert_eq!(rt; first.as_slice(), [wanted(0, 1)].as_slice());
-    assert_eq!(rt; lacked(&waiting), [2, 2, 1]);
+    assert_eq!(rt; missing_counts(&waiting), [2, 2, 1]);
     let holders = waiting.satisfy(&wanted(0, 1));
     assert_eq!(rt; holders.as_slice(), [digest(8, 0), digest(9, 0)].as_slice());
-    assert_eq!(rt; lacked(&waiting), [1, 1, 0]);
+    assert_eq!(rt; missing_counts(&waiting), [1, 1, 0]);
     waiting.unwant(digest(8, 0));
-    assert_eq!(rt; lacked(&waiting), [0, 0, 0]);
+    assert_eq!(rt; missing_counts(&waiting), [0, 0, 0]);
     let last = again!(NoMemory, waiting.first_wanted(rt.alloc(), 5));
     assert!(rt; last.is_ok_and(|wanted| wanted.is_empty()));
 }

@@ -1,10 +1,10 @@
-//! Generations that are frozen, views of them, their walks, and whether two walks agree.
+//! Generations, views of them, walks, and the agreement of two walks.
 use super::*;
 use nw_causal::{Agreement, agree, walk};
 use nw_generation::{Generation, View, freeze};
 use sample_blocks::{Blocks, older, view_of_both, view_of_one};
 
-/// The generation of the blocks, which come back where memory is refused, and one more owner of it.
+/// Freezes the blocks, and returns one more owner of their generation. A refused freeze hands the blocks back.
 fn frozen(alloc: Global, trie: Blocks) -> Result<Generation, NoMemory> {
     let generation = match freeze(alloc, trie) {
         Ok(generation) => generation,
@@ -26,7 +26,7 @@ fn a_refused_freeze_hands_its_blocks_back(rt: HostRuntime) {
     assert_eq!(rt; found, [true, false]);
 }
 
-/// Whether the walk of the digest, which the view has not below its floor, lists these.
+/// Whether the walk from the digest lists blocks with these slots. Refused if the view lacks the block, or has it below its floor.
 fn walks(
     alloc: Global,
     view: &View,
@@ -41,7 +41,7 @@ fn walks(
     Ok(have_slots(&blocks, slots))
 }
 
-/// Whether the view of two generations with this floor lists these from the later one's block on.
+/// Whether a walk from the later generation's block lists blocks with these slots, in a view of two generations with this floor.
 fn lists(alloc: Global, floor: u8, slots: &[(u64, u16)]) -> Result<bool, NoMemory> {
     let view = again!(NoMemory, view_of_both(alloc, b"x", round(floor)))?;
     let listed = walks(alloc, &view, name(1, 0), slots)?;
@@ -55,7 +55,7 @@ fn a_walk_over_two_generations(rt: HostRuntime) {
     assert_eq!(rt; lists(rt.alloc(), 1, &four[3..]), Ok(true));
 }
 
-/// Compares the walks of the digest, which both views have not below their one floor.
+/// Compares the walks from the digest in both views. Refused if the floors differ, or if a view lacks the block or has it below its floor.
 fn compared(
     alloc: Global,
     one: &View,
@@ -71,12 +71,12 @@ fn compared(
     again!(NoMemory, agree(alloc, one, other, digest))
 }
 
-/// The transaction of a block that has one.
+/// The block's first transaction, or an empty text if it has none.
 fn text_of(block: &Block) -> &[u8] {
     block.transactions.iter().next().unwrap_or(&[])
 }
 
-/// Whether the walks from the digest agree; where they do not, two blocks collide, of which one has "x", and the other this text.
+/// Whether the walks from the digest agree. If not, the colliding blocks must have the transactions "x" and `text`.
 fn is_same(
     alloc: Global,
     one: &View,
@@ -94,7 +94,8 @@ fn is_same(
     }
 }
 
-/// Whether they agree in views of two generations and this floor, where the first blocks of one have "x", and of the other this text.
+/// Whether the walks agree in two views of two generations with this floor. The first blocks of one view have "x", and of the other
+/// `text`.
 fn agree_in_both(alloc: Global, floor: u8, digest: Digest, text: &[u8]) -> Result<bool, NoMemory> {
     let one = again!(NoMemory, view_of_both(alloc, b"x", round(floor)))?;
     let other = again!(NoMemory, view_of_both(alloc, text, round(floor)))?;
@@ -114,7 +115,7 @@ fn walks_agree_or_two_blocks_collide(rt: HostRuntime) {
     }
 }
 
-/// Whether they agree in views of one generation with one block, which has "x" in one and this text in the other.
+/// Whether the walks agree in two views of one generation with one block. It has "x" in one view, and `text` in the other.
 fn agree_in_one(alloc: Global, text: &[u8]) -> Result<bool, NoMemory> {
     let one = again!(NoMemory, view_of_one(alloc, b"x", Round::ZERO))?;
     let other = again!(NoMemory, view_of_one(alloc, text, Round::ZERO))?;

@@ -1,6 +1,6 @@
-//! Calls that take no memory, which are made while all memory is refused.
+//! Calls that allocate nothing. They are made while all allocations fail.
 use super::dags::certificate_of;
-use super::tables::{first_of_three, lacked, put_certified, put_first, wanted};
+use super::tables::{missing_counts, put_certified, put_first, want_thrice, wanted};
 use super::*;
 use nw_dag::{Dag, DagLimits};
 use nw_generation::{Generation, View, freeze};
@@ -10,12 +10,12 @@ use nw_trie::Trie;
 use nw_waiting::Waiting;
 use sample_blocks::{Blocks, block, older, view_of_both};
 
-/// The block of round 1 and author 0, without parents.
+/// A block of round 1 and author 0, without parents.
 fn of_round_one(alloc: Global) -> Result<Shared<Block>, NoMemory> {
     block(alloc, (round(1), 0), Vec::new(alloc), b"y")
 }
 
-/// Whether a trie with a block of round 0 and author 0 has it replaced by this one.
+/// Whether an insertion of `newer` replaces the trie's block of round 0 and author 0.
 fn is_replaced(trie: &mut Blocks, newer: Shared<Block>) -> bool {
     match trie.insert(name(0, 0), newer) {
         Ok(Some(old)) => old.get().round == Round::ZERO,
@@ -23,7 +23,7 @@ fn is_replaced(trie: &mut Blocks, newer: Shared<Block>) -> bool {
     }
 }
 
-/// How many entries the trie lists.
+/// The number of entries that the trie's iterator gives.
 fn listed_in(trie: &Blocks) -> usize {
     let mut count = 0_usize;
     for (_digest, _block) in trie.iter() {
@@ -32,7 +32,7 @@ fn listed_in(trie: &Blocks) -> usize {
     count
 }
 
-/// Whether a trie of three blocks is read: the first is of round 1.
+/// Whether the reading calls of a trie of three blocks are right. Its first block is of round 1.
 fn is_read(trie: &Blocks) -> bool {
     let is_newer = match trie.get(&name(0, 0)) {
         Some(first) => first.get().round == round(1),
@@ -42,7 +42,7 @@ fn is_read(trie: &Blocks) -> bool {
     is_newer && listed && trie.get(&name(1, 0)).is_none()
 }
 
-/// Whether a trie of three blocks lends one, has it removed, and those below round 1 dropped.
+/// Whether a trie of three blocks lends and removes one, and drops the one below round 1.
 fn is_thinned(trie: &mut Blocks) -> bool {
     let (second, third) = (name(0, 1), name(0, 2));
     let lent = trie.get_mut(&second).is_some();
@@ -51,8 +51,8 @@ fn is_thinned(trie: &mut Blocks) -> bool {
     lent && removed && dropped && trie.len() == 1
 }
 
-/// Whether the calls of tries take no memory, but for an insert of a new key.
-fn of_tries(alloc: Global) -> Result<bool, NoMemory> {
+/// Whether a trie's calls allocate nothing, except the insertion of a new key.
+fn tries_pass(alloc: Global) -> Result<bool, NoMemory> {
     let mut trie = again!(NoMemory, older(alloc, 3, b"x"))?;
     let newer = again!(NoMemory, of_round_one(alloc))?;
     refuse_all(alloc);
@@ -64,13 +64,13 @@ fn of_tries(alloc: Global) -> Result<bool, NoMemory> {
     Ok(are_right)
 }
 
-/// The digests of author 1 of round 3.
+/// The first and the certified digest of round 3 and author 1.
 fn slots_of(rounds: &Rounds<Global>) -> [Option<Digest>; 2] {
     [rounds.first(round(3), 1), rounds.certified(round(3), 1)]
 }
 
-/// Whether slots are read and dropped without memory.
-fn of_slots(alloc: Global) -> Result<bool, NoMemory> {
+/// Whether slots are read and dropped without an allocation.
+fn slots_pass(alloc: Global) -> Result<bool, NoMemory> {
     let mut rounds = Rounds::new_in(alloc);
     let are_new = put_first(&mut rounds, 1, digest(1, 0))?
         && put_certified(&mut rounds, 1, digest(2, 0))?;
@@ -84,12 +84,12 @@ fn of_slots(alloc: Global) -> Result<bool, NoMemory> {
     Ok(are_new && is_right && none == after)
 }
 
-/// Whether what is wanted is counted, satisfied and given up without memory.
-fn of_holders(alloc: Global) -> Result<bool, NoMemory> {
+/// Whether wanted parents are counted, satisfied and given up without an allocation.
+fn holders_pass(alloc: Global) -> Result<bool, NoMemory> {
     let mut waiting = Waiting::new_in(alloc);
-    first_of_three(&mut waiting, alloc)?;
+    want_thrice(&mut waiting, alloc)?;
     refuse_all(alloc);
-    let before = lacked(&waiting);
+    let before = missing_counts(&waiting);
     let satisfied = waiting.satisfy(&wanted(0, 1)).len();
     waiting.unwant(digest(8, 0));
     let left = (waiting.count(), Waiting::new_in(alloc).count());
@@ -97,7 +97,7 @@ fn of_holders(alloc: Global) -> Result<bool, NoMemory> {
     Ok(before == [2, 2, 1] && satisfied == 2 && left == (0, 0))
 }
 
-/// The generation of three blocks of round 0, in a list.
+/// A list with one generation of three blocks of round 0.
 fn generations(alloc: Global) -> Result<Vec<Generation>, NoMemory> {
     let mut generations = Vec::with_capacity(alloc, 1)?;
     match freeze(alloc, older(alloc, 3, b"x")?) {
@@ -107,14 +107,14 @@ fn generations(alloc: Global) -> Result<Vec<Generation>, NoMemory> {
     Ok(generations)
 }
 
-/// The view of no generation.
+/// A view without generations.
 fn view_of_none(alloc: Global, floor: Round) -> View {
     let generations = Vec::new(alloc);
     View::new(generations, floor)
 }
 
-/// Whether views are made and read without memory.
-fn of_views(alloc: Global) -> Result<bool, NoMemory> {
+/// Whether views are made and read without an allocation.
+fn views_pass(alloc: Global) -> Result<bool, NoMemory> {
     let view = again!(NoMemory, view_of_both(alloc, b"x", round(1)))?;
     let generations = again!(NoMemory, generations(alloc))?;
     refuse_all(alloc);
@@ -130,7 +130,7 @@ fn of_views(alloc: Global) -> Result<bool, NoMemory> {
     Ok(is_read && are_found && is_empty)
 }
 
-/// A store with one block, which is certified.
+/// A `Dag` with one certified block.
 fn store_of_one(alloc: Global) -> Result<Dag, NoMemory> {
     let limits = DagLimits {
         blocks: 64,
@@ -143,8 +143,8 @@ fn store_of_one(alloc: Global) -> Result<Dag, NoMemory> {
     Ok(dag)
 }
 
-/// Whether a store is made, and tells its status, without memory.
-fn of_stores(alloc: Global) -> Result<bool, NoMemory> {
+/// Whether a `Dag` is made and gives its status without an allocation.
+fn dags_pass(alloc: Global) -> Result<bool, NoMemory> {
     let dag = again!(NoMemory, store_of_one(alloc))?;
     let limits = DagLimits {
         blocks: 1,
@@ -157,8 +157,8 @@ fn of_stores(alloc: Global) -> Result<bool, NoMemory> {
     Ok((status.blocks, status.complete, none.blocks) == (1, 1, 0) && is_complete)
 }
 
-/// Whether plain stores and bases are made, and bases read, without memory.
-fn of_bases(alloc: Global) -> bool {
+/// Whether plain stores and bases are made, and bases read, without an allocation.
+fn bases_pass(alloc: Global) -> bool {
     refuse_all(alloc);
     let base = Base::of(Plain::new(alloc, 64, 64));
     let is_read = base.is_opening()
@@ -174,10 +174,10 @@ fn of_bases(alloc: Global) -> bool {
 #[test]
 fn calls_that_take_no_memory(rt: HostRuntime) {
     let alloc = rt.alloc();
-    assert_eq!(rt; of_tries(alloc), Ok(true));
-    assert_eq!(rt; of_slots(alloc), Ok(true));
-    assert_eq!(rt; of_holders(alloc), Ok(true));
-    assert_eq!(rt; of_views(alloc), Ok(true));
-    assert_eq!(rt; of_stores(alloc), Ok(true));
-    assert!(rt; of_bases(alloc));
+    assert_eq!(rt; tries_pass(alloc), Ok(true));
+    assert_eq!(rt; slots_pass(alloc), Ok(true));
+    assert_eq!(rt; holders_pass(alloc), Ok(true));
+    assert_eq!(rt; views_pass(alloc), Ok(true));
+    assert_eq!(rt; dags_pass(alloc), Ok(true));
+    assert!(rt; bases_pass(alloc));
 }

@@ -1,9 +1,9 @@
-//! The same calls for a `Dag` and a `Plain`, whose replies are compared whole.
+//! Makes the same calls on a `Dag` and a `Plain`, and compares their replies.
 use super::*;
 use nw_model::{Call, Reply};
 use nw_plain::Plain;
 
-/// Both stores, which were given the same calls.
+/// A `Dag` and a `Plain` after the same calls.
 #[derive(Drop)]
 pub(super) struct Both {
     pub(super) dag: Dag,
@@ -11,7 +11,7 @@ pub(super) struct Both {
 }
 
 impl Both {
-    /// Both empty, with room for so many blocks in a window of so many rounds.
+    /// Two empty stores with these bounds.
     pub(super) fn new(alloc: Global, blocks: u32, window: u32) -> Both {
         Both {
             dag: Dag::new(alloc, DagLimits { blocks, window }),
@@ -19,24 +19,29 @@ impl Both {
         }
     }
 
-    /// Gives the call to both, and the reply, where both answer the same; else none.
+    /// Makes the call on both stores. Returns the reply, or `None` if the replies differ.
     pub(super) fn call(&mut self, alloc: Global, call: &Call) -> Result<Option<Reply>, NoMemory> {
         let expected = self.plain.call(call)?;
-        match self.answers(alloc, call, &expected) {
+        match self.dag_replies(alloc, call, &expected) {
             Ok(true) => Ok(Some(expected)),
             Ok(false) => Ok(None),
             Err(refused) => Err(refused),
         }
     }
 
-    /// Gives the call to the first, and whether it answers so.
-    fn answers(&mut self, alloc: Global, call: &Call, expected: &Reply) -> Result<bool, NoMemory> {
+    /// Makes the call on the `Dag`. Returns whether its reply is the expected one.
+    fn dag_replies(
+        &mut self,
+        alloc: Global,
+        call: &Call,
+        expected: &Reply,
+    ) -> Result<bool, NoMemory> {
         let answered = self.dag.reply(alloc, call)?;
         self.dag.take(call, &answered)?;
         self.agrees(alloc, call, &answered, expected)
     }
 
-    /// Whether the reply of the first is that of the second, where a walk stands for `Ready`.
+    /// Whether the `Dag`'s reply is the expected one. For `Ready`, it compares a walk with the expected list.
     fn agrees(
         &mut self,
         alloc: Global,
@@ -52,7 +57,7 @@ impl Both {
         }
     }
 
-    /// Whether a view that is frozen for the digest lists exactly these blocks.
+    /// Whether a walk from the digest, in a new view, lists exactly these blocks.
     fn lists(
         &mut self,
         alloc: Global,
@@ -66,7 +71,7 @@ impl Both {
     }
 }
 
-/// Whether the replies are the same. A list is not compared here.
+/// Whether the replies are equal. It is `false` for lists.
 fn is_same(one: &Reply, other: &Reply) -> bool {
     match (one, other) {
         (Reply::Write(one), Reply::Write(other)) => one == other,

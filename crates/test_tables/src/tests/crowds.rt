@@ -1,20 +1,20 @@
-//! Searches among digests that are crowded.
+//! Searches among digests with a long common prefix.
 use super::*;
 
-/// How many blocks there are, all of round 0.
+/// The number of blocks, all of round 0.
 const BLOCKS: u16 = 8_192;
 
-/// How often each is asked for.
+/// The number of searches for each digest.
 const TIMES: u8 = 8;
 
-/// The digest of the author's block. The first 30 bytes of all are equal.
+/// The digest of the author's block. The first 30 bytes of all digests are equal.
 fn crowded(author: u16) -> Digest {
     let mut bytes = [7; 32];
     bytes[30..].copy_from_slice(&author.to_be_bytes());
     Digest(bytes)
 }
 
-/// A view of the blocks, one of each author.
+/// A view with one block of each author.
 fn view_of_all(alloc: Global) -> Result<View, NoMemory> {
     let limits = DagLimits {
         blocks: u32::from(BLOCKS),
@@ -39,7 +39,7 @@ fn has(view: &View, author: u16) -> bool {
     }
 }
 
-/// How often an author's block was found, and how often a digest that none has was not.
+/// The numbers of searches that found a block, and of those that found none. One digest of the searched ones has no block.
 fn count(view: &View) -> (u32, u32) {
     let (mut found, mut missed) = (0u32, 0u32);
     for _time in 0..TIMES {
@@ -54,8 +54,8 @@ fn count(view: &View) -> (u32, u32) {
     (found, missed)
 }
 
-// Each search looks at some hundred entries. If it went over them one by one, all would take some 270,000,000 looks, for which a
-// test that is tried has no time.
+// Each search looks at some hundred entries. Linear searches would look at some 270,000,000 entries together, which is too slow for the
+// interpreter of `rt try --test`.
 #[test]
 fn searches_among_8192_crowded_digests_end_soon(rt: HostRuntime) {
     let view = view_of_all(rt.alloc()).expect(&rt, "there is memory");

@@ -1,4 +1,4 @@
-//! What calls on small stores are answered, by worked examples for both stores.
+//! Worked examples of calls on small stores, for both stores.
 use super::both::Both;
 use super::words::words;
 use super::*;
@@ -6,17 +6,17 @@ use nw_model::{Call, CertifyReply, CollectReply, Reply, Wanted, WriteReply};
 
 mod tables;
 
-/// What is asked.
-enum Asked {
-    /// The block of that name is written, over these.
+/// A call of an example.
+enum ExampleCall {
+    /// Writes the named block with these parents.
     Write(Name, &'static [Name]),
-    /// The block of that name is written, over these, with this author in the references.
+    /// Writes the named block with these parents, but names this author in the references.
     Naming(Name, u16, &'static [Name]),
-    /// Under the digest of that name another block is written, of this slot and without parents.
+    /// Writes another block, for this slot and without parents, under the digest of the named block.
     Under(Name, Slot),
-    /// A certificate of the block of that name.
+    /// Certifies the named block.
     Certify(Name),
-    /// A certificate of that block for another slot.
+    /// Certifies the named block for another slot.
     CertifyAs(Name, Slot),
     Certificate(Name),
     Read(Name),
@@ -26,40 +26,41 @@ enum Asked {
     Status,
 }
 
-/// What both answer.
-enum Answer {
-    /// These words are for the reply.
+/// The expected reply of both stores.
+enum Expected {
+    /// The reply with this name.
     Is(&'static str),
-    /// The block of that name is the first of the slot.
+    /// `Equivocates`: the named block is the first of the slot.
     Equivocates(Name),
-    /// The block of that name is certified for the slot.
+    /// `Conflict`: the named block is certified for the slot.
     Conflict(Name),
-    /// The round is below this garbage round.
+    /// `Collected`: the round is below this garbage round.
     Below(u64),
-    /// The block of that name is held.
+    /// The named block.
     Found(Name),
-    /// The certificate is for this slot.
+    /// A certificate for this slot.
     Kept(Slot),
-    /// Blocks of these slots.
+    /// A list of blocks with these slots.
     List(&'static [Slot]),
-    /// So many blocks were dropped.
+    /// `Raised`, with this number of dropped blocks.
     Raised(u64),
-    /// The round is not higher than this garbage round.
+    /// `NotHigher`, with this garbage round.
     NotHigher(u64),
-    /// Blocks of these slots are wanted under the digests of these names.
+    /// Wanted parents with these slots, under the digests of the named blocks.
     Wanted(&'static [(Slot, Name)]),
-    /// The garbage round, and how many blocks, certificates, complete blocks and wanted parents there are.
+    /// The garbage round, and the numbers of blocks, certificates, complete blocks and wanted parents.
     Counts([u64; 5]),
 }
 
-/// Stores with room for so many blocks in four rounds, what they are asked in turn, and what both answer.
+/// Calls on two new stores with a window of four rounds, and their expected replies.
 struct Example {
-    shows: &'static str,
+    purpose: &'static str,
+    /// The bound on the number of blocks.
     room: u32,
-    asked: &'static [(Asked, Answer)],
+    calls: &'static [(ExampleCall, Expected)],
 }
 
-/// The write of the block of that name, over these, with this author in the references or else their own.
+/// The write of the named block with these parents. If `author` is given, the references name it instead of the parents' authors.
 fn write(
     alloc: Global,
     name: Name,
@@ -75,26 +76,26 @@ fn certify(alloc: Global, name: Name, slot: Slot) -> Result<Call, NoMemory> {
     Ok(Call::Certify(certificate(alloc, digest_of(name), slot)?))
 }
 
-fn call_of(alloc: Global, asked: &Asked) -> Result<Call, NoMemory> {
-    match asked {
-        Asked::Write(name, parents) => write(alloc, *name, parents, None),
-        Asked::Naming(name, author, parents) => write(alloc, *name, parents, Some(*author)),
-        Asked::Under(name, slot) => {
+fn call_of(alloc: Global, call: &ExampleCall) -> Result<Call, NoMemory> {
+    match call {
+        ExampleCall::Write(name, parents) => write(alloc, *name, parents, None),
+        ExampleCall::Naming(name, author, parents) => write(alloc, *name, parents, Some(*author)),
+        ExampleCall::Under(name, slot) => {
             let other = block_of(alloc, *slot, Vec::new(alloc), b"other")?;
             Ok(Call::Write(digest_of(*name), other))
         }
-        Asked::Certify(name) => certify(alloc, *name, (name.0, name.1)),
-        Asked::CertifyAs(name, slot) => certify(alloc, *name, *slot),
-        Asked::Certificate(name) => Ok(Call::Certificate(digest_of(*name))),
-        Asked::Read(name) => Ok(Call::Read(digest_of(*name))),
-        Asked::Causal(name) => Ok(Call::Causal(digest_of(*name))),
-        Asked::Collect(number) => Ok(Call::Collect(round(*number)?)),
-        Asked::Missing(most) => Ok(Call::Missing(*most)),
-        Asked::Status => Ok(Call::Status),
+        ExampleCall::Certify(name) => certify(alloc, *name, (name.0, name.1)),
+        ExampleCall::CertifyAs(name, slot) => certify(alloc, *name, *slot),
+        ExampleCall::Certificate(name) => Ok(Call::Certificate(digest_of(*name))),
+        ExampleCall::Read(name) => Ok(Call::Read(digest_of(*name))),
+        ExampleCall::Causal(name) => Ok(Call::Causal(digest_of(*name))),
+        ExampleCall::Collect(number) => Ok(Call::Collect(round(*number)?)),
+        ExampleCall::Missing(most) => Ok(Call::Missing(*most)),
+        ExampleCall::Status => Ok(Call::Status),
     }
 }
 
-/// Whether these are wanted, in order.
+/// Whether the found parents are the wanted ones, in order.
 fn are_wanted(found: &[Wanted], wanted: &[(Slot, Name)]) -> bool {
     for (one, (slot, name)) in found.iter().zip(wanted) {
         if (one.round.get(), one.author) != *slot || one.digest != digest_of(*name) {
@@ -104,44 +105,45 @@ fn are_wanted(found: &[Wanted], wanted: &[(Slot, Name)]) -> bool {
     found.len() == wanted.len()
 }
 
-/// Whether it is the block of that name.
+/// Whether it is the named block.
 fn is_block(block: &Block, name: Name) -> bool {
     (block.round.get(), block.author) == (name.0, name.1)
         && block.transactions.len() == 1
         && block.transactions.iter().next() == Some(&[name.2])
 }
 
-/// Whether the reply has more in it than words say, and that is so.
-fn is_detail(reply: &Reply, answer: &Answer) -> bool {
-    match (reply, answer) {
-        (Reply::Write(WriteReply::Equivocates(first)), Answer::Equivocates(name)) => {
+/// Whether the reply is the expected one, for replies with a digest or a number.
+fn has_detail(reply: &Reply, expected: &Expected) -> bool {
+    match (reply, expected) {
+        (Reply::Write(WriteReply::Equivocates(first)), Expected::Equivocates(name)) => {
             *first == digest_of(*name)
         }
-        (Reply::Certify(CertifyReply::Conflict(other)), Answer::Conflict(name)) => {
+        (Reply::Certify(CertifyReply::Conflict(other)), Expected::Conflict(name)) => {
             *other == digest_of(*name)
         }
-        (Reply::Write(WriteReply::Collected(floor)), Answer::Below(number))
-        | (Reply::Certify(CertifyReply::Collected(floor)), Answer::Below(number))
-        | (Reply::Collect(CollectReply::NotHigher(floor)), Answer::NotHigher(number)) => {
+        (Reply::Write(WriteReply::Collected(floor)), Expected::Below(number))
+        | (Reply::Certify(CertifyReply::Collected(floor)), Expected::Below(number))
+        | (Reply::Collect(CollectReply::NotHigher(floor)), Expected::NotHigher(number)) => {
             floor.get() == *number
         }
-        (Reply::Collect(CollectReply::Raised { dropped }), Answer::Raised(number)) => {
+        (Reply::Collect(CollectReply::Raised { dropped }), Expected::Raised(number)) => {
             dropped == number
         }
         _ => false,
     }
 }
 
-fn is_answer(reply: &Reply, answer: &Answer) -> bool {
-    match (reply, answer) {
-        (reply, Answer::Is(named)) => words(reply) == *named,
-        (Reply::Read(Some(block)), Answer::Found(name)) => is_block(block.get(), *name),
-        (Reply::Certificate(Some(kept)), Answer::Kept(slot)) => {
+/// Whether the reply is the expected one.
+fn is_expected(reply: &Reply, expected: &Expected) -> bool {
+    match (reply, expected) {
+        (reply, Expected::Is(named)) => words(reply) == *named,
+        (Reply::Read(Some(block)), Expected::Found(name)) => is_block(block.get(), *name),
+        (Reply::Certificate(Some(kept)), Expected::Kept(slot)) => {
             (kept.get().round.get(), kept.get().author) == *slot
         }
-        (Reply::List(blocks), Answer::List(slots)) => have_slots(blocks.as_slice(), slots),
-        (Reply::Missing(found), Answer::Wanted(wanted)) => are_wanted(found.as_slice(), wanted),
-        (Reply::Status(counts), Answer::Counts(numbers)) => {
+        (Reply::List(blocks), Expected::List(slots)) => have_slots(blocks.as_slice(), slots),
+        (Reply::Missing(found), Expected::Wanted(wanted)) => are_wanted(found.as_slice(), wanted),
+        (Reply::Status(counts), Expected::Counts(numbers)) => {
             [
                 counts.floor.get(),
                 counts.blocks,
@@ -150,36 +152,36 @@ fn is_answer(reply: &Reply, answer: &Answer) -> bool {
                 counts.wanted,
             ] == *numbers
         }
-        _ => is_detail(reply, answer),
+        _ => has_detail(reply, expected),
     }
 }
 
-/// Whether both stores answer the call so.
+/// Whether both stores give the expected reply to the call.
 fn is_answered(
     both: &mut Both,
     alloc: Global,
-    asked: &Asked,
-    answer: &Answer,
+    call: &ExampleCall,
+    expected: &Expected,
 ) -> Result<bool, NoMemory> {
-    let call = call_of(alloc, asked)?;
+    let call = call_of(alloc, call)?;
     match both.call(alloc, &call) {
-        Ok(Some(reply)) => Ok(is_answer(&reply, answer)),
+        Ok(Some(reply)) => Ok(is_expected(&reply, expected)),
         Ok(None) => Ok(false),
         Err(refused) => Err(refused),
     }
 }
 
-/// Whether both stores, which are new, answer each of these calls so, in turn.
+/// Whether both stores, which must be new, give the expected reply to each call in turn.
 fn are_answered(both: &mut Both, alloc: Global, example: &Example) -> Result<bool, NoMemory> {
-    for (asked, answer) in example.asked {
-        if !is_answered(both, alloc, asked, answer)? {
+    for (call, expected) in example.calls {
+        if !is_answered(both, alloc, call, expected)? {
             return Ok(false);
         }
     }
     Ok(true)
 }
 
-/// Whether new stores do.
+/// Whether new stores give the expected replies of the example.
 fn is_played(alloc: Global, example: &Example) -> bool {
     let mut both = Both::new(alloc, example.room, 4);
     let answered = are_answered(&mut both, alloc, example);
@@ -189,6 +191,6 @@ fn is_played(alloc: Global, example: &Example) -> bool {
 #[test]
 fn the_tables_answer_as_the_plain_store(rt: HostRuntime) {
     for example in &tables::EXAMPLES {
-        assert!(rt; is_played(rt.alloc(), example), "{}", example.shows);
+        assert!(rt; is_played(rt.alloc(), example), "{}", example.purpose);
     }
 }

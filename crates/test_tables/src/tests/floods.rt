@@ -8,7 +8,7 @@ const ROOM: DagLimits = DagLimits {
     window: 4,
 };
 
-/// What is kept of a block of round 0 with its certificate, and of a block of round 3 that lacks its parent.
+/// The counts with a certified block of round 0, and a block of round 3 whose parent is missing.
 const KEPT: Counts = Counts {
     floor: Round::ZERO,
     blocks: 2,
@@ -17,7 +17,7 @@ const KEPT: Counts = Counts {
     wanted: 1,
 };
 
-/// Whether one of a thousand blocks of round 4 and one of a thousand certificates of round 5 are too far.
+/// Whether the replies to a new block of round 4 and a new certificate of round 5 are `TooFar`.
 fn are_too_far(dag: &mut Dag, alloc: Global, number: u16) -> Result<bool, NoMemory> {
     let parents = references(alloc, &[(3, number, 1)], None)?;
     let block = block_of(alloc, (4, 0), parents, b"")?;
@@ -28,7 +28,7 @@ fn are_too_far(dag: &mut Dag, alloc: Global, number: u16) -> Result<bool, NoMemo
     )
 }
 
-/// Floods tables of a window of four rounds. How much of it is too far.
+/// Floods a store whose window has four rounds. Returns how many of 1,000 pairs of calls got `TooFar` before one changed something.
 fn flooded(dag: &mut Dag, alloc: Global) -> Result<u16, NoMemory> {
     write(dag, alloc, (0, 0, 0), &[])?;
     certify(dag, alloc, (0, 0, 0))?;

@@ -1,9 +1,9 @@
-//! Grids in both stores: blocks of so many authors over so many rounds, each over all of the round before.
+//! Grids in both stores: each round has a block of each author, with all blocks of the preceding round as parents.
 use super::both::Both;
 use super::*;
 use nw_model::{Call, Reply};
 
-/// References to the blocks of so many authors in the round before.
+/// References to the blocks of the preceding round.
 fn all_before(alloc: Global, round: u64, authors: u16) -> Result<Vec<Ref>, NoMemory> {
     let mut names = Vec::new(alloc);
     if let Some(before) = round.checked_sub(1) {
@@ -14,7 +14,7 @@ fn all_before(alloc: Global, round: u64, authors: u16) -> Result<Vec<Ref>, NoMem
     references(alloc, &names, None)
 }
 
-/// Adds the block of that name over so many authors' blocks, with its certificate. Whether both stores answer alike.
+/// Writes and certifies the named block of the grid. Returns whether the stores gave equal replies.
 fn add(both: &mut Both, alloc: Global, name: Name, authors: u16) -> Result<bool, NoMemory> {
     let (slot, digest) = ((name.0, name.1), digest_of(name));
     let block = block_of(alloc, slot, all_before(alloc, name.0, authors)?, b"")?;
@@ -23,7 +23,7 @@ fn add(both: &mut Both, alloc: Global, name: Name, authors: u16) -> Result<bool,
     Ok(written && both.call(alloc, &Call::Certify(certificate))?.is_some())
 }
 
-/// Whether these are all blocks of so many authors, round by round, up to the last one, which is of that name.
+/// Whether these are all blocks of the grid in order, up to the round before the last block's, and then the last block.
 fn are_whole(blocks: &[Shared<Block>], authors: u16, last: Name) -> bool {
     let mut expected = (0u64, 0u16);
     for block in blocks {
@@ -43,7 +43,7 @@ fn are_whole(blocks: &[Shared<Block>], authors: u16, last: Name) -> bool {
     blocks.len() as u64 == last.0.saturating_mul(u64::from(authors)).saturating_add(1)
 }
 
-/// Whether both stores list the whole grid below the block of that name.
+/// Adds the grid. Returns whether both stores list the last block and all of the grid below it.
 fn lists_all(both: &mut Both, alloc: Global, authors: u16, last: Name) -> Result<bool, NoMemory> {
     for round in 0..=last.0 {
         for author in 0..authors {
@@ -59,14 +59,14 @@ fn lists_all(both: &mut Both, alloc: Global, authors: u16, last: Name) -> Result
     }
 }
 
-/// Whether new stores list the whole grid below the block of that name.
+/// Whether new stores list the last block and all of the grid below it.
 fn are_listed(alloc: Global, authors: u16, last: Name) -> bool {
     let mut both = Both::new(alloc, 1_000, 4_096);
     let listed = lists_all(&mut both, alloc, authors, last);
     matches!(listed, Ok(true))
 }
 
-// Two diamonds and a chain. A walk that took a block again for each reference to it would go over 4^39 paths.
+// Two diamonds and a chain. A walk that visited a block once for each reference to it would follow 4^39 paths.
 #[test]
 fn a_diamond_and_a_chain_of_1000_blocks_list_each_block_once(rt: HostRuntime) {
     for (authors, last) in [(4, (3, 2, 0)), (4, (39, 2, 0)), (1, (999, 0, 0))] {

@@ -1,4 +1,4 @@
-//! Random calls for both stores.
+//! Makes random calls on both stores.
 use super::both::Both;
 use super::words::{REPLIES, words};
 use super::*;
@@ -7,23 +7,24 @@ use rand_core::utils::NextWord;
 use rand_pcg::Pcg32;
 use std::collections::BTreeSet;
 
-/// How many calls there are.
+/// The number of calls.
 const CALLS: u32 = 20_000;
 
-/// How many rounds are taken, and how many blocks are held at most: fewer than four authors have in these rounds.
+/// The window of the stores, in rounds.
 const WINDOW: u32 = 7;
-
+/// The most blocks that a store holds: fewer than the blocks of four authors in the window.
 const ROOM: u32 = 24;
 
-/// A block that the word names, one of two of four authors: mostly the first, and of a round that is taken.
+/// The name of a block, drawn from the word. Each of four authors has two blocks a round, of which the first is drawn mostly. The round is
+/// mostly in the window.
 fn named(word: u32, floor: Round) -> Name {
     let round = (floor.get() + u64::from(word % 9)).saturating_sub(1);
     let fork = if word / 64 % 16 == 0 { 1 } else { 0 };
     (round, (word / 16 % 4) as u16, fork)
 }
 
-/// The reference that the word gives to an author's block of the round. One of 64 names another author, and one of 64 has
-/// the round before.
+/// A reference to an author's block of the round, drawn from the word. One in 64 names another author. One in 64 is to a block of the
+/// preceding round.
 fn reference(word: u32, round: u64, author: u16) -> Ref {
     let fork = if word / 4 % 32 == 0 { 1 } else { 0 };
     let round = if word / 128 % 64 == 0 {
@@ -41,7 +42,7 @@ fn reference(word: u32, round: u64, author: u16) -> Ref {
     }
 }
 
-/// References of the block of that name, which belong to the name and the variant.
+/// The references of the named block. They are the same each time for one name and variant.
 fn drawn_references(alloc: Global, name: Name, variant: u8) -> Result<Vec<Ref>, NoMemory> {
     let stream = (u64::from(name.1) * 256 + u64::from(name.2)) * 256 + u64::from(variant);
     let mut random = Pcg32::new(name.0, stream);
@@ -55,20 +56,24 @@ fn drawn_references(alloc: Global, name: Name, variant: u8) -> Result<Vec<Ref>, 
     Ok(references)
 }
 
-/// The block of that name, and of 32 words once another one.
+/// The named block. For one word in 32 it is another block of the slot.
 fn block(alloc: Global, name: Name, word: u32) -> Result<Shared<Block>, NoMemory> {
     let variant = if word % 32 == 0 { 1 } else { 0 };
     let references = drawn_references(alloc, name, variant)?;
     block_of(alloc, (name.0, name.1), references, &[variant])
 }
 
-/// A certificate of the block of that name, and of 32 words once for another author's slot.
-fn certified(alloc: Global, name: Name, word: u32) -> Result<Shared<Certificate>, NoMemory> {
+/// A certificate for the named block. For one word in 32 it is for another author's slot.
+fn drawn_certificate(
+    alloc: Global,
+    name: Name,
+    word: u32,
+) -> Result<Shared<Certificate>, NoMemory> {
     let author = if word % 32 == 0 { name.1 ^ 1 } else { name.1 };
     certificate(alloc, digest_of(name), (name.0, author))
 }
 
-/// The next call.
+/// A random call.
 fn next_call(alloc: Global, random: &mut Pcg32, floor: Round) -> Result<Call, NoMemory> {
     let name = named(random.next_word(), floor);
     let word = random.next_word();
@@ -76,7 +81,7 @@ fn next_call(alloc: Global, random: &mut Pcg32, floor: Round) -> Result<Call, No
     Ok(match word % 64 {
         0 => Call::Collect(round(floor.get() + u64::from(more % 4))?),
         1..25 => Call::Write(digest_of(name), block(alloc, name, more)?),
-        25..47 => Call::Certify(certified(alloc, name, more)?),
+        25..47 => Call::Certify(drawn_certificate(alloc, name, more)?),
         47..50 => Call::Certificate(digest_of(name)),
         50..53 => Call::Read(digest_of(name)),
         53..58 => Call::Causal(digest_of(name)),
@@ -85,8 +90,8 @@ fn next_call(alloc: Global, random: &mut Pcg32, floor: Round) -> Result<Call, No
     })
 }
 
-/// Takes the next call, and adds the words for its reply. Whether both answer the same.
-fn takes_next(
+/// Makes a random call, and adds the name of its reply to `seen`. Returns whether the replies are equal.
+fn make_next_call(
     alloc: Global,
     both: &mut Both,
     random: &mut Pcg32,
@@ -103,12 +108,12 @@ fn takes_next(
     }
 }
 
-/// Takes so many calls, and freezes anew after each 512. How many different replies there were, or none where the stores differ.
+/// Makes random calls, with a `compact` after each 512. Returns the number of kinds of replies, or `None` if the stores differ.
 fn count_replies(alloc: Global, both: &mut Both, calls: u32) -> Result<Option<usize>, NoMemory> {
     let seen = &mut BTreeSet::new(alloc);
     let mut random = Pcg32::new(1, 1);
     for number in 1..=calls {
-        if !takes_next(alloc, both, &mut random, seen)? {
+        if !make_next_call(alloc, both, &mut random, seen)? {
             return Ok(None);
         }
         if number % 512 == 0 {
@@ -118,7 +123,7 @@ fn count_replies(alloc: Global, both: &mut Both, calls: u32) -> Result<Option<us
     Ok(Some(seen.len()))
 }
 
-/// The same of new stores, where all memory that is asked for is there.
+/// The same for new stores. It is also `None` if memory runs out.
 fn replies_of(alloc: Global, calls: u32) -> Option<usize> {
     let mut both = Both::new(alloc, ROOM, WINDOW);
     let counted = count_replies(alloc, &mut both, calls);
@@ -126,6 +131,6 @@ fn replies_of(alloc: Global, calls: u32) -> Option<usize> {
 }
 
 #[test]
-fn random_calls_are_answered_as_by_the_plain_store(rt: HostRuntime) {
+fn random_calls_get_the_replies_of_the_plain_store(rt: HostRuntime) {
     assert_eq!(rt; replies_of(rt.alloc(), CALLS), Some(REPLIES));
 }

@@ -1,7 +1,7 @@
-//! Which reply it is, in words.
+//! Names the kinds of replies.
 use nw_model::{CausalReply, CertifyReply, CollectReply, Reply, WriteReply};
 
-/// How many replies these words tell apart.
+/// The number of kinds of replies that have a name here.
 pub(super) const REPLIES: usize = 28;
 
 pub(super) fn words(reply: &Reply) -> &'static str {

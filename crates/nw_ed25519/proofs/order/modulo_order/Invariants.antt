@@ -4,4 +4,4 @@ use Rattle.nw_ed25519.specs.Accepts.{order}
 use Rattle.nw_ed25519.proofs.order.modulo_order.Given as goal
 
 abbrev pub invariant-loop-done : goal.invariant-loop-done
-invariant-loop-done l = l.rest ≡ number_of (drop (64 - l.done) l.bytes) % order
+invariant-loop-done l = l.remainder ≡ number_of (drop (64 - l.done) l.bytes) % order

@@ -1,8 +1,8 @@
 use Rattle.std.proofs.Common.{arith}
-use Rattle.nw_field.specs.Weights.{weighed}
+use Rattle.nw_field.specs.Weights.{value_of}
 use Rattle.nw_field.proofs.Digits.{halves}
 use Rattle.nw_field.proofs.limbs.wrapped.Goals as goal
 
 pub returns : goal.returns
 returns c =
-    halves (weighed c.args.low.now) (weighed c.args.high.now) (weighed c.new.result) c.row-first.result.1.fourth (weighed c.raised.result) c.raised.ensures (omega arith)
+    halves (value_of c.args.low.now) (value_of c.args.high.now) (value_of c.new.result) c.multiply_add-first.result.1.fourth (value_of c.plus_small.result) c.plus_small.ensures (omega arith)

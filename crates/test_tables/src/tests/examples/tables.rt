@@ -1,5 +1,5 @@
-//! The examples. Blocks are named by their round (K, L, M, N and U for 0 to 4, Z for the last) and author; an `X` stands behind the
-//! other block of that slot.
+//! The worked examples. A block's name is a letter for its round, and its author. K, L, M, N and U are the rounds 0 to 4, and Z is the last
+//! round. An `X` follows the name of the slot's other block.
 use super::*;
 
 mod parents;

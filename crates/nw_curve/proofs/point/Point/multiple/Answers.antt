@@ -1,6 +1,6 @@
 use Rattle.std.proofs.Common.{sym, ◌∙◌, ap, arith}
 use Rattle.nw_curve.specs.Curve.{multiple}
-use Rattle.nw_curve.specs.Endings.{point_of}
+use Rattle.nw_curve.specs.Completed.{point_of}
 use Rattle.nw_curve.proofs.Multiples.{step_set, step_clear}
 use Rattle.nw_curve.proofs.point.Point.multiple.Goals as goal
 use Rattle.nw_curve.proofs.point.Point.multiple.Goals.{then-is_set, else-is_set}

@@ -1,6 +1,6 @@
 use Rattle.std.proofs.Common.{◌≡◌, ◌-◌, ◌/◌, ◌^◌}
 use Rattle.nw_curve.specs.Curve.{multiple}
-use Rattle.nw_curve.specs.Endings.{point_of}
+use Rattle.nw_curve.specs.Completed.{point_of}
 use Rattle.nw_curve.proofs.point.Point.multiple.Given as goal
 
 abbrev pub invariant-loop-done : goal.invariant-loop-done

@@ -1,12 +1,12 @@
 use Rattle.std.proofs.Common.{sym, ◌∙◌, ap, List, ℕ}
 use Rattle.nw_codec.specs.Same.{same_bytes}
 use Rattle.std.specs.Prelude.{take}
-use Rattle.nw_ed25519.proofs.Verdicts.{out_of_order, compared}
+use Rattle.nw_ed25519.proofs.Verdicts.{s_not_below_order, compared}
 use Rattle.nw_ed25519.proofs.scheme.Ed25519Scheme.verify.Goals as goal
 
 pub returns-then-not-is_below : goal.returns-then-not-is_below
 returns-then-not-is_below c =
-    out_of_order c.args.key.now c.args.text.now c.args.signature.now c.from_bytes-s.result c.the_order.result c.from_bytes-s.ensures.number c.the_order.ensures (sym c.is_below.ensures ∙ c.if-not-is_below.true)
+    s_not_below_order c.args.key.now c.args.text.now c.args.signature.now c.from_bytes-s.result c.the_order.result c.from_bytes-s.ensures.number c.the_order.ensures (sym c.is_below.ensures ∙ c.if-not-is_below.true)
 
 pub returns-in-Some : goal.returns-in-Some
 returns-in-Some c =

@@ -2,4 +2,4 @@ use Rattle.nw_field.proofs.Powers.{power_first}
 use Rattle.nw_field.proofs.number.Number.cube.Goals as goal
 
 pub returns : goal.returns
-returns c = power_first c.args.self.now 2 c.squared.result c.times.result c.squared.ensures c.times.ensures
+returns c = power_first c.args.self.now 2 c.squared_times.result c.times.result c.squared_times.ensures c.times.ensures

@@ -1,12 +1,12 @@
-//! What is missing, and what is complete by what comes or goes.
-use super::super::Answer::{Conflict, Counts, Is, List, Raised, Wanted};
-use super::super::Asked::{Causal, Certify, Collect, Missing, Naming, Status, Write};
+//! Examples of missing parents, and of blocks that become complete.
+use super::super::ExampleCall::{Causal, Certify, Collect, Missing, Naming, Status, Write};
+use super::super::Expected::{Conflict, Counts, Is, List, Raised, Wanted};
 use super::*;
 
 pub(super) const WAITS: Example = Example {
-    shows: "a causal read waits for blocks and certificates",
+    purpose: "a causal read waits for blocks and certificates",
     room: 16,
-    asked: &[
+    calls: &[
         (Causal(L0), Is("unknown")),
         (Write(L0, &[K0]), Is("stored vote")),
         (Causal(L0), Is("uncertified")),
@@ -20,9 +20,9 @@ pub(super) const WAITS: Example = Example {
 };
 
 pub(super) const MISSING: Example = Example {
-    shows: "missing parents ascend by round, author and digest",
+    purpose: "missing parents ascend by round, author and digest",
     room: 16,
-    asked: &[
+    calls: &[
         (Write(N0, &[M0]), Is("stored vote")),
         (Missing(1), Wanted(&[((2, 0), M0)])),
         (Write(L1, &[K0X, K2]), Is("stored vote")),
@@ -54,9 +54,9 @@ pub(super) const MISSING: Example = Example {
 };
 
 pub(super) const ABSENT: Example = Example {
-    shows: "a parent that is not held is missing until it is written",
+    purpose: "a parent that is not held is missing until it is written",
     room: 16,
-    asked: &[
+    calls: &[
         (Write(K0, &[]), Is("stored vote")),
         (Certify(K0), Is("certified")),
         (Write(K1, &[]), Is("stored vote")),
@@ -75,9 +75,9 @@ pub(super) const ABSENT: Example = Example {
 };
 
 pub(super) const COLLECTED: Example = Example {
-    shows: "a collection completes what waited for collected parents",
+    purpose: "a collection completes blocks that waited for collected parents",
     room: 16,
-    asked: &[
+    calls: &[
         (Write(K0, &[]), Is("stored vote")),
         (Certify(K0), Is("certified")),
         (Write(L0, &[K0, K2]), Is("stored vote")),
@@ -100,9 +100,9 @@ pub(super) const COLLECTED: Example = Example {
 };
 
 pub(super) const COMPLETED: Example = Example {
-    shows: "a collection completes a block",
+    purpose: "a collection completes a block",
     room: 16,
-    asked: &[
+    calls: &[
         (Write(K0, &[]), Is("stored vote")),
         (Certify(K0), Is("certified")),
         (Naming(L0, 1, &[K0]), Is("stored vote")),
@@ -115,9 +115,9 @@ pub(super) const COMPLETED: Example = Example {
 };
 
 pub(super) const SKIPPED: Example = Example {
-    shows: "a collection of two rounds completes a block whose parents it drops",
+    purpose: "a collection of two rounds completes a block whose parents it drops",
     room: 16,
-    asked: &[
+    calls: &[
         (Write(K0, &[]), Is("stored vote")),
         (Write(L0, &[K0, K2]), Is("stored vote")),
         (Certify(L0), Is("certified")),
@@ -131,9 +131,9 @@ pub(super) const SKIPPED: Example = Example {
 };
 
 pub(super) const UNCERTIFIED: Example = Example {
-    shows: "a parent is wanted until it is certified",
+    purpose: "a parent is wanted until it is certified",
     room: 16,
-    asked: &[
+    calls: &[
         (Write(K0, &[]), Is("stored vote")),
         (Write(L0, &[K0]), Is("stored vote")),
         (Certify(L0), Is("certified")),
@@ -151,9 +151,9 @@ pub(super) const UNCERTIFIED: Example = Example {
 };
 
 pub(super) const MISNAMED: Example = Example {
-    shows: "a reference with another author or round than the parent's is not satisfied",
+    purpose: "a reference with another author or round than the parent's is not satisfied",
     room: 16,
-    asked: &[
+    calls: &[
         (Write(K0, &[]), Is("stored vote")),
         (Certify(K0), Is("certified")),
         (Naming(L0, 1, &[K0]), Is("stored vote")),
@@ -175,9 +175,9 @@ pub(super) const MISNAMED: Example = Example {
 };
 
 pub(super) const KEPT: Example = Example {
-    shows: "blocks of the new garbage round stay, those above still wait for them, and a certificate without a block is dropped with its round",
+    purpose: "blocks of the new garbage round stay, later blocks wait for them, and certificates without blocks go with their round",
     room: 16,
-    asked: &[
+    calls: &[
         (Write(K0, &[]), Is("stored vote")),
         (Certify(K1), Is("certified")),
         (Certify(L1), Is("certified")),

@@ -1,16 +1,16 @@
-//! What writes, certificates, reads and collections are answered.
-use super::super::Answer::{
-    Below, Conflict, Counts, Equivocates, Found, Is, Kept, List, NotHigher, Raised, Wanted,
-};
-use super::super::Asked::{
+//! Examples of replies to writes, certificates, reads and collections.
+use super::super::ExampleCall::{
     Causal, Certificate, Certify, CertifyAs, Collect, Missing, Read, Status, Under, Write,
+};
+use super::super::Expected::{
+    Below, Conflict, Counts, Equivocates, Found, Is, Kept, List, NotHigher, Raised, Wanted,
 };
 use super::*;
 
 pub(super) const EQUIVOCATION: Example = Example {
-    shows: "an equivocating block is stored once it is certified; two certified blocks of one slot conflict",
+    purpose: "an equivocating block is stored once it is certified; two certified blocks of one slot conflict",
     room: 16,
-    asked: &[
+    calls: &[
         (Write(K0, &[]), Is("stored vote")),
         (Write(K0X, &[]), Equivocates(K0)),
         (Certify(K0X), Is("certified")),
@@ -27,9 +27,9 @@ pub(super) const EQUIVOCATION: Example = Example {
 };
 
 pub(super) const ONE_DIGEST: Example = Example {
-    shows: "one digest with two blocks clashes, with two slots misfits",
+    purpose: "one digest with two blocks clashes, with two slots misfits",
     room: 16,
-    asked: &[
+    calls: &[
         (Write(K0, &[]), Is("stored vote")),
         (Under(K0, (0, 0)), Is("clash")),
         (Read(K0), Found(K0)),
@@ -51,9 +51,9 @@ pub(super) const ONE_DIGEST: Example = Example {
 };
 
 pub(super) const FAR: Example = Example {
-    shows: "the window moves with the garbage round, up to the last round",
+    purpose: "the window moves with the garbage round, up to the last round",
     room: 16,
-    asked: &[
+    calls: &[
         (Write(N0, &[M0]), Is("stored vote")),
         (Write(U0, &[N0]), Is("write too far")),
         (Certify(U0), Is("certificate too far")),
@@ -73,9 +73,9 @@ pub(super) const FAR: Example = Example {
 };
 
 pub(super) const FULL: Example = Example {
-    shows: "a full store has room again after a collection",
+    purpose: "a full store has room again after a collection",
     room: 1,
-    asked: &[
+    calls: &[
         (Write(K0, &[]), Is("stored vote")),
         (Write(L0, &[K0]), Is("write full")),
         (Write(N0, &[]), Is("write full")),
@@ -93,9 +93,9 @@ pub(super) const FULL: Example = Example {
 };
 
 pub(super) const LIMITS: Example = Example {
-    shows: "certificates have the limits of blocks",
+    purpose: "certificates have the limits of blocks",
     room: 1,
-    asked: &[
+    calls: &[
         (Certify(U0), Is("certificate too far")),
         (Certify(N0), Is("certified")),
         (Certify(N1), Is("certificate full")),
@@ -103,9 +103,9 @@ pub(super) const LIMITS: Example = Example {
 };
 
 pub(super) const WINDOW: Example = Example {
-    shows: "a collection is for a higher round, drops what is below it, and moves the window",
+    purpose: "a collection is for a higher round, drops all blocks below it, and moves the window",
     room: 16,
-    asked: &[
+    calls: &[
         (Write(K0, &[]), Is("stored vote")),
         (Certify(K0), Is("certified")),
         (Collect(0), NotHigher(0)),
@@ -121,9 +121,9 @@ pub(super) const WINDOW: Example = Example {
 };
 
 pub(super) const FIRST: Example = Example {
-    shows: "a slot that is not below the garbage round keeps its first digest",
+    purpose: "a slot that is not below the garbage round keeps its first digest",
     room: 1,
-    asked: &[
+    calls: &[
         (Write(L0, &[]), Is("stored vote")),
         (Collect(1), Raised(0)),
         (Write(L0, &[]), Is("held")),

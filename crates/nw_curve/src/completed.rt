@@ -1,30 +1,30 @@
-//! Points by the four numbers whose products are their coordinates.
+//! Points before the last four products of a sum or a doubling.
 ghost use Rattle.std.specs.Prelude.{◌≡◌, ℕ};
 ghost use Rattle.nw_field.specs.Field.{times};
 ghost use Rattle.nw_curve.specs.Curve.{identity, added, doubled, twice};
-ghost use Rattle.nw_curve.specs.Endings.{prepared, point_of};
+ghost use Rattle.nw_curve.specs.Completed.{prepared, point_of};
 ghost use Rattle.nw_curve.specs.declared.point.Point.{Point};
 
 use crate::Point;
 use crate::constants::twice_d;
 use nw_field::Number;
 
-/// The last four numbers of the formulas for sums and doublings. Each coordinate of the point is a product of two of them.
+/// A point as E, F, G and H of RFC 8032, section 5.1.4: the last four numbers before the coordinates, which are products of two each.
 #[derive(Debug, Drop)]
-pub struct Ending {
+pub struct CompletedPoint {
     pub e: Number,
     pub f: Number,
     pub g: Number,
     pub h: Number,
 }
 
-impl Ending {
-    /// The neutral point.
+impl CompletedPoint {
+    /// The neutral element.
     #[tactic(auto, unfolding(nw_field::specs::Field::prime))]
-    pub fn identity() -> Ending
+    pub fn identity() -> CompletedPoint
         ensures { point_of result ≡ identity }
     {
-        Ending {
+        CompletedPoint {
             e: Number::zero(),
             f: Number::one(),
             g: Number::one(),
@@ -32,7 +32,7 @@ impl Ending {
         }
     }
 
-    /// The point with its coordinates.
+    /// The point in extended coordinates.
     #[inline(always)]
     pub fn point(&self) -> Point
         ensures { result ≡ point_of self.now }
@@ -45,22 +45,22 @@ impl Ending {
         }
     }
 
-    /// Twice the point. The T of the point itself takes no part in it, and is not computed.
+    /// Twice the point. It does not compute the point's T, which a doubling does not use.
     #[inline(always)]
-    pub fn doubled(&self) -> Ending
+    pub fn doubled(&self) -> CompletedPoint
         ensures { point_of result ≡ doubled (point_of self.now) }
     {
-        Ending::of_twice(
+        CompletedPoint::of_twice(
             &self.e.times(&self.f),
             &self.g.times(&self.h),
             &self.f.times(&self.g),
         )
     }
 
-    /// Twice the point of these coordinates.
+    /// Twice the point with these coordinates. A doubling does not use T.
     #[inline(always)]
     #[tactic(auto, unfolding(crate::specs::Curve::doubled))]
-    pub fn of_twice(x: &Number, y: &Number, z: &Number) -> Ending
+    pub fn of_twice(x: &Number, y: &Number, z: &Number) -> CompletedPoint
         ensures { (t : ℕ) → point_of result
             ≡ doubled (record { x = x.now; y = y.now; z = z.now; t = t }) }
     {
@@ -71,7 +71,7 @@ impl Ending {
         let h = a.plus(&b);
         let e = h.minus(&x.plus(y).square());
         let g = a.minus(&b);
-        Ending {
+        CompletedPoint {
             e,
             f: c.plus(&g),
             g,
@@ -79,17 +79,17 @@ impl Ending {
         }
     }
 
-    /// The sum of a point and a prepared one.
+    /// The sum of a point and a prepared point.
     #[inline(always)]
-    #[tactic(auto, unfolding(crate::specs::Curve::added, crate::specs::Endings::prepared), using(crate::proofs::Products::times_times, crate::proofs::Products::twice_times))]
-    pub fn of_sum(point: &Point, addend: &Addend) -> Ending
+    #[tactic(auto, unfolding(crate::specs::Curve::added, crate::specs::Completed::prepared), using(crate::proofs::Products::times_times, crate::proofs::Products::twice_times))]
+    pub fn of_sum(point: &Point, addend: &Addend) -> CompletedPoint
         ensures { (p : Point) → addend.now ≡ prepared p → point_of result ≡ added point.now p }
     {
         let a = point.y.minus(&point.x).times(&addend.difference);
         let b = point.y.plus(&point.x).times(&addend.sum);
         let c = point.t.times(&addend.t);
         let d = addend.twice_z_times(&point.z);
-        Ending {
+        CompletedPoint {
             e: b.minus(&a),
             f: d.minus(&c),
             g: d.plus(&c),
@@ -98,7 +98,7 @@ impl Ending {
     }
 }
 
-/// A point prepared for many sums: y - x, y + x, 2 z, 2 d t, and whether z is 1.
+/// A point prepared for many sums: Y - X, Y + X, 2 Z, 2 d T, and whether Z is 1.
 #[derive(Debug, Drop)]
 pub struct Addend {
     pub difference: Number,
@@ -109,8 +109,8 @@ pub struct Addend {
 }
 
 impl Addend {
-    /// The point, prepared.
-    #[tactic(auto, unfolding(crate::specs::Endings::prepared))]
+    /// Prepares the point.
+    #[tactic(auto, unfolding(crate::specs::Completed::prepared))]
     pub fn of(point: &Point) -> Addend
         ensures { result ≡ prepared point.now }
     {
@@ -123,9 +123,9 @@ impl Addend {
         }
     }
 
-    /// Twice the product of the z of the two points.
+    /// Twice the product of the two points' Z, from the other point's Z. If this point's Z is 1, it needs no multiplication.
     #[inline(always)]
-    #[tactic(auto, unfolding(crate::specs::Endings::prepared), using(crate::proofs::Products::twice_one, crate::proofs::Products::twice_times))]
+    #[tactic(auto, unfolding(crate::specs::Completed::prepared), using(crate::proofs::Products::twice_one, crate::proofs::Products::twice_times))]
     fn twice_z_times(&self, z: &Number) -> Number
         ensures { (p : Point) → self.now ≡ prepared p → result ≡ times (twice z.now) p.z }
     {

@@ -1,15 +1,15 @@
 use Rattle.nw_store.specs.Journal.{origin_of}
 use Rattle.nw_store.specs.Kept.{parts_of_a_ledger}
-use Rattle.example_validator.proofs.validator.go_on.Given as goal
+use Rattle.example_validator.proofs.validator.run_rounds.Given as goal
 
--- the ledger that was opened
+-- the opening's ledger
 abbrev pub ghosts-open-L-Ledger : goal.ghosts-open-L-Ledger
 ghosts-open-L-Ledger g a = record { name = a.opening.ledger; parts = parts_of_a_ledger }
 
--- the log that was opened
+-- the opening's log
 abbrev pub ghosts-open-L-Place : goal.ghosts-open-L-Place
 ghosts-open-L-Place g a = record { log = a.opening.log }
 
--- what the book starts with
+-- the origin of the book's history
 abbrev pub ghosts-open-L-Home : goal.ghosts-open-L-Home
 ghosts-open-L-Home g a = record { origin = origin_of a.book }

@@ -1,16 +1,16 @@
--- Points by the last four numbers of the formulas for sums and doublings.
+-- Points before the last four products of a sum or a doubling.
 use Rattle.std.specs.Prelude.{◌==◌}
 use Rattle.nw_field.specs.Field.{plus, minus, times}
 use Rattle.nw_curve.specs.Curve.{curve_d, twice, finished}
 use Rattle.nw_curve.specs.declared.point.Point.{Point}
-use Rattle.nw_curve.specs.declared.ending.Ending.{Ending}
-use Rattle.nw_curve.specs.declared.ending.Addend.{Addend}
+use Rattle.nw_curve.specs.declared.completed.CompletedPoint.{CompletedPoint}
+use Rattle.nw_curve.specs.declared.completed.Addend.{Addend}
 
--- the point of four such numbers
-abbrev pub point_of : Ending → Point
+-- the point in extended coordinates
+abbrev pub point_of : CompletedPoint → Point
 point_of n = finished n.e n.f n.g n.h
 
--- a point prepared for sums
+-- the point p, prepared for sums
 unfoldable pub prepared : Point → Addend
 prepared p = record {
   difference = minus p.y p.x;

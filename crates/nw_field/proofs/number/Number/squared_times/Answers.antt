@@ -1,5 +1,5 @@
 use Rattle.nw_field.proofs.Powers.{squared_once}
-use Rattle.nw_field.proofs.number.Number.squared.Goals as goal
+use Rattle.nw_field.proofs.number.Number.squared_times.Goals as goal
 
 pub loop-done-preserved : goal.loop-done-preserved
 loop-done-preserved c =
