@@ -1,9 +1,9 @@
 -- The wanted parents are the unmet ones.
 use Rattle.std.proofs.Common.{ℕ, List}
-use Rattle.nw_waiting.specs.Pairs.{Pairs, AreFirst, AreWanted, WantedCount, wanted_cmp}
-use Rattle.nw_waiting.specs.declared.wanted.Wanted.{Wanted}
+use Rattle.nw_waiting.specs.Pairs.{Pairs, AreFirst, AreWanted, WantedCount}
+use Rattle.nw_model.specs.declared.wanted.Wanted.{Wanted}
 use Rattle.nw_model.specs.State.{State}
-use Rattle.nw_model.specs.Missing.{IsWanted, AreExactly, AreFirstWanted, HasCount}
+use Rattle.nw_model.specs.Missing.{AreExactly, AreFirstWanted, HasCount, IsWanted, wanted_cmp}
 use Rattle.nw_dag.specs.Lacking.{AreUnmet}
 use Rattle.nw_dag.proofs.Complete.{met_from_satisfied, satisfied_from_met}
 

@@ -6,7 +6,7 @@ use Rattle.std.specs.FinSet.{contains, same_set}
 use Rattle.nw_digest.specs.declared.digest.Digest.{Digest}
 use Rattle.nw_codec.specs.declared.block.Block.{Block}
 use Rattle.nw_codec.specs.declared.certificate.Certificate.{Certificate}
-use Rattle.nw_waiting.specs.declared.wanted.Wanted.{Wanted}
+use Rattle.nw_model.specs.declared.wanted.Wanted.{Wanted}
 use Rattle.nw_waiting.specs.Pairs.{Pairs, Lacks, without_holder}
 use Rattle.nw_digest.specs.Order.{digest_cmp}
 use Rattle.nw_model.specs.State.{State}
@@ -20,7 +20,8 @@ use Rattle.nw_held.specs.Standing.{IsMet}
 use Rattle.nw_dag.specs.Lacking.{Names, IsNamedAmong, IsReady, AreUnmet, AreLacking}
 use Rattle.nw_dag.specs.Changes.{AreSameExcept, LacksAlso}
 use Rattle.nw_dag.specs.Settled.{IsSettling, IsSettled, IsSettledWithout}
-use Rattle.nw_dag.proofs.Pairs.{pairs_apart, pairs_total, without_holder_lacks}
+use Rattle.nw_waiting.proofs.Orders.{pairs_apart, pairs_total}
+use Rattle.nw_dag.proofs.Pairs.{without_holder_lacks}
 use Rattle.nw_dag.proofs.Arrival.{Arrives, AreLackingSince, arrived, listed_arrived, listed_apart, ready_was, unmet_arrived}
 
 some_none : {X : Type 0} (x : X) → Some x ≡ None → ⊥

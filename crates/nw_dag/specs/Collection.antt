@@ -4,7 +4,7 @@ use Rattle.std.specs.FinMap.{get, len}
 use Rattle.nw_digest.specs.declared.digest.Digest.{Digest}
 use Rattle.nw_codec.specs.declared.block.Block.{Block}
 use Rattle.nw_waiting.specs.Pairs.{Pairs, Lacks}
-use Rattle.nw_waiting.specs.declared.wanted.Wanted.{Wanted}
+use Rattle.nw_model.specs.declared.wanted.Wanted.{Wanted}
 use Rattle.nw_model.specs.State.{State}
 use Rattle.nw_model.specs.Step.{raised}
 use Rattle.nw_model.specs.Sound.{IsSound}

@@ -15,8 +15,7 @@ use nw_codec::{Block, Certificate};
 use nw_digest::{Digest, NoMemory, Sequence, Shared};
 use nw_generation::Generations;
 use nw_held::Held;
-use nw_model::Counts;
-use nw_waiting::Wanted;
+use nw_model::{Counts, Wanted};
 use std::alloc::Global;
 use std::marker::Model;
 

@@ -14,7 +14,8 @@ use crate::completions::{Completions, lacks_nothing};
 use nw_codec::{Block, Ref};
 use nw_digest::{Digest, NoMemory, Round};
 use nw_held::Held;
-use nw_waiting::{Waiting, Wanted};
+use nw_model::Wanted;
+use nw_waiting::Waiting;
 use std::alloc::Global;
 
 /// Which held blocks lack which parents, and which blocks are complete.

@@ -17,9 +17,9 @@ mod replies;
 
 use nw_codec::{Block, Certificate};
 use nw_digest::{Digest, NoMemory, Round, Shared};
+use nw_model::Wanted;
 use nw_rounds::Rounds;
 use nw_trie::Trie;
-use nw_waiting::Wanted;
 use std::alloc::Global;
 use std::marker::Model;
 

@@ -1,5 +1,6 @@
 pub mod Maps
 pub mod Kept
+pub mod Wanted
 pub mod Raised
 pub mod Complete
 pub mod Listed

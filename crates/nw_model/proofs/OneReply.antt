@@ -4,8 +4,8 @@ use Rattle.std.specs.Prelude.{take}
 use Rattle.std.specs.Cmp.{IsTotalOrder}
 use Rattle.std.specs.declared.cmp.Ordering.{Ordering}
 use Rattle.std.specs.FinMap.{get}
-use Rattle.nw_waiting.proofs.Orders.{wanted_total}
-use Rattle.nw_waiting.specs.declared.wanted.Wanted.{Wanted}
+use Rattle.nw_model.proofs.Wanted.{wanted_total}
+use Rattle.nw_model.specs.declared.wanted.Wanted.{Wanted}
 use Rattle.nw_model.specs.Missing.{IsWanted, AreExactly, HasCount, AreFirstWanted, AreCounts}
 use Rattle.nw_model.specs.declared.reply.Counts.{Counts}
 use Rattle.nw_digest.specs.declared.digest.Digest.{Digest}

@@ -3,15 +3,19 @@ use Rattle.std.specs.Prelude.{◌≡◌, ◌↔◌, ℕ, ◌+◌, ◌<◌, List,
 use Rattle.std.specs.List.Sorted.{IsStrictlySortedBy}
 use Rattle.std.specs.FinMap.{get, len}
 use Rattle.std.specs.declared.cmp.Ordering.{Ordering}
+use Rattle.std.specs.Ordering.{nat_cmp, ordering_then}
 use Rattle.nw_digest.specs.declared.digest.Digest.{Digest}
 use Rattle.nw_codec.specs.declared.block.Ref.{Ref}
 use Rattle.nw_codec.specs.declared.block.Block.{Block}
-use Rattle.nw_waiting.specs.Pairs.{wanted_cmp}
-use Rattle.nw_waiting.specs.declared.wanted.Wanted.{Wanted}
+use Rattle.nw_model.specs.declared.wanted.Wanted.{Wanted}
 use Rattle.nw_digest.specs.Order.{digest_cmp}
 use Rattle.nw_model.specs.State.{State}
 use Rattle.nw_model.specs.Paths.{IsSatisfied, IsComplete}
 use Rattle.nw_model.specs.declared.reply.Counts.{Counts}
+
+-- wanted parents by round, then by author, then by digest
+abbrev pub wanted_cmp : Wanted → Wanted → Ordering
+wanted_cmp a b = ordering_then (nat_cmp a.round b.round) (ordering_then (nat_cmp a.author b.author) (digest_cmp a.digest b.digest))
 
 -- the reference r of a block of this round names the parent w: w has r's author and digest, and the preceding round
 abbrev pub IsNamedBy : ℕ → Ref → Wanted → Type 0

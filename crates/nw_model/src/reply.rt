@@ -1,9 +1,9 @@
 //! The replies of a store.
 ghost use Rattle.std.specs.Prelude.{◌≡◌, IfOk};
 
+use crate::Wanted;
 use nw_codec::{Block, Certificate};
 use nw_digest::{Digest, NoMemory, Round, Sequence, Shared};
-use nw_waiting::Wanted;
 use std::alloc::Global;
 
 /// The reply to a write. Only `Stored` changes the store.

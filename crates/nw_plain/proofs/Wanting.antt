@@ -18,13 +18,12 @@ use Rattle.std.proofs.lemmas.List.Elements.{Contains-append_left, Contains-appen
 use Rattle.nw_digest.specs.declared.digest.Digest.{Digest}
 use Rattle.nw_codec.specs.declared.block.Ref.{Ref}
 use Rattle.nw_codec.specs.declared.block.Block.{Block}
-use Rattle.nw_waiting.specs.Pairs.{wanted_cmp}
-use Rattle.nw_waiting.specs.declared.wanted.Wanted.{Wanted}
-use Rattle.nw_waiting.proofs.Relation.{one_wanted}
+use Rattle.nw_model.specs.declared.wanted.Wanted.{Wanted}
+use Rattle.nw_model.proofs.Wanted.{one_wanted}
 use Rattle.nw_digest.specs.Order.{digest_cmp}
 use Rattle.nw_model.specs.State.{State}
 use Rattle.nw_model.specs.Paths.{IsSatisfied}
-use Rattle.nw_model.specs.Missing.{IsNamedBy, IsWanted, Wants, AreExactly}
+use Rattle.nw_model.specs.Missing.{AreExactly, IsNamedBy, IsWanted, Wants, wanted_cmp}
 use Rattle.nw_model.proofs.Maps.{digests_total, get_lookup}
 use Rattle.nw_model.proofs.Kept.{same_digest}
 use Rattle.nw_model.proofs.Listed.{contains_first, contains_later, contains_cases, contains_none}

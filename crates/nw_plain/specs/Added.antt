@@ -1,7 +1,7 @@
 -- Additions to a set of wanted parents.
 use Rattle.std.specs.Prelude.{◌↔◌, ◌⊎◌, ℕ, List, Contains}
 use Rattle.nw_codec.specs.declared.block.Ref.{Ref}
-use Rattle.nw_waiting.specs.declared.wanted.Wanted.{Wanted}
+use Rattle.nw_model.specs.declared.wanted.Wanted.{Wanted}
 use Rattle.nw_model.specs.State.{State}
 use Rattle.nw_model.specs.Paths.{IsSatisfied}
 use Rattle.nw_model.specs.Missing.{IsNamedBy}

@@ -8,14 +8,16 @@ use Rattle.std.specs.BTreeMap.{is_at}
 use Rattle.std.specs.Ordering.{eq_by_cmp}
 use Rattle.std.specs.FinSet.{contains, from_list, insert}
 use Rattle.nw_digest.specs.declared.digest.Digest.{Digest}
-use Rattle.nw_waiting.specs.declared.wanted.Wanted.{Wanted}
+use Rattle.nw_model.specs.declared.wanted.Wanted.{Wanted}
 use Rattle.nw_waiting.specs.Index.{HaveSamePairs, pairs_in}
 use Rattle.nw_waiting.specs.Lists.{AreFilled, list_of}
 use Rattle.nw_digest.specs.Order.{digest_cmp}
-use Rattle.nw_waiting.specs.Pairs.{AreHolders, AreMissing, AreWanted, Pairs, wanted_cmp, without_holder, without_wanted}
+use Rattle.nw_waiting.specs.Pairs.{AreHolders, AreMissing, AreWanted, Pairs, without_holder, without_wanted}
+use Rattle.nw_model.specs.Missing.{wanted_cmp}
 use Rattle.nw_waiting.proofs.Members.{member_added, member_removed, once_added, once_removed}
-use Rattle.nw_waiting.proofs.Orders.{digests_total, wanted_total}
-use Rattle.nw_waiting.proofs.Relation.{are_holders, are_missing, are_wanted, contains_added, contains_in, contains_without_holder, contains_without_wanted, filled_taken, is_pair, member_taken, nobody, once_taken, one_digest, one_wanted, same_added, same_satisfied, same_unwanted, view_is}
+use Rattle.nw_model.proofs.Maps.{digests_total}
+use Rattle.nw_model.proofs.Wanted.{one_wanted, wanted_total}
+use Rattle.nw_waiting.proofs.Relation.{are_holders, are_missing, are_wanted, contains_added, contains_in, contains_without_holder, contains_without_wanted, filled_taken, is_pair, member_taken, nobody, once_taken, one_digest, same_added, same_satisfied, same_unwanted, view_is}
 
 module _ {L M : Type 0} (items : L → List Digest) (missing : M → List Wanted) where
   abbrev holders_at : List (Wanted × L) → Wanted → List Digest

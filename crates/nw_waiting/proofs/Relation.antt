@@ -15,12 +15,16 @@ use Rattle.std.proofs.lemmas.Map.Entries.{none_past_head}
 use Rattle.std.proofs.lemmas.Map.Keys.{IsDistinct-from_sorted, sorted_tail}
 use Rattle.std.proofs.lemmas.Map.Views.{Contains-from_any, Contains-keys_from_lookup, IsSome-lookup_from_Contains, list_any-from_Contains}
 use Rattle.nw_digest.specs.declared.digest.Digest.{Digest}
-use Rattle.nw_waiting.specs.declared.wanted.Wanted.{Wanted}
+use Rattle.nw_model.specs.declared.wanted.Wanted.{Wanted}
 use Rattle.nw_waiting.specs.Index.{pairs_in}
 use Rattle.nw_waiting.specs.Lists.{AreFilled, list_of}
 use Rattle.nw_digest.specs.Order.{digest_cmp}
-use Rattle.nw_waiting.specs.Pairs.{AreHolders, AreMissing, AreWanted, Lacks, Pair, Pairs, pair_cmp, wanted_cmp, without_holder, without_wanted}
-use Rattle.nw_waiting.proofs.Orders.{digests_apart, digests_total, pair_tied, pairs_apart, pairs_total, tie, wanted_apart, wanted_total}
+use Rattle.nw_waiting.specs.Pairs.{AreHolders, AreMissing, AreWanted, Lacks, Pair, Pairs, pair_cmp, without_holder, without_wanted}
+use Rattle.nw_model.specs.Missing.{wanted_cmp}
+use Rattle.nw_model.proofs.Kept.{tie}
+use Rattle.nw_model.proofs.Maps.{digests_apart, digests_total}
+use Rattle.nw_model.proofs.Wanted.{one_wanted, wanted_total}
+use Rattle.nw_waiting.proofs.Orders.{pair_tied, pairs_apart, pairs_total}
 
 left : (a b : Bool) → (a && b) ≡ true → a ≡ true
 left true b e = refl
@@ -37,9 +41,6 @@ or_false false = refl
 pub on_err : {T E : Type 0} (r : Result T E) {P : Type 0} → P → OnErr r P
 on_err (Ok x) p = tt
 on_err (Err e) p = p
-
-pub one_wanted : (v w : Wanted) → eq_by_cmp wanted_cmp v w ≡ true → v ≡ w
-one_wanted v w e = wanted_apart v w (tie (wanted_cmp v w) e)
 
 pub one_digest : (c d : Digest) → eq_by_cmp digest_cmp c d ≡ true → c ≡ d
 one_digest c d e = digests_apart c d (tie (digest_cmp c d) e)

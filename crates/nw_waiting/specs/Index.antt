@@ -6,10 +6,11 @@ use Rattle.std.specs.Map.{lookup, keys_of}
 use Rattle.std.specs.BTreeMap.{is_at}
 use Rattle.std.specs.Ordering.{eq_by_cmp}
 use Rattle.nw_digest.specs.declared.digest.Digest.{Digest}
-use Rattle.nw_waiting.specs.declared.wanted.Wanted.{Wanted}
+use Rattle.nw_model.specs.declared.wanted.Wanted.{Wanted}
 use Rattle.nw_waiting.specs.Lists.{AreFilled, list_of}
 use Rattle.nw_digest.specs.Order.{digest_cmp}
-use Rattle.nw_waiting.specs.Pairs.{Pair, wanted_cmp}
+use Rattle.nw_waiting.specs.Pairs.{Pair}
+use Rattle.nw_model.specs.Missing.{wanted_cmp}
 
 -- the pairs in the lists of holders
 abbrev pub pairs_in : {L : Type 0} → (L → List Digest) → List (Wanted × L) → List Pair

@@ -2,17 +2,14 @@
 use Rattle.std.specs.Prelude.{◌≡◌, ◌↔◌, ℕ, List, Contains, IsTrue, not, length, take, refl}
 use Rattle.std.specs.Coded.{Coded, code_by, coded×, coded_ℕ, coded_list}
 use Rattle.std.specs.declared.cmp.Ordering.{Ordering}
-use Rattle.std.specs.Ordering.{nat_cmp, ordering_then, eq_by_cmp}
+use Rattle.std.specs.Ordering.{ordering_then, eq_by_cmp}
 use Rattle.std.specs.List.{IsDistinct}
 use Rattle.std.specs.List.Sorted.{IsStrictlySortedBy}
 use Rattle.std.specs.FinSet.{FinSet, contains, retain}
 use Rattle.nw_digest.specs.Order.{digest_cmp}
 use Rattle.nw_digest.specs.declared.digest.Digest.{Digest}
-use Rattle.nw_waiting.specs.declared.wanted.Wanted.{Wanted}
-
--- wanted parents by round, then by author, then by digest
-abbrev pub wanted_cmp : Wanted → Wanted → Ordering
-wanted_cmp a b = ordering_then (nat_cmp a.round b.round) (ordering_then (nat_cmp a.author b.author) (digest_cmp a.digest b.digest))
+use Rattle.nw_model.specs.declared.wanted.Wanted.{Wanted}
+use Rattle.nw_model.specs.Missing.{wanted_cmp}
 
 -- a wanted parent, and a holder that is missing it
 abbrev pub Pair : Type 0

@@ -5,9 +5,9 @@ ghost use Rattle.std.specs.FinSet as set;
 ghost use Rattle.nw_waiting.specs.Pairs.{AreFirst, AreHolders, LacksCount, WantedCount};
 ghost use Rattle.nw_waiting.specs.Pairs.{without_holder, without_wanted};
 
-use crate::Wanted;
 use crate::lists::{add, has, remove_from_each};
 use nw_digest::{Digest, NoMemory};
+use nw_model::Wanted;
 use std::alloc::{AllocError, Allocator, Global};
 use std::collections::BTreeMap;
 use std::marker::Model;

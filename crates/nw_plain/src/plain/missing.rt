@@ -1,9 +1,8 @@
 //! Wanted parents, and the counts of a store.
 ghost use Rattle.std.specs.Prelude.{◌≡◌, ◌↔◌, ◌<◌, ◌+◌, IfOk, OnOk, IsTrue, take};
 ghost use Rattle.std.specs.List.Sorted.{IsStrictlySortedBy};
-ghost use Rattle.nw_waiting.specs.Pairs.{wanted_cmp};
 ghost use Rattle.nw_model.specs.Paths.{IsSatisfied};
-ghost use Rattle.nw_model.specs.Missing.{AreCounts, AreExactly, AreFirstWanted, IsWanted, Wants};
+ghost use Rattle.nw_model.specs.Missing.{AreCounts, AreExactly, AreFirstWanted, IsWanted, Wants, wanted_cmp};
 ghost use Rattle.nw_plain.specs.Added.{Adds, NamesMissing};
 
 use super::Plain;

@@ -1,6 +1,7 @@
 //! Wanted parents and the holders that are missing them.
 use super::*;
-use nw_waiting::{Waiting, Wanted};
+use nw_model::Wanted;
+use nw_waiting::Waiting;
 use std::collections::BTreeSet;
 
 /// Wanted parents, each with a holder that is missing it.

@@ -3,8 +3,7 @@ use super::*;
 use nw_codec::{Certificate, Ref};
 use nw_dag::{Dag, DagLimits};
 use nw_digest::Sequence;
-use nw_model::{CausalReply, CertifyReply, CollectReply, Counts, WriteReply};
-use nw_waiting::Wanted;
+use nw_model::{CausalReply, CertifyReply, CollectReply, Counts, Wanted, WriteReply};
 use sample_blocks::block;
 
 /// Bounds for 64 blocks and 64 rounds.

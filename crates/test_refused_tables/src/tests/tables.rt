@@ -1,8 +1,9 @@
 //! Examples of the tables: a trie, slots, and wanted parents.
 use super::*;
+use nw_model::Wanted;
 use nw_rounds::Rounds;
 use nw_trie::Trie;
-use nw_waiting::{Waiting, Wanted};
+use nw_waiting::Waiting;
 
 /// Inserts the value. If memory runs out, inserts the value that was handed back.
 fn insert(trie: &mut Trie<u64, Global>, key: Digest, value: u64) -> Result<Option<u64>, NoMemory> {

@@ -5,12 +5,12 @@ use Rattle.std.specs.Ordering.{eq_by_cmp}
 use Rattle.std.proofs.lemmas.Grind.{common_steps}
 use Rattle.nw_digest.specs.Order.{digest_cmp}
 use Rattle.nw_waiting.specs.Lists.{list_of}
-use Rattle.nw_waiting.specs.Pairs.{wanted_cmp}
 use Rattle.nw_waiting.proofs.Changes.{added, added_view, kept, kept_view, missing_member}
 use Rattle.nw_waiting.proofs.Members.{rewritten, written}
-use Rattle.nw_waiting.proofs.Orders.{digests_total}
+use Rattle.nw_model.proofs.Maps.{digests_total}
 use Rattle.nw_waiting.proofs.Relation.{insert_same, on_err}
 use Rattle.nw_waiting.proofs.waiting.Waiting.want.Goals as goal
+use Rattle.nw_model.specs.Missing.{wanted_cmp}
 
 pub invariant_of-self-then-has : goal.invariant_of-self-then-has
 invariant_of-self-then-has g c =
