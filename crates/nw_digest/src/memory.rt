@@ -1,8 +1,8 @@
-//! The error for failed allocations.
+//! The out-of-memory error.
 use std::alloc::{AllocError, AllocFailed};
 use thiserror::Error;
 
-/// An allocation failed: a collection could not grow, or a shared value could not be made or get one more owner.
+/// Out of memory: a collection could not grow, or a shared value could not be made or get one more owner.
 #[derive(Clone, Copy, Debug, PartialEq, Eq, Error)]
 #[error("out of memory")]
 pub struct NoMemory;

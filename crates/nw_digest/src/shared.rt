@@ -19,7 +19,7 @@ impl<T: Drop> Model for Shared<T> {
 }
 
 impl<T: Drop> Shared<T> {
-    /// The first owner of the value. If the allocation fails, the value is dropped.
+    /// The first owner of the value. If the allocation fails, `NoMemory` comes and the value is dropped.
     pub fn new(alloc: Global, value: T) -> Result<Shared<T>, NoMemory>
         ensures { IfOk result (λ s. s ≡ value) }
     {
