@@ -1,4 +1,4 @@
-//! Frozen blocks: generations that never change, and views of a few generations.
+//! Keeps frozen blocks in generations that never change, and makes views of a few generations.
 //!
 //! A [`Generation`] is a finite map from digests to blocks, with shared ownership. It is made from a trie, or from other generations,
 //! whose entries it shares. [`Generations`] are at most [`MOST_PARTS`] of them. A [`View`] has the blocks of some generations, and is

@@ -14,8 +14,8 @@ use std::marker::Model;
 /// The blocks of at most `MOST_PARTS` generations, and a floor. If generations have different blocks under one digest, the latest
 /// one counts.
 ///
-/// A view is closed: each parent of a block above the floor is in the view, with the named author and the preceding round, and no
-/// two blocks at or above the floor share a slot.
+/// A view is closed. Each parent of a block above the floor is in the view, with the named author and the preceding round. No two
+/// blocks at or above the floor share a slot.
 #[derive(Drop)]
 pub struct View {
     /// From the oldest to the latest.

@@ -1,7 +1,7 @@
-//! Fronts: legal histories that never change.
+//! Keeps fronts: legal histories that never change and share their events.
 //!
 //! A [`Front`] is legal under its committee and limits, from its base on. One more event makes another front, which shares all
-//! earlier events. A front tells exactly whether it is a prefix of another one.
+//! earlier events. [`Front::is_prefix_of`] tells exactly whether a front is a prefix of another one.
 //!
 //! `nw_model` defines legal histories. The crate uses `nw_plain` for bases, and `nw_chunks` for lists that share their items.
 #![tactic(auto)]

@@ -1,4 +1,4 @@
-//! Sample blocks, tries and views for tests.
+//! Makes sample blocks, tries and views for tests.
 //!
 //! [`older`] returns blocks of round 0, and [`newer`] a block of round 1 that has them as parents. Each block has the digest that
 //! [`name`] returns for its round and author. [`view_of_both`] is the view of all these blocks, and [`view_of_one`] that of one block

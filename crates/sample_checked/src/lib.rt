@@ -1,5 +1,6 @@
-//! Sample committees for tests, with checked blocks and certificates. Members sign with the demonstration scheme.
+//! Makes sample committees for tests, with checked blocks and certificates.
 //!
+//! Members sign with the demonstration scheme.
 //! The values of [`committee`], [`block`], [`block_with`] and [`certificate`] are as their arguments say, under the given committee.
 //! The builders in [`refused`] report an allocation failure by their error, so that a test can recognize it and repeat the call with
 //! [`again`]. No program uses this crate.
