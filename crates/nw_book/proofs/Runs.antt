@@ -1,4 +1,4 @@
--- Runs that go on.
+-- Runs with one more move, and runs that stop.
 use Rattle.std.proofs.Common.{◌≡◌, ℕ, ◌+◌, ◌<◌, suc, List, [], ◌∷◌, ◌++◌, Some, length, take, get_or, refl, ap, sym, subst, ◌∙◌, arith, length-take}
 use Rattle.std.specs.Prelude.{slice_get}
 use Rattle.std.proofs.lemmas.List.{take_more}
@@ -28,7 +28,7 @@ runs_length accepts old given [] (b ∷ found) new after h = absurd h
 runs_length accepts old given (x ∷ ms) [] new after h = absurd h
 runs_length accepts old given (x ∷ ms) (b ∷ found) new after h = ap suc (runs_length accepts h.0 h.1 ms found new after h.3)
 
--- a run of the first moves goes on by the next
+-- a run of the first i moves, followed by the next move, is a run of the first i + 1 moves
 pub runs_more : {S : Type 0} (accepts : Meaning) (old : Story) (ms : List (Move S)) (i : ℕ) (found more : List (Answer S)) (new last : Story) (between after : List Given) (m : Move S)
     → i < length ms → m ≡ get_or ms i m → Runs accepts old [] (take i ms) found new between → Makes accepts new between found m last after more
     → Runs accepts old [] (take (i + 1) ms) more last after
@@ -37,7 +37,7 @@ runs_more accepts old ms i found more new last between after m inside here h mad
     let moves : take (i + 1) ms ≡ take i ms ++ m ∷ [] = take_more ms i m inside ∙ ap (λ x. take i ms ++ x ∷ []) (sym here) in
     rw (moves, made.2) longer
 
--- a run stops at the move that is not made, which changed nothing
+-- a run stops at a refused move, which changed nothing
 pub stopped : {S : Type 0} (accepts : Meaning) (old : Story) (ms : List (Move S)) (i at : ℕ) (found more : List (Answer S)) (new last : Story) (given : List Given) (m : Move S) (cause : Cause)
     → i < length ms → m ≡ get_or ms i m → Runs accepts old [] (take i ms) found new given → IsStop new given m cause → last ≡ new → more ≡ found → at ≡ length more
     → (g : List Given) × (n : Move S) × Runs accepts old [] (take at ms) more last g × (slice_get ms at ≡ Some n) × IsStop last g n cause

@@ -11,11 +11,10 @@ use nw_sig::Scheme;
 use std::alloc::Global;
 
 impl<S: Scheme> Book<S> {
-    /// Makes the moves in order, and stops at the first that is not made.
+    /// Makes the moves in order, and stops at the first that is refused. A refused move changes nothing.
     ///
-    /// Each call and each causal read is a step, with the number that is its session's turn; it is not made where that step
-    /// is refused. A walk is not made where the run has no such ticket, else where memory is refused. A move that is not
-    /// made changes nothing.
+    /// Each call and each causal read is its session's next call. It is refused if its step is refused. A walk is refused with
+    /// `NoTicket` if the run got no ticket with this number, else with `NoMemory` if an allocation fails.
     pub fn run(&mut self, alloc: Global, moves: &[Move<S>]) -> Run<S>
         ensures { IsRun S.accepts self.old moves.now result.answers result.stop self.new }
     {
@@ -37,7 +36,7 @@ impl<S: Scheme> Book<S> {
     }
 }
 
-/// Makes the move, and adds its answer, and its ticket where it gives one.
+/// Makes the move, and adds its answer, and its ticket if it gets one.
 fn make<S: Scheme>(
     book: &mut Book<S>,
     alloc: Global,
@@ -64,7 +63,7 @@ fn make<S: Scheme>(
     }
 }
 
-/// Takes the step of the session's next call, and adds the answer. Room for it is made first.
+/// Takes the step of the session's next call, and adds the answer.
 fn make_call<S: Scheme>(
     book: &mut Book<S>,
     alloc: Global,
@@ -88,7 +87,7 @@ fn make_call<S: Scheme>(
     Ok(())
 }
 
-/// Opens a causal read as the session's next call, and adds the answer and the ticket. Room for both is made first.
+/// Opens a causal read as the session's next call, and adds the answer, and the ticket if there is one.
 fn make_open<S: Scheme>(
     book: &mut Book<S>,
     alloc: Global,

@@ -1,7 +1,7 @@
 use Rattle.std.proofs.Common.{◌≡◌, [], ◌∷◌, ◌++◌, ap, sym, ◌∙◌}
 use Rattle.nw_model.specs.declared.event.Event.{Event}
 use Rattle.nw_history.specs.Story.{Story}
-use Rattle.nw_book.proofs.Told.{not_ready}
+use Rattle.nw_book.proofs.NotReady.{not_ready}
 use Rattle.nw_book.proofs.book.Book.take_step.Goals as goal
 
 pub of-requires : goal.of-requires
