@@ -49,7 +49,7 @@ pub(super) const COLLECTED: [Row; 13] = [
     Row(3, Ask::Open, "Causal(Unknown)"),
 ];
 
-/// A block and its certificate are each written twice, kept once, and read.
+/// A block and its certificate are each handed in twice, kept once, and read.
 const KEPT: [Row; 6] = [
     Row(0, Ask::Write, STORED),
     Row(0, Ask::Write, "Write(Held)"),
