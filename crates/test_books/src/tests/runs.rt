@@ -35,7 +35,7 @@ const CASES: [Case; 2] = [
         ],
     },
     Case {
-        shows: "a run stops at a missing ticket, after a walk of a collected block",
+        shows: "a run stops at a ticket that it lacks, after a walk of a collected block",
         plan: &[Plan::Block, Plan::Collect(1), Plan::Walk(0), Plan::Walk(5)],
         answers: &[
             ("stored vote", &[]),
