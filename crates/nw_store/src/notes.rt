@@ -9,7 +9,7 @@ use nw_log::Claim;
 use nw_sig::Scheme;
 use std::marker::Model;
 
-/// The histories that a session knew of when the note was taken. Contracts see these histories.
+/// All histories that a session knew of when the note was taken, and perhaps more of the store's histories. Contracts see them.
 ///
 /// A note takes no bytes and may be sent to another thread. `L` names its store. A note may be dropped unheard.
 #[derive(Drop)]
@@ -64,7 +64,7 @@ pub fn hear_locked<S: Scheme, L: Home>(
 }
 
 /// The law of notes. Suppose that a session got an answer, a note was then taken of what it knew, and another session heard the
-/// note. Then the front of the first answer is a prefix of the front of the other session's next answer.
+/// note. Then the front of the first answer is a prefix of the front of each later answer of the other session.
 pub fn what_was_heard_of_begins_an_answer()
     ensures { NotesCarryOrder }
 {}
