@@ -1,4 +1,4 @@
--- What the views of two tickets show of their reads.
+-- What the views of two tickets show about their causal reads.
 use Rattle.std.proofs.Common.{◌≡◌, List, [], ◌∷◌, Result, Ok, Err, map, refl, sym, subst, ◌∙◌}
 use Rattle.std.specs.Prelude.{Contains, IfOk}
 use Rattle.std.specs.FinMap.{get}
@@ -22,12 +22,12 @@ use Rattle.nw_book.proofs.Opened.{story_sound, ticket_there, ticket_walk}
 
 -- ---- a causal list is a walk
 
--- the last of a path is in the view
+-- the digest at which a path ends is in the view
 last_there : (v : Frozen) (d : Digest) (path : List Digest) (a : Digest) → IsPathIn v d path a → (b : Block) × IsThere v a b
 last_there v d [] a on = (on.0.0, subst (λ q. IsThere v q on.0.0) on.1 on.0.1)
 last_there v d (e ∷ path) a on = last_there v e path a on.1
 
--- two functions that agree at the elements of a list make one list of it
+-- two functions that agree on the items of a list map it to the same list
 same_map : {X Y : Type 0} (f g : X → Y) (xs : List X) → ((x : X) → Contains xs x → f x ≡ g x) → map f xs ≡ map g xs
 same_map f g [] agree = refl
 same_map f g (x ∷ xs) agree =
@@ -50,13 +50,13 @@ causal_is_walk v s d blocks kept shows whole causal = record {
   ascending = causal.ascending;
 }
 
--- the list of the read that was opened is the walk in the ticket's view
+-- the list of the ticket's causal read is the walk in the ticket's view
 list_is_walk : (accepts : Meaning) (t : Given) (v : Frozen) (blocks : List Block) → IsTicketWith accepts t v → IsListOf t blocks → IsWalk v t.digest blocks
 list_is_walk accepts t v blocks h is = causal_is_walk v (state_of t.front) t.digest blocks (story_sound accepts t.front h.ticket.legal).blocks_kept h.shows is.0 is.1
 
--- ---- what is in a view
+-- ---- blocks in a view
 
--- what a ticket's view has under a digest is held after its front, and has that digest
+-- the block that a ticket's view has under a digest is held after the front, and has that digest
 held_after : (accepts : Meaning) (t : Given) (v : Frozen) (d : Digest) (b : Block) → IsTicketWith accepts t v → IsThere v d b → IsHeldAfter t.front d b × (digest_of b ≡ d)
 held_after accepts t v d b h there =
     let held = (h.shows.complete d b).0 there in
@@ -65,13 +65,13 @@ held_after accepts t v d b h there =
 
 -- ---- two tickets for one digest
 
--- the digest of the one is in the view of the other too
+-- the digest of one ticket is also in the view of the other
 pub other_there : (accepts : Meaning) (d : Digest) (u : Given) (w : Frozen) → IsTicketWith accepts u w → d ≡ u.digest → (b : Block) × IsThere w d b
 other_there accepts d u w k same =
     let there = ticket_there accepts u w k in
     (there.0, subst (λ q. IsThere w q there.0) (sym same) there.1)
 
--- what the walks of their views show, the lists of their reads show
+-- an agreement of the walks in the views is an agreement of the tickets
 agreed : (accepts : Meaning) (t u : Given) (v w : Frozen) → IsTicketWith accepts t v → IsTicketWith accepts u w → t.digest ≡ u.digest → (a : Agreement) → IsAgreement v w t.digest a → IsAgreed t u a
 agreed accepts t u v w h k same agreements.Same walks =
     (walks.0, ticket_walk accepts t v walks.0 h walks.1, ticket_walk accepts u w walks.0 k (subst (λ d. IsWalk w d walks.0) same walks.2))
@@ -82,7 +82,7 @@ agreed accepts t u v w h k same (agreements.Collision b c) (apart, (d, (in_one, 
       (d, first.0, second.0, record { differ = differ; first = first.1; second = second.1 }),
     )
 
--- the same, of a comparison that may be refused
+-- the same, for a comparison that may fail
 pub tickets_agree : {E : Type 0} (accepts : Meaning) (t u : Given) (v w : Frozen) (r : Result Agreement E) → IsTicketWith accepts t v → IsTicketWith accepts u w → t.digest ≡ u.digest
     → IfOk r (λ a. IsAgreement v w t.digest a) → IfOk r (λ a. IsAgreed t u a)
 tickets_agree accepts t u v w (Ok a) h k same is = agreed accepts t u v w h k same a is

@@ -1,4 +1,4 @@
--- A block whose write is answered that it is held.
+-- If a write gets the reply Held, its block is held.
 use Rattle.std.proofs.Common.{◌≡◌, ℕ, Bool, true, false, cond, Option, Some, None, refl, ap, sym, ◌∙◌}
 use Rattle.std.specs.Option.{option_map_or}
 use Rattle.std.specs.FinMap.{get}
@@ -15,13 +15,13 @@ use Rattle.nw_model.specs.State.{State}
 use Rattle.nw_model.specs.Step.{Bounds, write_reply, IsReply}
 use Rattle.nw_model.proofs.Sames.{same_block_decides}
 
--- behind the test whether it is held, no other reply says so
-told : (clash misfit full vote : Bool) (first : Option Digest) → cond clash write.Clash (cond misfit write.Misfit (option_map_or write.Equivocates first (cond full write.Full (write.Stored vote)))) ≡ write.Held → ⊥
-told true misfit full vote first e = cc
-told false true full vote first e = cc
-told false false full vote (Some d) e = cc
-told false false true vote None e = cc
-told false false false vote None e = cc
+-- the tests that follow the one for a held block never give the reply Held
+not_held : (clash misfit full vote : Bool) (first : Option Digest) → cond clash write.Clash (cond misfit write.Misfit (option_map_or write.Equivocates first (cond full write.Full (write.Stored vote)))) ≡ write.Held → ⊥
+not_held true misfit full vote first e = cc
+not_held false true full vote first e = cc
+not_held false false full vote (Some d) e = cc
+not_held false false true vote None e = cc
+not_held false false false vote None e = cc
 
 held_by : (low far : Bool) (floor : ℕ) (found : Option Block) (b : Block) (rest : WriteReply) → (rest ≡ write.Held → ⊥)
     → cond low (write.Collected floor) (cond far write.TooFar (cond (option_map_or (same_block b) found false) write.Held rest)) ≡ write.Held → found ≡ Some b
@@ -34,11 +34,11 @@ held_by false false floor (Some c) b rest never e = by (same_block b c) refl e
     by true is e = ap Some (sym ((same_block_decides b c).0 is))
     by false is e = absurd (never e)
 
--- what is answered that it is held is held
+-- if the reply to a write is Held, the block is held under the digest
 pub held_then : (bounds : Bounds) (s : State) (d : Digest) (b : Block) → write_reply bounds s d b ≡ write.Held → get s.blocks d ≡ Some b
-held_then bounds s d b e = held_by _ _ _ (get s.blocks d) b _ (told _ _ _ _ _) e
+held_then bounds s d b e = held_by _ _ _ (get s.blocks d) b _ (not_held _ _ _ _ _) e
 
--- the call with what is held in the place of its block is the call
+-- the call with the held block in place of its own is the same call
 pub held_call : (bounds : Bounds) (s : State) (called : Call) (given : Reply) (d : Digest) (b held : Block) → IsReply bounds s called given
     → called ≡ calls.Write d b → given ≡ reply.Write write.Held → get s.blocks d ≡ Some held → calls.Write d held ≡ called
 held_call bounds s called given d b held is call_is reply_is at =

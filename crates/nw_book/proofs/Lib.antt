@@ -1,8 +1,8 @@
 pub mod Longer
-pub mod Stands
+pub mod Represent
 pub mod Opened
 pub mod Agreed
 pub mod Sent
 pub mod HeldCalls
 pub mod Runs
-pub mod Told
+pub mod NotReady

@@ -33,7 +33,7 @@ numbered_one false es e h is = rw append-nil h
 same_session : (e : Event) (session : ℕ) → (e.session == session) ≡ true → e.session ≡ session
 same_session e session t = eqb-true e.session session t
 
--- a legal history with one more event, whose reply is the step's and whose number is its session's next
+-- a legal history stays legal with one more event, whose reply is that of the step and whose number is its session's next
 pub legal_last : (accepts : Meaning) (t : Terms) (base : State) (es : List Event) (e : Event) → IsLegal accepts t base es
     → IsReply t.bounds (replay t.bounds base es) e.call e.reply → IsShort e.reply → e.session < t.sessions → e.number ≡ length (events_of e.session es) + 1
     → length es < t.events → IsAdmitted accepts t.committee e.call → IsLegal accepts t base (es ++ e ∷ [])
@@ -47,7 +47,7 @@ legal_last accepts t base es e h reply short below number room admitted = record
   admitted = All-push (λ (x : Event). IsAdmitted accepts t.committee x.call) es e h.admitted admitted;
 }
 
--- the last of some events and one more
+-- the last of some events followed by one more
 last_of : (es : List Event) (e : Event) → slice_get (es ++ e ∷ []) (length (es ++ e ∷ []) - 1) ≡ Some e
 last_of [] e = refl
 last_of (x ∷ es) e =

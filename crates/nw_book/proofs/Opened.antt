@@ -1,4 +1,4 @@
--- What a ticket gives.
+-- Tickets: their digests are complete, and walks in their views give the lists of their causal reads.
 use Rattle.std.proofs.Common.{◌≡◌, ℕ, List, [], ◌∷◌, ◌++◌, Result, Ok, Err, ap, sym, subst, ◌∙◌}
 use Rattle.std.specs.Prelude.{Vec, IfOk}
 use Rattle.nw_digest.specs.declared.digest.Digest.{Digest}
@@ -20,12 +20,12 @@ use Rattle.nw_book.specs.Ticket.{Given, IsTicket, IsTicketWith}
 use Rattle.nw_book.specs.Turn.{event}
 use Rattle.nw_book.proofs.Longer.{replay_last}
 
--- the last reply is the step's after the events before it
+-- the last reply is that of the step after the events before it
 reply_last : (b : Bounds) (s : State) (es : List Event) (e : Event) → AreReplies b s (es ++ e ∷ []) → IsReply b (replay b s es) e.call e.reply
 reply_last b s [] e h = h.0
 reply_last b s (x ∷ es) e h = reply_last b (after b s x.call) es e h.2
 
--- what a ticket is for is complete after its front
+-- a ticket's digest is complete after its front
 pub ticket_complete : (accepts : Meaning) (t : Given) → IsTicket accepts t → IsComplete (state_of t.front) t.digest
 ticket_complete accepts t h =
     let b : Bounds = bounds_of t.front.limits in
@@ -36,25 +36,25 @@ ticket_complete accepts t h =
     let same : replay b t.front.base es ≡ state_of t.front = sym (ap (replay b t.front.base) h.last.3 ∙ replay_last b t.front.base es e) in
     subst (λ s. IsComplete s t.digest) same whole
 
--- what a legal history leaves is sound
+-- a legal history leaves a sound state
 pub story_sound : (accepts : Meaning) (s : Story) → IsLegalStory accepts s → IsSound (state_of s)
 story_sound accepts s legal = legal_sound accepts (terms_of s) s.base s.events legal
 
--- what a ticket is for is in its view
+-- a ticket's digest is in its view
 pub ticket_there : (accepts : Meaning) (t : Given) (v : Frozen) → IsTicketWith accepts t v → (b : Block) × IsThere v t.digest b
 ticket_there accepts t v h =
     let whole : IsComplete (state_of t.front) t.digest = ticket_complete accepts t h.ticket in
     let stands = whole.stands in
     (stands.0, complete_there v (state_of t.front) t.digest stands.0 (story_sound accepts t.front h.ticket.legal).blocks_kept h.shows whole stands.1)
 
--- a walk in its view is the list of the read that was opened
+-- a walk in a ticket's view is the list of its causal read
 pub ticket_walk : (accepts : Meaning) (t : Given) (v : Frozen) (blocks : List Block) → IsTicketWith accepts t v → IsWalk v t.digest blocks
     → IsReply (bounds_of t.front.limits) (state_of t.front) (calls.Causal t.digest) (replies.List blocks)
 ticket_walk accepts t v blocks h walk =
     let whole : IsComplete (state_of t.front) t.digest = ticket_complete accepts t h.ticket in
     (whole, walk_is_causal v (state_of t.front) t.digest blocks (story_sound accepts t.front h.ticket.legal).blocks_kept h.shows whole walk)
 
--- the front that a causal read leaves, with a view of what is complete before it, makes a ticket
+-- the front that ends with a causal read, and a view of the complete blocks before that read, make a ticket
 pub opened : (accepts : Meaning) (old front : Story) (session number : ℕ) (d : Digest) (v : Frozen) → front ≡ with_event old (event session number (calls.Causal d) replies.Ready) → IsLegalStory accepts front
     → Shows v (state_of old) → IsTicketWith accepts (record { digest = d; front = front }) v
 opened accepts old front session number d v is legal shows =
@@ -65,7 +65,7 @@ opened accepts old front session number d v is legal shows =
       shows = subst (Shows v) (sym same) shows;
     }
 
--- the same, of a walk that may be refused
+-- the same, for a walk that may fail
 pub ticket_walks : {Z E : Type 0} (accepts : Meaning) (t : Given) (v : Frozen) (r : Result (Vec Block Z) E) → IsTicketWith accepts t v → IfOk r (λ blocks. IsWalk v t.digest blocks.items)
     → IfOk r (λ blocks. IsReply (bounds_of t.front.limits) (state_of t.front) (calls.Causal t.digest) (replies.List blocks.items))
 ticket_walks accepts t v (Ok blocks) h walked = ticket_walk accepts t v blocks.items h walked

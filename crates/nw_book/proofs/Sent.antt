@@ -1,4 +1,4 @@
--- Books, answers, entries and tickets may cross to another thread, and tickets, answers and entries be shared by threads.
+-- Books, answers, entries and tickets may be sent to another thread; answers, entries and tickets may be shared between threads.
 use denote.RattleType.{RattleType}
 use denote.Param.Send.{IsSend, IsSync, sendable, view_send, view_sync}
 use denote.Param.SendFields.{declared_send, declared_sync}

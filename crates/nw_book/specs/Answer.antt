@@ -12,19 +12,25 @@ use Rattle.nw_history.specs.Story.{Story, IsLegalStory, bounds_of, state_of, wit
 use Rattle.nw_book.specs.Ticket.{Given}
 use Rattle.nw_book.specs.Turn.{event}
 
--- what an answer tells: the event that was recorded, and the history up to and with it
+-- an answer as contracts see it
 pub record Told : Type 0 where
+  -- the event of the call
   pub event : Event
+  -- the history up to and including the event
   pub front : Story
 
--- the session's call is taken after the history: the new one is the old one and this event, whose reply is the step's after the old one, and it is legal; the front is the new one
-pub record Takes (accepts : Meaning) (old new : Story) (session number : ℕ) (asked : Call) (reply : Reply) (front : Story) : Type 0 where
-  pub history : new ≡ with_event old (event session number asked reply)
-  pub is_reply : IsReply (bounds_of old.limits) (state_of old) asked reply
+-- the session's call with this number is taken after the old history, which makes the new one
+pub record Takes (accepts : Meaning) (old new : Story) (session number : ℕ) (call : Call) (reply : Reply) (front : Story) : Type 0 where
+  -- the new history is the old one with this event
+  pub history : new ≡ with_event old (event session number call reply)
+  -- the reply is that of the step after the old history
+  pub is_reply : IsReply (bounds_of old.limits) (state_of old) call reply
+  -- the front is the new history
   pub front_is : front ≡ new
+  -- the new history is legal
   pub legal : IsLegalStory accepts new
 
--- the reply that a causal read got: a ticket stands for Ready
+-- the reply to a causal read: Ready if it got a ticket
 abbrev pub reply_of : Result Given Told → Reply
 reply_of (Ok ticket) = replies.Ready
 reply_of (Err done) = done.event.reply
@@ -34,7 +40,7 @@ abbrev pub front_of : Result Given Told → Story
 front_of (Ok ticket) = ticket.front
 front_of (Err done) = done.front
 
--- the ticket is for the digest; where there is none, the reply says why there is no list
+-- the ticket is for the digest; if there is no ticket, the reply says why there is no list
 abbrev pub IsFor : Digest → Result Given Told → Type 0
 IsFor d (Ok ticket) = ticket.digest ≡ d
 IsFor d (Err done) = (why : CausalReply) × (done.event.reply ≡ replies.Causal why)

@@ -1,5 +1,5 @@
 -- Runs: many moves in order.
-use Rattle.std.specs.Prelude.{◌≡◌, ℕ, ◌<◌, ◌≤◌, List, [], ◌∷◌, ◌++◌, Option, Some, None, Err, length, take, slice_get}
+use Rattle.std.specs.Prelude.{◌≡◌, ◌<◌, ◌≤◌, List, [], ◌∷◌, ◌++◌, Option, Some, None, Err, length, take, slice_get}
 use Rattle.nw_sig.specs.Signed.{Meaning}
 use Rattle.nw_model.specs.declared.call.Call.TheVariants as calls
 use Rattle.nw_model.specs.declared.reply.Reply.TheVariants as replies
@@ -8,53 +8,66 @@ use Rattle.nw_book.specs.Answer.{IsFor, Takes}
 use Rattle.nw_book.specs.Command.{call_of, committee_of}
 use Rattle.nw_book.specs.Ticket.{Given, IsListOf}
 use Rattle.nw_book.specs.Turn.{IsOf, IsRefusal, next_number}
-use Rattle.nw_book.specs.declared.command.Command.{Command}
 use Rattle.nw_book.specs.declared.moves.Move.{Move}
 use Rattle.nw_book.specs.declared.moves.Move.TheVariants as moves
 use Rattle.nw_book.specs.declared.moves.Answer.{Answer}
-use Rattle.nw_book.specs.declared.moves.Answer.TheVariants as answers
+use Rattle.nw_book.specs.declared.moves.Answer.TheVariants as gets
 use Rattle.nw_book.specs.declared.moves.Cause.{Cause}
 use Rattle.nw_book.specs.declared.moves.Cause.TheVariants as causes
 use Rattle.nw_book.specs.declared.moves.Stop.{Stop}
+use Rattle.nw_book.specs.declared.moves.Run.{Run}
 
--- the answer of a move: with the history and the tickets before it, and those after it
-abbrev pub IsAnswer : {S : Type 0} → Meaning → Story → List Given → Move S → Answer S → Story → List Given → Type 0
-IsAnswer accepts old given (moves.Call session asked) (answers.Done done) new after =
-    Takes accepts old new session (next_number old session) (call_of asked) done.event.reply done.front
-    × IsOf old.committee (committee_of asked) × (after ≡ given)
-IsAnswer accepts old given (moves.Open session d) (answers.Done done) new after =
-    Takes accepts old new session (next_number old session) (calls.Causal d) done.event.reply done.front × IsFor d (Err done) × (after ≡ given)
-IsAnswer accepts old given (moves.Open session d) answers.Opened new after =
-    (t : Given) × Takes accepts old new session (next_number old session) (calls.Causal d) replies.Ready t.front × (t.digest ≡ d) × (after ≡ given ++ t ∷ [])
-IsAnswer accepts old given (moves.Walk ticket) (answers.Walked blocks) new after =
-    (t : Given) × (slice_get given ticket ≡ Some t) × IsListOf t blocks × (new ≡ old) × (after ≡ given)
-IsAnswer accepts old given m other new after = ⊥
+-- what a run carries along
+pub record Progress (S : Type 0) : Type 0 where
+  -- the book's history
+  pub history : Story
+  -- the tickets that the run got, in order
+  pub tickets : List Given
+  -- the answers to the moves so far, in order
+  pub answers : List (Answer S)
 
--- the move is made: its answer is the one more
-abbrev pub Makes : {S : Type 0} → Meaning → Story → List Given → List (Answer S) → Move S → Story → List Given → List (Answer S) → Type 0
-Makes {S = S} accepts old given before m new after found = (answer : Answer S) × IsAnswer accepts old given m answer new after × (found ≡ before ++ answer ∷ [])
+-- the answer to a move, and the history and the tickets after it
+abbrev pub IsAnswer : {S : Type 0} → Meaning → Progress S → Move S → Answer S → Progress S → Type 0
+IsAnswer accepts old (moves.Call session command) (gets.Done done) new =
+    Takes accepts old.history new.history session (next_number old.history session) (call_of command) done.event.reply done.front
+    × IsOf old.history.committee (committee_of command) × (new.tickets ≡ old.tickets)
+IsAnswer accepts old (moves.Open session d) (gets.Done done) new =
+    Takes accepts old.history new.history session (next_number old.history session) (calls.Causal d) done.event.reply done.front
+    × IsFor d (Err done) × (new.tickets ≡ old.tickets)
+IsAnswer accepts old (moves.Open session d) gets.Opened new =
+    (t : Given) × Takes accepts old.history new.history session (next_number old.history session) (calls.Causal d) replies.Ready t.front
+    × (t.digest ≡ d) × (new.tickets ≡ old.tickets ++ t ∷ [])
+IsAnswer accepts old (moves.Walk ticket) (gets.Walked blocks) new =
+    (t : Given) × (slice_get old.tickets ticket ≡ Some t) × IsListOf t blocks
+    × (new.history ≡ old.history) × (new.tickets ≡ old.tickets)
+IsAnswer accepts old m other new = ⊥
 
--- the same of a call, which leaves the tickets as they are
-abbrev pub MakesCall : {S : Type 0} → Meaning → Story → ℕ → Command S → Story → List (Answer S) → List (Answer S) → Type 0
-MakesCall accepts old session asked new before found =
-    (given : List Given) → Makes accepts old given before (moves.Call session asked) new given found
+-- the move is made, and the run has one more answer
+abbrev pub Makes : {S : Type 0} → Meaning → Progress S → Move S → Progress S → Type 0
+Makes {S = S} accepts old m new = (answer : Answer S) × IsAnswer accepts old m answer new × (new.answers ≡ old.answers ++ answer ∷ [])
 
--- each answer is that of its move at its place
-abbrev pub Runs : {S : Type 0} → Meaning → Story → List Given → List (Move S) → List (Answer S) → Story → List Given → Type 0
-Runs accepts old given [] [] new after = (new ≡ old) × (after ≡ given)
-Runs accepts old given (m ∷ ms) (a ∷ others) new after = (next : Story) × (between : List Given) × IsAnswer accepts old given m a next between × Runs accepts next between ms others new after
-Runs accepts old given ms found new after = ⊥
+-- the moves are made one after the other
+abbrev pub Runs : {S : Type 0} → Meaning → Progress S → List (Move S) → Progress S → Type 0
+Runs accepts old [] new = new ≡ old
+Runs {S = S} accepts old (m ∷ ms) new = (next : Progress S) × Makes accepts old m next × Runs accepts next ms new
 
--- why a move is not made: the step is refused, or there is no such ticket, or memory was refused to a walk
-abbrev pub IsStop : {S : Type 0} → Story → List Given → Move S → Cause → Type 0
-IsStop s given (moves.Call session asked) (causes.NoStep why) = IsRefusal s session (next_number s session) (committee_of asked) why
-IsStop s given (moves.Open session d) (causes.NoStep why) = IsRefusal s session (next_number s session) None why
-IsStop s given (moves.Walk ticket) causes.NoTicket = length given ≤ ticket
-IsStop s given (moves.Walk ticket) causes.NoMemory = ticket < length given
-IsStop s given m other = ⊥
+-- why a move is refused: its step is refused; or there is no such ticket; or an allocation failed in a walk
+abbrev pub IsStop : {S : Type 0} → Progress S → Move S → Cause → Type 0
+IsStop now (moves.Call session command) (causes.NoStep why) =
+    IsRefusal now.history session (next_number now.history session) (committee_of command) why
+IsStop now (moves.Open session d) (causes.NoStep why) = IsRefusal now.history session (next_number now.history session) None why
+IsStop now (moves.Walk ticket) causes.NoTicket = length now.tickets ≤ ticket
+IsStop now (moves.Walk ticket) causes.NoMemory = ticket < length now.tickets
+IsStop now m other = ⊥
 
--- each move is made, with these answers; or those before the stop are, and the move there is not, for this cause
-abbrev pub IsRun : {S : Type 0} → Meaning → Story → List (Move S) → List (Answer S) → Option Stop → Story → Type 0
-IsRun accepts old ms found None new = (given : List Given) × Runs accepts old [] ms found new given
-IsRun {S = S} accepts old ms found (Some stop) new =
-    (given : List Given) × (m : Move S) × Runs accepts old [] (take stop.at ms) found new given × (slice_get ms stop.at ≡ Some m) × IsStop new given m stop.cause
+-- all moves are made; or the moves before the stop are made, and the next is refused for this cause
+abbrev pub Stops : {S : Type 0} → Meaning → Progress S → List (Move S) → Option Stop → Progress S → Type 0
+Stops accepts old ms None new = Runs accepts old ms new
+Stops {S = S} accepts old ms (Some stop) new =
+    (m : Move S) × Runs accepts old (take stop.at ms) new × (slice_get ms stop.at ≡ Some m) × IsStop new m stop.cause
+
+-- the run of the moves starts with the old history and no tickets, and ends with the new history
+abbrev pub IsRun : {S : Type 0} → Meaning → Story → List (Move S) → Run S → Story → Type 0
+IsRun accepts old ms run new =
+    (given : List Given) × Stops accepts (record { history = old; tickets = []; answers = [] }) ms run.stop
+    (record { history = new; tickets = given; answers = run.answers })

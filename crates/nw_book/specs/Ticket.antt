@@ -1,4 +1,4 @@
--- Tickets for causal reads, and what they give.
+-- Tickets for causal reads, their lists, and their agreement.
 use Rattle.std.specs.Prelude.{◌≡◌, ◌≤◌, ℕ, List, [], ◌∷◌, ◌++◌, Some}
 use Rattle.std.specs.FinMap.{get}
 use Rattle.nw_digest.specs.declared.digest.Digest.{Digest}
@@ -16,23 +16,29 @@ use Rattle.nw_causal.specs.declared.agreement.Agreement.TheVariants as agreement
 use Rattle.nw_history.specs.Story.{Story, IsLegalStory, bounds_of, state_of}
 use Rattle.nw_book.specs.Turn.{event}
 
--- a digest, and the history whose last event is the causal read of it
+-- a ticket as contracts see it
 pub record Given : Type 0 where
+  -- the digest of the causal read
   pub digest : Digest
+  -- the history up to and including the causal read
   pub front : Story
 
--- the front is a legal history, whose last event is a causal read of the digest, answered by Ready
+-- the ticket comes from a causal read
 pub record IsTicket (accepts : Meaning) (t : Given) : Type 0 where
+  -- the front is a legal history
   pub legal : IsLegalStory accepts t.front
+  -- the front ends with a causal read of the digest, with the reply Ready
   pub last : (earlier : List Event) × (session : ℕ) × (number : ℕ)
       × (t.front.events ≡ earlier ++ event session number (calls.Causal t.digest) replies.Ready ∷ [])
 
--- a ticket, and a view of the blocks that are complete after its front
+-- the ticket comes from a causal read and has this view
 pub record IsTicketWith (accepts : Meaning) (t : Given) (v : Frozen) : Type 0 where
+  -- the ticket comes from a causal read
   pub ticket : IsTicket accepts t
+  -- the view shows the state after the front
   pub shows : Shows v (state_of t.front)
 
--- the list is the reply to the read that was opened
+-- the list is the reply to the ticket's causal read
 abbrev pub IsListOf : Given → List Block → Type 0
 IsListOf t blocks = IsReply (bounds_of t.front.limits) (state_of t.front) (calls.Causal t.digest) (replies.List blocks)
 
@@ -40,17 +46,20 @@ IsListOf t blocks = IsReply (bounds_of t.front.limits) (state_of t.front) (calls
 abbrev pub HaveOneList : Given → Given → Type 0
 HaveOneList t u = (blocks : List Block) × IsListOf t blocks × IsListOf u blocks
 
--- the block is held under the digest after the front, is not below the garbage round, and is complete
+-- after the front, the block is held under the digest and complete
 pub record IsHeldAfter (front : Story) (d : Digest) (b : Block) : Type 0 where
+  -- the block is held under the digest
   pub held : get (state_of front).blocks d ≡ Some b
+  -- the block is not below the garbage round
   pub kept : (state_of front).floor ≤ b.round
+  -- the digest is complete
   pub complete : IsComplete (state_of front) d
 
--- b is held after the front of t and c after that of u, and they are two different blocks of the one digest under which both are held
+-- b is held after the front of t, and c after the front of u; they are two different blocks with one digest, under which both are held
 abbrev pub HaveCollision : Given → Given → Block → Block → Type 0
 HaveCollision t u b c = (d : Digest) × IsHeldAfter t.front d b × IsHeldAfter u.front d c × AreCollision d b c
 
--- the answer is Same exactly where one list is the reply to both reads; else it has two different blocks of one digest
+-- the agreement is Same if one list is the reply to both reads; otherwise it is a collision of two blocks
 abbrev pub IsAgreed : Given → Given → Agreement → Type 0
 IsAgreed t u agreements.Same = HaveOneList t u
 IsAgreed t u (agreements.Collision b c) = (HaveOneList t u → ⊥) × HaveCollision t u b c

@@ -1,4 +1,4 @@
--- Whose turn it is in a history, and what stands beside it in a book.
+-- Turns and refusals of calls, and the invariant of a book.
 use Rattle.std.specs.Prelude.{◌≡◌, ℕ, ◌+◌, ◌<◌, List, Option, Some, None, length, slice_index}
 use Rattle.nw_committee.specs.declared.member.Member.{Member}
 use Rattle.nw_sig.specs.Signed.{Meaning}
@@ -16,45 +16,57 @@ use Rattle.nw_book.specs.declared.error.NoStep.TheVariants as refusals
 abbrev pub next_number : Story → ℕ → ℕ
 next_number s session = length (events_of session s.events) + 1
 
--- the event of a call
+-- the event of a session's call with this number and this reply
 abbrev pub event : ℕ → ℕ → Call → Reply → Event
-event session number asked reply = record { session = session; number = number; call = asked; reply = reply }
+event session number call reply = record { session = session; number = number; call = call; reply = reply }
 
--- the session is below its limit, and the number is that of its next call
+-- a call of the session with this number is in turn after the history
 pub record IsInTurn (s : Story) (session number : ℕ) : Type 0 where
+  -- the session is below the limit of sessions
   pub session_below : session < s.limits.sessions
+  -- the number is that of the session's next call
   pub number_next : number ≡ next_number s session
 
--- fewer events than the limit allows
+-- the history has fewer events than its limit allows
 abbrev pub HasRoom : Story → Type 0
 HasRoom s = length s.events < s.limits.events
 
--- the committee is this one, where there is one
+-- the second committee, if there is one, is the first
 abbrev pub IsOf : List Member → Option (List Member) → Type 0
 IsOf members None = Unit {0}
 IsOf members (Some own) = own ≡ members
 
--- why a call of the session with the number takes no step: it is out of turn; else what is handed in is under another committee than the history; else there is no room in the history; else memory was refused
+-- why a call of the session with this number takes no step: it is out of turn; else its block or certificate was checked under another
+-- committee; else the history is full; else an allocation failed
 abbrev pub IsRefusal : Story → ℕ → ℕ → Option (List Member) → NoStep → Type 0
 IsRefusal s session number under refusals.OutOfTurn = IsInTurn s session number → ⊥
 IsRefusal s session number under refusals.OtherCommittee = IsInTurn s session number × (IsOf s.committee under → ⊥)
 IsRefusal s session number under refusals.HistoryFull = IsInTurn s session number × IsOf s.committee under × (HasRoom s → ⊥)
 IsRefusal s session number under refusals.NoMemory = IsInTurn s session number × IsOf s.committee under × HasRoom s
 
--- a call of the session with the number may take a step
+-- a call of the session with this number may take a step; `under` is the committee of its checked value, if it has one
 pub record MayStep (s : Story) (session number : ℕ) (under : Option (List Member)) : Type 0 where
+  -- the call is in turn
   pub turn : IsInTurn s session number
+  -- the checked value's committee is that of the history
   pub own : IsOf s.committee under
+  -- the history is not full
   pub room : HasRoom s
 
--- the list has the number of events of each session, by session
+-- the list has the number of each session's events, by session
 pub record AreCounts (counts : List ℕ) (s : Story) : Type 0 where
+  -- the list has an item for each session that the limits allow
   pub sessions : length counts ≡ s.limits.sessions
+  -- the item of a session is the number of its events
   pub each : (session : ℕ) → session < length counts → slice_index counts session ≡ length (events_of session s.events)
 
--- the tables and the counts are those after the history, whose limits are in their ranges
-pub record StandFor (accepts : Meaning) (tables : Tables) (counts : List ℕ) (s : Story) : Type 0 where
+-- the invariant of a book: its tables and its counts represent its history
+pub record Represent (accepts : Meaning) (tables : Tables) (counts : List ℕ) (s : Story) : Type 0 where
+  -- the limits are in their ranges
   pub in_range : AreInRange s.limits
+  -- the history is legal
   pub legal : IsLegalStory accepts s
+  -- the tables have the state after the history
   pub state : tables ≡ tables_of s
+  -- the counts are those of the history's events
   pub counted : AreCounts counts s

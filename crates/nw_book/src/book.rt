@@ -1,4 +1,4 @@
-//! Books: a history, and the tables that its calls leave.
+//! Books: a history, and the tables with the state after it.
 ghost use Rattle.std.specs.Prelude.{◌≡◌, ◌↔◌, [], None, IfOk, IfErr, OnOk, OnErr};
 ghost use Rattle.std.specs.Result.{IsErrOf};
 ghost use Rattle.nw_model.specs.declared.call.Call.TheVariants as Call;
@@ -21,8 +21,8 @@ use nw_sig::Scheme;
 use std::alloc::Global;
 use std::marker::Model;
 
-/// A history that grows, with the tables that its calls leave, where `S` says which signatures are accepted. Contracts see
-/// the history, with its committee and limits.
+/// A growing history, and the tables with the state after it. `S` is the signature scheme. Contracts see the history, with its
+/// committee, limits and base.
 #[derive(Drop)]
 pub struct Book<S: Scheme> {
     history: History<S>,
@@ -32,7 +32,7 @@ pub struct Book<S: Scheme> {
 
 impl<S: Scheme> Model for Book<S> {
     ghost use Rattle.nw_history.specs.Story.{Story};
-    ghost use Rattle.nw_book.specs.Turn.{StandFor};
+    ghost use Rattle.nw_book.specs.Turn.{Represent};
 
     ghost Value = { Story };
 
@@ -43,12 +43,11 @@ impl<S: Scheme> Model for Book<S> {
 
     ghost view = { λ b. b.history };
 
-    ghost invariant = { λ b. StandFor S.accepts b.tables b.calls.items b.history };
+    ghost invariant = { λ b. Represent S.accepts b.tables b.calls.items b.history };
 }
 
 impl<S: Scheme> Book<S> {
-    /// A book with an empty history. `BadLimits` exactly where a limit is outside its range, else `NoMemory` where memory
-    /// is refused.
+    /// A book with an empty history. `BadLimits` if a limit is outside its range, else `NoMemory` if an allocation fails.
     pub fn new(
         alloc: Global,
         committee: Shared<Committee>,
@@ -84,11 +83,15 @@ impl<S: Scheme> Book<S> {
         &self.history
     }
 
-    /// Takes the step of a session's call, its calls numbered from 1, and records it.
+    /// Takes the step of the session's call with this number, and adds its event to the history. The calls of each session are
+    /// numbered from 1.
     ///
-    /// `OutOfTurn` exactly where it is not the turn of this number of the session, else `OtherCommittee` exactly where what
-    /// is handed in was checked under another committee, else `HistoryFull` exactly where the history has as many events as
-    /// its limit, else `NoMemory` where memory is refused. A refusal changes nothing.
+    /// The errors are tested in this order. An error changes nothing.
+    ///
+    /// - `OutOfTurn`: the session is not below the limit of sessions, or the number is not that of its next call.
+    /// - `OtherCommittee`: the block or certificate was checked under another committee.
+    /// - `HistoryFull`: the history has reached its limit of events.
+    /// - `NoMemory`: an allocation failed.
     pub fn step(
         &mut self,
         alloc: Global,
@@ -110,14 +113,16 @@ impl<S: Scheme> Book<S> {
         Ok(done)
     }
 
-    /// Takes the step of a session's causal read, its calls numbered from 1, and records it.
+    /// Takes the step of a session's causal read with this number, and adds its event to the history.
     ///
-    /// Where the block and its certified ancestors can be listed, the history gets the reply `Ready`, and the ticket gives the
-    /// list at any later time. Else the answer's reply says why: `Unknown`, `Uncertified` or `Incomplete`.
+    /// If the digest is complete, the event's reply is `Ready`, and the ticket gives the causal list at any later time. Otherwise
+    /// the answer's reply says why there is no list: `Unknown`, `Uncertified` or `Incomplete`.
     ///
-    /// It is refused as a step is: `OutOfTurn` exactly where it is not the turn of this number of the session, else
-    /// `HistoryFull` exactly where the history has as many events as its limit, else `NoMemory` where memory is refused. A
-    /// refusal changes nothing.
+    /// The errors are tested in this order. An error changes nothing.
+    ///
+    /// - `OutOfTurn`: the session is not below the limit of sessions, or the number is not that of its next call.
+    /// - `HistoryFull`: the history has reached its limit of events.
+    /// - `NoMemory`: an allocation failed.
     pub fn open(
         &mut self,
         alloc: Global,
@@ -137,8 +142,8 @@ impl<S: Scheme> Book<S> {
         Ok(answer)
     }
 
-    /// Lets later tickets share one copy of what is complete, without what was collected. Nothing else changes: not the
-    /// history, no reply, and no ticket of before. It costs what is frozen; want of memory changes no answer.
+    /// Freezes all complete blocks as one generation, which later tickets share. Collected blocks are not part of it. No history,
+    /// reply or earlier ticket changes, even if it fails with `NoMemory`. Its cost grows with the number of complete blocks.
     pub fn compact(&mut self, alloc: Global) -> Result<(), NoMemory>
         ensures { self.new ≡ self.old }
     {

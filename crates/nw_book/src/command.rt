@@ -1,4 +1,4 @@
-//! What a session asks of a book.
+//! Commands: calls with checked values.
 ghost use Rattle.std.specs.Prelude.{◌≡◌, List, IfOk};
 ghost use Rattle.std.specs.Option.{option_copied};
 ghost use Rattle.nw_committee.specs.declared.member.Member.{Member};
@@ -12,27 +12,28 @@ use nw_digest::{Digest, NoMemory, Round};
 use nw_model::Call;
 use nw_sig::Scheme;
 
-/// What a session asks. What is written and certified was checked, under the value's committee.
+/// A call of a session, other than a causal read. A block or certificate is a checked value, which carries the committee of its
+/// check.
 #[derive(Drop)]
 pub enum Command<S: Scheme> {
     /// Store the block under its digest.
     Write(CheckedBlock<S>),
     /// Keep the certificate of a digest.
     Certify(CheckedCert<S>),
-    /// The certificate that is kept for the digest.
+    /// Read the certificate for the digest.
     Certificate(Digest),
-    /// The block that is held under the digest.
+    /// Read the block under the digest.
     Read(Digest),
-    /// Drop what is of a round below this one, which is the garbage round from then on.
+    /// Raise the garbage round to this round, and drop all entries of lower rounds.
     Collect(Round),
-    /// The first so many of the parents that are wanted.
+    /// Read this many of the first wanted parents, by round, author and digest.
     Missing(u16),
-    /// How much is kept, and how much is wanted.
+    /// Read the garbage round, and the numbers of blocks, certificates, complete blocks and wanted parents.
     Status,
 }
 
 impl<S: Scheme> Command<S> {
-    /// The call that is asked, in which a block stands under its digest. What is handed in gets one more owner.
+    /// The call of this command. It shares ownership of the command's block or certificate. `NoMemory` if an allocation fails.
     pub fn call(&self) -> Result<Call, NoMemory>
         ensures call { IfOk result (λ call. call ≡ call_of self.now) }
         ensures no_read { IfOk result IsNoCausalRead }
@@ -52,7 +53,7 @@ impl<S: Scheme> Command<S> {
         }
     }
 
-    /// The committee under which what is handed in was checked, or `None` where nothing is.
+    /// The committee under which the block or certificate was checked, or `None` if the command has neither.
     pub fn committee(&self) -> Option<&Committee>
         ensures { option_copied result ≡ committee_of self.now }
     {

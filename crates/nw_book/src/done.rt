@@ -1,4 +1,4 @@
-//! Answers.
+//! Answers to calls.
 ghost use Rattle.std.specs.Prelude.{◌≡◌, ◌≢◌, ◌-◌, Some, length, slice_get};
 
 use crate::Entry;
@@ -7,8 +7,8 @@ use nw_model::{Call, Reply};
 use nw_sig::Scheme;
 use std::marker::Model;
 
-/// The answer to a call for which there is no ticket: a history that ends with the call, and the reply to it, which is never
-/// `Ready`. Contracts see the event of the call, and the history.
+/// The answer to a call that gets no ticket: the front that ends with the call. Its reply is never `Ready`. Contracts see the
+/// call's event and the front.
 #[derive(Drop)]
 pub struct Done<S: Scheme> {
     entry: Entry<S>,
@@ -31,7 +31,7 @@ impl<S: Scheme> Model for Done<S> {
 }
 
 impl<S: Scheme> Done<S> {
-    /// The answer that this entry is kept of.
+    /// The answer with this entry.
     pub(crate) fn of(entry: Entry<S>) -> Done<S>
         requires { entry.event.reply ≢ Reply.Ready }
         ensures { result ≡ entry }
@@ -39,7 +39,7 @@ impl<S: Scheme> Done<S> {
         Done { entry }
     }
 
-    /// The call that was answered.
+    /// The answered call.
     pub fn call(&self) -> &Call
         ensures call { result.now ≡ self.now.event.call }
         ensures last { slice_get self.now.front.events (length self.now.front.events - 1)
@@ -48,7 +48,7 @@ impl<S: Scheme> Done<S> {
         self.entry.call()
     }
 
-    /// The reply that the call got, which is never `Ready`: a ticket stands for that.
+    /// The reply to the call. It is never `Ready`: a causal read with that reply gets a ticket.
     pub fn reply(&self) -> &Reply
         ensures reply { result.now ≡ self.now.event.reply }
         ensures not_ready { result.now ≢ Reply.Ready }
@@ -56,7 +56,7 @@ impl<S: Scheme> Done<S> {
         self.entry.reply()
     }
 
-    /// The history up to and with the call.
+    /// The history up to and including the call.
     pub fn front(&self) -> &Front<S>
         ensures { result.now ≡ self.now.front }
     {

@@ -1,4 +1,4 @@
-//! What is kept of answers.
+//! Entries: the form in which a journal keeps answers.
 ghost use Rattle.std.specs.Prelude.{◌≡◌, ◌-◌, ◌<◌, ◌++◌, ◌∷◌, [], List, Some, length, slice_get};
 ghost use Rattle.nw_model.specs.declared.event.Event.{Event};
 
@@ -8,8 +8,8 @@ use nw_sig::Scheme;
 use std::marker::Model;
 use std::snapshot::Snapshot;
 
-/// What a journal keeps of an answer, also of a ticket: a history that ends with the call, and the reply to it. Contracts see the
-/// event of the call, and the history.
+/// The form in which a journal keeps an answer or a ticket: the front that ends with the call. Contracts see the call's event and
+/// the front.
 #[derive(Drop)]
 pub struct Entry<S: Scheme> {
     front: Front<S>,
@@ -33,7 +33,7 @@ impl<S: Scheme> Model for Entry<S> {
 }
 
 impl<S: Scheme> Entry<S> {
-    /// The entry with this front, which ends with the call that is answered.
+    /// The entry for the call with which this front ends.
     pub(crate) fn of(front: Front<S>) -> Entry<S>
         requires some { 0 < length front.events }
         ensures front { result.front ≡ front }
@@ -44,7 +44,7 @@ impl<S: Scheme> Entry<S> {
         Entry { front, event }
     }
 
-    /// The call that was answered.
+    /// The answered call.
     pub fn call(&self) -> &Call
         ensures call { result.now ≡ self.now.event.call }
         ensures last { slice_get self.now.front.events (length self.now.front.events - 1)
@@ -53,21 +53,21 @@ impl<S: Scheme> Entry<S> {
         &self.event().call
     }
 
-    /// The reply that the call got: `Ready` exactly where it is a causal read for which a ticket was given.
+    /// The reply to the call. It is `Ready` if the call is a causal read that got a ticket.
     pub fn reply(&self) -> &Reply
         ensures { result.now ≡ self.now.event.reply }
     {
         &self.event().reply
     }
 
-    /// The history up to and with the call.
+    /// The history up to and including the call.
     pub fn front(&self) -> &Front<S>
         ensures { result.now ≡ self.now.front }
     {
         &self.front
     }
 
-    /// The event of the call, which is the last of the front.
+    /// The call's event, which is the last event of the front.
     fn event(&self) -> &Event
         ensures event { result.now ≡ self.now.event }
         ensures last { slice_get self.now.front.events (length self.now.front.events - 1)

@@ -1,15 +1,15 @@
-//! Why a book is not made, or takes no step.
+//! Errors of books.
 use nw_digest::NoMemory;
 use std::alloc::AllocError;
 use thiserror::Error;
 
-/// Why a book is not made.
+/// Why a book cannot be made.
 #[derive(Clone, Copy, Debug, PartialEq, Eq, Error)]
 pub enum BookError {
     /// A limit is outside its range.
     #[error("bad limits")]
     BadLimits,
-    /// Memory was refused.
+    /// An allocation failed.
     #[error("out of memory")]
     NoMemory,
 }
@@ -36,19 +36,19 @@ impl From<AllocError> for BookError {
     }
 }
 
-/// Why a book takes no step. The first that applies is answered, and nothing is changed.
+/// Why a call takes no step. The variants are tested in order. An error changes nothing.
 #[derive(Clone, Copy, Debug, PartialEq, Eq, Error)]
 pub enum NoStep {
-    /// The session is not below the limit of sessions, or the number is not one more than its events so far.
+    /// The session is not below the limit of sessions, or the number is not that of its next call.
     #[error("out of turn")]
     OutOfTurn,
-    /// What is handed in was checked under another committee than the book's.
+    /// The block or certificate was checked under another committee than the book's.
     #[error("other committee")]
     OtherCommittee,
-    /// The history has as many events as the limit allows.
+    /// The history has reached its limit of events.
     #[error("history full")]
     HistoryFull,
-    /// Memory was refused.
+    /// An allocation failed.
     #[error("out of memory")]
     NoMemory,
 }

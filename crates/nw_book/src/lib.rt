@@ -1,10 +1,10 @@
-//! Books: a history that grows, the tables that its calls leave, and tickets for causal reads.
+//! Books: each keeps a growing legal history with the state that its calls leave, and gives tickets for causal reads.
 //!
-//! Its contract: a step that the book takes adds one event to a legal history, and the answer carries the history up to
-//! and with that event; a step that it refuses changes nothing. A causal read is opened by a step of its own, and its
-//! ticket gives the list of that step at any later time; two tickets for one digest show whether their lists are equal. A run
-//! makes many moves, each a step or a walk, until the first that is not made. It stands on `nw_history` for histories, on
-//! `nw_dag` for tables, on `nw_causal` for walks, and on `nw_check` for values that were checked.
+//! A step adds one event to the history, and its answer carries the history up to and including that event. A refused step
+//! changes nothing. A step of its own opens a causal read; its ticket gives the list of that step at any later time. Two tickets
+//! for one digest show whether their lists are equal. A run makes moves in order and stops at the first that is refused.
+//!
+//! The crate uses `nw_history` for histories, `nw_dag` for tables, `nw_causal` for walks, and `nw_check` for checked values.
 #![tactic(auto)]
 
 mod book;

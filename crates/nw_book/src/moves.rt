@@ -1,53 +1,53 @@
-//! Moves, what they get, and where a run of them stops.
+//! Moves, their answers, and where a run stops.
 use crate::{Command, Done, NoStep};
 use nw_codec::Block;
 use nw_digest::{Digest, NoMemory, Sequence, Shared};
 use nw_sig::Scheme;
 use std::alloc::AllocError;
 
-/// One move of a run. The number of a call is the next of its session.
+/// One move of a run. Each call and each causal read is its session's next call.
 #[derive(Drop)]
 pub enum Move<S: Scheme> {
-    /// The session asks this.
+    /// The session makes a call that is not a causal read.
     Call {
-        /// Which session.
+        /// The session's number.
         session: u16,
-        /// What it asks.
+        /// The command to make.
         command: Command<S>,
     },
     /// The session opens a causal read of the digest.
     Open {
-        /// Which session.
+        /// The session's number.
         session: u16,
-        /// Of which digest.
+        /// The digest to read.
         digest: Digest,
     },
-    /// A ticket is walked.
+    /// A walk of a ticket.
     Walk {
-        /// Which, of the tickets that this run was given, counted from 0.
+        /// The number of the ticket, counted from 0 in the order in which this run got its tickets.
         ticket: u32,
     },
 }
 
-/// What a move gets.
+/// The answer to a move.
 #[derive(Drop)]
 pub enum Answer<S: Scheme> {
-    /// To a call, and to a causal read that gives no list: the reply, and the history up to and with the call.
+    /// To a call, or to a causal read that gets no ticket: the front that ends with the call.
     Done(Done<S>),
-    /// To a causal read: the run has one more ticket.
+    /// To a causal read that gets a ticket: the run has one more ticket.
     Opened,
-    /// To a walk: the list of the causal read that the ticket is for, whatever was stored since.
+    /// To a walk: the list that the ticket gives.
     Walked(Sequence<Shared<Block>>),
 }
 
-/// Why a move is not made.
+/// Why a move is refused.
 #[derive(Clone, Copy, Debug, PartialEq, Eq)]
 pub enum Cause {
-    /// The step of a call or a causal read is refused, for want of memory too.
+    /// The call or causal read takes no step, for this reason.
     NoStep(NoStep),
     /// The run has no such ticket.
     NoTicket,
-    /// Memory was refused to a walk.
+    /// An allocation failed in a walk.
     NoMemory,
 }
 
@@ -84,20 +84,20 @@ impl From<AllocError> for Cause {
     }
 }
 
-/// Where a run stopped.
+/// Where and why a run stopped.
 #[derive(Clone, Copy, Debug, PartialEq, Eq)]
 pub struct Stop {
-    /// The index of the move that was not made, counted from 0. As many answers stand before it.
+    /// The index of the refused move, counted from 0. It is also the number of answers.
     pub at: usize,
-    /// Why it was not made.
+    /// Why the move was refused.
     pub cause: Cause,
 }
 
-/// What a run gave.
+/// The result of a run.
 #[derive(Drop)]
 pub struct Run<S: Scheme> {
-    /// The answers of the moves that were made, in order.
+    /// The answers to the moves that were made, in order.
     pub answers: Sequence<Answer<S>>,
-    /// The first move that was not made, or `None` where all were.
+    /// The first refused move, or `None` if all moves were made.
     pub stop: Option<Stop>,
 }

@@ -1,8 +1,9 @@
 //! Runs: many moves in order.
-ghost use Rattle.std.specs.Prelude.{◌≡◌, ◌++◌, [], ◌∷◌, None, OnOk, OnErr, IfErr};
+ghost use Rattle.std.specs.Prelude.{◌≡◌, ◌++◌, [], ◌∷◌, List, None, OnOk, OnErr, IfErr};
 ghost use Rattle.nw_history.specs.Story.{Story};
 ghost use Rattle.nw_book.specs.Command.{call_of, committee_of};
-ghost use Rattle.nw_book.specs.Run.{Makes, MakesCall, IsStop, IsRun};
+ghost use Rattle.nw_book.specs.Ticket.{Given};
+ghost use Rattle.nw_book.specs.Run.{Makes, IsStop, IsRun};
 ghost use Rattle.nw_book.specs.Turn.{IsRefusal, next_number};
 
 use crate::{Answer, Book, Cause, Command, Move, NoStep, Run, Stop, Ticket};
@@ -11,13 +12,12 @@ use nw_sig::Scheme;
 use std::alloc::Global;
 
 impl<S: Scheme> Book<S> {
-    /// Makes the moves in order, and stops at the first that is not made.
+    /// Makes the moves in order, and stops at the first that is refused. A refused move changes nothing.
     ///
-    /// Each call and each causal read is a step, with the number that is its session's turn; it is not made where that step
-    /// is refused. A walk is not made where the run has no such ticket, else where memory is refused. A move that is not
-    /// made changes nothing.
+    /// Each call and each causal read is its session's next call. It is refused if its step is refused. A walk is refused with
+    /// `NoTicket` if the run got no ticket with this number, else with `NoMemory` if an allocation fails.
     pub fn run(&mut self, alloc: Global, moves: &[Move<S>]) -> Run<S>
-        ensures { IsRun S.accepts self.old moves.now result.answers result.stop self.new }
+        ensures { IsRun S.accepts self.old moves.now result self.new }
     {
         let mut answers = Vec::new(alloc);
         let mut tickets = Vec::new(alloc);
@@ -37,7 +37,7 @@ impl<S: Scheme> Book<S> {
     }
 }
 
-/// Makes the move, and adds its answer, and its ticket where it gives one.
+/// Makes the move, and adds its answer, and its ticket if it gets one.
 fn make<S: Scheme>(
     book: &mut Book<S>,
     alloc: Global,
@@ -45,10 +45,13 @@ fn make<S: Scheme>(
     tickets: &mut Vec<Ticket<S>>,
     answers: &mut Vec<Answer<S>>,
 ) -> Result<(), Cause>
-    ensures made { OnOk result
-        (Makes S.accepts book.old tickets.old.items answers.old.items next.now
-        book.new tickets.new.items answers.new.items) }
-    ensures refused { IfErr result (IsStop book.old tickets.old.items next.now) }
+    ensures made { OnOk result (Makes S.accepts
+        (record { history = book.old; tickets = tickets.old.items; answers = answers.old.items })
+        next.now
+        (record { history = book.new; tickets = tickets.new.items; answers = answers.new.items })) }
+    ensures refused { IfErr result (IsStop
+        (record { history = book.old; tickets = tickets.old.items; answers = answers.old.items })
+        next.now) }
     ensures unchanged { OnErr result (book.new ≡ book.old) }
     ensures same_tickets { OnErr result (tickets.new.items ≡ tickets.old.items) }
     ensures same_answers { OnErr result (answers.new.items ≡ answers.old.items) }
@@ -64,7 +67,7 @@ fn make<S: Scheme>(
     }
 }
 
-/// Takes the step of the session's next call, and adds the answer. Room for it is made first.
+/// Takes the step of the session's next call, and adds the answer.
 fn make_call<S: Scheme>(
     book: &mut Book<S>,
     alloc: Global,
@@ -72,8 +75,10 @@ fn make_call<S: Scheme>(
     command: &Command<S>,
     answers: &mut Vec<Answer<S>>,
 ) -> Result<(), NoStep>
-    ensures made { OnOk result (MakesCall S.accepts book.old session command.now book.new
-        answers.old.items answers.new.items) }
+    ensures made { OnOk result ((tickets : List Given) → Makes S.accepts
+        (record { history = book.old; tickets = tickets; answers = answers.old.items })
+        (Move.Call session command.now)
+        (record { history = book.new; tickets = tickets; answers = answers.new.items })) }
     ensures refused { IfErr result
         (IsRefusal book.old session (next_number book.old session) (committee_of command.now)) }
     ensures unchanged { OnErr result (book.new ≡ book.old) }
@@ -88,7 +93,7 @@ fn make_call<S: Scheme>(
     Ok(())
 }
 
-/// Opens a causal read as the session's next call, and adds the answer and the ticket. Room for both is made first.
+/// Opens a causal read as the session's next call, and adds the answer, and the ticket if there is one.
 fn make_open<S: Scheme>(
     book: &mut Book<S>,
     alloc: Global,
@@ -97,8 +102,10 @@ fn make_open<S: Scheme>(
     tickets: &mut Vec<Ticket<S>>,
     answers: &mut Vec<Answer<S>>,
 ) -> Result<(), NoStep>
-    ensures made { OnOk result (Makes S.accepts book.old tickets.old.items answers.old.items
-        (Move.Open session digest) book.new tickets.new.items answers.new.items) }
+    ensures made { OnOk result (Makes S.accepts
+        (record { history = book.old; tickets = tickets.old.items; answers = answers.old.items })
+        (Move.Open session digest)
+        (record { history = book.new; tickets = tickets.new.items; answers = answers.new.items })) }
     ensures refused { IfErr result
         (IsRefusal book.old session (next_number book.old session) None) }
     ensures unchanged { OnErr result (book.new ≡ book.old) }
@@ -127,10 +134,13 @@ fn make_walk<S: Scheme>(
     ticket: u32,
     answers: &mut Vec<Answer<S>>,
 ) -> Result<(), Cause>
-    ensures made { OnOk result ((s : Story) → Makes S.accepts s tickets.now answers.old.items
-        (Move.Walk ticket) s tickets.now answers.new.items) }
-    ensures refused { IfErr result (λ cause. (s : Story) →
-        IsStop {S = S} s tickets.now (Move.Walk ticket) cause) }
+    ensures made { OnOk result ((s : Story) → Makes S.accepts
+        (record { history = s; tickets = tickets.now; answers = answers.old.items })
+        (Move.Walk ticket)
+        (record { history = s; tickets = tickets.now; answers = answers.new.items })) }
+    ensures refused { IfErr result (λ cause. (s : Story) → IsStop {S = S}
+        (record { history = s; tickets = tickets.now; answers = answers.old.items })
+        (Move.Walk ticket) cause) }
     ensures same_answers { OnErr result (answers.new.items ≡ answers.old.items) }
 {
     let Some(ticket) = tickets.get(ticket as usize) else {

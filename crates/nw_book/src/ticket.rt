@@ -1,4 +1,4 @@
-//! Tickets: causal reads that are walked later.
+//! Tickets: opened causal reads, which are walked later.
 ghost use Rattle.std.specs.Prelude.{◌≡◌, IfOk};
 ghost use Rattle.nw_model.specs.Step.{IsReply};
 ghost use Rattle.nw_model.specs.View.{Shows};
@@ -16,8 +16,8 @@ use nw_sig::Scheme;
 use std::alloc::Global;
 use std::marker::Model;
 
-/// A causal read that was opened: its list can be walked at any time, as often as is liked, and is always the list of the
-/// step that opened it, whatever is stored later. Contracts see the digest and the front.
+/// An opened causal read. It may be walked at any time, any number of times. Every walk gives the list of the step that opened
+/// it, whatever was stored since. Contracts see the digest and the front.
 #[derive(Drop)]
 pub struct Ticket<S: Scheme> {
     digest: Digest,
@@ -42,7 +42,7 @@ impl<S: Scheme> Model for Ticket<S> {
 }
 
 impl<S: Scheme> Ticket<S> {
-    /// The ticket for the digest at the front, over a view of what is complete there.
+    /// The ticket for the digest and the front, with a view of the complete blocks after the front.
     pub(crate) fn new(digest: Digest, front: Front<S>, view: View) -> Ticket<S>
         requires { IsTicketWith S.accepts (record { digest = digest; front = front }) view.frozen }
         ensures { result ≡ record { digest = digest; front = front } }
@@ -54,7 +54,7 @@ impl<S: Scheme> Ticket<S> {
         }
     }
 
-    /// The digest whose list is walked.
+    /// The digest of the causal read.
     pub fn digest(&self) -> Digest
         ensures digest { result ≡ self.now.digest }
         ensures ticket { IsTicket S.accepts self.now }
@@ -62,7 +62,7 @@ impl<S: Scheme> Ticket<S> {
         self.digest
     }
 
-    /// The history up to and with the call that opened the read.
+    /// The history up to and including the call that opened the read.
     pub fn front(&self) -> &Front<S>
         ensures front { result.now ≡ self.now.front }
         ensures ticket { IsTicket S.accepts self.now }
@@ -70,7 +70,7 @@ impl<S: Scheme> Ticket<S> {
         &self.front
     }
 
-    /// The blocks that are complete after the front, as they were then.
+    /// The view of the blocks that are complete after the front.
     pub fn view(&self) -> &View
         ensures shows { Shows result.now.frozen (state_of self.now.front) }
         ensures floor { result.now.frozen.floor ≡ (state_of self.now.front).floor }
@@ -79,8 +79,8 @@ impl<S: Scheme> Ticket<S> {
         &self.view
     }
 
-    /// The list of the causal read that was opened: the block and its certified ancestors, strictly ascending by round and
-    /// author. `NoMemory` where memory is refused; it may then be asked again.
+    /// The causal list of the digest after the front, strictly ascending by round and author. `NoMemory` if an allocation fails;
+    /// a later try may succeed.
     pub fn walk(&self, alloc: Global) -> Result<Vec<Shared<Block>>, NoMemory>
         ensures list { IfOk result (λ blocks. IsReply (bounds_of self.now.front.limits)
             (state_of self.now.front) (Call.Causal self.now.digest) (Reply.List blocks.items)) }
@@ -89,9 +89,9 @@ impl<S: Scheme> Ticket<S> {
         walk(alloc, &self.view, self.digest)
     }
 
-    /// Whether the lists of two tickets for one digest are equal, where their fronts leave one garbage round: `Same` exactly
-    /// where they are, else two different blocks of one digest, which the fronts hold under it. The tickets may be of two
-    /// books. `NoMemory` where memory is refused; it may then be asked again.
+    /// Compares the lists of two tickets for one digest, which may come from two books. Their fronts must leave the same garbage
+    /// round. `Same` if the lists are equal. Otherwise `Collision`: two different blocks with one digest, of which one is held
+    /// after this ticket's front and the other after the other's. `NoMemory` if an allocation fails; a later try may succeed.
     pub fn agree(&self, alloc: Global, other: &Ticket<S>) -> Result<Agreement, NoMemory>
         requires digests { self.now.digest ≡ other.now.digest }
         requires floors { (state_of self.now.front).floor ≡ (state_of other.now.front).floor }

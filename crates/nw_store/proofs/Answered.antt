@@ -1,4 +1,4 @@
--- What an answer means, from what the book says of its step.
+-- What an answer of the store means follows from what the book promises of its step.
 use Rattle.std.proofs.Common.{◌≡◌, ℕ, ◌+◌, List, [], ◌∷◌, ◌++◌, length, Option, Result, Ok, Err, refl, sym, ap, ◌∙◌, subst}
 use Rattle.std.specs.Result.{IfOk, IfErr}
 use Rattle.nw_committee.specs.declared.member.Member.{Member}
@@ -14,7 +14,7 @@ use Rattle.nw_history.specs.Prefix.{IsPrefixOf}
 use Rattle.nw_store.specs.Journal.{Journal, AreBegun, KnowsAll, IsHistoryOf, next_number, with_answer}
 use Rattle.nw_store.specs.Answered.{IsAnswered, IsExplained, TakesNoStep}
 
--- the session with the answer that was pushed
+-- the session's journal after the answer was pushed
 keeps_it : (id number : ℕ) (answers after : List Told) (known later : List Story) (a : Told) (asked : Call) (reply : Reply) (front : Story)
     → number ≡ length answers + 1 → after ≡ answers ++ a ∷ [] → a.front ≡ front → a.event ≡ event id number asked reply
     → record { id = id; answers = after; known = later } ≡ with_answer (record { id = id; answers = answers; known = known }) (event id (length answers + 1) asked reply) front later
@@ -40,7 +40,7 @@ answered accepts h next id number asked reply front answers after known later a 
   knew = knew;
 }
 
--- what is known under the lock, once it is let go
+-- what was known under the lock still holds after its release: first for an answer, then for a refusal
 pub explained : {A E : Type 0} (accepts : Meaning) (origin : Origin) (h : Story) (old new : Journal) (asked : Call) (reply_of : A → Reply) (front_of : A → Story) (r : Result A E)
     → IsHistoryOf accepts origin h → IfOk r (λ a. IsAnswered accepts h old new asked (reply_of a) (front_of a)) → IfOk r (λ a. IsExplained accepts origin old new asked (reply_of a) (front_of a))
 explained accepts origin h old new asked reply_of front_of (Ok a) of is = (h, of, is)

@@ -1,4 +1,4 @@
--- Fronts that begin one history.
+-- Fronts that are prefixes of one history.
 use Rattle.std.proofs.Common.{◌≡◌, ℕ, ◌+◌, List, [], ◌∷◌, ◌++◌, length, refl, sym, ap, ◌∙◌, append_assoc, subst, arith, ⊎_elim, inl, inr}
 use Rattle.std.specs.Prelude.{All}
 use Rattle.std.specs.List.{Contains}
@@ -32,30 +32,30 @@ prefix_trans s t u p q = record {
 pub prefix_next : (s t : Story) (e : Event) → t ≡ with_event s e → IsPrefixOf s t
 prefix_next s t e is = subst (λ u. IsPrefixOf s u) (sym is) (record { committee = refl; limits = refl; base = refl; events = (e ∷ [], refl) })
 
-pub among_longer : (claim told : List Story) (answers : List Told) → IsPrefix claim told → AreAmong claim answers → AreAmong told answers
-among_longer claim told answers p among =
-    All-weaker (λ (a : Told). Contains claim a.front) (λ (a : Told). Contains told a.front)
+pub among_longer : (claim log : List Story) (answers : List Told) → IsPrefix claim log → AreAmong claim answers → AreAmong log answers
+among_longer claim log answers p among =
+    All-weaker (λ (a : Told). Contains claim a.front) (λ (a : Told). Contains log a.front)
     (λ a c. subst (λ l. Contains l a.front) p.1 (Contains-append_left claim p.0 a.front c)) answers among
 
--- where each front that was told begins the history, so does each that is claimed
-pub begun_claimed : (h : Story) (told claim : List Story) (answers : List Told) → All (λ f. IsPrefixOf f h) told → IsPrefix claim told → AreAmong claim answers → AreBegun h answers
-begun_claimed h told claim answers begun p among =
-    All-weaker (λ (a : Told). Contains told a.front) (λ (a : Told). IsPrefixOf a.front h)
-    (λ a c. All-contains (λ (f : Story). IsPrefixOf f h) told a.front begun c) answers (among_longer claim told answers p among)
+-- if each front in the log is a prefix of the history, so is the front of each answer, since a claim of the log has it
+pub begun_claimed : (h : Story) (log claim : List Story) (answers : List Told) → All (λ f. IsPrefixOf f h) log → IsPrefix claim log → AreAmong claim answers → AreBegun h answers
+begun_claimed h log claim answers begun p among =
+    All-weaker (λ (a : Told). Contains log a.front) (λ (a : Told). IsPrefixOf a.front h)
+    (λ a c. All-contains (λ (f : Story). IsPrefixOf f h) log a.front begun c) answers (among_longer claim log answers p among)
 
--- what is claimed is among what was told
-pub claimed_told : (claim told : List Story) → IsPrefix claim told → (s : Story) → Contains claim s → Contains told s
-claimed_told claim told p s c = subst (λ l. Contains l s) p.1 (Contains-append_left claim p.0 s c)
+-- each front in a claim is in the log
+pub claimed_logged : (claim log : List Story) → IsPrefix claim log → (s : Story) → Contains claim s → Contains log s
+claimed_logged claim log p s c = subst (λ l. Contains l s) p.1 (Contains-append_left claim p.0 s c)
 
--- where each front that was told begins the history, so does each history that is claimed
-pub begun_known : (h : Story) (told claim : List Story) → All (λ f. IsPrefixOf f h) told → IsPrefix claim told → (s : Story) → Contains claim s → IsPrefixOf s h
-begun_known h told claim begun p s c = All-contains (λ (f : Story). IsPrefixOf f h) told s begun (claimed_told claim told p s c)
+-- if each front in the log is a prefix of the history, so is each front in a claim of the log
+pub begun_known : (h : Story) (log claim : List Story) → All (λ f. IsPrefixOf f h) log → IsPrefix claim log → (s : Story) → Contains claim s → IsPrefixOf s h
+begun_known h log claim begun p s c = All-contains (λ (f : Story). IsPrefixOf f h) log s begun (claimed_logged claim log p s c)
 
--- the history with one more event, which is told
-pub told_more : (h next : Story) (e : Event) (told : List Story) → next ≡ with_event h e → All (λ f. IsPrefixOf f h) told → All (λ f. IsPrefixOf f next) (told ++ next ∷ [])
-told_more h next e told is begun =
-    All-push (λ (f : Story). IsPrefixOf f next) told next
-    (All-weaker (λ (f : Story). IsPrefixOf f h) (λ (f : Story). IsPrefixOf f next) (λ f p. prefix_trans f h next p (prefix_next h next e is)) told begun)
+-- the log gains the history with one more event: each front in the log is a prefix of this history
+pub log_more : (h next : Story) (e : Event) (log : List Story) → next ≡ with_event h e → All (λ f. IsPrefixOf f h) log → All (λ f. IsPrefixOf f next) (log ++ next ∷ [])
+log_more h next e log is begun =
+    All-push (λ (f : Story). IsPrefixOf f next) log next
+    (All-weaker (λ (f : Story). IsPrefixOf f h) (λ (f : Story). IsPrefixOf f next) (λ f p. prefix_trans f h next p (prefix_next h next e is)) log begun)
     (prefix_itself next)
 
 pub answers_last : (id n : ℕ) (answers : List Told) (a : Told) → AreAnswers id n answers → IsAnswer id (n + length answers) a → AreAnswers id n (answers ++ a ∷ [])
@@ -74,7 +74,7 @@ either_begins (x ∷ xs) (y ∷ ys) (z ∷ zs) p q =
     (λ (t : IsPrefix ys xs). inr (t.0, cc (mine, theirs, t.1)))
     (either_begins xs ys zs (p.0, cc (p.1)) (q.0, cc (q.1)))
 
--- of two beginnings of one history, one begins the other
+-- of two prefixes of one history, one is a prefix of the other
 either_prefix : (s t u : Story) → IsPrefixOf s u → IsPrefixOf t u → IsPrefixOf s t ⊎ IsPrefixOf t s
 either_prefix s t u p q =
     ⊎_elim

@@ -1,4 +1,5 @@
--- A closure's captures, or a tuple, may cross to another thread if each part may, and be shared by threads if each part may.
+-- A closure's captures, or a tuple, may be sent to another thread if each part may be sent, and shared between threads if each part may
+-- be shared.
 -- `taken_send` and `taken_sync` find the parts by unification; `along_send` and `along_sync` take a proof for each part, in order.
 use mathlib.Core.List.{List, [], ◌∷◌}
 use Prim.Native.Nat.{ℕ}
@@ -27,7 +28,7 @@ module _ (i : ℕ) (δ : Ty) (ν : Sym) (Ts : List RattleType) where
   pub taken_sync : AllSync Ts → IsSync (param i (arg δ no (TupleAt ν Ts)))
   taken_sync s = param_sync i (arg δ no (TupleAt ν Ts)) (arg_sync δ no (TupleAt ν Ts) (declared_sync (type_at ν Ts) (parts_sync Ts s)))
 
--- each of the types may cross, and each of them may be shared
+-- values of each type may be sent; values of each type may be shared
 pub data Sends : List RattleType → Type 1 where
   none : Sends []
   also : (T : RattleType) (Ts : List RattleType) → IsSend T → Sends Ts → Sends (T ∷ Ts)

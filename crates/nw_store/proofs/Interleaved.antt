@@ -1,4 +1,5 @@
--- Journals whose fronts begin one history, and which have as many calls as it.
+-- Journals whose fronts are prefixes of one history, and which have as many answers as it has events: the history is an interleaving of
+-- them.
 use Rattle.std.proofs.Common.{◌≡◌, ◌≢◌, ℕ, zero, suc, ◌+◌, ◌<◌, ◌≤◌, Bool, true, false, cond, List, [], ◌∷◌, ◌++◌, length, ⊎_elim, refl, sym, ap, ◌∙◌, subst, arith, length-append, Some}
 use Rattle.std.specs.Prelude.{◌==◌, slice_get, All, sum_by}
 use Rattle.std.proofs.lemmas.Bool.{eq-eqb}
@@ -14,16 +15,16 @@ use Rattle.nw_store.specs.Journal.{Kept, Journal, AreBegun, AreAnswers}
 use Rattle.nw_store.specs.Settled.{events_in, AreInOrder, AreSettled, AreAllComparable}
 use Rattle.nw_store.proofs.Begun.{comparable}
 
--- each front begins these events
+-- the events of each front are a prefix of these events
 abbrev AreBegunBy : List Event → List Told → Type 0
 AreBegunBy h answers = All (λ a. IsPrefix a.front.events h) answers
 
--- the calls of the sessions below n, added up
+-- the sum of f over the numbers below n
 abbrev sum_upto : (ℕ → ℕ) → ℕ → ℕ
 sum_upto f zero = 0
 sum_upto f (suc n) = sum_upto f n + f n
 
--- each event is of a session below this one
+-- each event belongs to a session below this number
 abbrev AreBelow : ℕ → List Event → Type 0
 AreBelow made [] = Unit {0}
 AreBelow made (e ∷ es) = (e.session < made) × AreBelow made es
@@ -34,16 +35,16 @@ answers_at [] s = []
 answers_at (j ∷ js) zero = j.answers
 answers_at (j ∷ js) (suc s) = answers_at js s
 
--- what a filter does with its first event
+-- the session's events, when it is known whether the first event is one of them
 kept_at : (s : ℕ) (x : Event) (es : List Event) (b : Bool) → (x.session == s) ≡ b → events_of s (x ∷ es) ≡ cond b (x ∷ events_of s es) (events_of s es)
 kept_at s x es b is = ap (λ c. cond c (x ∷ events_of s es) (events_of s es)) is
 
--- what stands among the later events of a session stands among all
+-- an event among the session's later events is among all of its events
 later : (s : ℕ) (x : Event) (h : List Event) (e : Event) → (j : ℕ) × (slice_get (events_of s h) j ≡ Some e) → (b : Bool) → (x.session == s) ≡ b → (j : ℕ) × (slice_get (events_of s (x ∷ h)) j ≡ Some e)
 later s x h e rest true at = (suc rest.0, ap (λ l. slice_get l (suc rest.0)) (kept_at s x h true at) ∙ rest.1)
 later s x h e rest false at = (rest.0, ap (λ l. slice_get l rest.0) (kept_at s x h false at) ∙ rest.1)
 
--- an event of the session that ends a beginning of the history is one of the session's events
+-- an event of the session that ends a prefix of the history is one of the session's events
 stands : (s : ℕ) (h : List Event) (e : Event) (earlier : List Event) → IsPrefix (earlier ++ e ∷ []) h → e.session ≡ s → (j : ℕ) × (slice_get (events_of s h) j ≡ Some e)
 stands s [] e [] p is = absurd (cc (p.1))
 stands s [] e (y ∷ ys) p is = absurd (cc (p.1))
@@ -58,7 +59,7 @@ numbered_at n [] j e h at = absurd (cc (at))
 numbered_at n (x ∷ es) zero e h at = let same : x ≡ e = cc (at) in omega (arith, ap (λ v. v.number) same, h.0)
 numbered_at n (x ∷ es) (suc j) e h at = let r = numbered_at (n + 1) es j e h.1 at in omega (arith, r)
 
--- the answers' events stand in the session's events, each at its number
+-- each answer's event is among the session's events, at the place that its number says
 places : (s m : ℕ) (answers : List Told) (h : List Event) → AreNumbered 1 (events_of s h) → AreAnswers s (m + 1) answers → AreBegunBy h answers
     → (k : ℕ) (x : Event) → slice_get (events_in answers) k ≡ Some x → slice_get (events_of s h) (m + k) ≡ Some x
 places s m [] h numbered are begun k x at = absurd (cc (at))
@@ -103,7 +104,7 @@ sum_less : (f g : ℕ → ℕ) (n : ℕ) → ((s : ℕ) → s < n → f s ≤ g 
 sum_less f g zero h = omega arith
 sum_less f g (suc n) h = let r = sum_less f g n (λ s lt. h s (omega (arith, lt))) in let l = h n (omega arith) in omega (arith, r, l)
 
--- where the greater sum is no greater, both are equal everywhere
+-- if f is at most g everywhere, and the sum of g is at most that of f, then g is at most f everywhere
 squeezed : (f g : ℕ → ℕ) (n : ℕ) → ((s : ℕ) → s < n → f s ≤ g s) → sum_upto g n ≤ sum_upto f n → (s : ℕ) → s < n → g s ≤ f s
 squeezed f g zero h le s lt = absurd (omega (arith, lt))
 squeezed f g (suc n) h le s lt =
@@ -117,7 +118,7 @@ squeezed f g (suc n) h le s lt =
 abbrev one : ℕ → ℕ → ℕ
 one t s = cond (t == s) 1 0
 
--- one where the session is not below
+-- 1 if the session is not below this number, else 0
 abbrev outside : ℕ → ℕ → ℕ
 outside t zero = 1
 outside t (suc n) = cond (t == n) 0 (outside t n)
@@ -131,7 +132,7 @@ none_below t (suc n) le =
     (λ (x : ((t == n) ≡ false) × (t ≢ n)). let no : one t n ≡ 0 = ap (λ b. cond b 1 0) x.0 in omega (arith, r, no))
     (eqb_tells t n)
 
--- an event counts in one session below, or outside
+-- a session's number is counted once: below n or outside
 counts_once : (t n : ℕ) → sum_upto (one t) n + outside t n ≡ 1
 counts_once t zero = refl
 counts_once t (suc n) =
@@ -157,7 +158,7 @@ is_below t (suc n) h =
     (λ (x : ((t == n) ≡ false) × (t ≢ n)). let r = is_below t n (sym (ap (λ b. cond b 0 (outside t n)) x.0) ∙ h) in omega (arith, r))
     (eqb_tells t n)
 
--- how many events are outside
+-- the number of events whose session is not below `made`
 abbrev all_outside : List Event → ℕ → ℕ
 all_outside [] made = 0
 all_outside (e ∷ es) made = outside e.session made + all_outside es made
@@ -173,7 +174,7 @@ zeros : (n : ℕ) → sum_upto (λ s. 0) n ≡ 0
 zeros zero = refl
 zeros (suc n) = let r = zeros n in omega (arith, r)
 
--- each event counts once
+-- each event is counted once
 tally : (made : ℕ) (h : List Event) → sum_upto (λ s. length (events_of s h)) made + all_outside h made ≡ length h
 tally made [] = let z = zeros made in omega (arith, z)
 tally made (e ∷ es) =
@@ -228,13 +229,13 @@ sum_at : (js : List Journal) → sum_upto (λ s. length (answers_at js s)) (leng
 sum_at [] = refl
 sum_at (j ∷ js) = sum_shift (λ s. length (answers_at (j ∷ js) s)) (length js) ∙ (ap (λ n. length j.answers + n) (sum_at js) ∙ sym (sum_by-cons (λ (i : Journal). length i.answers) j js))
 
--- what stands at a place of the journals in order
+-- the journal at a place, if the journals are in order
 found : (n : ℕ) (js : List Journal) (s : ℕ) (j : Journal) → AreInOrder n js → slice_get js s ≡ Some j → (s < length js) × (answers_at js s ≡ j.answers) × (j.id ≡ n + s)
 found n [] s j order at = absurd (cc (at))
 found n (x ∷ js) zero j order at = let same : x ≡ j = cc (at) in (omega arith, ap (λ (i : Journal). i.answers) same, omega (arith, ap (λ (i : Journal). i.id) same, order.0))
 found n (x ∷ js) (suc s) j order at = let r = found (n + 1) js s j order.1 at in (omega (arith, r.0), r.1, omega (arith, r.2))
 
--- what holds of each journal holds of the one at a place
+-- a property of each journal is a property of the journal at a place
 holds_at : (P : Journal → Type 0) (js : List Journal) (s : ℕ) (j : Journal) → All P js → slice_get js s ≡ Some j → P j
 holds_at P [] s j h at = absurd (cc (at))
 holds_at P (x ∷ js) zero j h at = let same : x ≡ j = cc (at) in subst P same (h 0 x (omega arith))
@@ -259,10 +260,10 @@ joined h js numbered order all sum =
       others = below_all (length js) h.events whole.1;
     }
 
--- what is settled stays so, where nothing changes
+-- settled journals stay settled if nothing changes
 pub settled_still : (old new : Kept) (js after : List Journal) → new ≡ old → after ≡ js → AreSettled old.history js → AreSettled new.history after
 settled_still old new js after same items is = subst (λ (h : Kept). AreSettled h.history after) (sym same) (subst (λ (l : List Journal). AreSettled old.history l) (sym items) is)
 
--- what is settled is comparable, since each front begins the one history
+-- the answers of settled journals are comparable, since each front is a prefix of the one history
 pub all_comparable : (h : Story) (js : List Journal) → AreSettled h js → AreAllComparable js
 all_comparable h js s i k one two at also = comparable h one.answers two.answers (s.each i one at).begun (s.each k two also).begun

@@ -1,4 +1,4 @@
--- What the lock and a session keep, over one more answer.
+-- The invariants of the lock and of a session, after one more answer.
 use Rattle.std.proofs.Common.{◌≡◌, ℕ, ◌+◌, ◌<◌, ◌≤◌, List, [], ◌∷◌, ◌++◌, length, sym, ap, ◌∙◌, subst, arith, length-append}
 use Rattle.std.specs.Prelude.{All}
 use Rattle.std.specs.List.{Contains}
@@ -12,27 +12,27 @@ use Rattle.nw_history.specs.Prefix.{IsPrefixOf}
 use Rattle.nw_book.specs.Answer.{Told}
 use Rattle.nw_store.specs.Journal.{Journal, AreAmong, IsAnswer, AreAnswers, origin_of}
 use Rattle.nw_store.specs.Kept.{IsKept, IsSession}
-use Rattle.nw_store.proofs.Begun.{among_longer, told_more, answers_last}
+use Rattle.nw_store.proofs.Begun.{among_longer, log_more, answers_last}
 
-pub kept_more : (accepts : Meaning) (h next front : Story) (made total more spare idle : ℕ) (told longer : List Story) (e : Event)
-    → IsKept accepts (record { history = h; made = made }) total spare idle told
-    → next ≡ with_event h e → IsLegalStory accepts next → front ≡ next → more ≡ total + 1 → longer ≡ told ++ front ∷ []
+pub kept_more : (accepts : Meaning) (h next front : Story) (made total more spare idle : ℕ) (log longer : List Story) (e : Event)
+    → IsKept accepts (record { history = h; made = made }) total spare idle log
+    → next ≡ with_event h e → IsLegalStory accepts next → front ≡ next → more ≡ total + 1 → longer ≡ log ++ front ∷ []
     → IsKept accepts (record { history = next; made = made }) more spare idle longer
-kept_more accepts h next front made total more spare idle told longer e kept is legal front_is one tell = record {
+kept_more accepts h next front made total more spare idle log longer e kept is legal front_is one adds = record {
   in_range = subst (λ (s : Story). AreInRange s.limits) (sym is) kept.in_range;
   legal = legal;
   few = subst (λ (s : Story). made ≤ s.limits.sessions) (sym is) kept.few;
   shared = kept.shared;
   unused = kept.unused;
   counted = one ∙ (ap (λ n. n + 1) kept.counted ∙ sym (ap (λ (s : Story). length s.events) is ∙ length-append h.events (e ∷ [])));
-  begun = subst (λ (l : List Story). All (λ f. IsPrefixOf f next) l) (sym (tell ∙ ap (λ (f : Story). told ++ f ∷ []) front_is)) (told_more h next e told is kept.begun);
+  begun = subst (λ (l : List Story). All (λ f. IsPrefixOf f next) l) (sym (adds ∙ ap (λ (f : Story). log ++ f ∷ []) front_is)) (log_more h next e log is kept.begun);
 }
 
--- a history with one more event starts as before
+-- a history with one more event has the same origin
 pub starts_so : (h next : Story) (e : Event) (o : Origin) → next ≡ with_event h e → origin_of h ≡ o → origin_of next ≡ o
 starts_so h next e o is starts = ap origin_of is ∙ starts
 
--- the session with one more answer, whose front is claimed
+-- the session with one more answer, whose front is in its claim
 pub session_more : (id parts same amount more : ℕ) (claim longer : List Story) (answers after : List Told) (a : Told)
     → IsSession parts amount (record { id = id; answers = answers; known = claim })
     → same ≡ parts → more ≡ amount + 1 → IsPrefix claim longer → Contains longer a.front → after ≡ answers ++ a ∷ [] → IsAnswer id (1 + length answers) a
@@ -52,25 +52,25 @@ answer_is id number h front e a is session number_is same event = record {
   last = (h.events, ap (λ (s : Story). s.events) (same ∙ is) ∙ ap (λ (x : Event). h.events ++ x ∷ []) (sym event));
 }
 
--- what was told last is claimed
-pub told_last : (told longer claim : List Story) (front f : Story) → longer ≡ told ++ front ∷ [] → claim ≡ longer → f ≡ front → Contains claim f
-told_last told longer claim front f tell is same = subst (λ l. Contains l f) (sym (is ∙ tell ∙ ap (λ (x : Story). told ++ x ∷ []) (sym same))) (Contains-push told f)
+-- a claim of the whole log has its last front
+pub logged_last : (log longer claim : List Story) (front f : Story) → longer ≡ log ++ front ∷ [] → claim ≡ longer → f ≡ front → Contains claim f
+logged_last log longer claim front f adds is same = subst (λ l. Contains l f) (sym (is ∙ adds ∙ ap (λ (x : Story). log ++ x ∷ []) (sym same))) (Contains-push log f)
 
--- the session once its claim is renewed
-pub session_renewed : (parts amount : ℕ) (told longer : List Story) (j : Journal) → IsSession parts amount j → IsPrefix j.known told → longer ≡ told
+-- the session after its claim is renewed
+pub session_renewed : (parts amount : ℕ) (log longer : List Story) (j : Journal) → IsSession parts amount j → IsPrefix j.known log → longer ≡ log
     → IsSession parts amount (record { id = j.id; answers = j.answers; known = longer })
-session_renewed parts amount told longer j s p is = record {
+session_renewed parts amount log longer j s p is = record {
   id_below = s.id_below;
   part = s.part;
   counted = s.counted;
-  claimed = subst (λ l. AreAmong l j.answers) (sym is) (among_longer j.known told j.answers p s.claimed);
+  claimed = subst (λ l. AreAmong l j.answers) (sym is) (among_longer j.known log j.answers p s.claimed);
   numbered = s.numbered;
 }
 
--- one more session is made, and has one of the spare parts
-pub kept_made : (accepts : Meaning) (h : Story) (made total spare left idle none : ℕ) (told same : List Story) → IsKept accepts (record { history = h; made = made }) total spare idle told
-    → made < h.limits.sessions → left + 1 ≡ spare → none + 0 ≡ idle → same ≡ told → IsKept accepts (record { history = h; made = made + 1 }) total left none same
-kept_made accepts h made total spare left idle none told same kept room parts amount is =
+-- the lock after one more session is made, which has one of the spare parts
+pub kept_made : (accepts : Meaning) (h : Story) (made total spare left idle none : ℕ) (log same : List Story) → IsKept accepts (record { history = h; made = made }) total spare idle log
+    → made < h.limits.sessions → left + 1 ≡ spare → none + 0 ≡ idle → same ≡ log → IsKept accepts (record { history = h; made = made + 1 }) total left none same
+kept_made accepts h made total spare left idle none log same kept room parts amount is =
     let shared = kept.shared in
     let unused = kept.unused in record {
       in_range = kept.in_range;

@@ -1,4 +1,4 @@
--- What a vector holds once a slice of all of it was lent.
+-- The items of a vector after a slice of all of it was borrowed mutably.
 use Rattle.std.proofs.Common.{◌≡◌, ℕ, List, [], ◌∷◌, ◌++◌, length, take, drop, refl, ap, subst}
 
 take_whole : {X : Type 0} (ys zs : List X) → take (length ys) (ys ++ zs) ≡ ys

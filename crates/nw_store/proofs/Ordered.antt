@@ -13,7 +13,7 @@ use Rattle.nw_store.specs.Settled.{AreInOrder, AreAll, IsStray, times, ids_of}
 abbrev one : ℕ → ℕ → ℕ
 one s x = cond (x == s) 1 0
 
--- how often the number stands in the list
+-- the number of times that s is in the list
 abbrev count : ℕ → List ℕ → ℕ
 count s [] = 0
 count s (x ∷ xs) = one s x + count s xs
@@ -36,7 +36,7 @@ one_other s x apart =
     (λ (t : ((x == s) ≡ false) × (x ≢ s)). ap (λ b. cond b 1 0) t.0)
     (eqb_tells x s)
 
--- from this number on, each is no less than the one before
+-- the first number is at least n, and each further number is at least the one before it
 abbrev Rise : ℕ → List ℕ → Type 0
 Rise n [] = Unit {0}
 Rise n (x ∷ xs) = (n ≤ x) × Rise x xs
@@ -58,7 +58,7 @@ range_rises m (suc n) = (omega arith, rise_weaker m (m + 1) (range_with_len (m +
     rise_weaker a b [] le h = tt
     rise_weaker a b (x ∷ xs) le h = (let l = h.0 in omega (arith, le, l), h.1)
 
--- a number that is not less than another is greater
+-- a is at most b if b is not less than a
 pub apart_or : (a b : ℕ) → (b < a → ⊥) → a ≤ b
 apart_or a b none =
     ⊎_elim
@@ -66,7 +66,7 @@ apart_or a b none =
     (λ (t : (leb a b ≡ false) × (b < a)). absurd (none t.1))
     (leb_tells a b)
 
--- in a range each number stands once, and is below its end
+-- a range has each number at most once, and only numbers below its end
 range_once : (s m n : ℕ) → count s (range_with_len m n) ≤ 1
 range_once s m zero = omega arith
 range_once s m (suc n) =
@@ -83,7 +83,7 @@ range_below s m (suc n) given =
     (λ (t : ((m == s) ≡ false) × (m ≢ s)). let here = one_other s m t.1 in let given' : 0 < one s m + count s (range_with_len (m + 1) n) = given in let others = range_below s (m + 1) n (omega (arith, given', here)) in omega (arith, others))
     (eqb_tells m s)
 
--- the first of numbers strays where it was not made, or where the next is the same
+-- the first id is stray if its session was not made, or if the next id is the same
 stray_unmade : (made x : ℕ) (xs : List ℕ) → made ≤ x → IsStray made (x ∷ xs) x
 stray_unmade made x xs unmade =
     let head = sum_by-cons (one x) x xs in
@@ -98,7 +98,7 @@ stray_twice made x y xs is =
     let there : one x y ≡ one x x = ap (one x) is in
     inl (omega (arith, head, next, here, there))
 
--- else those stray that do so among the others
+-- an id that is stray among the later ids is stray among all
 stray_more : (made x id : ℕ) (xs : List ℕ) → IsStray made xs id → IsStray made (x ∷ xs) id
 stray_more made x id xs stray =
     let head = sum_by-cons (one id) x xs in
@@ -107,14 +107,14 @@ stray_more made x id xs stray =
     (λ (t : (0 < times xs id) × (made ≤ id)). let given = t.0 in inr (omega (arith, head, given), t.1))
     stray
 
--- where the first does not stray, the others are greater
+-- if the first id is not stray, the others are greater
 climbs : (made x : ℕ) (xs : List ℕ) → Rise x xs → (IsStray made (x ∷ xs) x → ⊥) → Rise (x + 1) xs
 climbs made x [] rise none = tt
 climbs made x (y ∷ ys) rise none =
     let le : x ≤ y = rise.0 in
     (apart_or (x + 1) y (λ lt. none (stray_twice made x y ys (omega (arith, le, lt)))), rise.1)
 
--- numbers that rise, of which none strays, and no fewer than were made, are those that were made
+-- rising ids of which none is stray, and which are at least as many as the made sessions, are exactly the ids of the made sessions
 range_from : (made n : ℕ) (xs : List ℕ) → Rise n xs → n ≤ made → made ≤ n + length xs → ((id : ℕ) → IsStray made xs id → ⊥) → (n + length xs ≡ made) × (xs ≡ range_with_len n (length xs))
 range_from made n [] rise le enough none = (omega (arith, le, enough), refl)
 range_from made n (x ∷ xs) rise le enough none =
@@ -154,12 +154,12 @@ rises (j ∷ js) h = (omega arith, rises_after j js h)
 pub all_length : (made : ℕ) (js : List Journal) → AreAll made js → length js ≡ made
 all_length made js all = let l = length_permutation (ids_of js) (range_with_len 0 made) all in let r = length_range 0 made in let m = length_ids js in omega (arith, l, r, m)
 
--- journals that are in order, once they are put so, are all that were made
+-- if the sorted journals are as many as the made sessions and in order, the journals are those of all made sessions
 pub all_from_order : (made : ℕ) (js sorted : List Journal) → IsPermutation js sorted → length sorted ≡ made → AreInOrder 0 sorted → AreAll made js
 all_from_order made js sorted p len order =
     subst (λ l. IsPermutation (ids_of js) l) (ids_in_order 0 sorted order ∙ ap (range_with_len 0) len) (IsPermutation-map (λ (j : Journal). j.id) js sorted p)
 
--- of all journals that were made no id strays
+-- if the journals are those of all made sessions, no id is stray
 pub none_of_all : (made : ℕ) (js : List Journal) → AreAll made js → (id : ℕ) → IsStray made (ids_of js) id → ⊥
 none_of_all made js all id stray =
     let same : times (ids_of js) id ≡ count id (range_with_len 0 made) = sym (sum_by-IsPermutation (one id) (ids_of js) (range_with_len 0 made) all) ∙ sym (count_is id (range_with_len 0 made)) in
@@ -169,13 +169,14 @@ none_of_all made js all id stray =
     (λ (t : (0 < times (ids_of js) id) × (made ≤ id)). let given = t.0 in let unmade = t.1 in let below = range_below id 0 made (omega (arith, given, same)) in omega (arith, below, unmade))
     stray
 
--- an order of journals changes nothing of which ids stray
+-- an id that is stray among the sorted journals is stray among the journals
 stray_kept : (made id : ℕ) (js sorted : List Journal) → IsPermutation js sorted → IsStray made (ids_of sorted) id → IsStray made (ids_of js) id
 stray_kept made id js sorted p stray =
     let same : times (ids_of sorted) id ≡ times (ids_of js) id = sum_by-IsPermutation (one id) (ids_of js) (ids_of sorted) (IsPermutation-map (λ (j : Journal). j.id) js sorted p) in
     subst (λ l. (1 < l) ⊎ ((0 < l) × (made ≤ id))) same stray
 
--- journals that are as many as were made, and of which no id strays, are in order once they are put so
+-- if there are at least as many journals as made sessions, and no id is stray, the sorted journals are as many as the made sessions and
+-- in order
 pub order_from_none : (made : ℕ) (js sorted : List Journal) → IsPermutation js sorted → IsNonDecreasingBy (λ j. j.id) sorted → made ≤ length js → ((id : ℕ) → IsStray made (ids_of js) id → ⊥) → (length sorted ≡ made) × AreInOrder 0 sorted
 order_from_none made js sorted p rising enough none =
     let kept = length_permutation js sorted p in
@@ -184,7 +185,7 @@ order_from_none made js sorted p rising enough none =
     let whole = range.0 in
     (omega (arith, whole, many), in_order_ids 0 (length (ids_of sorted)) sorted range.1)
 
--- all journals that were made are so in their order too
+-- if the journals are those of all made sessions, so are the sorted journals
 pub all_in_order : (made : ℕ) (js sorted : List Journal) → AreAll made js → IsPermutation js sorted → IsNonDecreasingBy (λ j. j.id) sorted → AreAll made sorted
 all_in_order made js sorted all p rising =
     let whole = all_length made js all in
@@ -194,7 +195,7 @@ all_in_order made js sorted all p rising =
 pub all_still : (old new : Kept) (js after : List Journal) → new ≡ old → after ≡ js → AreAll old.made js → AreAll new.made after
 all_still old new js after same items all = subst (λ (h : Kept). AreAll h.made after) (sym same) (subst (λ (l : List Journal). AreAll old.made l) (sym items) all)
 
--- none of these numbers strays
+-- no id below n is stray
 abbrev pub NoneBelow : ℕ → List Journal → ℕ → Type 0
 NoneBelow made js n = (id : ℕ) → id < n → IsStray made (ids_of js) id → ⊥
 
@@ -205,7 +206,7 @@ none_next made js n none here id below stray =
     (λ (t : (leb n id ≡ false) × (id < n)). none id t.1 stray)
     (leb_tells n id)
 
--- where each id is below this one, none above it strays
+-- if each id is below `most`, no id from there on is stray
 none_above : (made most : ℕ) (js : List Journal) → All (λ j. j.id < most) js → (id : ℕ) → most ≤ id → IsStray made (ids_of js) id → ⊥
 none_above made most js below id above stray =
     let none = none_given most js below id above in
@@ -223,7 +224,7 @@ none_above made most js below id above stray =
         let rest = none_given most js (λ i d lt. below (suc i) d (omega (arith, lt))) id above in
         omega (arith, head, other, rest)
 
--- where each id is below this one, and none below it strays, none does
+-- if each id is below `most`, and no id below it is stray, no id is stray
 pub none_at_all : (made most : ℕ) (js : List Journal) → All (λ j. j.id < most) js → NoneBelow made js most → (id : ℕ) → IsStray made (ids_of js) id → ⊥
 none_at_all made most js below none id stray =
     ⊎_elim

@@ -1,4 +1,4 @@
--- Sessions and notes may cross to another thread, and stores be shared by threads.
+-- Sessions and notes may be sent to another thread, and stores may be shared between threads.
 use denote.RattleType.{RattleType}
 use denote.Param.Send.{IsSend, IsSync, sendable, view_send}
 use denote.Param.SendFields.{declared_send, declared_sync}

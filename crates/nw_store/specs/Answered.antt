@@ -12,21 +12,28 @@ use Rattle.nw_book.specs.Turn.{IsRefusal, event}
 use Rattle.nw_book.specs.declared.error.NoStep.{NoStep}
 use Rattle.nw_store.specs.Journal.{Journal, AreBegun, KnowsAll, IsHistoryOf, next_number, with_answer}
 
--- the session's next call is taken after this history, and its front is the history with it; each earlier front of the session begins it, and each history that the session knew of; and the session keeps the answer, and knows of its front too
-pub record IsAnswered (accepts : Meaning) (history : Story) (old new : Journal) (asked : Call) (reply : Reply) (front : Story) : Type 0 where
-  pub takes : Takes accepts history front old.id (next_number old) asked reply front
+-- after this history, the session's next call got this reply and this front; `old` and `new` are the session before and after the call
+pub record IsAnswered (accepts : Meaning) (history : Story) (old new : Journal) (call : Call) (reply : Reply) (front : Story) : Type 0 where
+  -- the call is taken after the history, with the session's next number; the front is the history with the call
+  pub takes : Takes accepts history front old.id (next_number old) call reply front
+  -- each earlier front of the session is a prefix of the new front
   pub begins : AreBegun front old.answers
+  -- each history that the session knew of is a prefix of the new front
   pub heard : (s : Story) → Contains old.known s → IsPrefixOf s front
-  pub keeps : new ≡ with_answer old (event old.id (next_number old) asked reply) front new.known
+  -- the session's journal gains this answer
+  pub keeps : new ≡ with_answer old (event old.id (next_number old) call reply) front new.known
+  -- the session now knows of the new front
   pub knows : Contains new.known front
+  -- the session still knows of each history that it knew of before
   pub knew : KnowsAll new.known old.known
 
--- after some history of the store the call got this answer
+-- the call was answered in this way after some history of the store
 abbrev pub IsExplained : Meaning → Origin → Journal → Journal → Call → Reply → Story → Type 0
-IsExplained accepts origin old new asked reply front =
-    (history : Story) × IsHistoryOf accepts origin history × IsAnswered accepts history old new asked reply front
+IsExplained accepts origin old new call reply front =
+    (history : Story) × IsHistoryOf accepts origin history × IsAnswered accepts history old new call reply front
 
--- after some history of the store this is why the session's next call takes no step, where what is handed in is under this committee
+-- after some history of the store, this is why the session's next call takes no step; `under` is the committee of the checked value, if
+-- the call has one
 abbrev pub TakesNoStep : Meaning → Origin → Journal → Option (List Member) → NoStep → Type 0
 TakesNoStep accepts origin old under why =
     (history : Story) × IsHistoryOf accepts origin history × IsRefusal history old.id (next_number old) under why

@@ -1,4 +1,4 @@
--- What is seen of a store: what its lock holds, and the journals of its sessions.
+-- The form in which contracts see a store: the value under its lock, and the journals of its sessions.
 use Rattle.std.specs.Prelude.{◌≡◌, ℕ, ◌+◌, List, [], ◌∷◌, ◌++◌, length, All}
 use Rattle.std.specs.List.{Contains}
 use mathlib.Core.Logic.{◌⊎◌}
@@ -9,58 +9,67 @@ use Rattle.nw_history.specs.Story.{Story, Origin, IsLegalStory, first_origin}
 use Rattle.nw_history.specs.Prefix.{IsPrefixOf}
 use Rattle.nw_book.specs.Answer.{Told}
 
--- which log and which ledger a store is opened on
+-- the log and the ledger of an opening
 pub record Names : Type 0 where
   pub log : Name
   pub ledger : ℕ
 
--- what a history starts with
+-- the origin of a history: its committee, its limits and its base
 abbrev pub origin_of : Story → Origin
 origin_of s = record { committee = s.committee; limits = s.limits; base = s.base }
 
--- what no history starts with
+-- an origin that no history has, since its limits are out of range
 abbrev pub no_origin : Origin
 no_origin = first_origin [] (record { blocks = 0; events = 0; window = 0; sessions = 0 })
 
--- the history starts with this, and is legal
+-- the history is legal and has this origin
 pub record IsHistoryOf (accepts : Meaning) (origin : Origin) (s : Story) : Type 0 where
+  -- the history has this origin
   pub starts : origin_of s ≡ origin
+  -- the history is legal
   pub legal : IsLegalStory accepts s
 
--- what the lock holds: the history, and how many sessions were made
+-- the value under a store's lock
 pub record Kept : Type 0 where
   pub history : Story
+  -- the number of sessions made so far
   pub made : ℕ
 
--- a session: its id, its answers in order, and the histories that it knows of
+-- the journal of a session
 pub record Journal : Type 0 where
+  -- the session's number
   pub id : ℕ
+  -- the session's answers, in order
   pub answers : List Told
+  -- the histories that the session knows of
   pub known : List Story
 
--- each front is a beginning of the history
+-- each front is a prefix of the history
 abbrev pub AreBegun : Story → List Told → Type 0
 AreBegun history answers = All (λ a. IsPrefixOf a.front history) answers
 
--- of any two answers, one's front is a beginning of the other's
+-- of an answer from each list, one's front is a prefix of the other's
 abbrev pub AreComparable : List Told → List Told → Type 0
 AreComparable answers others = All (λ a. All (λ b. IsPrefixOf a.front b.front ⊎ IsPrefixOf b.front a.front) others) answers
 
--- each front is one of these
+-- the front of each answer is one of these fronts
 abbrev pub AreAmong : List Story → List Told → Type 0
 AreAmong fronts answers = All (λ a. Contains fronts a.front) answers
 
--- who knows of the first knows of each of the others
+-- the known histories include all of the others
 abbrev pub KnowsAll : List Story → List Story → Type 0
 KnowsAll known others = (s : Story) → Contains others s → Contains known s
 
--- the answer is to the call of this session with this number, and its front ends with that call
+-- the answer is to this session's call with this number
 pub record IsAnswer (id number : ℕ) (a : Told) : Type 0 where
+  -- the event has the session's number
   pub session : a.event.session ≡ id
+  -- the event has the call's number
   pub number_is : a.event.number ≡ number
+  -- the front ends with the event
   pub last : (earlier : List Event) × (a.front.events ≡ earlier ++ a.event ∷ [])
 
--- the answers are to the calls of this session, numbered from this one on
+-- the answers are to this session's calls, numbered from n on
 abbrev pub AreAnswers : ℕ → ℕ → List Told → Type 0
 AreAnswers id n [] = Unit {0}
 AreAnswers id n (a ∷ others) = IsAnswer id n a × AreAnswers id (n + 1) others
@@ -69,6 +78,6 @@ AreAnswers id n (a ∷ others) = IsAnswer id n a × AreAnswers id (n + 1) others
 abbrev pub next_number : Journal → ℕ
 next_number j = length j.answers + 1
 
--- the session with one more answer, which knows of these histories then
+-- the journal with one more answer, whose session now knows of these histories
 abbrev pub with_answer : Journal → Event → Story → List Story → Journal
 with_answer j e front known = record { id = j.id; answers = j.answers ++ record { event = e; front = front } ∷ []; known = known }

@@ -1,4 +1,4 @@
--- When journals are those of one history.
+-- Settlement: when journals together are a history, and why sessions do not settle.
 use Rattle.std.specs.Prelude.{◌≡◌, ℕ, ◌+◌, ◌==◌, ◌<◌, ◌≤◌, List, [], ◌∷◌, Some, length, map, count_by, sum_by, slice_get, All}
 use Rattle.std.specs.List.{range_with_len}
 use Rattle.std.specs.List.Sorted.{IsPermutation}
@@ -11,27 +11,28 @@ use Rattle.nw_store.specs.Journal.{Kept, Journal, AreBegun, AreComparable}
 use Rattle.nw_store.specs.declared.error.SettleFault.{SettleFault}
 use Rattle.nw_store.specs.declared.error.SettleFault.TheVariants as faults
 
--- the calls of these answers, in order
+-- the events of these answers, in order
 abbrev pub events_in : List Told → List Event
 events_in answers = map (λ a. a.event) answers
 
--- the journals are of the sessions from this one on, in order
+-- the journals are those of sessions n, n + 1, .. in order
 abbrev pub AreInOrder : ℕ → List Journal → Type 0
 AreInOrder n [] = Unit {0}
 AreInOrder n (j ∷ js) = (j.id ≡ n) × AreInOrder (n + 1) js
 
+-- the ids of the journals, in order
 abbrev pub ids_of : List Journal → List ℕ
 ids_of js = map (λ j. j.id) js
 
--- the journals are of all sessions that were made: their ids are 0 up to the last one made, each once, in any order
+-- the journals are those of all sessions that the store made: their ids are 0 to made - 1, each once, in any order
 abbrev pub AreAll : ℕ → List Journal → Type 0
 AreAll made js = IsPermutation (ids_of js) (range_with_len 0 made)
 
--- how often the id is given
+-- the number of times that the id is in the list
 abbrev pub times : List ℕ → ℕ → ℕ
 times ids id = count_by (λ x. x == id) ids
 
--- the id is given twice, or it is given and is not below the number of sessions that were made
+-- the id is stray: it is given twice, or it is given and the store never made its session
 abbrev pub IsStray : ℕ → List ℕ → ℕ → Type 0
 IsStray made ids id = (1 < times ids id) ⊎ ((0 < times ids id) × (made ≤ id))
 
@@ -39,28 +40,36 @@ IsStray made ids id = (1 < times ids id) ⊎ ((0 < times ids id) × (made ≤ id
 abbrev pub IsFirstStray : ℕ → List ℕ → ℕ → Type 0
 IsFirstStray made ids id = IsStray made ids id × ((other : ℕ) → IsStray made ids other → id ≤ other)
 
--- the journal is this session's, and has all calls of it that the history has; each front is a beginning of the history
+-- the journal is the session's part of the history
 pub record IsJournalOf (history : Story) (session : ℕ) (j : Journal) : Type 0 where
+  -- the journal has the session's number
   pub id_is : j.id ≡ session
+  -- its events are the session's events of the history, in order
   pub events : events_of session history.events ≡ events_in j.answers
+  -- each front is a prefix of the history
   pub begun : AreBegun history j.answers
 
--- the history is an interleaving of the journals, and each front is a beginning of it
+-- the history is an interleaving of the journals
 pub record AreSettled (history : Story) (js : List Journal) : Type 0 where
+  -- the journal at each place is that session's part of the history
   pub each : (session : ℕ) (j : Journal) → slice_get js session ≡ Some j → IsJournalOf history session j
+  -- no event belongs to any other session
   pub others : All (λ e. e.session < length js) history.events
 
--- of any two answers of any two journals, one's front is a beginning of the other's
+-- of any two answers of any two journals, one's front is a prefix of the other's
 abbrev pub AreAllComparable : List Journal → Type 0
 AreAllComparable js = (i k : ℕ) (one two : Journal) → slice_get js i ≡ Some one → slice_get js k ≡ Some two → AreComparable one.answers two.answers
 
--- what is settled: the history, how many sessions were made, and the journals in the order of their sessions
-pub record Ledgers : Type 0 where
+-- the form in which contracts see a settled store
+pub record Settlement : Type 0 where
   pub history : Story
+  -- the number of sessions that the store made
   pub made : ℕ
+  -- the journals, in the order of their sessions
   pub journals : List Journal
 
--- why journals do not settle: there are fewer than sessions were made; else there are as many, which have all calls of the history among them, an id strays, and the least that does is named, with no number of a call
+-- why sessions do not settle: fewer are given than the store made; else as many are given, their answers are as many as the history's
+-- events, and the fault names the least stray id, with 0 in place of a call's number
 abbrev pub IsFault : Kept → List Journal → SettleFault → Type 0
 IsFault held js (faults.Unfinished m given) = (m ≡ held.made) × (given ≡ length js) × (given < m)
 IsFault held js (faults.Differs session number) =

@@ -1,4 +1,4 @@
-//! Calls of sessions, while the guard of the lock is lent.
+//! Calls of sessions, for a caller that holds the lock.
 ghost use Rattle.std.specs.Prelude.{◌≡◌, Some, None, IfOk, IfErr, OnOk, OnErr};
 ghost use Rattle.std.specs.Option.{option_copied};
 ghost use Rattle.nw_model.specs.Checks.{digest_of};
@@ -20,12 +20,14 @@ use nw_model::Call;
 use nw_sig::Scheme;
 use std::alloc::Global;
 
-/// Makes the command as the session's next call, while the guard is lent. The command is lent: a refused one can be made again.
+/// Makes the command as the session's next call, for a caller that holds the lock. A refused command can be tried again.
 ///
-/// It is refused as the book refuses it: `OutOfTurn` exactly where it is not the turn of the session's next number, else
-/// `OtherCommittee` exactly where what is handed in was checked under another committee, else `HistoryFull` exactly where the
-/// history has as many events as its limit, else `NoMemory` where memory is refused, which is asked for after these tests. A
-/// refusal changes neither what the lock holds nor the session.
+/// The errors are tested in this order. An error changes neither the session nor the value under the lock.
+///
+/// - `OutOfTurn`: the session's next number is not in turn.
+/// - `OtherCommittee`: the block or certificate was checked under another committee.
+/// - `HistoryFull`: the history has reached its limit of events.
+/// - `NoMemory`: an allocation failed. Nothing is allocated before the other three tests.
 pub fn call_locked<S: Scheme, L: Home>(
     locked: &mut Locked<S, L>,
     alloc: Global,
@@ -50,12 +52,14 @@ pub fn call_locked<S: Scheme, L: Home>(
     Ok(take_call(locked, alloc, session, number, call)?)
 }
 
-/// Opens a causal read as the session's next call, while the guard is lent: a ticket where there is a list, else an answer that
-/// says why there is none.
+/// Opens a causal read as the session's next call, for a caller that holds the lock. Returns a ticket if the digest is complete,
+/// and otherwise an answer that says why there is no list.
 ///
-/// It is refused as the book refuses it: `OutOfTurn` exactly where it is not the turn of the session's next number, else
-/// `HistoryFull` exactly where the history has as many events as its limit, else `NoMemory` where memory is refused, which is
-/// asked for after these tests. A refusal changes neither what the lock holds nor the session.
+/// The errors are tested in this order. An error changes neither the session nor the value under the lock.
+///
+/// - `OutOfTurn`: the session's next number is not in turn.
+/// - `HistoryFull`: the history has reached its limit of events.
+/// - `NoMemory`: an allocation failed. Nothing is allocated before the other two tests.
 pub fn open_locked<S: Scheme, L: Home>(
     locked: &mut Locked<S, L>,
     alloc: Global,
@@ -80,7 +84,7 @@ pub fn open_locked<S: Scheme, L: Home>(
     Ok(take_open(locked, alloc, session, number, digest)?)
 }
 
-/// Makes the write of a block, which is lent, as `call_locked` makes that of a command that has the block.
+/// Does what `call_locked` does for a `Write` command, with a borrowed block.
 pub(crate) fn write_locked<S: Scheme, L: Home>(
     locked: &mut Locked<S, L>,
     alloc: Global,
@@ -106,7 +110,7 @@ pub(crate) fn write_locked<S: Scheme, L: Home>(
     Ok(take_call(locked, alloc, session, number, call)?)
 }
 
-/// Hands in a certificate, which is lent, as `call_locked` does that of a command that has the certificate.
+/// Does what `call_locked` does for a `Certify` command, with a borrowed certificate.
 pub(crate) fn certify_locked<S: Scheme, L: Home>(
     locked: &mut Locked<S, L>,
     alloc: Global,
@@ -131,8 +135,8 @@ pub(crate) fn certify_locked<S: Scheme, L: Home>(
     Ok(take_call(locked, alloc, session, number, call)?)
 }
 
-/// The number of the session's next call, where it may make it and what it hands in was checked under that committee, if it
-/// hands in anything. It takes no memory, and changes nothing.
+/// The number of the session's next call, if the session may make it. `under` is the committee under which the block or
+/// certificate of the call was checked, if it has one. Changes and allocates nothing.
 fn may_call<S: Scheme, L: Home>(
     locked: &mut Locked<S, L>,
     session: &mut Session<S, L>,
@@ -155,8 +159,8 @@ fn may_call<S: Scheme, L: Home>(
     Ok(number)
 }
 
-/// Takes the step of a call, no causal read, that the session may make as its next, with that number. It is refused for want of
-/// memory alone, and then changes nothing.
+/// Takes the step of the session's next call, which may be made and is not a causal read. `NoMemory` if an allocation fails;
+/// then nothing changes.
 fn take_call<S: Scheme, L: Home>(
     locked: &mut Locked<S, L>,
     alloc: Global,
@@ -178,13 +182,13 @@ fn take_call<S: Scheme, L: Home>(
 {
     session.journal.reserve(1)?;
     let (done, kept) = locked.book.take_step(alloc, session.id, number, call)?;
-    locked.tally.tell(&mut session.pass, kept.front());
+    locked.tally.add_call(&mut session.pass, kept.front());
     session.journal.push_reserved(kept);
     Ok(done)
 }
 
-/// Takes the step of a causal read that the session may make as its next call, with that number. It is refused for want of memory
-/// alone, and then changes nothing.
+/// Takes the step of the session's next call, which may be made and is a causal read. `NoMemory` if an allocation fails; then
+/// nothing changes.
 fn take_open<S: Scheme, L: Home>(
     locked: &mut Locked<S, L>,
     alloc: Global,
@@ -205,7 +209,7 @@ fn take_open<S: Scheme, L: Home>(
 {
     session.journal.reserve(1)?;
     let (answer, kept) = locked.book.take_open(alloc, session.id, number, digest)?;
-    locked.tally.tell(&mut session.pass, kept.front());
+    locked.tally.add_call(&mut session.pass, kept.front());
     session.journal.push_reserved(kept);
     Ok(answer)
 }

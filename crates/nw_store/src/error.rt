@@ -1,29 +1,29 @@
-//! Why a store refuses.
+//! Errors of a store.
 use thiserror::Error;
 
-/// As many sessions were made as the limit allows.
+/// The store has made as many sessions as its limit allows.
 #[derive(Clone, Copy, Debug, PartialEq, Eq, Error)]
 #[error("too many")]
 pub struct TooMany;
 
-/// Why sessions do not settle. The first that applies is answered.
+/// Why sessions do not settle. The variants are tested in order.
 #[derive(Clone, Copy, Debug, PartialEq, Eq, Error)]
 pub enum SettleFault {
-    /// Fewer sessions are given than were made.
+    /// Fewer sessions were given than the store made.
     #[error("{given} of {made} sessions")]
     Unfinished {
-        /// How many sessions were made.
+        /// The number of sessions that the store made.
         made: u16,
-        /// How many sessions are given.
+        /// The number of given sessions.
         given: usize,
     },
-    /// The sessions are not those that were made, each once.
+    /// The given sessions are not those that the store made, each once.
     #[error("session {session} was not made, or is given twice")]
     Differs {
-        /// The least id that is given twice, or is given and was not made.
+        /// The least stray id: two of the given sessions have it, or the store never made it.
         session: u16,
-        /// Always 0: no call differs. Sessions of another store have another type, and a session's journal is always what
-        /// the history has of it.
+        /// Always 0, because no call can differ: a session's journal always equals the session's part of the history, and
+        /// sessions of another store have another type.
         number: u32,
     },
 }

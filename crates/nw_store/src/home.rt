@@ -1,15 +1,15 @@
-//! What names a store.
+//! Names of stores.
 use nw_log::Place;
 use std::marker::Brand;
 
-/// A name for one store: for its log and its ledger, so that no token of another store fits, and for what its history starts
-/// with.
+/// The name of one store: its log, its ledger and the origin of its history. It keeps values of two stores apart.
 ///
-/// A function generic in such a name is called with `Brand`, for which the proof of the call picks the opening's log and
-/// ledger, and the committee, the limits and the base.
+/// Write a function that is generic in a home, and call it with `Brand`. The proof of that call picks the log and ledger of the
+/// opening, and the origin.
 pub trait Home: Place {
     ghost use Rattle.nw_history.specs.Story.{Origin};
 
+    // the origin of each of the store's histories
     ghost origin: { Origin };
 }
 

@@ -1,11 +1,12 @@
-//! A store that threads share: one lock round a book, and sessions that keep a journal of their answers.
+//! A block store that threads share: one lock around a book, and sessions that keep journals of their answers.
 //!
-//! Its contract: each answer carries a legal history that starts as the store was made and ends with its call, and that begins
-//! with every earlier answer's of the session; and each history that was ever handed out is a beginning of the one under the
-//! lock. The calls of [`Store`] wait for the lock, and what they do under it is done by functions that do not wait; no clause
-//! bounds what these do there. Once all sessions are given back, the history is an interleaving of their journals, which is
-//! proved and not tested. It stands on `nw_book` for steps, on `nw_log` for what is known across threads, and on std's ledger for
-//! what is counted.
+//! Each answer carries a legal history with the store's origin, which ends with the answered call. The session's earlier
+//! histories are prefixes of it. Every history that the store ever handed out is a prefix of the one under the lock.
+//!
+//! The methods of [`Store`] wait for the lock. The functions that work under the lock do not wait, but no clause bounds their
+//! running time. After all sessions are given back, the history is an interleaving of their journals; this is proved.
+//!
+//! The crate uses `nw_book` for steps, `nw_log` for knowledge that threads share, and std's ledger for counts.
 #![tactic(auto)]
 
 mod calls;

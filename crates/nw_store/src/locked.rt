@@ -1,4 +1,4 @@
-//! What the lock holds, and what is done while it is held.
+//! The value under a store's lock, and operations for a caller that holds the lock.
 ghost use Rattle.std.specs.Prelude.{◌≡◌, ◌↔◌, ◌+◌, ◌<◌, ◌≤◌, ◌++◌, ◌∷◌, []};
 ghost use Rattle.std.specs.Prelude.{IsErr, IfOk, IfErr, OnOk, OnErr};
 ghost use mathlib.Core.List.{IsPrefix};
@@ -20,54 +20,54 @@ use std::marker::Model;
 use std::sync::ledger;
 use std::sync::ledger::Share;
 
-/// What is known of all sessions together: how many calls they made, and which fronts they were handed.
+/// What the store knows of all its sessions: the number of their calls, and the log of the fronts that it handed out.
 #[derive(Drop)]
 pub(crate) struct Tally<S: Scheme, L: Home> {
     pub(crate) calls: ledger::Book<L>,
     pub(crate) keeper: Keeper<Front<S>, L>,
 }
 
-/// What a session carries out of the lock, without bytes: its share of the calls, and a claim of the fronts that were handed
-/// out when it was last answered.
+/// What a session carries out of the lock: its part of the ledger, and a claim of the log. The claim has the fronts that the
+/// store had handed out when the session was made, was last answered or last heard a note. It takes no bytes at run time.
 #[derive(Drop)]
 pub(crate) struct Pass<S: Scheme, L: Home> {
-    pub(crate) mine: Share<L>,
+    pub(crate) share: Share<L>,
     pub(crate) claim: Claim<Front<S>, L>,
 }
 
 impl<S: Scheme, L: Home> Tally<S, L> {
-    /// Tells of one more call of a session, whose answer has this front.
-    pub(crate) fn tell(&mut self, pass: &mut Pass<S, L>, front: &Front<S>)
-        requires { 0 < pass.old.mine.parts }
+    /// Counts one more call of the session, and adds the front of its answer to the log.
+    pub(crate) fn add_call(&mut self, pass: &mut Pass<S, L>, front: &Front<S>)
+        requires { 0 < pass.old.share.parts }
         ensures counted { self.new.calls.total ≡ self.old.calls.total + 1 }
-        ensures told { self.new.keeper ≡ self.old.keeper ++ front.now ∷ [] }
-        ensures parts { pass.new.mine.parts ≡ pass.old.mine.parts }
-        ensures amount { pass.new.mine.amount ≡ pass.old.mine.amount + 1 }
+        ensures logged { self.new.keeper ≡ self.old.keeper ++ front.now ∷ [] }
+        ensures parts { pass.new.share.parts ≡ pass.old.share.parts }
+        ensures amount { pass.new.share.amount ≡ pass.old.share.amount + 1 }
         ensures begins { IsPrefix pass.old.claim self.new.keeper }
         ensures claim { pass.new.claim ≡ self.new.keeper }
     {
-        self.calls.add(&mut pass.mine, 1);
+        self.calls.add(&mut pass.share, 1);
         self.keeper.append(front);
         self.keeper.renew_in_place(&mut pass.claim);
     }
 
-    /// One more than the session's calls so far, which are no more than all calls.
+    /// The number of the session's next call. It fits, since a session has at most as many calls as the history has events.
     pub(crate) fn next_number(&mut self, pass: &mut Pass<S, L>, calls: usize) -> u32
-        requires counted { pass.old.mine.amount ≡ calls }
+        requires counted { pass.old.share.amount ≡ calls }
         requires few { self.old.calls.total ≤ MOST_EVENTS }
         ensures number { result ≡ calls + 1 }
         ensures total { self.new.calls.total ≡ self.old.calls.total }
         ensures keeper { self.new.keeper ≡ self.old.keeper }
-        ensures parts { pass.new.mine.parts ≡ pass.old.mine.parts }
-        ensures amount { pass.new.mine.amount ≡ pass.old.mine.amount }
+        ensures parts { pass.new.share.parts ≡ pass.old.share.parts }
+        ensures amount { pass.new.share.amount ≡ pass.old.share.amount }
         ensures claim { pass.new.claim ≡ pass.old.claim }
     {
-        self.calls.audit(&mut pass.mine);
+        self.calls.audit(&mut pass.share);
         calls as u32 + 1
     }
 }
 
-/// What lies under a store's lock. Contracts see the history, and how many sessions were made.
+/// The value under a store's lock. Contracts see the history and the number of sessions made so far.
 #[derive(Drop)]
 pub struct Locked<S: Scheme, L: Home> {
     pub(crate) book: Book<S>,
@@ -95,7 +95,7 @@ impl<S: Scheme, L: Home> Model for Locked<S, L> {
 }
 
 impl<S: Scheme, L: Home> Locked<S, L> {
-    /// What the lock of a store over the book holds at first: no session is made, and the history is empty.
+    /// The value for a new store over the book, which has made no sessions.
     pub(crate) fn over(opening: Opening<S>, book: Book<S>) -> Locked<S, L>
         requires log { opening.log ≡ L.log }
         requires ledger { (opening.ledger ≡ L.name) × (L.parts ≡ parts_of_a_ledger) }
@@ -125,7 +125,7 @@ impl<S: Scheme, L: Home> Locked<S, L> {
         self.book.history()
     }
 
-    /// The book reopened, which ends the store. Where memory is refused, everything comes back as it was.
+    /// The reopened book. `NoMemory` if an allocation fails; then everything comes back as it was.
     pub(crate) fn reopen(mut self, alloc: Global) -> Result<Book<S>, (NoMemory, Locked<S, L>)>
         ensures reopened { IfOk result (λ book. book ≡ reopened self.history) }
         ensures back { IfErr result (λ refused. refused.1 ≡ self) }
@@ -137,8 +137,8 @@ impl<S: Scheme, L: Home> Locked<S, L> {
     }
 }
 
-/// A new session, while the guard is lent. `TooMany` exactly where as many were made as the limit allows, and nothing is changed.
-/// It takes no memory.
+/// Makes a new session, for a caller that holds the lock. `TooMany` if the store has made as many sessions as its limit allows;
+/// then nothing changes. It allocates nothing.
 pub fn session_locked<S: Scheme, L: Home>(
     locked: &mut Locked<S, L>,
     alloc: Global,
@@ -159,14 +159,14 @@ pub fn session_locked<S: Scheme, L: Home>(
         id,
         journal: Vec::new(alloc),
         pass: Pass {
-            mine: locked.spare.split_off(1, 0),
+            share: locked.spare.split_off(1, 0),
             claim: locked.tally.keeper.claim(),
         },
     })
 }
 
-/// Lets later tickets share one copy of what is complete, without what was collected, while the guard is lent. No history, no
-/// reply and no ticket of before changes. Want of memory changes no answer.
+/// Freezes all complete blocks as one generation, which later tickets share, for a caller that holds the lock. Collected blocks
+/// are not part of it. No history, reply or earlier ticket changes, even if it fails with `NoMemory`.
 pub fn compact_locked<S: Scheme, L: Home>(
     locked: &mut Locked<S, L>,
     alloc: Global,
@@ -176,8 +176,8 @@ pub fn compact_locked<S: Scheme, L: Home>(
     locked.book.compact(alloc)
 }
 
-/// Each front of the session is a beginning of the history, whatever other sessions did since. Nothing is changed, and no event
-/// is compared.
+/// Proves that each front of the session is a prefix of the history, however much other sessions added to it. It changes nothing
+/// and compares no events.
 pub fn renew_locked<S: Scheme, L: Home>(locked: &mut Locked<S, L>, session: &mut Session<S, L>)
     ensures begun { AreBegun locked.old.history session.old.answers }
     ensures starts { origin_of locked.old.history ≡ L.origin }
@@ -190,8 +190,8 @@ pub fn renew_locked<S: Scheme, L: Home>(locked: &mut Locked<S, L>, session: &mut
     locked.tally.keeper.compare(&mut session.pass.claim);
 }
 
-/// Of any two answers of the two sessions, one's history is a beginning of the other's. Nothing is changed, and no event is
-/// compared.
+/// Proves that of any two answers of the two sessions, one's front is a prefix of the other's. It changes nothing and compares no
+/// events.
 pub fn compare_locked<S: Scheme, L: Home>(
     locked: &mut Locked<S, L>,
     one: &mut Session<S, L>,

@@ -1,13 +1,7 @@
-//! What a session knows of, told to another one.
-ghost use Rattle.std.specs.Prelude.{List, ◌≡◌};
-ghost use Rattle.std.specs.List.{Contains};
-ghost use Rattle.nw_sig.specs.Signed.{Meaning};
-ghost use Rattle.nw_model.specs.declared.call.Call.{Call};
-ghost use Rattle.nw_model.specs.declared.reply.Reply.{Reply};
-ghost use Rattle.nw_history.specs.Story.{Story};
-ghost use Rattle.nw_history.specs.Prefix.{IsPrefixOf};
-ghost use Rattle.nw_store.specs.Journal.{Journal, KnowsAll};
-ghost use Rattle.nw_store.specs.Answered.{IsAnswered};
+//! Notes: they carry what one session knows to another session.
+ghost use Rattle.std.specs.Prelude.{◌≡◌};
+ghost use Rattle.nw_store.specs.Journal.{KnowsAll};
+ghost use Rattle.nw_store.specs.Laws.{NotesCarryOrder};
 
 use crate::{Home, Locked, Session};
 use nw_book::Front;
@@ -15,9 +9,9 @@ use nw_log::Claim;
 use nw_sig::Scheme;
 use std::marker::Model;
 
-/// What was handed out until the note was taken, which is all that its session knew of. Contracts see these histories.
+/// All histories that a session knew of when the note was taken, and perhaps more of the store's histories. Contracts see them.
 ///
-/// It has no bytes, may cross to another thread, and is of the one store that `L` names. One that is dropped holds nothing back.
+/// A note takes no bytes and may be sent to another thread. `L` names its store. A note may be dropped unheard.
 #[derive(Drop)]
 pub struct Note<S: Scheme, L: Home> {
     claim: Claim<Front<S>, L>,
@@ -36,7 +30,8 @@ impl<S: Scheme, L: Home> Model for Note<S, L> {
     ghost view = { λ n. n.claim };
 }
 
-/// A note of what the session knows, while the guard is lent. Nothing is changed, and no event is compared.
+/// Takes a note of all histories that the session knows of, for a caller that holds the lock. It changes nothing and compares no
+/// events.
 pub fn note_locked<S: Scheme, L: Home>(
     locked: &mut Locked<S, L>,
     session: &mut Session<S, L>,
@@ -51,8 +46,8 @@ pub fn note_locked<S: Scheme, L: Home>(
     }
 }
 
-/// Tells the session what the note knows, while the guard is lent: from here on each of its answers' histories begins with every
-/// one of these. No reply changes, and no event is added or compared.
+/// Lets the session hear the note, for a caller that holds the lock. From then on the session knows of the note's histories: each
+/// is a prefix of the history of every later answer. It adds and compares no events.
 pub fn hear_locked<S: Scheme, L: Home>(
     locked: &mut Locked<S, L>,
     session: &mut Session<S, L>,
@@ -68,12 +63,8 @@ pub fn hear_locked<S: Scheme, L: Home>(
     locked.tally.keeper.renew_in_place(&mut session.pass.claim);
 }
 
-/// The front of an answer begins the front of each later one of a session that heard a note of it: one whose note was taken by a
-/// session that knew of the first answer.
+/// The law of notes. Suppose that a session got an answer, a note was then taken of what it knew, and another session heard the
+/// note. Then the front of the first answer is a prefix of the front of each later answer of the other session.
 pub fn what_was_heard_of_begins_an_answer()
-    ensures { (accepts : Meaning) (earlier later : Story) (one told heard other : Journal)
-        (asked also : Call) (reply answer : Reply) (first second : Story) (note : List Story)
-        → IsAnswered accepts earlier one told asked reply first → KnowsAll note told.known
-        → KnowsAll heard.known note → IsAnswered accepts later heard other also answer second
-        → IsPrefixOf first second }
+    ensures { NotesCarryOrder }
 {}

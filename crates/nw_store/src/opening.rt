@@ -1,4 +1,4 @@
-//! What a store is opened with.
+//! The log and the ledger that a store is opened with.
 
 use nw_book::{Front, MOST_SESSIONS};
 use nw_digest::NoMemory;
@@ -8,7 +8,7 @@ use std::alloc::Global;
 use std::marker::Model;
 use std::sync::ledger::Blank;
 
-/// An empty log and an empty ledger that no type stands for yet. Contracts see which they are.
+/// An empty log and an empty ledger for a new store, which no home names yet. Contracts see which log and ledger they are.
 #[derive(Drop)]
 pub struct Opening<S: Scheme> {
     pub(crate) log: Opened<Front<S>>,
@@ -28,7 +28,7 @@ impl<S: Scheme> Model for Opening<S> {
 }
 
 impl<S: Scheme> Opening<S> {
-    /// An empty log and an empty ledger. It takes two blocks of a few bytes.
+    /// An empty log and an empty ledger. It makes two allocations of a few bytes each. `NoMemory` if one fails.
     pub fn new(alloc: Global) -> Result<Opening<S>, NoMemory> {
         Ok(Opening {
             log: Opened::new(alloc)?,

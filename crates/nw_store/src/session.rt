@@ -1,4 +1,4 @@
-//! Sessions, and what they keep.
+//! Sessions and their journals.
 ghost use Rattle.std.specs.Prelude.{◌≡◌, ◌<◌, length};
 ghost use Rattle.nw_history.specs.declared.limits.TheConstants.{MOST_SESSIONS};
 
@@ -8,10 +8,12 @@ use nw_book::Entry;
 use nw_sig::Scheme;
 use std::marker::Model;
 
-/// One caller's calls: its id, and a journal of the answers that it got. Contracts see these, and of which histories the session
-/// knows: those that were handed out when it was last answered, or when a note was taken that it heard.
+/// One caller's sequence of calls: its id, and its journal of answers. Contracts see these, and the histories that the session
+/// knows of.
 ///
-/// It may cross to another thread, and it is of the one store that `L` names.
+/// A session knows of the front of each of its answers. After it hears a note, it also knows of all histories of the note.
+///
+/// It may be sent to another thread. `L` names its store.
 #[derive(Drop)]
 pub struct Session<S: Scheme, L: Home> {
     pub(crate) id: u16,
@@ -32,12 +34,12 @@ impl<S: Scheme, L: Home> Model for Session<S, L> {
     ghost view = { λ s.
         record { id = s.id; answers = s.journal.items; known = s.pass.claim } };
 
-    ghost invariant = { λ s. IsSession s.pass.mine.parts s.pass.mine.amount
+    ghost invariant = { λ s. IsSession s.pass.share.parts s.pass.share.amount
         (record { id = s.id; answers = s.journal.items; known = s.pass.claim }) };
 }
 
 impl<S: Scheme, L: Home> Session<S, L> {
-    /// The session's id: sessions are numbered from 0 in the order in which they were made.
+    /// The session's id. A store numbers its sessions from 0, in the order in which it makes them.
     pub fn id(&self) -> u16
         ensures id { result ≡ self.now.id }
         ensures below { result < MOST_SESSIONS }
@@ -45,7 +47,7 @@ impl<S: Scheme, L: Home> Session<S, L> {
         self.id
     }
 
-    /// How many calls of the session were answered.
+    /// The number of answered calls of the session.
     pub fn calls(&self) -> usize
         ensures { result ≡ length self.now.answers }
     {

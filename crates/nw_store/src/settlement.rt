@@ -1,4 +1,4 @@
-//! Settlement: the journals of all sessions, and the history that they are.
+//! Settlement: all sessions are given back, and their journals together are the history.
 ghost use Rattle.std.specs.Prelude.{ℕ, ◌≡◌, ◌↔◌, ◌+◌, ◌<◌, ◌^◌, ◌≤◌};
 ghost use Rattle.std.specs.Prelude.{IsOk, IsNone, IsTrue, OnOk, OnErr, IfOk, IfErr, IfSome, IfNone};
 ghost use Rattle.std.specs.Prelude.{All, Some, length, slice_get, sum_by};
@@ -19,7 +19,8 @@ use std::marker::Model;
 use std::sync::ledger;
 use std::sync::ledger::Share;
 
-/// A history that no session adds to any more, and the journals that it is. Contracts see these.
+/// A history that no session can add to, and the journals of all its sessions. Contracts see the history, the number of
+/// sessions, and the journals in the order of their ids.
 #[derive(Drop)]
 pub struct Settled<S: Scheme, L: Home> {
     locked: Locked<S, L>,
@@ -29,9 +30,9 @@ pub struct Settled<S: Scheme, L: Home> {
 impl<S: Scheme, L: Home> Model for Settled<S, L> {
     ghost use Rattle.std.specs.Coded.{codes};
     ghost use Rattle.nw_model.specs.State.{coded_state};
-    ghost use Rattle.nw_store.specs.Settled.{Ledgers, AreAll, AreSettled};
+    ghost use Rattle.nw_store.specs.Settled.{Settlement, AreAll, AreSettled};
 
-    ghost Value = { Ledgers };
+    ghost Value = { Settlement };
 
     ghost coded = { Prim.hlevel (codes, coded_state) };
 
@@ -43,8 +44,8 @@ impl<S: Scheme, L: Home> Model for Settled<S, L> {
 }
 
 impl<S: Scheme, L: Home> Settled<S, L> {
-    /// The history: an interleaving of the journals, which are those of all sessions that were made, and which starts as the store
-    /// was made. Of any two answers in them, one's front is a beginning of the other's.
+    /// The history, which is an interleaving of the journals of all sessions and has the store's origin. Of any two answers in the
+    /// journals, one's front is a prefix of the other's.
     pub fn history(&self) -> &History<S>
         ensures history { result.now ≡ self.now.history }
         ensures all { AreAll self.now.made self.now.journals }
@@ -56,8 +57,8 @@ impl<S: Scheme, L: Home> Settled<S, L> {
         self.locked.history()
     }
 
-    /// The book of the history, with the same tables, committee and limits and an empty history, which a new store may go on
-    /// with. Where memory is refused, everything comes back as it was.
+    /// The reopened book, for a new store: it has the same tables, committee and limits, and an empty history. `NoMemory` if an
+    /// allocation fails; then everything comes back as it was.
     pub fn reopen(self, alloc: Global) -> Result<Book<S>, (NoMemory, Settled<S, L>)>
         ensures reopened { IfOk result (λ book. book ≡ reopened self.history) }
         ensures back { IfErr result (λ refused. refused.1 ≡ self) }
@@ -72,7 +73,7 @@ impl<S: Scheme, L: Home> Settled<S, L> {
         }
     }
 
-    /// The journal of the session, or `None` exactly where no session with this id was made.
+    /// The journal of the session, or `None` if the store made no session with this id.
     pub fn journal(&self, session: u16) -> Option<&[Entry<S>]>
         ensures journal { IfSome result (λ entries. (j : Journal)
             × (slice_get self.now.journals session ≡ Some j) × (entries.now ≡ j.answers)) }
@@ -83,8 +84,8 @@ impl<S: Scheme, L: Home> Settled<S, L> {
     }
 }
 
-/// Settles the sessions with what the lock held. It is done exactly where they are all sessions that were made, each once, in any
-/// order; a refusal hands everything back as it was. No event is compared, and no memory is taken.
+/// Settles the sessions with the value that was under the lock. It succeeds if they are all sessions that the store made, each
+/// once, in any order. An error hands everything back as it was. It compares no events and allocates nothing.
 pub fn settle_locked<S: Scheme, L: Home>(
     mut locked: Locked<S, L>,
     mut sessions: Vec<Session<S, L>>,
@@ -103,7 +104,7 @@ pub fn settle_locked<S: Scheme, L: Home>(
     }
 }
 
-/// Settles the sessions where they are, in the order of their ids, if they are all that were made.
+/// Sorts the sessions by their ids, and proves that they are settled, if they are all that the store made.
 fn settle_in_place<S: Scheme, L: Home>(
     locked: &mut Locked<S, L>,
     sessions: &mut [Session<S, L>],
@@ -138,7 +139,7 @@ fn sort<S: Scheme, L: Home>(sessions: &mut [Session<S, L>])
     sessions.sort_unstable_by_key(|session| session.id());
 }
 
-/// The least id that two of these sessions have, or that one has and that is not below `made`.
+/// The least stray id of the sessions, of which the store made `made`.
 fn first_stray<S: Scheme, L: Home>(sessions: &[Session<S, L>], made: u16) -> Option<u16>
     requires below { All (λ s. s.id < MOST_SESSIONS) sessions.now }
     ensures stray { IfSome result (λ id. IsFirstStray made (ids_of sessions.now) id) }
@@ -152,7 +153,7 @@ fn first_stray<S: Scheme, L: Home>(sessions: &[Session<S, L>], made: u16) -> Opt
     None
 }
 
-/// Whether two of these sessions have the id, or one has it and it is not below `made`.
+/// Whether the id is stray: two of the sessions have it, or one has it and it is not below `made`.
 fn is_stray<S: Scheme, L: Home>(sessions: &[Session<S, L>], id: u16, made: u16) -> bool
     ensures { IsTrue result ↔ IsStray made (ids_of sessions.now) id }
 {
@@ -160,8 +161,7 @@ fn is_stray<S: Scheme, L: Home>(sessions: &[Session<S, L>], id: u16, made: u16) 
     times > 1 || times > 0 && id >= made
 }
 
-/// Each front of these sessions begins the history, their answers are to their calls, and their ids are those of sessions. Nothing
-/// is changed.
+/// Does what `renew_locked` does for each session.
 fn renew_all<S: Scheme, L: Home>(locked: &mut Locked<S, L>, sessions: &mut [Session<S, L>])
     ensures begun { All
         (λ s. AreBegun locked.old.history s.answers × AreAnswers s.id 1 s.answers) sessions.old }
@@ -175,8 +175,8 @@ fn renew_all<S: Scheme, L: Home>(locked: &mut Locked<S, L>, sessions: &mut [Sess
     }
 }
 
-/// These sessions, where they are no fewer than the parts that are not gathered, are as many, and their calls and those that were
-/// gathered are all calls. Nothing is changed: each session lends its share and gets it back.
+/// Proves, for at least as many sessions as parts of the ledger that are not gathered, that there are exactly as many, and that
+/// the calls of the sessions and of the gathered parts are all calls. Each session lends its part and gets it back.
 fn add_up<S: Scheme, L: Home>(
     calls: &mut ledger::Book<L>,
     sessions: &mut [Session<S, L>],
@@ -197,26 +197,26 @@ fn add_up<S: Scheme, L: Home>(
         None => calls.audit(gathered),
         Some((first, rest)) => {
             let made = first.journal.len() as u64;
-            first.pass.mine.give(gathered, 1, made);
+            first.pass.share.give(gathered, 1, made);
             add_up(calls, rest, gathered);
-            gathered.give(&mut first.pass.mine, 1, made);
+            gathered.give(&mut first.pass.share, 1, made);
         }
     }
 }
 
-/// What is handed back where sessions do not settle: why, and everything that was given.
+/// What `settle` hands back if the sessions do not settle: the reason, the value that was under the lock, and the sessions.
 #[derive(Drop)]
 pub struct Unsettled<S: Scheme, L: Home> {
-    /// Why they do not settle.
+    /// Why the sessions do not settle.
     pub fault: SettleFault,
-    /// What the lock held.
+    /// The value that was under the lock.
     pub locked: Locked<S, L>,
-    /// The sessions that were given, as they were given.
+    /// The given sessions, unchanged and in the same order.
     pub sessions: Vec<Session<S, L>>,
 }
 
-/// Settles the sessions with the store that made them, in the order of their ids. A refusal is the one that `settle_locked`
-/// answers for what the lock held, and hands everything back.
+/// Ends the store, and settles its sessions as `settle_locked` does. The given order of the sessions does not matter. An error
+/// hands everything back, with the value that was under the lock in place of the store.
 pub fn settle<S: Scheme, L: Home>(
     store: Store<S, L>,
     sessions: Vec<Session<S, L>>,

@@ -1,4 +1,4 @@
-//! Stores, which lock, call and let go.
+//! The store, whose methods take the lock, make a call and release the lock.
 ghost use Rattle.std.specs.Prelude.{
   ◌≡◌,
   ◌↔◌,
@@ -37,20 +37,22 @@ use nw_sig::Scheme;
 use std::alloc::Global;
 use std::sync::{Mutex, Wait};
 
-/// A store that threads share: one lock round a book. `L` names it, so that no session of another store fits, and says with
-/// which committee and limits it was made, and on which base.
+/// A store that threads share: one lock around a book. `L` names it: its origin, and its log and ledger. Sessions of another
+/// store have another type.
 ///
-/// A call of a session is answered with a legal history that starts as the store was made and ends with the call, and that each
-/// earlier answer's of the session begins. A refusal leaves the session as it was, and names what stood in the way after some
-/// history of the store: the turn, else the committee, else the room, else memory.
+/// The answer to a call carries a legal history that has the store's origin and ends with the call. The fronts of the session's
+/// earlier answers are prefixes of it.
+///
+/// A refused call leaves the session as it was. The error holds after some history of the store, and is the first that applies:
+/// the call is out of turn, its committee is another one, the history is full, or an allocation failed.
 #[derive(Drop)]
 pub struct Store<S: Scheme, L: Home> {
     pub(crate) locked: Mutex<Locked<S, L>>,
 }
 
 impl<S: Scheme, L: Home> Store<S, L> {
-    /// A store with an empty history under the committee and limits, and no sessions. `BadLimits` exactly where a limit is
-    /// outside its range, else `NoMemory` where memory is refused.
+    /// A store with an empty history under the committee and limits, and no sessions. `BadLimits` if a limit is outside its
+    /// range, else `NoMemory` if an allocation fails.
     pub fn new(
         alloc: Global,
         opening: Opening<S>,
@@ -69,8 +71,8 @@ impl<S: Scheme, L: Home> Store<S, L> {
         })
     }
 
-    /// A store that goes on with the book, without sessions. The book is handed back exactly where its history is not empty. It
-    /// takes no memory.
+    /// A store over the book, without sessions. If the book's history is not empty, the book comes back as the error. It
+    /// allocates nothing.
     pub fn over(opening: Opening<S>, book: Book<S>) -> Result<Store<S, L>, Book<S>>
         requires log { opening.log ≡ L.log }
         requires ledger { (opening.ledger ≡ L.name) × (L.parts ≡ parts_of_a_ledger) }
@@ -87,15 +89,15 @@ impl<S: Scheme, L: Home> Store<S, L> {
         })
     }
 
-    /// A new session. `TooMany` where as many were made as the limit allows.
+    /// Makes a new session. `TooMany` if the store has made as many sessions as its limit allows.
     pub fn session<R: Wait>(&self, rt: &R, alloc: Global) -> Result<Session<S, L>, TooMany>
         ensures { IfOk result (λ session. (session.answers ≡ []) × (session.id < MOST_SESSIONS)) }
     {
         session_locked(&mut *self.locked.lock(rt), alloc)
     }
 
-    /// A note of what the session knows: that it may be told to another session of this store, in whatever thread. It is no call
-    /// of a session, and takes no memory.
+    /// Takes a note of all histories that the session knows of, for another session of this store. A note is not a call, and
+    /// allocates nothing.
     pub fn note<R: Wait>(&self, rt: &R, session: &mut Session<S, L>) -> Note<S, L>
         ensures knows { KnowsAll result session.old.known }
         ensures session { session.new ≡ session.old }
@@ -103,8 +105,8 @@ impl<S: Scheme, L: Home> Store<S, L> {
         note_locked(&mut *self.locked.lock(rt), session)
     }
 
-    /// Tells the session what the note knows: from here on the history of each of its answers begins with every history that the
-    /// note knew of. It is no call of the session, and takes no memory.
+    /// Lets the session hear the note. From then on the session knows of the note's histories: each is a prefix of the history of
+    /// every later answer. Hearing is not a call, and allocates nothing.
     pub fn hear<R: Wait>(&self, rt: &R, session: &mut Session<S, L>, note: Note<S, L>)
         ensures heard { KnowsAll session.new.known note }
         ensures knew { KnowsAll session.new.known session.old.known }
@@ -114,7 +116,7 @@ impl<S: Scheme, L: Home> Store<S, L> {
         hear_locked(&mut *self.locked.lock(rt), session, note)
     }
 
-    /// Makes the command as the session's next call. The command is lent: a refused one can be made again.
+    /// Makes the command as the session's next call. A refused command can be tried again.
     pub fn call<R: Wait>(
         &self,
         rt: &R,
@@ -133,7 +135,7 @@ impl<S: Scheme, L: Home> Store<S, L> {
         call_locked(&mut *self.locked.lock(rt), alloc, session, command)
     }
 
-    /// Stores the block under its digest: a call of the session. The block is lent: a refused write can be made again.
+    /// Stores the block under its digest: a call of the session. A refused write can be tried again.
     pub fn write<R: Wait>(
         &self,
         rt: &R,
@@ -152,7 +154,7 @@ impl<S: Scheme, L: Home> Store<S, L> {
         write_locked(&mut *self.locked.lock(rt), alloc, session, block)
     }
 
-    /// Keeps the certificate: a call of the session. The certificate is lent: a refused call can be made again.
+    /// Keeps the certificate: a call of the session. A refused call can be tried again.
     pub fn certify<R: Wait>(
         &self,
         rt: &R,
@@ -171,7 +173,7 @@ impl<S: Scheme, L: Home> Store<S, L> {
         certify_locked(&mut *self.locked.lock(rt), alloc, session, certificate)
     }
 
-    /// Reads the certificate that is kept for the digest: a call of the session.
+    /// Reads the certificate for the digest, if there is one: a call of the session.
     pub fn certificate<R: Wait>(
         &self,
         rt: &R,
@@ -188,7 +190,7 @@ impl<S: Scheme, L: Home> Store<S, L> {
         self.call(rt, alloc, session, &Command::Certificate(digest))
     }
 
-    /// Reads the block that is held under the digest: a call of the session.
+    /// Reads the block under the digest, if there is one: a call of the session.
     pub fn read<R: Wait>(
         &self,
         rt: &R,
@@ -205,8 +207,8 @@ impl<S: Scheme, L: Home> Store<S, L> {
         self.call(rt, alloc, session, &Command::Read(digest))
     }
 
-    /// Drops what is of a round below this one, which is the garbage round from then on: a call of the session. Tickets that
-    /// were opened before are walked as before.
+    /// Raises the garbage round to `round`, and drops all entries of lower rounds: a call of the session. Walks of earlier
+    /// tickets do not change.
     pub fn collect<R: Wait>(
         &self,
         rt: &R,
@@ -223,7 +225,7 @@ impl<S: Scheme, L: Home> Store<S, L> {
         self.call(rt, alloc, session, &Command::Collect(round))
     }
 
-    /// Reads the first so many of the parents that are wanted: a call of the session.
+    /// Reads the first `most` wanted parents by round, author and digest, or all if there are fewer: a call of the session.
     pub fn missing<R: Wait>(
         &self,
         rt: &R,
@@ -240,7 +242,7 @@ impl<S: Scheme, L: Home> Store<S, L> {
         self.call(rt, alloc, session, &Command::Missing(most))
     }
 
-    /// Reads how much is kept and how much is wanted: a call of the session.
+    /// Reads the garbage round and the numbers of blocks, certificates, complete blocks and wanted parents: a call of the session.
     pub fn status<R: Wait>(
         &self,
         rt: &R,
@@ -256,14 +258,15 @@ impl<S: Scheme, L: Home> Store<S, L> {
         self.call(rt, alloc, session, &Command::Status)
     }
 
-    /// Lets later tickets share one copy of what is complete, without what was collected. It is no call of a session: no history,
-    /// no reply and no ticket of before changes. It costs what is frozen; want of memory changes no answer.
+    /// Freezes all complete blocks as one generation, which later tickets share. Collected blocks are not part of it. This is not
+    /// a call: no history, reply or earlier ticket changes, even if it fails with `NoMemory`. Its cost grows with the number of
+    /// complete blocks.
     pub fn compact<R: Wait>(&self, rt: &R, alloc: Global) -> Result<(), NoMemory> {
         compact_locked(&mut *self.locked.lock(rt), alloc)
     }
 
-    /// Opens a causal read of the digest: a call of the session. The ticket is walked later, without the lock; where there is no
-    /// list, the answer says why.
+    /// Opens a causal read of the digest: a call of the session. A complete digest gives a ticket, which is walked later without
+    /// the lock. Otherwise the answer says why there is no list.
     pub fn open_causal<R: Wait>(
         &self,
         rt: &R,

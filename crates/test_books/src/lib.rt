@@ -1,7 +1,6 @@
-//! Tests of books and of runs of moves in them: what answers are, whose turn it is, how views share what they hold, late
-//! walks, and reopened books.
+//! Tests of books and their runs: answers, turns, sharing between views, late walks, and reopened books.
 //!
-//! Its contract: it has tests alone, and nothing stands on it.
+//! It has only tests, and no crate uses it.
 #![tactic(auto)]
 
 #[cfg(test)]

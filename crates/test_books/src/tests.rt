@@ -11,7 +11,7 @@ mod reopened;
 mod runs;
 mod turns;
 
-/// A book with room for 16 blocks over four rounds, and for as many events of one session.
+/// Limits of a book with 16 blocks, four rounds, 16 events and one session.
 const LIMITS: Limits = Limits {
     blocks: 16,
     events: 16,
@@ -19,22 +19,22 @@ const LIMITS: Limits = Limits {
     sessions: 1,
 };
 
-/// A book of one member.
+/// A book whose committee has one member.
 fn book_of_one(alloc: Global, limits: Limits) -> Result<Book<DemoScheme>, Fail> {
     Ok(Book::new(alloc, committee(alloc, 1)?, limits)?)
 }
 
-/// What is planned of a chain of blocks of one author, one of each round.
+/// A part of a plan for a chain of one author's blocks, one in each round.
 enum Plan {
-    /// The next block is written, certified and opened.
+    /// Write, certify and open the next block.
     Block,
-    /// The rounds below this one are collected.
+    /// Raise the garbage round to this one.
     Collect(u64),
-    /// A ticket is walked.
+    /// Walk the ticket with this number.
     Walk(u32),
 }
 
-/// A block of the chain and its child.
+/// The first block of the chain and its child.
 const TWO: [Plan; 2] = [Plan::Block, Plan::Block];
 
 /// The moves of a plan, and the digests of the blocks.
@@ -44,7 +44,7 @@ struct Planned {
     digests: Vec<Digest>,
 }
 
-/// What the plan comes to.
+/// The moves and digests of the plan.
 fn plan_of(alloc: Global, plan: &[Plan]) -> Result<Planned, Fail> {
     let mut planned = Planned {
         moves: Vec::new(alloc),
@@ -60,7 +60,7 @@ fn plan_of(alloc: Global, plan: &[Plan]) -> Result<Planned, Fail> {
 }
 
 impl Planned {
-    /// Adds what the plan says.
+    /// Adds the moves of the plan.
     fn add_all(&mut self, alloc: Global, plan: &[Plan]) -> Result<(), Fail> {
         for part in plan {
             match part {
@@ -85,7 +85,7 @@ impl Planned {
         )
     }
 
-    /// Adds the moves of the block over the last one.
+    /// Adds the moves of the block whose parent is the last one.
     fn add_block(&mut self, alloc: Global) -> Result<(), Fail> {
         let one = committee(alloc, 1)?;
         let added = self.add_block_of(alloc, &one);
@@ -93,7 +93,7 @@ impl Planned {
         added
     }
 
-    /// Adds those of a block of this committee.
+    /// Adds the moves of the next block, for this committee.
     fn add_block_of(&mut self, alloc: Global, one: &Shared<Committee>) -> Result<(), Fail> {
         let round = self.digests.len() as u64;
         let parents = self.digests.chunks(1).last().unwrap_or(&[]);
@@ -106,7 +106,7 @@ impl Planned {
     }
 }
 
-/// Whether all moves are made.
+/// Whether the book makes all moves.
 fn are_made(book: &mut Book<DemoScheme>, alloc: Global, moves: &[Move<DemoScheme>]) -> bool {
     let run = book.run(alloc, moves);
     let are_made = run.stop.is_none();
@@ -114,7 +114,7 @@ fn are_made(book: &mut Book<DemoScheme>, alloc: Global, moves: &[Move<DemoScheme
     are_made
 }
 
-/// Takes the next step of session 0.
+/// Makes the next call of session 0.
 fn ask(
     book: &mut Book<DemoScheme>,
     alloc: Global,
@@ -124,7 +124,7 @@ fn ask(
     book.step(alloc, 0, number, command)
 }
 
-/// A ticket for the digest, where it is complete.
+/// A ticket for the digest, if the digest is complete.
 fn open(book: &mut Book<DemoScheme>, alloc: Global, digest: Digest) -> Option<Ticket<DemoScheme>> {
     let number = book.next_number(0).ok()?;
     book.open(alloc, 0, number, digest).ok()?.ok()

@@ -1,9 +1,9 @@
-//! Tests of what a refusal of memory leaves of books and stores: `.ci/refusals` runs each of them once for every allocation that it
-//! makes, with that one refused.
+//! Tests of books and stores under allocation failures: `.ci/refusals` runs each test once for every allocation that it makes, and
+//! lets that allocation fail.
 //!
-//! Its contract: it has tests alone, and no store stands on it. Each test plays a worked example, and asks a call that wants memory
-//! again at once: with its input where that was handed back, and else with a copy. It then waits for exactly the example's
-//! answers and settlement. Calls that take no memory are made while all memory is refused.
+//! It has only tests, and no crate uses it. Each test plays a worked example. It repeats a call at once if an allocation fails: with
+//! the input if the call hands it back, and otherwise with a copy. It then expects exactly the example's replies and settlement.
+//! Calls that allocate nothing are made while all allocations fail.
 #![tactic(auto)]
 
 #[cfg(test)]

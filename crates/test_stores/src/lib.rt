@@ -1,7 +1,6 @@
-//! Tests of stores: what a session is answered and what its journal tells of that, threads that write, walk and collect side by
-//! side, what notes tell, late walks, and settlements.
+//! Tests of stores: replies and journals, threads that write, walk and collect side by side, notes, late walks, and settlements.
 //!
-//! Its contract: it has tests alone, and nothing stands on it.
+//! It has only tests, and no crate uses it.
 #![tactic(auto)]
 
 #[cfg(test)]

@@ -24,7 +24,7 @@ mod scripts;
 mod settling;
 mod tasks;
 
-/// The limits of a script that sets none.
+/// The limits of a script that does not set any.
 const LIMITS: Limits = Limits {
     blocks: 1024,
     events: 1024,
@@ -32,7 +32,7 @@ const LIMITS: Limits = Limits {
     sessions: 16,
 };
 
-/// A book of so many members without events.
+/// A book without events, whose committee has this many members.
 fn book(alloc: Global, members: u16, limits: Limits) -> Result<Book<DemoScheme>, Fail> {
     Ok(Book::new(alloc, committee(alloc, members)?, limits)?)
 }

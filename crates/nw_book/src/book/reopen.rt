@@ -1,4 +1,4 @@
-//! Books that go on without their history.
+//! Reopening: a book continues from the state after its history, with an empty history.
 ghost use Rattle.std.specs.Prelude.{◌≡◌, IfOk, IfErr, OnOk, OnErr};
 ghost use Rattle.nw_history.specs.Story.{reopened};
 
@@ -8,11 +8,11 @@ use nw_sig::Scheme;
 use std::alloc::Global;
 
 impl<S: Scheme> Book<S> {
-    /// The book with the same tables, committee and limits, an empty history, and as base what the calls of the old history
-    /// left. Each session starts again with call 1. Tickets and fronts of before stay as they were.
+    /// The reopened book: the same tables, committee and limits, an empty history, and as its base the state after the old
+    /// history. Each session starts again with call 1. Earlier tickets and fronts do not change.
     ///
-    /// The old history's calls are taken again by a store over the old base, at the cost of its writes and certificates. Where
-    /// memory is refused the book comes back as it was.
+    /// It copies the old base and repeats the old history's writes, certificates and collections on the copy. `NoMemory` if an
+    /// allocation fails; then the book comes back as it was.
     pub fn reopen(mut self, alloc: Global) -> Result<Book<S>, (NoMemory, Book<S>)>
         ensures reopened { IfOk result (λ book. book ≡ reopened self) }
         ensures back { IfErr result (λ refused. refused.1 ≡ self) }
@@ -23,7 +23,7 @@ impl<S: Scheme> Book<S> {
         }
     }
 
-    /// Reopens the book where it stands. Want of memory changes nothing.
+    /// Reopens the book in place. `NoMemory` if an allocation fails; then nothing changes.
     pub fn restart(&mut self, alloc: Global) -> Result<(), NoMemory>
         ensures restarted { OnOk result (self.new ≡ reopened self.old) }
         ensures unchanged { OnErr result (self.new ≡ self.old) }

@@ -1,4 +1,4 @@
-//! Steps of a book, each decided once and then taken.
+//! Steps of a book: the reply is found first, and then the step is taken.
 ghost use Rattle.std.specs.Prelude.{◌≡◌, IfOk, OnOk, OnErr};
 ghost use Rattle.std.specs.Result.{MatchResult};
 ghost use Rattle.nw_model.specs.History.{IsAdmitted};
@@ -20,8 +20,8 @@ use nw_sig::Scheme;
 use std::alloc::Global;
 
 impl<S: Scheme> Book<S> {
-    /// Takes the step of a call that may be taken and is no causal read, and gives its answer, and an entry for whoever keeps a
-    /// journal. It is refused for want of memory alone, and then changes nothing.
+    /// Takes the step of a call that may be taken and is not a causal read. Returns its answer, and an entry for the caller's
+    /// journal. `NoMemory` if an allocation fails; then nothing changes.
     pub fn take_step(
         &mut self,
         alloc: Global,
@@ -54,8 +54,8 @@ impl<S: Scheme> Book<S> {
         Ok((Done::of(answer), Entry::of(kept)))
     }
 
-    /// Takes the step of a causal read that may be taken, and gives its answer, and an entry for whoever keeps a journal. It is
-    /// refused for want of memory alone, and then changes nothing.
+    /// Takes the step of a causal read that may be taken. Returns its answer, and an entry for the caller's journal. `NoMemory`
+    /// if an allocation fails; then nothing changes.
     pub fn take_open(
         &mut self,
         alloc: Global,
@@ -89,7 +89,7 @@ impl<S: Scheme> Book<S> {
         }
     }
 
-    /// The reply that the call would get after the history: of a causal read that can be listed `Ready`.
+    /// The reply that the call would get after the history. A causal read of a complete digest gets `Ready`.
     fn reply(&self, alloc: Global, call: &Call) -> Result<Reply, NoMemory>
         ensures reply { IfOk result
             (IsReply (bounds_of self.now.limits) (state_of self.now) call.now) }
@@ -98,7 +98,7 @@ impl<S: Scheme> Book<S> {
         self.tables.reply(alloc, call)
     }
 
-    /// A view of what is complete after the history, where the block under the digest is; else why it is not given.
+    /// A view of the complete blocks after the history, if the digest is complete, else the reason why there is no list.
     fn freeze_for(
         &mut self,
         alloc: Global,
@@ -114,8 +114,8 @@ impl<S: Scheme> Book<S> {
         self.tables.freeze_for(alloc, digest)
     }
 
-    /// Records the event of a call in its turn, with the reply that is decided, and answers the front with it, for two owners.
-    /// All memory is taken first: what the front takes, and what the tables take.
+    /// Adds the event of a call to the history, and takes its step in the tables. Returns the front that ends with the event,
+    /// twice: for the answer and for the journal. `NoMemory` if an allocation fails; then nothing changes.
     fn record(&mut self, alloc: Global, event: Event) -> Result<(Front<S>, Front<S>), NoMemory>
         requires turn { IsInTurn self.old event.session event.number }
         requires room { HasRoom self.old }
@@ -131,13 +131,13 @@ impl<S: Scheme> Book<S> {
     {
         let front = self.history.with_event(alloc, event)?;
         let kept = front.try_clone()?;
-        self.enter(front.last().unwrap(), &front)?;
+        self.advance(front.last().unwrap(), &front)?;
         Ok((front, kept))
     }
 
-    /// Goes on as the front, whose last event this is: its call is taken in the tables. The history's share of the front is
-    /// taken first, and what the tables take is the last thing that can be refused.
-    fn enter(&mut self, event: &Event, front: &Front<S>) -> Result<(), NoMemory>
+    /// Makes the front, which ends with this event, the history, and takes the event's call in the tables. Taking the call is the
+    /// last operation that can fail.
+    fn advance(&mut self, event: &Event, front: &Front<S>) -> Result<(), NoMemory>
         requires turn { IsInTurn self.old event.now.session event.now.number }
         requires reply { IsReply (bounds_of self.old.limits) (state_of self.old)
             event.now.call event.now.reply }
@@ -166,8 +166,7 @@ fn read_event(session: u16, number: u32, digest: Digest, reply: Reply) -> Event
     }
 }
 
-/// The call; where its block is held already, or an equal certificate is kept, with the one that is there, so that a history
-/// keeps no second copy of it.
+/// The call, with the stored block or certificate in place of an equal one that is handed in. So a history keeps no second copy.
 fn with_kept(tables: &Dag, call: Call, reply: &Reply) -> Result<Call, NoMemory>
     requires reply { IsReply tables.now.bounds tables.now.state call reply.now }
     ensures { IfOk result (λ shared. shared ≡ call) }
@@ -187,7 +186,7 @@ fn with_kept(tables: &Dag, call: Call, reply: &Reply) -> Result<Call, NoMemory>
     }
 }
 
-/// The first call where both are the same, else the second.
+/// The first call if both are equal, else the second.
 fn same_or(first: Call, second: Call) -> Call
     ensures { result ≡ second }
 {

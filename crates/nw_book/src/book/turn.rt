@@ -1,4 +1,4 @@
-//! Whose turn it is in a book.
+//! The tests before a step.
 ghost use Rattle.std.specs.Prelude.{◌≡◌, IfOk, IfErr, OnOk};
 ghost use Rattle.std.specs.Option.{option_copied};
 ghost use Rattle.std.specs.Result.{IsErrOf};
@@ -10,8 +10,7 @@ use nw_committee::Committee;
 use nw_sig::Scheme;
 
 impl<S: Scheme> Book<S> {
-    /// The number of the session's next call. `OutOfTurn` exactly where the session is not below its limit, and so takes no
-    /// step, whatever it asks.
+    /// The number of the session's next call. `OutOfTurn` if the session is not below the limit of sessions.
     pub fn next_number(&self, session: u16) -> Result<u32, NoStep>
         ensures number { IfOk result (λ number. number ≡ next_number self.now session) }
         ensures turn { OnOk result (IsInTurn self.now session (next_number self.now session)) }
@@ -25,9 +24,14 @@ impl<S: Scheme> Book<S> {
         }
     }
 
-    /// Whether a call of the session with the number may take a step, where what is handed in was checked under that
-    /// committee, if anything is. Else it is refused, in this order: `OutOfTurn`, `OtherCommittee`, `HistoryFull`. It takes no
-    /// memory. (`eq` is called by its name, for its clause `same`.)
+    /// Tests whether the session's call with this number may take a step. `under` is the committee under which the block or
+    /// certificate of the call was checked, if it has one. It allocates nothing.
+    ///
+    /// The errors are tested in this order.
+    ///
+    /// - `OutOfTurn`: the session is not below the limit of sessions, or the number is not that of its next call.
+    /// - `OtherCommittee`: `under` is not the book's committee.
+    /// - `HistoryFull`: the history has reached its limit of events.
     pub fn may_step(
         &self,
         session: u16,
@@ -43,6 +47,7 @@ impl<S: Scheme> Book<S> {
             return Err(NoStep::OutOfTurn);
         }
         if let Some(committee) = under {
+            // `eq` is called by its name, for its clause `same`.
             if !committee.eq(self.history.committee().get()) {
                 return Err(NoStep::OtherCommittee);
             }

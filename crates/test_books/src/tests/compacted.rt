@@ -1,10 +1,10 @@
 //! Views of books that are compacted.
 use super::*;
 
-/// How many parts a ticket's view has, how many blocks the ticket lists, and whether the view has the parent.
+/// The number of parts of a ticket's view, the number of blocks that the ticket lists, and whether the view has the parent.
 type Seen = (usize, usize, bool);
 
-/// What a book does between two tickets for a child, and what is seen of the second after that.
+/// What a book does between two tickets for a child, and what the second ticket then shows.
 struct Case {
     shows: &'static str,
     between: &'static [Plan],
@@ -12,37 +12,37 @@ struct Case {
     later: Seen,
 }
 
-/// What is seen of the first, whatever the book does.
+/// What the first ticket shows, whatever the book does.
 const BEFORE: Seen = (2, 2, true);
 
 const CASES: [Case; 4] = [
     Case {
-        shows: "a view of two blocks, of which each was opened when it was new, has two parts",
+        shows: "a view of two blocks that were opened one after the other has two parts",
         between: &[],
         compacts: false,
         later: (2, 2, true),
     },
     Case {
-        shows: "after a collection it still has both",
+        shows: "after a collection the view still has both blocks",
         between: &[Plan::Collect(1)],
         compacts: false,
         later: (2, 1, true),
     },
     Case {
-        shows: "after compact there is one part",
+        shows: "after compact a view has one part",
         between: &[],
         compacts: true,
         later: (1, 2, true),
     },
     Case {
-        shows: "after compact it has no collected block",
+        shows: "after compact a view has no collected block",
         between: &[Plan::Collect(1)],
         compacts: true,
         later: (1, 1, false),
     },
 ];
 
-/// What is seen of the ticket.
+/// What the ticket shows.
 fn seen(alloc: Global, ticket: &Ticket<DemoScheme>, parent: &Digest) -> Seen {
     let listed = match ticket.walk(alloc) {
         Ok(blocks) => {
@@ -59,7 +59,7 @@ fn seen(alloc: Global, ticket: &Ticket<DemoScheme>, parent: &Digest) -> Seen {
     )
 }
 
-/// What is seen of the tickets of before and of later, once the book made the moves of two blocks and then those between.
+/// What the first and the second ticket show, after the book made the moves of two blocks and then the moves between.
 fn seen_of(
     book: &mut Book<DemoScheme>,
     alloc: Global,
@@ -74,7 +74,7 @@ fn seen_of(
     Some([seen, later?])
 }
 
-/// What is seen of the ticket of later.
+/// What the second ticket shows.
 fn seen_later(
     book: &mut Book<DemoScheme>,
     alloc: Global,
@@ -92,12 +92,12 @@ fn seen_later(
     Some(seen)
 }
 
-/// Whether the moves are made, and the book is compacted.
+/// Whether the book makes the moves and is then compacted.
 fn are_compacted(book: &mut Book<DemoScheme>, alloc: Global, moves: &[Move<DemoScheme>]) -> bool {
     are_made(book, alloc, moves) && book.compact(alloc).is_ok()
 }
 
-/// What is seen of those of a new book.
+/// What the tickets of a new book show.
 fn seen_anew(
     alloc: Global,
     first: &Planned,
@@ -114,7 +114,7 @@ fn seen_anew(
     Ok(seen)
 }
 
-/// What is seen of the case, after the moves of two blocks.
+/// What the tickets of the case show, after the moves of two blocks.
 fn seen_in(alloc: Global, first: &Planned, case: &Case) -> Result<Option<[Seen; 2]>, Fail> {
     let between = plan_of(alloc, case.between)?;
     let seen = seen_anew(alloc, first, &between, case.compacts);
@@ -122,7 +122,7 @@ fn seen_in(alloc: Global, first: &Planned, case: &Case) -> Result<Option<[Seen; 
     seen
 }
 
-/// The first case, after the moves of two blocks, of which something else is seen than should be.
+/// The first case whose tickets show something else than they should.
 fn first_other(alloc: Global, first: &Planned) -> Result<Option<&'static str>, Fail> {
     for case in &CASES {
         if seen_in(alloc, first, case)? != Some([BEFORE, case.later]) {

@@ -1,15 +1,15 @@
-//! Books that go on without their history, and tickets of before and after that.
+//! Reopened books, and tickets from before and after reopening.
 use super::*;
 use nw_book::Agreement;
 use nw_model::{Reply, WriteReply};
 use sample_checked::block_with;
 
-/// The book without its history.
+/// The reopened book.
 fn reopened(book: Book<DemoScheme>, alloc: Global) -> Option<Book<DemoScheme>> {
     book.reopen(alloc).ok()
 }
 
-/// What the book answers to the writes, and the front of the last answer.
+/// The replies to the two writes, and the front of the last answer.
 fn answers(
     book: &mut Book<DemoScheme>,
     alloc: Global,
@@ -24,7 +24,7 @@ fn answers(
     Ok((replies, second.front().try_clone()?))
 }
 
-/// Whether the front starts from a base with this certified block of round 0 and author 0, and nothing else.
+/// Whether the front's base has this certified block of round 0 and author 0, and nothing else.
 fn starts_with(front: &Front<DemoScheme>, digest: Digest) -> bool {
     let Some(base) = front.base() else {
         return false;
@@ -37,7 +37,7 @@ fn starts_with(front: &Front<DemoScheme>, digest: Digest) -> bool {
         && base.block(&Digest([0; 32])).is_none()
 }
 
-/// Whether the book votes for no second block of the slot, and holds the first, which is in the base of its history.
+/// Whether the book does not vote for a second block of the slot, and still holds the first, which is in its base.
 fn votes_for_none(
     book: &mut Book<DemoScheme>,
     alloc: Global,
@@ -51,13 +51,13 @@ fn votes_for_none(
     Ok(is_so)
 }
 
-/// Whether the first write has another first digest, and the second one's block is held.
+/// Whether the slot of the first write has another first digest, and the second write's block is held.
 fn are_refused(replies: &[Reply; 2], first: Digest) -> bool {
     matches!(&replies[0], Reply::Write(WriteReply::Equivocates(other)) if *other == first)
         && matches!(&replies[1], Reply::Write(WriteReply::Held))
 }
 
-/// Whether the book, once it has no history, votes for no second block; and the book.
+/// The reopened book, if it does not vote for a second block.
 fn goes_on(
     alloc: Global,
     book: Book<DemoScheme>,
@@ -74,7 +74,7 @@ fn goes_on(
     }
 }
 
-/// Whether a book of these moves does, and does once more.
+/// Whether a book that made these moves does not vote for a second block, reopened once and reopened twice.
 fn goes_on_twice(
     alloc: Global,
     moves: &[Move<DemoScheme>],
@@ -92,7 +92,7 @@ fn goes_on_twice(
     Ok(goes_on(alloc, book, writes, first).is_some())
 }
 
-/// The two blocks, each to be written.
+/// The writes of another block of the slot and of the first block.
 fn writes(alloc: Global) -> Result<[Command<DemoScheme>; 2], Fail> {
     let one = committee(alloc, 1)?;
     let other = block_with(alloc, &one, b"x")?;
@@ -102,7 +102,7 @@ fn writes(alloc: Global) -> Result<[Command<DemoScheme>; 2], Fail> {
     ])
 }
 
-/// Whether a book of one block does.
+/// Whether a book with one block does not vote for a second one, reopened once and reopened twice.
 fn goes_on_without_a_vote(alloc: Global, planned: &Planned) -> Result<bool, Fail> {
     let [other, again] = writes(alloc)?;
     let goes_on = match planned.digests.as_slice() {
@@ -123,14 +123,14 @@ fn a_reopened_book_votes_for_no_second_block_of_a_slot(rt: HostRuntime) -> Resul
     Ok(())
 }
 
-/// Whether the tickets list the same two blocks.
+/// Whether the tickets list the same blocks.
 fn agree(alloc: Global, one: &Ticket<DemoScheme>, other: &Ticket<DemoScheme>) -> bool {
     one.digest() == other.digest()
         && one.view().floor() == other.view().floor()
         && matches!(one.agree(alloc, other), Ok(Agreement::Same))
 }
 
-/// A ticket for the digest of a new book after the moves, and the book.
+/// A ticket for the digest from a new book after the moves, and the book.
 fn opened_anew(
     alloc: Global,
     moves: &[Move<DemoScheme>],
@@ -146,7 +146,7 @@ fn opened_anew(
     }
 }
 
-/// A ticket for the digest of the book without its history.
+/// A ticket for the digest from the reopened book.
 fn opened_later(
     book: Book<DemoScheme>,
     alloc: Global,
@@ -158,7 +158,7 @@ fn opened_later(
     ticket
 }
 
-/// Whether a ticket for the digest of the book without its history agrees with this one.
+/// Whether a ticket for the digest from the reopened book agrees with this one.
 fn later_agrees(
     alloc: Global,
     book: Book<DemoScheme>,
@@ -175,7 +175,7 @@ fn later_agrees(
     }
 }
 
-/// Whether a ticket for the digest of another new book agrees with this one.
+/// Whether a ticket for the digest from another new book agrees with this one.
 fn other_agrees(
     alloc: Global,
     moves: &[Move<DemoScheme>],
@@ -189,7 +189,7 @@ fn other_agrees(
     Ok(agrees)
 }
 
-/// Whether tickets for the digest of two books, and of one of them without its history, agree.
+/// Whether tickets for the digest agree that come from two books and from one of them reopened.
 fn three_agree(alloc: Global, moves: &[Move<DemoScheme>], digest: Digest) -> Result<bool, Fail> {
     let (ticket, book) = opened_anew(alloc, moves, digest)?;
     let later = later_agrees(alloc, book, &ticket, digest);

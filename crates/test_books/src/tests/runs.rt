@@ -1,13 +1,13 @@
-//! Runs of moves, with all their answers.
+//! Runs of moves and all their answers.
 use super::*;
 use nw_book::{Answer, Block, Cause, Run, Stop};
 use nw_model::{CertifyReply, CollectReply, Reply, WriteReply};
 
-/// A run that stops at a ticket that it has not.
+/// A run that stops at a missing ticket.
 struct Case {
     shows: &'static str,
     plan: &'static [Plan],
-    /// What its moves are answered in turn, before the stop, and of which rounds the blocks are that each walk lists.
+    /// The answers to the moves before the stop, in order, with the rounds of the blocks that each walk lists.
     answers: &'static [(&'static str, &'static [u64])],
 }
 
@@ -47,7 +47,7 @@ const CASES: [Case; 2] = [
     },
 ];
 
-/// An answer in words, where it is one of those that are waited for, and the blocks that are listed.
+/// An answer in words, if it is one of the expected ones, and the blocks that it lists.
 fn word(answer: &Answer<DemoScheme>) -> (&'static str, &[Shared<Block>]) {
     match answer {
         Answer::Opened => ("opened", &[]),
@@ -61,7 +61,7 @@ fn word(answer: &Answer<DemoScheme>) -> (&'static str, &[Shared<Block>]) {
     }
 }
 
-/// Whether the blocks, which one author made, are of these rounds, in order.
+/// Whether the blocks have these rounds, in order.
 fn have_rounds(blocks: &[Shared<Block>], rounds: &[u64]) -> bool {
     for (block, round) in blocks.iter().zip(rounds) {
         if block.get().round.get() != *round {
@@ -71,19 +71,19 @@ fn have_rounds(blocks: &[Shared<Block>], rounds: &[u64]) -> bool {
     blocks.len() == rounds.len()
 }
 
-/// Whether these are the answers, in turn.
-fn are_answers(given: &[Answer<DemoScheme>], told: &[(&'static str, &'static [u64])]) -> bool {
-    for (answer, (told, rounds)) in given.iter().zip(told) {
+/// Whether these are the answers, in order.
+fn are_answers(given: &[Answer<DemoScheme>], expected: &[(&'static str, &'static [u64])]) -> bool {
+    for (answer, (text, rounds)) in given.iter().zip(expected) {
         let (word, blocks) = word(answer);
-        if word != *told || !have_rounds(blocks, rounds) {
+        if word != *text || !have_rounds(blocks, rounds) {
             return false;
         }
     }
-    given.len() == told.len()
+    given.len() == expected.len()
 }
 
-/// Whether the run gave these answers in turn, and stopped behind them.
-fn is_told(run: &Run<DemoScheme>, answers: &[(&'static str, &'static [u64])]) -> bool {
+/// Whether the run has these answers in order, and then stopped at a missing ticket.
+fn has_answers(run: &Run<DemoScheme>, answers: &[(&'static str, &'static [u64])]) -> bool {
     let stop = Stop {
         at: answers.len(),
         cause: Cause::NoTicket,
@@ -91,7 +91,7 @@ fn is_told(run: &Run<DemoScheme>, answers: &[(&'static str, &'static [u64])]) ->
     run.stop == Some(stop) && are_answers(run.answers.as_slice(), answers)
 }
 
-/// Whether a run of the moves does.
+/// Whether a run of the moves has the answers of the case and then stops at a missing ticket.
 fn is_answered(
     book: &mut Book<DemoScheme>,
     alloc: Global,
@@ -99,12 +99,12 @@ fn is_answered(
     case: &Case,
 ) -> bool {
     let run = book.run(alloc, moves);
-    let is_told = is_told(&run, case.answers);
+    let has_answers = has_answers(&run, case.answers);
     drop(run);
-    is_told
+    has_answers
 }
 
-/// Whether a run of the case in a new book does.
+/// The same for a run of the case in a new book.
 fn is_answered_anew(alloc: Global, case: &Case) -> Result<bool, Fail> {
     let planned = plan_of(alloc, case.plan)?;
     let is_answered = is_answered_by(alloc, &planned.moves, case);
@@ -112,7 +112,7 @@ fn is_answered_anew(alloc: Global, case: &Case) -> Result<bool, Fail> {
     is_answered
 }
 
-/// Whether a run of the moves in a new book does.
+/// The same for a run of the moves in a new book.
 fn is_answered_by(alloc: Global, moves: &[Move<DemoScheme>], case: &Case) -> Result<bool, Fail> {
     let mut book = book_of_one(alloc, LIMITS)?;
     let is_answered = is_answered(&mut book, alloc, moves, case);
@@ -121,7 +121,7 @@ fn is_answered_by(alloc: Global, moves: &[Move<DemoScheme>], case: &Case) -> Res
 }
 
 #[test]
-fn runs_of_moves_give_each_answer_and_stop_at_the_ticket_that_they_lack(
+fn runs_of_moves_give_each_answer_and_stop_at_a_missing_ticket(
     rt: HostRuntime,
 ) -> Result<(), Fail> {
     for case in &CASES {

@@ -1,10 +1,10 @@
-//! Whose turn it is, under which committee, and how many events there may be.
+//! Calls out of turn, under another committee, or after a full history; and limits out of range.
 use super::*;
 use nw_book::BookError;
 use nw_check::CheckedBlock;
 
-/// Calls of session 0, in turn, of a book of one member with room for one event: the number of the call, the members of the
-/// committee of the block that it writes, and why it is refused, if it is.
+/// Writes of session 0, in order, to a book of one member whose history may have one event: the number of the call, the number of
+/// members of the block's committee, and the refusal, if there is one.
 const ASKED: [(u32, u16, Option<NoStep>); 6] = [
     (2, 4, Some(NoStep::OutOfTurn)),
     (2, 1, Some(NoStep::OutOfTurn)),
@@ -14,7 +14,7 @@ const ASKED: [(u32, u16, Option<NoStep>); 6] = [
     (2, 1, Some(NoStep::HistoryFull)),
 ];
 
-/// Why the call that writes the block is said to be refused, and why it is.
+/// The refusal of the block's write by `may_step`, and the one by `step`.
 fn refusals(
     book: &mut Book<DemoScheme>,
     alloc: Global,
@@ -28,7 +28,7 @@ fn refusals(
     [said, refused]
 }
 
-/// What becomes of the calls, one after the other: the first that is refused otherwise than it should be.
+/// Makes the calls in order. The number of the first with another outcome than it should have, if there is one.
 fn first_other(book: &mut Book<DemoScheme>, alloc: Global) -> Result<Option<u32>, Fail> {
     for (number, members, why) in ASKED {
         let under = committee(alloc, members)?;
@@ -57,7 +57,7 @@ fn out_of_turn_then_another_committee(rt: HostRuntime) -> Result<(), Fail> {
     Ok(())
 }
 
-/// Limits, in the order of their fields, and why no book is made with them, if none is.
+/// Limits, in the order of their fields, and the error of a book with them, if there is one.
 const LIMITED: [([u32; 4], Option<BookError>); 10] = [
     ([1, 1, 1, 1], None),
     ([65_536, 65_536, 4_096, 256], None),
@@ -71,7 +71,7 @@ const LIMITED: [([u32; 4], Option<BookError>); 10] = [
     ([1, 1, 1, 257], Some(BookError::BadLimits)),
 ];
 
-/// Why no book is made with the limits.
+/// The error of a book with the limits, if there is one.
 fn refusal(alloc: Global, limits: Limits) -> Result<Option<BookError>, Fail> {
     let one = committee(alloc, 1)?;
     Ok(Book::<DemoScheme>::new(alloc, one, limits).err())

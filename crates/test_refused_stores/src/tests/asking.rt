@@ -1,11 +1,11 @@
-//! A session of a store that asks the rows of an example, each again at once where memory was refused.
+//! A session that asks the rows of an example, and repeats a row at once if an allocation fails.
 use super::desk::{Desk, Link};
 use super::*;
 use nw_digest::Sequence;
 use nw_store::{Done, Home, Session, Store};
 use std::sync::Wait;
 
-/// What is asked, of a block and its certificate.
+/// What a session asks, for one block and its certificate.
 #[derive(Clone, Copy)]
 pub(super) enum Ask {
     Write,
@@ -13,20 +13,21 @@ pub(super) enum Ask {
     Certificate,
     Read,
     Open,
-    /// The ticket of this number is walked, which is no call.
+    /// Walk the ticket with this number. This is not a call.
     Walk(usize),
-    /// The rounds below this one are collected.
+    /// Raise the garbage round to this one.
     Collect(u64),
     Missing,
     Status,
-    /// The store is compacted, which is no call.
+    /// Compact the store. This is not a call.
     Compact,
 }
 
-/// The place of a block, what is asked of it, and the text of the reply, or of how many parts the view of the last ticket has.
+/// The place of a block, what the session asks, and the text of the expected reply. `Ready` has the number of parts of the last
+/// ticket's view.
 pub(super) struct Row(pub(super) usize, pub(super) Ask, pub(super) &'static str);
 
-/// Makes the call, which opens nothing, and is lent what it hands in.
+/// Makes a call that is not a causal read.
 fn call<L: Home, R: Wait>(
     rt: &R,
     alloc: Global,
@@ -49,7 +50,7 @@ fn call<L: Home, R: Wait>(
     }
 }
 
-/// Opens a causal read of the block, and keeps the ticket, if there is one: the reply that a history has of it.
+/// Opens a causal read of the block, and keeps the ticket if there is one. Returns the reply in the history.
 fn open<L: Home, R: Wait>(
     rt: &R,
     alloc: Global,
@@ -75,7 +76,7 @@ fn walk(alloc: Global, ticket: Option<&Ticket<DemoScheme>>) -> Result<Reply, NoS
     }
 }
 
-/// The reply to what is asked.
+/// The reply to what the session asks.
 fn reply_to<L: Home, R: Wait>(
     rt: &R,
     alloc: Global,
@@ -101,24 +102,24 @@ fn reply_to<L: Home, R: Wait>(
     }
 }
 
-/// Whether the reply has this text, where a ready one has that of the parts of the last ticket's view.
-fn is_told(
+/// Whether the reply has this text. The text of `Ready` has the number of parts of the last ticket's view.
+fn has_text(
     alloc: Global,
     desk: &Desk,
     reply: &Reply,
     last: Option<&Ticket<DemoScheme>>,
-    told: &str,
+    expected: &str,
 ) -> Result<bool, AllocError> {
     match (reply, last) {
         (Reply::Ready, Some(ticket)) => {
             let parts = ticket.view().parts();
-            Ok(again!(AllocError, format!(in alloc; "Ready({parts})"))?.as_str() == told)
+            Ok(again!(AllocError, format!(in alloc; "Ready({parts})"))?.as_str() == expected)
         }
-        _ => desk.is_told(alloc, reply, told),
+        _ => desk.has_text(alloc, reply, expected),
     }
 }
 
-/// Whether the store answers as the row says.
+/// Asks the row. Whether the reply is the expected one.
 fn answers<L: Home, R: Wait>(
     rt: &R,
     alloc: Global,
@@ -128,7 +129,7 @@ fn answers<L: Home, R: Wait>(
     desk: &Desk,
     row: &Row,
 ) -> Result<bool, Fail> {
-    let Row(place, asked, told) = row;
+    let Row(place, asked, expected) = row;
     let Some(link) = desk.links.get(*place) else {
         return Ok(false);
     };
@@ -136,12 +137,12 @@ fn answers<L: Home, R: Wait>(
         NoStep::NoMemory,
         reply_to(rt, alloc, store, session, link, tickets, asked)
     )?;
-    let is_told = is_told(alloc, desk, &reply, tickets.last(), told);
+    let has_text = has_text(alloc, desk, &reply, tickets.last(), expected);
     drop(reply);
-    Ok(is_told?)
+    Ok(has_text?)
 }
 
-/// How many rows, from the first on, the store answers as they say.
+/// The number of rows, from the first on, that get the expected replies.
 pub(super) fn answered<L: Home, R: Wait>(
     rt: &R,
     alloc: Global,

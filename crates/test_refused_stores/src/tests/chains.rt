@@ -1,10 +1,10 @@
-//! Seventeen tickets of a chain, which is compacted.
+//! Seventeen tickets of a chain, in a store that is then compacted.
 use super::asking::{Ask, Row};
 use super::desk::Sketch;
 use super::examples::{CERTIFIED, STORED, seen};
 use super::*;
 
-/// A block in each of 17 rounds, over the one before it.
+/// A block in each of 17 rounds, whose parent is the one before it.
 const CHAIN: [Sketch; 17] = [
     Sketch(0, 0, b"", &[]),
     Sketch(1, 0, b"", &[0]),
@@ -25,7 +25,8 @@ const CHAIN: [Sketch; 17] = [
     Sketch(16, 0, b"", &[15]),
 ];
 
-/// Each block is written, certified and opened, and the store is compacted. A view has no more than 16 parts, and one after that.
+/// Each block is written, certified and opened, and then the store is compacted. A view has at most 16 parts; after `Compact` a new
+/// view has one.
 const COMPACTED: [Row; 55] = [
     Row(0, Ask::Write, STORED),
     Row(0, Ask::Certify, CERTIFIED),

@@ -1,11 +1,11 @@
-//! The blocks of an example, and texts of what is told of them.
+//! The blocks of an example, and the texts of replies about them.
 use super::*;
 use nw_check::{BlockFault, CertFault, CheckedBlock, CheckedCert};
 use nw_codec::{Certificate, Ref};
 use nw_model::{Wanted, WriteReply};
 use sample_checked::refused::{checked_block, checked_certificate, committee};
 
-/// A block by its round, its author, its transactions of one byte each, and its parents, by their places in the example.
+/// The round of a block, its author, its transactions of one byte each, and the places of its parents in the example.
 pub(super) struct Sketch(
     pub(super) u64,
     pub(super) u16,
@@ -13,7 +13,7 @@ pub(super) struct Sketch(
     pub(super) &'static [usize],
 );
 
-/// Three blocks of round 0, and one over them.
+/// Three blocks of round 0, and one with them as parents.
 pub(super) const FOUR: [Sketch; 4] = [
     Sketch(0, 0, b"", &[]),
     Sketch(0, 1, b"", &[]),
@@ -45,7 +45,7 @@ fn references(alloc: Global, links: &[Link], places: &[usize]) -> Result<Vec<Ref
     Ok(references)
 }
 
-/// The block of the sketch over these.
+/// The block of the sketch, with parents among these.
 fn made(
     alloc: Global,
     committee: &Shared<Committee>,
@@ -83,7 +83,7 @@ pub(super) struct Desk {
 }
 
 impl Desk {
-    /// The blocks for a committee of members with these numbers.
+    /// The blocks of the sketches, for a committee of members with these numbers.
     pub(super) fn new(alloc: Global, members: &[u8], sketches: &[Sketch]) -> Result<Desk, Fail> {
         let committee = again!(NoMemory, committee(alloc, members))?;
         let links = again!(AllocError, Vec::with_capacity(alloc, sketches.len()))?;
@@ -104,7 +104,7 @@ impl Desk {
         Ok(self.links.push(Link { block, certificate })?)
     }
 
-    /// The place of the block; where it is none of the example, one behind the last.
+    /// The place of the block, or the number of blocks if it is not part of the example.
     fn place_of(&self, block: &Block) -> usize {
         for (place, link) in self.links.iter().enumerate() {
             if link.block.block().get() == block {
@@ -114,7 +114,7 @@ impl Desk {
         self.links.len()
     }
 
-    /// The place of the digest; where it is none of the example, one behind the last.
+    /// The place of the digest, or the number of blocks if it is not part of the example.
     pub(super) fn place_under(&self, digest: &Digest) -> usize {
         for (place, link) in self.links.iter().enumerate() {
             if link.block.digest() == *digest {
@@ -133,7 +133,7 @@ impl Desk {
         Ok(places)
     }
 
-    /// The text of what is missing: of a single block its round, its author and its place.
+    /// The text of wanted parents: for a single one its round, author and place, and otherwise their number.
     fn missing(&self, alloc: Global, wanted: &[Wanted]) -> Result<String, AllocError> {
         match wanted {
             [only] => {
@@ -156,7 +156,7 @@ impl Desk {
         )
     }
 
-    /// The text of the reply: it names a block by its place in the example, and a certificate by its block's and its signers.
+    /// The text of the reply. It names a block by its place in the example, and a certificate by its block's place and its signers.
     pub(super) fn text_of(&self, alloc: Global, reply: &Reply) -> Result<String, AllocError> {
         match reply {
             Reply::Write(WriteReply::Equivocates(first)) => {
@@ -175,13 +175,13 @@ impl Desk {
         }
     }
 
-    /// Whether this is the text of the reply.
-    pub(super) fn is_told(
+    /// Whether the reply has this text.
+    pub(super) fn has_text(
         &self,
         alloc: Global,
         reply: &Reply,
-        told: &str,
+        expected: &str,
     ) -> Result<bool, AllocError> {
-        Ok(again!(AllocError, self.text_of(alloc, reply))?.as_str() == told)
+        Ok(again!(AllocError, self.text_of(alloc, reply))?.as_str() == expected)
     }
 }

@@ -1,8 +1,8 @@
-//! How a store ends: its sessions are settled while all memory is refused, and a book goes on.
+//! The end of a store: its sessions are settled while all allocations fail, and its book is reopened.
 use super::*;
 use nw_store::{Home, Session, Settled, Store, settle};
 
-/// How many calls the session has, if it is of the store.
+/// The number of calls of the session, if the store made one with this id.
 fn calls<L: Home>(settled: &Settled<DemoScheme, L>, session: u16) -> Option<usize> {
     match settled.journal(session) {
         Some(entries) => Some(entries.len()),
@@ -10,7 +10,7 @@ fn calls<L: Home>(settled: &Settled<DemoScheme, L>, session: u16) -> Option<usiz
     }
 }
 
-/// How many events there are, where the first session of two made them all, else 0. It takes no memory.
+/// The number of events if the first of two sessions made them all, else 0. It allocates nothing.
 fn events<L: Home>(alloc: Global, settled: &Settled<DemoScheme, L>) -> usize {
     refuse_all(alloc);
     let events = settled.history().len();
@@ -20,7 +20,7 @@ fn events<L: Home>(alloc: Global, settled: &Settled<DemoScheme, L>) -> usize {
     if is_first && are_two { events } else { 0 }
 }
 
-/// The book that goes on with what was settled, asked for once more where memory was refused.
+/// The reopened book, tried once more if an allocation fails.
 fn reopened<L: Home>(
     alloc: Global,
     settled: Settled<DemoScheme, L>,
@@ -37,8 +37,8 @@ fn reopened<L: Home>(
     }
 }
 
-/// How many events there are, and the book that goes on.
-fn goes_on<L: Home>(
+/// The number of events, and the reopened book.
+fn events_and_book<L: Home>(
     alloc: Global,
     settled: Settled<DemoScheme, L>,
 ) -> Result<(usize, Book<DemoScheme>), Fail> {
@@ -46,7 +46,7 @@ fn goes_on<L: Home>(
     Ok((events, reopened(alloc, settled)?))
 }
 
-/// Settles the sessions, which are all: how many events there are, and the book that goes on.
+/// Settles the sessions, which are all of the store. Returns the number of events and the reopened book.
 pub(super) fn ended<L: Home>(
     alloc: Global,
     store: Store<DemoScheme, L>,
@@ -56,10 +56,10 @@ pub(super) fn ended<L: Home>(
     let settled = settle(store, sessions);
     refuse_none(alloc);
     match settled {
-        Ok(settled) => goes_on(alloc, settled),
+        Ok(settled) => events_and_book(alloc, settled),
         Err(refused) => {
             drop(refused);
-            Err(Fail::from("two sessions of two do not settle"))
+            Err(Fail::from("all sessions are given and do not settle"))
         }
     }
 }

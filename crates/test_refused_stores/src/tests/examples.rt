@@ -15,7 +15,7 @@ const ALL: &str = "List([0, 1, 2, 3])";
 const COUNTS: &str =
     "Status(Counts { floor: Round { number: 0 }, blocks: 3, certificates: 4, complete: 2, wanted: 1 })";
 
-/// A block waits for one of its three parents.
+/// A block is incomplete until the last of its three parents is written.
 const WAITING: [Row; 13] = [
     Row(0, Ask::Write, STORED),
     Row(1, Ask::Write, STORED),
@@ -49,7 +49,7 @@ pub(super) const COLLECTED: [Row; 13] = [
     Row(3, Ask::Open, "Causal(Unknown)"),
 ];
 
-/// A block and its certificate are kept once, and read.
+/// A block and its certificate are each handed in twice, kept once, and read.
 const KEPT: [Row; 6] = [
     Row(0, Ask::Write, STORED),
     Row(0, Ask::Write, "Write(Held)"),
@@ -59,7 +59,8 @@ const KEPT: [Row; 6] = [
     Row(0, Ask::Certificate, "Certificate(0 by [0, 1, 2])"),
 ];
 
-/// How many rows a new store answers as they say, and how many events there are. Its committee has members with these numbers.
+/// The number of rows for which a new store gives the expected replies, and the number of events. The committee has members with
+/// these numbers.
 pub(super) fn seen<R: Wait>(
     rt: &R,
     alloc: Global,
@@ -101,7 +102,7 @@ pub(super) fn new_book(alloc: Global, desk: &Desk) -> Result<Book<DemoScheme>, B
     Book::new(alloc, desk.committee.try_clone()?, LIMITS)
 }
 
-/// What a store of one member is asked, and those that go on with what it knew, one after the other.
+/// The rows for a store of one member, and for two stores over its reopened book, one after the other.
 const FIRST: [Row; 3] = [
     Row(0, Ask::Write, STORED),
     Row(0, Ask::Certify, CERTIFIED),
@@ -118,8 +119,8 @@ const SECOND: [Row; 5] = [
 
 const THIRD: [Row; 1] = [Row(1, Ask::Write, "Write(Collected(Round { number: 1 }))")];
 
-/// The book that goes on where a store over this one answers all rows as they say, in so many events.
-fn gone_on<R: Wait>(
+/// The reopened book, if a store over this book gives all expected replies, in this many events.
+fn reopened_after<R: Wait>(
     rt: &R,
     alloc: Global,
     book: Book<DemoScheme>,
@@ -133,7 +134,7 @@ fn gone_on<R: Wait>(
         return Ok(outcome.book);
     }
     drop(outcome);
-    Err(Fail::from("a store answers otherwise"))
+    Err(Fail::from("a store gave another reply"))
 }
 
 #[test]
@@ -142,13 +143,13 @@ fn a_reopened_store_votes_once(rt: HostRuntime) -> Result<(), Fail> {
     let desk = Desk::new(alloc, &[0], &TWO)?;
     let mut tickets = again!(AllocError, Vec::with_capacity(alloc, 2))?;
     let first = again!(BookError::NoMemory, new_book(alloc, &desk))?;
-    let second = gone_on(&rt, alloc, first, &desk, &FIRST, 3, &mut tickets)?;
-    let third = gone_on(&rt, alloc, second, &desk, &SECOND, 4, &mut tickets)?;
-    gone_on(&rt, alloc, third, &desk, &THIRD, 1, &mut tickets)?;
+    let second = reopened_after(&rt, alloc, first, &desk, &FIRST, 3, &mut tickets)?;
+    let third = reopened_after(&rt, alloc, second, &desk, &SECOND, 4, &mut tickets)?;
+    reopened_after(&rt, alloc, third, &desk, &THIRD, 1, &mut tickets)?;
     Ok(())
 }
 
-/// Whether the lists of two tickets for one digest are equal.
+/// Whether both tickets are for one digest and list the same blocks.
 fn agree(
     alloc: Global,
     one: &Ticket<DemoScheme>,
@@ -160,7 +161,7 @@ fn agree(
     Ok(matches!(again!(NoMemory, one.agree(alloc, other))?, Agreement::Same))
 }
 
-/// The tickets of two new stores, each of which opens the last block of the example.
+/// The tickets of two new stores, each for the last block of the example.
 fn two_tickets<R: Wait>(
     rt: &R,
     alloc: Global,
@@ -171,7 +172,7 @@ fn two_tickets<R: Wait>(
         let outcome = played_anew(rt, alloc, desk, &COLLECTED[..9], &mut tickets)?;
         if (outcome.answered, outcome.events) != (9, 9) {
             drop(outcome);
-            return Err(Fail::from("a store answers otherwise"));
+            return Err(Fail::from("a store gave another reply"));
         }
         drop(outcome);
     }

@@ -1,4 +1,4 @@
-//! Limits that are out of their ranges.
+//! Limits out of their ranges.
 ghost use Rattle.std.specs.Prelude.{◌≡◌};
 ghost use Rattle.nw_history.specs.Story.{first_origin};
 ghost use Rattle.nw_store.specs.Kept.{parts_of_a_ledger};
@@ -8,7 +8,7 @@ use nw_store::{Home, Opening, Store};
 use sample_checked::refused::committee;
 use std::marker::Brand;
 
-/// Limits of blocks, events, rounds and sessions, one of which is out of its range.
+/// Limits of blocks, events, rounds and sessions, of which one is out of its range.
 const BAD: [(u32, u32, u32, u32); 8] = [
     (0, 1, 1, 1),
     (65_537, 1, 1, 1),
@@ -20,7 +20,7 @@ const BAD: [(u32, u32, u32, u32); 8] = [
     (1, 1, 1, 257),
 ];
 
-/// Why there is no store with these limits.
+/// The error of a new store with these limits, if there is one.
 fn fault_of<L: Home>(
     alloc: Global,
     opening: Opening<DemoScheme>,
@@ -34,7 +34,7 @@ fn fault_of<L: Home>(
     Store::<DemoScheme, L>::new(alloc, opening, committee, limits).err()
 }
 
-/// Why there is no book and no store with these limits, which are asked for while all memory is refused.
+/// The errors of a new book and of a new store with these limits, while all allocations fail.
 fn faults_of(
     alloc: Global,
     committee: &Shared<Committee>,

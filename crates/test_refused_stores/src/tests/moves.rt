@@ -3,7 +3,7 @@ use super::desk::{Desk, Link, TWO};
 use super::*;
 use nw_book::{Answer, Cause, Move, Stop};
 
-/// The limits of a book of one session.
+/// The limits of a book with one session.
 const LIMITS: Limits = Limits {
     blocks: 16,
     events: 16,
@@ -16,29 +16,29 @@ fn new_book(alloc: Global, committee: &Shared<Committee>) -> Result<Book<DemoSch
     Book::new(alloc, committee.try_clone()?, LIMITS)
 }
 
-/// A move of session 0 that asks this.
-fn asks(command: Command<DemoScheme>) -> Move<DemoScheme> {
+/// A move of session 0 with this command.
+fn call(command: Command<DemoScheme>) -> Move<DemoScheme> {
     Move::Call {
         session: 0,
         command,
     }
 }
 
-/// The block is written, certified and opened, its round is collected, and its ticket is walked, and then one that the run has not.
+/// Moves that write, certify and open the block, collect its round, and walk its ticket and then a missing ticket.
 fn moves(made: Link) -> [Move<DemoScheme>; 6] {
     let digest = made.block.digest();
     [
-        asks(Command::Write(made.block)),
-        asks(Command::Certify(made.certificate)),
+        call(Command::Write(made.block)),
+        call(Command::Certify(made.certificate)),
         Move::Open { session: 0, digest },
-        asks(Command::Collect(Round::new(1).unwrap_or(Round::ZERO))),
+        call(Command::Collect(Round::new(1).unwrap_or(Round::ZERO))),
         Move::Walk { ticket: 0 },
         Move::Walk { ticket: 5 },
     ]
 }
 
-/// What those moves are answered, up to the last, which is not made.
-const TOLD: [&str; 5] = [
+/// The answers to those moves, without the last, which is refused.
+const ANSWERS: [&str; 5] = [
     "Write(Stored { vote: true })",
     "Certify(Certified)",
     "Opened",
@@ -61,37 +61,37 @@ fn text_of(alloc: Global, answer: &Answer<DemoScheme>) -> Result<String, AllocEr
     }
 }
 
-/// Whether the answers are the first of those, and the history has their events and no other.
-fn are_told(
+/// Whether the answers are the first of the expected ones, and the history has their events and no other.
+fn are_answers(
     alloc: Global,
     answers: &[Answer<DemoScheme>],
     events: usize,
 ) -> Result<bool, AllocError> {
-    for (answer, told) in answers.iter().zip(&TOLD) {
-        if again!(AllocError, text_of(alloc, answer))?.as_str() != *told {
+    for (answer, expected) in answers.iter().zip(&ANSWERS) {
+        if again!(AllocError, text_of(alloc, answer))?.as_str() != *expected {
             return Ok(false);
         }
     }
     Ok(events == answers.len().min(4))
 }
 
-/// Makes the moves on the book: where the run stops, if all before that was answered as it is to be.
+/// Makes the moves on the book. Returns where the run stops, or fails if an answer before is not the expected one.
 fn stop_of(
     book: &mut Book<DemoScheme>,
     alloc: Global,
     moves: &[Move<DemoScheme>],
 ) -> Result<Option<Stop>, Fail> {
     let run = book.run(alloc, moves);
-    let are_told = are_told(alloc, run.answers.as_slice(), book.history().len());
+    let are_answers = are_answers(alloc, run.answers.as_slice(), book.history().len());
     let stop = run.stop;
     drop(run);
-    match are_told? {
+    match are_answers? {
         true => Ok(stop),
-        false => Err(Fail::from("a move is answered otherwise")),
+        false => Err(Fail::from("a move got another answer")),
     }
 }
 
-/// That of a new book.
+/// The stop of a run in a new book.
 fn stop_anew(
     alloc: Global,
     committee: &Shared<Committee>,
@@ -103,7 +103,7 @@ fn stop_anew(
     stop
 }
 
-/// Whether the stop is want of memory.
+/// Whether the run stopped since an allocation failed.
 fn is_refused(stop: Option<Stop>) -> bool {
     match stop {
         Some(stop) => matches!(
@@ -114,7 +114,7 @@ fn is_refused(stop: Option<Stop>) -> bool {
     }
 }
 
-/// That of a new book, asked once more where memory was refused.
+/// The stop of a run in a new book, repeated in another one if an allocation fails.
 fn stop_again(
     alloc: Global,
     committee: &Shared<Committee>,
@@ -128,7 +128,7 @@ fn stop_again(
     }
 }
 
-/// That of the moves of the last block of the desk.
+/// The stop of a run with the moves for the last block of the desk.
 fn stop_with(alloc: Global, desk: &mut Desk) -> Result<Option<Stop>, Fail> {
     let moves = moves(desk.links.pop().ok_or("an example has blocks")?);
     let stop = stop_again(alloc, &desk.committee, &moves);
@@ -137,7 +137,7 @@ fn stop_with(alloc: Global, desk: &mut Desk) -> Result<Option<Stop>, Fail> {
 }
 
 #[test]
-fn a_run_of_moves_is_made_or_begun(rt: HostRuntime) -> Result<(), Fail> {
+fn a_run_of_moves_is_made_or_stops(rt: HostRuntime) -> Result<(), Fail> {
     let alloc = rt.alloc();
     let mut desk = Desk::new(alloc, &[0], &TWO)?;
     let stop = stop_with(alloc, &mut desk);

@@ -1,4 +1,4 @@
-//! Stores: from the making of a store to the settlement of its sessions.
+//! Stores, from `new` or `over` to the settlement of their sessions.
 ghost use Rattle.std.specs.Prelude.{◌≡◌};
 ghost use Rattle.nw_history.specs.Story.{first_origin};
 ghost use Rattle.nw_store.specs.Journal.{origin_of};
@@ -20,15 +20,18 @@ pub(super) const LIMITS: Limits = Limits {
     sessions: 3,
 };
 
-/// How many rows were answered as they say, how many events there were, and the book that goes on.
+/// What a store leaves behind.
 #[derive(Drop)]
 pub(super) struct Outcome {
+    /// The number of rows, from the first on, that got the expected replies.
     pub(super) answered: usize,
+    /// The number of events.
     pub(super) events: usize,
+    /// The reopened book.
     pub(super) book: Book<DemoScheme>,
 }
 
-/// Asks the rows on the store, in the first of two sessions that it makes: how many are answered as they say.
+/// Makes two sessions, and asks the rows in the first. Returns the number of rows, from the first on, with the expected replies.
 fn asked<L: Home, R: Wait>(
     rt: &R,
     alloc: Global,
@@ -72,7 +75,7 @@ fn play<L: Home, R: Wait>(
     }
 }
 
-/// Asks the rows on a store that goes on with the book.
+/// Asks the rows on a store over the book.
 fn play_over<L: Home, R: Wait>(
     rt: &R,
     alloc: Global,
@@ -95,7 +98,7 @@ fn play_over<L: Home, R: Wait>(
     }
 }
 
-/// Asks the rows on a new store, or says why there is none.
+/// Asks the rows on a new store. The inner error says why there is no store.
 fn play_new<L: Home, R: Wait>(
     rt: &R,
     alloc: Global,
@@ -116,7 +119,7 @@ fn play_new<L: Home, R: Wait>(
     }
 }
 
-/// Asks the rows on a new store, which has an opening of its own, or says why there is none.
+/// Asks the rows on a new store with a new opening. The inner error says why there is no store.
 fn play_anew<R: Wait>(
     rt: &R,
     alloc: Global,
@@ -136,7 +139,7 @@ fn play_anew<R: Wait>(
     }
 }
 
-/// What becomes of a new store. Where it is refused memory it is made again, with another opening.
+/// The outcome of the rows on a new store. If an allocation fails while the store is made, it is made again with another opening.
 pub(super) fn played_anew<R: Wait>(
     rt: &R,
     alloc: Global,
@@ -150,7 +153,7 @@ pub(super) fn played_anew<R: Wait>(
     }
 }
 
-/// What becomes of a store that goes on with the book.
+/// The outcome of the rows on a store over the book.
 pub(super) fn played<R: Wait>(
     rt: &R,
     alloc: Global,

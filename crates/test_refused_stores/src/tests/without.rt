@@ -1,4 +1,4 @@
-//! Calls that take no memory, which are made while all memory is refused.
+//! Calls that allocate nothing, made while all allocations fail.
 ghost use Rattle.std.specs.Prelude.{◌≡◌};
 ghost use Rattle.nw_store.specs.Journal.{origin_of};
 ghost use Rattle.nw_store.specs.Kept.{parts_of_a_ledger};
@@ -13,7 +13,7 @@ use nw_store::{
 use std::marker::Brand;
 use std::sync::Wait;
 
-/// The limits of a book of two sessions, whose history is full after two events.
+/// Limits of a book with two sessions, whose history is full after two events.
 const NARROW: Limits = Limits {
     blocks: 16,
     events: 2,
@@ -26,7 +26,7 @@ fn narrow_book(alloc: Global, desk: &Desk) -> Result<Book<DemoScheme>, BookError
     Book::new(alloc, desk.committee.try_clone()?, NARROW)
 }
 
-/// Fills the history of the book. Gives its first answer.
+/// Fills the history of the book, and returns its first answer.
 fn fill(alloc: Global, book: &mut Book<DemoScheme>) -> Result<Done<DemoScheme>, NoStep> {
     let first = again!(NoStep::NoMemory, book.step(alloc, 0, 1, &Command::Status))?;
     match again!(NoStep::NoMemory, book.step(alloc, 0, 2, &Command::Status)) {
@@ -41,7 +41,7 @@ fn fill(alloc: Global, book: &mut Book<DemoScheme>) -> Result<Done<DemoScheme>, 
     }
 }
 
-/// Why a full book takes no step out of turn, none of another committee, and no more.
+/// The refusals of a full book: of calls out of turn, of a call of another committee, and of further calls.
 fn refusals_of(
     alloc: Global,
     book: &mut Book<DemoScheme>,
@@ -68,8 +68,8 @@ const REFUSALS: [NoStep; 6] = [
     NoStep::HistoryFull,
 ];
 
-/// Whether the history of the full book, and the front of its first answer, are told of.
-fn are_told(book: &Book<DemoScheme>, desk: &Desk, first: &Done<DemoScheme>) -> bool {
+/// Whether the history of the full book and the front of its first answer can be read, and are the expected ones.
+fn are_read(book: &Book<DemoScheme>, desk: &Desk, first: &Done<DemoScheme>) -> bool {
     let (history, front) = (book.history(), first.front());
     let lengths = (history.len(), history.parts(), front.len(), front.parts()) == (2, 2, 1, 1);
     let events = history.event(1).is_some()
@@ -85,14 +85,14 @@ fn are_told(book: &Book<DemoScheme>, desk: &Desk, first: &Done<DemoScheme>) -> b
     lengths && events && origins && begins
 }
 
-/// A write of the first block of an example for members with these numbers.
+/// A desk for members with these numbers, and a write of its first block.
 fn write_under(alloc: Global, members: &[u8]) -> Result<(Desk, Command<DemoScheme>), Fail> {
     let mut desk = Desk::new(alloc, members, &TWO[..1])?;
     let link = desk.links.pop().ok_or("an example has blocks")?;
     Ok((desk, Command::Write(link.block)))
 }
 
-/// Whether books refuse steps, and histories and fronts are told of, without memory.
+/// Whether books refuse calls, and histories and fronts can be read, without an allocation.
 fn of_books(alloc: Global) -> Result<bool, Fail> {
     let (desk, own) = write_under(alloc, &[0])?;
     let (other, foreign) = write_under(alloc, &[1])?;
@@ -101,13 +101,14 @@ fn of_books(alloc: Global) -> Result<bool, Fail> {
     let first = fill(alloc, &mut book)?;
     refuse_all(alloc);
     let refusals = refusals_of(alloc, &mut book, &own, &foreign);
-    let are_told = are_told(&book, &desk, &first);
+    let are_read = are_read(&book, &desk, &first);
     refuse_none(alloc);
-    Ok(refusals == REFUSALS.map(Some) && are_told)
+    Ok(refusals == REFUSALS.map(Some) && are_read)
 }
 
-/// The place of the ticket's block, and how many events its front and how many parts its view has, told while all memory is refused.
-fn told(alloc: Global, desk: &Desk, ticket: &Ticket<DemoScheme>) -> (usize, usize, usize) {
+/// The place of the ticket's block, the number of events of its front and the number of parts of its view, read while all
+/// allocations fail.
+fn read_of(alloc: Global, desk: &Desk, ticket: &Ticket<DemoScheme>) -> (usize, usize, usize) {
     refuse_all(alloc);
     let (front, view) = (ticket.front().len(), ticket.view().parts());
     let place = desk.place_under(&ticket.digest());
@@ -115,18 +116,19 @@ fn told(alloc: Global, desk: &Desk, ticket: &Ticket<DemoScheme>) -> (usize, usiz
     (place, front, view)
 }
 
-/// Whether tickets lend what they hold without memory.
+/// Whether tickets can be read without an allocation.
 fn of_tickets<R: Wait>(rt: &R, alloc: Global) -> Result<bool, Fail> {
     let desk = Desk::new(alloc, &[0, 1, 2, 3], &FOUR)?;
     let mut tickets = again!(AllocError, Vec::with_capacity(alloc, 1))?;
     drop(played_anew(rt, alloc, &desk, &COLLECTED[..9], &mut tickets)?);
     match tickets.first() {
-        Some(ticket) => Ok(told(alloc, &desk, ticket) == (3, 9, 1)),
+        Some(ticket) => Ok(read_of(alloc, &desk, ticket) == (3, 9, 1)),
         None => Ok(false),
     }
 }
 
-/// Settles these sessions, which is refused since the first is missing, and then them with it and with one more.
+/// Tries to settle the given sessions, which must fail since the first is missing. Then settles them together with the first and
+/// with one more.
 fn settled_later<L: Home>(
     alloc: Global,
     store: Store<DemoScheme, L>,
@@ -147,14 +149,14 @@ fn settled_later<L: Home>(
     settle_locked(locked, sessions).ok()
 }
 
-/// Whether the session made the one call of the history, and the other two made none.
+/// Whether the first session made the one call of the history, and the other two made none.
 fn has_all<L: Home>(settled: &Settled<DemoScheme, L>) -> bool {
     let of = |session: u16| settled.journal(session).map(|journal| journal.len());
     settled.history().len() == 1
         && (of(0), of(1), of(2), of(3)) == (Some(1), Some(0), Some(0), None)
 }
 
-/// Makes sessions of the store, the first of which asks it once, and settles them. What takes no memory is done while all is refused.
+/// Makes sessions of the store, makes one call in the first, and settles them. All but that call runs while all allocations fail.
 fn of_sessions<L: Home, R: Wait>(
     rt: &R,
     alloc: Global,
@@ -176,7 +178,7 @@ fn of_sessions<L: Home, R: Wait>(
     Ok(are_counted && is_given && has_all)
 }
 
-/// The same of a store that goes on with the book.
+/// The same for a store over the book.
 fn of_a_store<L: Home, R: Wait>(
     rt: &R,
     alloc: Global,
@@ -196,7 +198,7 @@ fn of_a_store<L: Home, R: Wait>(
     }
 }
 
-/// Whether sessions are made, settled and told of without memory.
+/// Whether sessions are made, read and settled without an allocation.
 fn of_stores<R: Wait>(rt: &R, alloc: Global) -> Result<bool, Fail> {
     let desk = Desk::new(alloc, &[0], &[])?;
     let opening = again!(NoMemory, Opening::new(alloc))?;

@@ -1,4 +1,4 @@
-//! Two stores that take the same calls: their tickets agree, and so do their views.
+//! Two stores that take the same calls: their tickets and views agree.
 ghost use Rattle.std.specs.Prelude.{◌≡◌, IsTrue};
 ghost use Rattle.nw_codec.specs.declared.block.Block.{Block};
 ghost use Rattle.nw_model.specs.View.{IsThere};
@@ -20,7 +20,7 @@ use nw_sig::{DemoSigner, Signer, vote_text};
 use nw_store::{Agreement, NoMemory, Opening, View};
 use std::marker::Brand;
 
-/// Three blocks of round 0 and one over them are written, then certified, and the last one is opened.
+/// Writes three blocks of round 0 and one with them as parents, then certifies all, and then opens the last one.
 const RUN: [Row; 9] = [
     Row(0, 0, Ask::Write, STORED),
     Row(0, 1, Ask::Write, STORED),
@@ -33,7 +33,7 @@ const RUN: [Row; 9] = [
     Row(0, 3, Ask::Open, "Ready"),
 ];
 
-/// Four members of weight 1, which is said of each where they are weighted.
+/// A committee of four members of weight 1, made with or without given weights.
 fn four(alloc: Global, is_weighted: bool) -> Result<Shared<Committee>, Fail> {
     let equal = committee(alloc, 4)?;
     if !is_weighted {
@@ -47,7 +47,7 @@ fn four(alloc: Global, is_weighted: bool) -> Result<Shared<Committee>, Fail> {
     Ok(Shared::new(alloc, Committee::weighted(members)?)?)
 }
 
-/// The certificate of the votes of members 0, 1 and 2.
+/// The certificate with the votes of members 0, 1 and 2.
 fn certificate_of(
     alloc: Global,
     under: &Shared<Committee>,
@@ -74,7 +74,7 @@ fn certificate_of(
     Ok(check_cert(alloc, under, certificate)?)
 }
 
-/// The author's block of the round over these parents.
+/// The author's block of the round with these parents, and its certificate.
 fn link_of(
     alloc: Global,
     under: &Shared<Committee>,
@@ -103,7 +103,7 @@ fn links_of(alloc: Global, under: &Shared<Committee>) -> Result<Vec<Link>, Fail>
     Ok(links)
 }
 
-/// The ticket that a new session of the store opens by the run.
+/// The ticket that a new session of the store gets from the rows of `RUN`.
 fn opened_of<L: Home, R: Wait>(
     rt: &R,
     alloc: Global,
@@ -116,7 +116,7 @@ fn opened_of<L: Home, R: Wait>(
     Ok(opened?.ok_or("a ticket is opened")?)
 }
 
-/// The same of a store that goes on with the book.
+/// The same for a new store over the book.
 fn opened_in<L: Home, R: Wait>(
     rt: &R,
     alloc: Global,
@@ -141,7 +141,7 @@ fn opened_in<L: Home, R: Wait>(
     }
 }
 
-/// The same of a store of its own.
+/// The same for a new store.
 fn opened<R: Wait>(
     rt: &R,
     alloc: Global,
@@ -153,7 +153,7 @@ fn opened<R: Wait>(
     opened_in::<Brand, R>(rt, alloc, opening, book, crew)
 }
 
-/// Whether the view has a block under the digest that is not below the view's floor.
+/// Whether the view has a block under the digest, at or above the view's floor.
 fn is_there(view: &View, digest: Digest) -> bool
     ensures { IsTrue result → (b : Block) × IsThere view.now.frozen digest b }
 {
@@ -163,7 +163,7 @@ fn is_there(view: &View, digest: Digest) -> bool
     }
 }
 
-/// Whether the views of both tickets agree on the digest of the first.
+/// Whether the views of both tickets agree for the digest of the first.
 fn views_agree(
     alloc: Global,
     one: &Ticket<DemoScheme>,
@@ -177,7 +177,7 @@ fn views_agree(
     }
 }
 
-/// Whether both tickets agree, which are for one digest.
+/// Whether both tickets are for one digest and agree.
 fn tickets_agree(
     alloc: Global,
     one: &Ticket<DemoScheme>,
@@ -190,7 +190,7 @@ fn tickets_agree(
     }
 }
 
-/// Whether the tickets of two stores of the committee agree, and their views.
+/// Whether the views and the tickets of two stores with this committee agree.
 fn both_agree<R: Wait>(
     rt: &R,
     alloc: Global,

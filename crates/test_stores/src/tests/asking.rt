@@ -1,10 +1,10 @@
-//! What a session asks of a store.
+//! Calls of a session, and other questions to a store.
 use super::chains::Link;
 use super::*;
 use nw_digest::Sequence;
 use nw_intake::Point;
 
-/// What is asked, of a block and its certificate.
+/// What a session asks, for one block and its certificate.
 #[derive(Clone, Copy)]
 pub(super) enum Ask {
     Write,
@@ -12,24 +12,24 @@ pub(super) enum Ask {
     Certificate,
     Read,
     Open,
-    /// The ticket that was opened last is walked, which is no call.
+    /// Walk the last ticket. This is not a call.
     Walk,
-    /// The rounds below the block's are collected.
+    /// Raise the garbage round to the block's round.
     Collect,
     Missing,
     Status,
-    /// How many parts the view of that ticket has, which is no call.
+    /// The number of parts of the last ticket's view. This is not a call.
     Parts,
-    /// Later tickets share one copy of what is complete, which is no call.
+    /// Compact the store. This is not a call.
     Compact,
-    /// The gate lets the start pass, which is no call.
+    /// Wait until the gate lets this point pass. This is not a call.
     Start(Point),
-    /// The gate is told that the point is reached, which is no call.
+    /// Tell the gate that this point is reached. This is not a call.
     Reach(Point),
 }
 
 impl Ask {
-    /// Whether it is a call of a session, which a history has.
+    /// Whether it is a call, of which the history has an event.
     pub(super) fn is_call(&self) -> bool {
         match self {
             Ask::Write | Ask::Certify | Ask::Certificate | Ask::Read | Ask::Open => true,
@@ -39,10 +39,10 @@ impl Ask {
     }
 }
 
-/// How many missing blocks are asked for at most.
+/// The number of wanted parents that `Missing` asks for.
 pub(super) const MOST: u16 = 3;
 
-/// Makes the call, which opens nothing.
+/// Makes a call that is not a causal read.
 fn call<L: Home, R: Wait>(
     rt: &R,
     alloc: Global,
@@ -62,7 +62,7 @@ fn call<L: Home, R: Wait>(
     }
 }
 
-/// Opens a causal read of the block, and keeps the ticket, if there is one: the reply that a history has of it.
+/// Opens a causal read of the block, and keeps the ticket if there is one. Returns the reply in the history.
 fn open<L: Home, R: Wait>(
     rt: &R,
     alloc: Global,
@@ -91,7 +91,7 @@ fn walk(alloc: Global, ticket: &Option<Ticket<DemoScheme>>) -> Result<Reply, NoS
     }
 }
 
-/// The reply to what is asked. It keeps the ticket that was opened last.
+/// The reply to what the session asks. Keeps the last ticket.
 pub(super) fn reply_to<L: Home, R: Wait>(
     rt: &R,
     alloc: Global,

@@ -1,4 +1,4 @@
-//! Blocks, each with its certificate.
+//! Chains of blocks with their certificates.
 use super::*;
 
 /// A block and its certificate.
@@ -8,7 +8,7 @@ pub(super) struct Link {
     pub(super) certificate: CheckedCert<DemoScheme>,
 }
 
-/// The block of the round over these parents.
+/// Author 0's block of the round with these parents, and its certificate.
 pub(super) fn link_over(
     alloc: Global,
     under: &Shared<Committee>,
@@ -23,7 +23,7 @@ pub(super) fn link_over(
     })
 }
 
-/// Adds the block of the next round, over the last one.
+/// Adds the block of the next round, whose parent is the last one.
 fn add_link(alloc: Global, one: &Shared<Committee>, links: &mut Vec<Link>) -> Result<(), Fail> {
     let round = links.len() as u64;
     let link = match links.last() {
@@ -33,7 +33,7 @@ fn add_link(alloc: Global, one: &Shared<Committee>, links: &mut Vec<Link>) -> Re
     Ok(links.push(link)?)
 }
 
-/// The first blocks of a chain of one author: one of each round, over the one before.
+/// A chain of one author's blocks: one in each round, whose parent is the one before it.
 pub(super) fn chain(alloc: Global, rounds: u64) -> Result<Vec<Link>, Fail> {
     let one = committee(alloc, 1)?;
     let mut links = Vec::new(alloc);

@@ -1,4 +1,4 @@
-//! Sessions of one store, each in a thread of its own, until all settle.
+//! Sessions of one store, each in its own thread, until all settle.
 use super::chains::chain;
 use super::late::BEFORE;
 use super::plans::Task;
@@ -8,7 +8,7 @@ use super::tasks::{Crew, work};
 use super::*;
 use std::thread::{Threads, for_each_mut};
 
-/// Does each task of the crew in a thread of its own, by the session of the same place.
+/// Does each task of the crew in its own thread, in the session of the same place.
 pub(super) fn in_threads<L: Home, R: Threads + Wait + Sync>(
     rt: &R,
     alloc: Global,
@@ -26,8 +26,8 @@ pub(super) fn in_threads<L: Home, R: Threads + Wait + Sync>(
     );
 }
 
-/// Asks the rows, and then does each task in a thread of its own, on a store with these limits, of a chain of so many blocks. Gives
-/// how many events there are, how many calls the journals tell as they should, and in how many threads each answer was as planned.
+/// Asks the rows, and then does each task in its own thread, on a store with these limits and with a chain of `rounds` blocks.
+/// Returns the number of events, the number of calls in exact journals, and the number of threads that got only expected replies.
 pub(super) fn worked<R: Threads + Wait + Sync>(
     rt: &R,
     alloc: Global,
@@ -42,10 +42,10 @@ pub(super) fn worked<R: Threads + Wait + Sync>(
     let seen = played(rt, alloc, book, &Scene::Crowd(sessions, before, &crew))?;
     let agreeing = crew.agreeing();
     drop(crew);
-    Ok((seen.events, seen.told, agreeing))
+    Ok((seen.events, seen.recorded, agreeing))
 }
 
-/// Room for a chain of 200 blocks of two sessions.
+/// Limits with a chain of 200 blocks and two sessions.
 const WIDE: Limits = Limits {
     window: 200,
     sessions: 2,
@@ -72,7 +72,7 @@ fn sixteen_threads_follow_a_chain_and_settle(rt: HostRuntime) -> Result<(), Fail
     Ok(())
 }
 
-/// Room for many events of two sessions.
+/// Limits with many events and two sessions.
 const LATE: Limits = Limits {
     events: 4096,
     sessions: 2,
@@ -89,7 +89,7 @@ fn a_walk_starts_after_a_collection_in_another_thread(rt: HostRuntime) -> Result
     Ok(())
 }
 
-/// Room for many events of sixteen sessions.
+/// Limits with many events and sixteen sessions.
 const CROWDED: Limits = Limits {
     events: 2048,
     ..LIMITS

@@ -1,4 +1,4 @@
-//! What scripts show.
+//! Worked examples, as scripts of one or more sessions.
 use super::asking::Ask;
 use super::chains::{Link, chain, link_over};
 use super::late::{CERTIFIED, STORED};
@@ -11,7 +11,7 @@ use sample_checked::block_with;
 use std::sync::Wait;
 use std::thread::Threads;
 
-/// What is seen of a store of so many members, with these limits, once its sessions asked the rows.
+/// Asks the rows in sessions of a store with these limits, whose committee has this many members, and settles the sessions.
 fn asked<R: Threads + Wait + Sync>(
     rt: &R,
     alloc: Global,
@@ -27,7 +27,7 @@ fn asked<R: Threads + Wait + Sync>(
     seen
 }
 
-/// The limits of a script, with so many sessions.
+/// The limits of a script with this many sessions.
 const fn limits_of(sessions: u32) -> Limits {
     Limits { sessions, ..LIMITS }
 }
@@ -35,7 +35,7 @@ const fn limits_of(sessions: u32) -> Limits {
 const COUNTS: &str =
     "Status(Counts { floor: Round { number: 0 }, blocks: 2, certificates: 1, complete: 1, wanted: 1 })";
 
-/// Each call, of a block, and of a child over another parent, which is not held.
+/// Every kind of call: for a block, and for a block of the next round whose parent is not held.
 const DIALOGUE: [Row; 12] = [
     Row(0, 0, Ask::Write, STORED),
     Row(0, 0, Ask::Write, "Write(Held)"),
@@ -52,12 +52,12 @@ const DIALOGUE: [Row; 12] = [
 ];
 
 #[test]
-fn a_journal_alone_tells_what_was_asked_and_answered(rt: HostRuntime) -> Result<(), Fail> {
+fn a_journal_has_each_call_and_its_reply(rt: HostRuntime) -> Result<(), Fail> {
     let alloc = rt.alloc();
     let mut links = chain(alloc, 1)?;
     links.push(link_over(alloc, &committee(alloc, 1)?, 1, &[PARENT])?)?;
     let seen = asked(&rt, alloc, (1, limits_of(1)), links, &DIALOGUE)?;
-    assert_eq!(rt; (seen.events, seen.told), (12, 12));
+    assert_eq!(rt; (seen.events, seen.recorded), (12, 12));
     Ok(())
 }
 
@@ -76,11 +76,11 @@ fn a_second_session_reads_what_the_first_wrote(rt: HostRuntime) -> Result<(), Fa
     let certificate = certificate(alloc, &one, 0, 0, digest)?;
     let links = vec![in alloc; Link { block, certificate }]?;
     let seen = asked(&rt, alloc, (1, limits_of(2)), links, &WRITTEN)?;
-    assert_eq!(rt; (seen.withheld, seen.events, seen.told), ((2, 1), 2, 2));
+    assert_eq!(rt; (seen.withheld, seen.events, seen.recorded), ((2, 1), 2, 2));
     Ok(())
 }
 
-/// The first two of three sessions read once, and the last one is silent.
+/// The first two of three sessions read once, and the third makes no call.
 const SILENT: [Row; 2] = [
     Row(0, 0, Ask::Read, "Read(None)"),
     Row(1, 0, Ask::Read, "Read(None)"),
@@ -90,11 +90,11 @@ const SILENT: [Row; 2] = [
 fn sessions_settle_once_all_of_them_are_given(rt: HostRuntime) -> Result<(), Fail> {
     let alloc = rt.alloc();
     let seen = asked(&rt, alloc, (1, limits_of(3)), chain(alloc, 1)?, &SILENT)?;
-    assert_eq!(rt; (seen.withheld, seen.events, seen.told), ((3, 2), 2, 2));
+    assert_eq!(rt; (seen.withheld, seen.events, seen.recorded), ((3, 2), 2, 2));
     Ok(())
 }
 
-/// A block of another committee, and then reads of a store with room for one event.
+/// Writes of another committee's block, and then reads, in a store whose history may have one event.
 const REFUSED: [Row; 4] = [
     Row(0, 0, Ask::Write, "refused OtherCommittee"),
     Row(0, 0, Ask::Write, "refused OtherCommittee"),
@@ -102,10 +102,10 @@ const REFUSED: [Row; 4] = [
     Row(0, 0, Ask::Read, "refused HistoryFull"),
 ];
 
-/// The same block in a store of its own committee.
+/// A write of the same block in a store of its own committee.
 const TAKEN: [Row; 1] = [Row(0, 0, Ask::Write, STORED)];
 
-/// Room for one event.
+/// Limits with one event.
 const SHORT: Limits = Limits {
     events: 1,
     sessions: 1,
@@ -118,12 +118,12 @@ fn a_refused_call_can_be_followed_by_others(rt: HostRuntime) -> Result<(), Fail>
     for (members, rows) in [(1, REFUSED.as_slice()), (4, TAKEN.as_slice())] {
         let links = vec![in alloc; link_over(alloc, &committee(alloc, 4)?, 0, &[])?]?;
         let seen = asked(&rt, alloc, (members, SHORT), links, rows)?;
-        assert_eq!(rt; (seen.events, seen.told), (1, 1), "{members}");
+        assert_eq!(rt; (seen.events, seen.recorded), (1, 1), "{members}");
     }
     Ok(())
 }
 
-/// Room for 513 events.
+/// Limits with 513 events.
 const FULL: Limits = Limits {
     blocks: 16,
     events: 513,
@@ -138,11 +138,11 @@ fn fronts_of_513_events_share_chunks(rt: HostRuntime) -> Result<(), Fail> {
     rows[0] = Row(0, 0, Ask::Write, STORED);
     rows[513] = Row(0, 0, Ask::Read, "refused HistoryFull");
     let seen = asked(&rt, alloc, (1, FULL), chain(alloc, 1)?, &rows)?;
-    assert_eq!(rt; (seen.events, seen.told), (513, 513));
+    assert_eq!(rt; (seen.events, seen.recorded), (513, 513));
     Ok(())
 }
 
-/// A chain of seventeen blocks, each handed in and opened in turn.
+/// Rows that write, certify and open each block of a chain of seventeen.
 fn openings(alloc: Global) -> Result<Vec<Row>, Fail> {
     let mut rows = Vec::new(alloc);
     for place in 0..17 {
@@ -155,7 +155,7 @@ fn openings(alloc: Global) -> Result<Vec<Row>, Fail> {
 
 const WHOLE: &str = "List([0, 1, 2, 3, 4, 5, 6, 7, 8, 9, 10, 11, 12, 13, 14, 15, 16])";
 
-/// The last ticket's view is looked at, also after the store is compacted, and then that of a new one.
+/// The number of parts of the last ticket's view, before and after the store is compacted, and of a new ticket's view.
 const COMPACTED: [Row; 7] = [
     Row(0, 16, Ask::Parts, "Parts(2)"),
     Row(0, 16, Ask::Compact, ""),
@@ -172,6 +172,6 @@ fn views_of_a_store_share_what_was_frozen(rt: HostRuntime) -> Result<(), Fail> {
     let mut rows = openings(alloc)?;
     rows.extend_from_slice(&COMPACTED)?;
     let seen = asked(&rt, alloc, (1, limits_of(1)), chain(alloc, 17)?, &rows)?;
-    assert_eq!(rt; (seen.events, seen.told), (17 * 3 + 1, 17 * 3 + 1));
+    assert_eq!(rt; (seen.events, seen.recorded), (17 * 3 + 1, 17 * 3 + 1));
     Ok(())
 }

@@ -1,9 +1,9 @@
-//! A plain store that follows what a session is answered.
+//! A plain store that repeats the calls of a session's fronts, for comparison.
 use super::*;
 use nw_plain::Plain;
 use nw_store::{Front, NoMemory};
 
-/// A plain store that follows the fronts of one session, each of which goes on where the one before ends.
+/// A plain store that repeats the calls of one session's fronts, each of which continues the one before.
 #[derive(Drop)]
 pub(super) struct Follower {
     plain: Plain,
@@ -11,7 +11,7 @@ pub(super) struct Follower {
 }
 
 impl Follower {
-    /// It was given no call yet of a store with these limits.
+    /// A follower of a store with these limits, before any call.
     pub(super) fn new(alloc: Global, limits: Limits) -> Follower {
         Follower {
             plain: Plain::new(alloc, limits.blocks, limits.window),
@@ -19,7 +19,7 @@ impl Follower {
         }
     }
 
-    /// The plain store's reply to the last call of the front, once it was given all calls up to there.
+    /// The plain store's reply to the last call of the front, after all calls before it.
     fn last_reply(&mut self, front: &Front<DemoScheme>) -> Result<Reply, NoMemory> {
         let mut last = Reply::Ready;
         for index in self.played..front.len() {
@@ -31,7 +31,7 @@ impl Follower {
         Ok(last)
     }
 
-    /// Whether the walk of the ticket, if there is one, is the plain store's list.
+    /// Whether the walk of the ticket, if there is one, equals the plain store's list.
     pub(super) fn agrees(
         &mut self,
         alloc: Global,

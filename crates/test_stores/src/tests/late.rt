@@ -1,4 +1,4 @@
-//! A walk that starts after a collection in another thread: what each session asks, and is told.
+//! A walk that starts after a collection in another thread: the rows of both sessions.
 use super::asking::Ask;
 use super::scripts::Row;
 use nw_intake::Point;
@@ -25,8 +25,9 @@ const WRITE_START: Point = Point::WriteStart { node: 0, number: 1 };
 
 const WRITE_DONE: Point = Point::WriteDone { node: 0, number: 1 };
 
-/// Then session 1 opens the last of them, and reaches the start of its walk. After that session 0, in another thread, collects what is
-/// below that block and hands in another one. Only then does the walk start. Session 1 opens the read again after it.
+/// Session 1 then opens a read of the last block, and reaches the start of its walk. After that, session 0, in another thread,
+/// collects the rounds below that block, and writes and certifies the next block. Only then does the walk start. After the walk,
+/// session 1 opens the read again.
 pub(super) const BESIDE: [Row; 11] = [
     Row(1, 3, Ask::Open, "Ready"),
     Row(0, 3, Ask::Start(WRITE_START), ""),

@@ -1,4 +1,4 @@
-//! What one thread tells another by notes.
+//! Notes between two threads.
 use super::asking::{Ask, reply_to};
 use super::chains::{Link, chain};
 use super::crowds::worked;
@@ -11,10 +11,10 @@ use nw_store::{Block, Note};
 use std::thread;
 use std::thread::Threads;
 
-/// A session that is handed back, and of how many blocks its thread was answered as it is to be.
-type Told<L> = (Session<DemoScheme, L>, usize);
+/// A session that comes back from its thread, and the number of blocks for which the thread got the expected replies.
+type Worked<L> = (Session<DemoScheme, L>, usize);
 
-/// Whether the block is written and certified.
+/// Writes and certifies the block. Whether it is certified.
 fn is_certified<L: Home, R: Wait>(
     rt: &R,
     alloc: Global,
@@ -30,7 +30,7 @@ fn is_certified<L: Home, R: Wait>(
     Ok(matches!(&certified?, Reply::Certify(CertifyReply::Certified)))
 }
 
-/// Writes and certifies each block, and then sends a note of it.
+/// Writes and certifies each block, and sends a note after each.
 fn write_all<L: Home, R: Wait>(
     rt: &R,
     alloc: Global,
@@ -38,21 +38,21 @@ fn write_all<L: Home, R: Wait>(
     mut session: Session<DemoScheme, L>,
     links: &[Link],
     notes: Sender<Note<DemoScheme, L>>,
-) -> Told<L> {
-    let mut told = 0usize;
+) -> Worked<L> {
+    let mut sent = 0usize;
     for link in links {
         if matches!(is_certified(rt, alloc, store, &mut session, link), Ok(true)) {
             let note = store.note(rt, &mut session);
             if notes.send(rt, note).is_ok() {
-                told = told.saturating_add(1);
+                sent = sent.saturating_add(1);
             }
         }
     }
     drop(notes);
-    (session, told)
+    (session, sent)
 }
 
-/// Whether a causal read of the block is opened, and its walk lists the chain up to the block.
+/// Opens a causal read of the block, and walks it. Whether the walk lists the chain up to the block.
 fn is_walked<L: Home, R: Wait>(
     rt: &R,
     alloc: Global,
@@ -69,7 +69,7 @@ fn is_walked<L: Home, R: Wait>(
     Ok(matches!(&listed?, Reply::List(list) if is_chain(list.as_slice(), last)))
 }
 
-/// Whether the blocks, which one author made, are of the rounds from 0 to the last one, in order.
+/// Whether the blocks have the rounds from 0 to the last one, in order.
 fn is_chain(blocks: &[Shared<Block>], last: u64) -> bool {
     for (block, round) in blocks.iter().zip(0u64..) {
         if block.get().round.get() != round {
@@ -79,7 +79,7 @@ fn is_chain(blocks: &[Shared<Block>], last: u64) -> bool {
     (blocks.len() as u64).checked_sub(1) == Some(last)
 }
 
-/// Hears a note of each block, and then reads it with all that came before.
+/// Hears a note for each block, and then walks from the block.
 fn walk_all<L: Home, R: Wait>(
     rt: &R,
     alloc: Global,
@@ -87,7 +87,7 @@ fn walk_all<L: Home, R: Wait>(
     mut session: Session<DemoScheme, L>,
     links: &[Link],
     notes: Receiver<Note<DemoScheme, L>>,
-) -> Told<L> {
+) -> Worked<L> {
     let mut heard = 0usize;
     for link in links {
         if let Ok(note) = notes.recv(rt) {
@@ -101,24 +101,25 @@ fn walk_all<L: Home, R: Wait>(
     (session, heard)
 }
 
-/// Writes the blocks by the first session, in a thread of its own, and reads each by the second, as notes tell of it.
+/// Writes the blocks in the first session and walks from each in the second, each session in its own thread. Notes of the first
+/// session tell the second when to walk.
 pub(super) fn in_both<L: Home, R: Threads + Wait + Sync>(
     rt: &R,
     alloc: Global,
     store: &Store<DemoScheme, L>,
     (one, other): (Session<DemoScheme, L>, Session<DemoScheme, L>),
     links: &[Link],
-    (told, heard): (Sender<Note<DemoScheme, L>>, Receiver<Note<DemoScheme, L>>),
-) -> (Told<L>, Told<L>) {
+    (sender, receiver): (Sender<Note<DemoScheme, L>>, Receiver<Note<DemoScheme, L>>),
+) -> (Worked<L>, Worked<L>) {
     thread::join(
         rt,
-        move || write_all(rt, alloc, store, one, links, told),
-        move || walk_all(rt, alloc, store, other, links, heard),
+        move || write_all(rt, alloc, store, one, links, sender),
+        move || walk_all(rt, alloc, store, other, links, receiver),
     )
 }
 
-/// Lets two new sessions of the store tell each other, and gives both back.
-pub(super) fn tell<L: Home, R: Threads + Wait + Sync>(
+/// Lets one of two new sessions write blocks and send notes to the other, and gives both back.
+pub(super) fn exchange_notes<L: Home, R: Threads + Wait + Sync>(
     rt: &R,
     alloc: Global,
     store: &Store<DemoScheme, L>,
@@ -128,7 +129,7 @@ pub(super) fn tell<L: Home, R: Threads + Wait + Sync>(
     let channel = unbounded(alloc)?;
     match (sessions.pop(), sessions.pop()) {
         (Some(other), Some(one)) => {
-            let ((one, told), (other, heard)) = in_both(
+            let ((one, sent), (other, heard)) = in_both(
                 rt,
                 alloc,
                 store,
@@ -140,10 +141,10 @@ pub(super) fn tell<L: Home, R: Threads + Wait + Sync>(
             let second = sessions.push(other);
             first?;
             second?;
-            if told == links.len() && heard == links.len() {
+            if sent == links.len() && heard == links.len() {
                 Ok(())
             } else {
-                Err(Fail::from("a block was not read that was heard of"))
+                Err(Fail::from("a walk after a note gave another list"))
             }
         }
         (one, other) => {
@@ -155,15 +156,15 @@ pub(super) fn tell<L: Home, R: Threads + Wait + Sync>(
     }
 }
 
-/// Room for two sessions.
+/// Limits with two sessions.
 const TWO: Limits = Limits {
     events: 96,
     sessions: 2,
     ..LIMITS
 };
 
-// Where nothing was heard, nothing is promised: this read found nothing, though its thread may have been told by other means that
-// the block was on its way. A note of the write can only be taken after the write, so whoever hears it reads after the write.
+// Without a note there is no promise: this read finds no block, even if its thread learned by other means that the block was about
+// to be written. A note of the write can only be taken after the write, so a session that hears it reads after the write.
 #[test]
 fn without_a_note_a_read_may_come_before_the_write(rt: HostRuntime) -> Result<(), Fail> {
     let tasks = [Task::Early, Task::Late];
@@ -172,11 +173,11 @@ fn without_a_note_a_read_may_come_before_the_write(rt: HostRuntime) -> Result<()
 }
 
 #[test]
-fn what_one_thread_wrote_another_walks_once_it_heard_of_it(rt: HostRuntime) -> Result<(), Fail> {
+fn a_thread_walks_the_blocks_of_another_after_notes_of_them(rt: HostRuntime) -> Result<(), Fail> {
     let alloc = rt.alloc();
     let links = chain(alloc, 32)?;
     let scene = Scene::Notes(&links);
     let seen = played(&rt, alloc, book(alloc, 1, TWO)?, &scene)?;
-    assert_eq!(rt; (seen.events, seen.told), (3 * 32, 3 * 32));
+    assert_eq!(rt; (seen.events, seen.recorded), (3 * 32, 3 * 32));
     Ok(())
 }

@@ -1,48 +1,48 @@
-//! What each session does, turn by turn.
+//! Tasks of sessions, turn by turn.
 use super::asking::Ask;
 use super::*;
 use nw_model::{CausalReply, CertifyReply, CollectReply, WriteReply};
 
-/// How many rounds are collected.
+/// The number of collected rounds.
 const COLLECTED: u16 = 32;
 
-/// What a session does.
+/// What a session does in its thread.
 #[derive(Clone, Copy, Drop)]
 pub(super) enum Task {
-    /// It hands in the chain.
+    /// Writes and certifies the chain.
     Write,
-    /// It hands in every second block of the chain.
+    /// Writes every second block of the chain.
     Share,
-    /// It collects half of the chain, a round after each second link.
+    /// Collects half of the chain, one round after each second link.
     Collect,
-    /// It opens, reads and walks fifty blocks of the chain, each a few links after it was handed in.
+    /// Opens, reads and walks fifty blocks of the chain, each a few links after it was certified.
     Read,
-    /// It hands in the chain beside others, and opens, reads and walks each block.
+    /// Writes and certifies the chain beside other sessions, and opens, reads and walks each block.
     Follow,
-    /// It asks the rows of a walk beside a collection.
+    /// Asks the rows of a walk beside a collection.
     Beside,
-    /// It reads the first block before it is handed in, and lets the one go on that waits for this.
+    /// Reads the first block before it is written, and then lets the waiting session write it.
     Early,
-    /// It hands the first block in once another session read in vain.
+    /// Writes and certifies the first block after another session read it and found none.
     Late,
 }
 
-/// How a task is done: so many turns, each of which asks of one link, after so many links were counted (`Crew::steps`).
+/// How a task is done: a number of turns, each of which asks about one link and waits for a number of links (`Crew::steps`).
 pub(super) struct Plan {
     pub(super) asks: &'static [Ask],
     pub(super) turns: u16,
-    /// The link of turn `t` is at place `first + t * stride`, and the session's id modulo `spread` further on.
+    /// The link of turn `t` is at place `first + t * stride` plus the session's id modulo `spread`.
     first: u16,
     stride: u16,
     spread: u16,
     /// Turn `t` waits for `lag + t * pace` links.
     lag: u16,
     pace: u16,
-    /// Blocks of rounds below this one may be not held.
+    /// Blocks of rounds below this one may be collected or not yet written.
     floor: u64,
-    /// Whether no other session hands in the same.
+    /// Whether no other session writes the same blocks.
     alone: bool,
-    /// Whether it reads what is not handed in yet, and others wait for that.
+    /// Whether it reads a block that is not written yet, and others wait for that.
     pub(super) early: bool,
 }
 
@@ -108,7 +108,7 @@ const LATE: Plan = Plan {
 };
 
 impl Task {
-    /// How it is done, turn by turn, if no rows say it.
+    /// The plan of the task, or `None` if rows describe it.
     pub(super) fn plan(&self) -> Option<&'static Plan> {
         match self {
             Task::Write => Some(&WRITE),
@@ -124,19 +124,19 @@ impl Task {
 }
 
 impl Plan {
-    /// The place of the turn's link, for the session with this id.
+    /// The place of the link of this turn, for the session with this id.
     pub(super) fn place(&self, turn: u16, id: u16) -> usize {
         let further = id.checked_rem(self.spread).unwrap_or(0);
         let place = turn.saturating_mul(self.stride).saturating_add(self.first);
         usize::from(place.saturating_add(further))
     }
 
-    /// How many links the turn waits for.
+    /// The number of links that the turn waits for.
     pub(super) fn waits(&self, turn: u16) -> u32 {
         u32::from(turn.saturating_mul(self.pace).saturating_add(self.lag))
     }
 
-    /// Whether the reply to what is asked of a block of this round is as it is to be.
+    /// Whether the plan expects this reply for a block of this round.
     pub(super) fn accepts(&self, reply: &Reply, round: u64) -> bool {
         match reply {
             Reply::Write(WriteReply::Stored { vote }) => *vote,

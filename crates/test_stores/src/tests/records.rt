@@ -1,4 +1,4 @@
-//! What journals tell, and how they stand in the history.
+//! Whether journals have the right calls, replies and fronts, and match the history.
 use super::asking::{Ask, MOST};
 use super::chains::Link;
 use super::late::BESIDE;
@@ -8,10 +8,10 @@ use super::tasks::Crew;
 use super::*;
 use nw_store::{Call, Entry, History, NoMemory};
 
-/// How many parts fronts of these lengths have.
+/// Lengths of fronts, and their numbers of parts.
 const PARTS: [(usize, usize); 4] = [(255, 255), (256, 1), (257, 2), (513, 3)];
 
-/// What is asked, as a history has it.
+/// The call in the history for what the session asks.
 fn call_of(asked: &Ask, link: &Link) -> Result<Call, NoMemory> {
     let digest = link.block.digest();
     Ok(match asked {
@@ -26,7 +26,7 @@ fn call_of(asked: &Ask, link: &Link) -> Result<Call, NoMemory> {
     })
 }
 
-/// Adds the session's own rows that its journal has.
+/// Adds the session's own rows that a journal records.
 fn add_rows(rows: &[Row], session: u16, own: &mut Vec<Row>) -> Result<(), NoMemory> {
     for row in rows {
         if row.0 == usize::from(session) && row.is_recorded() {
@@ -36,7 +36,7 @@ fn add_rows(rows: &[Row], session: u16, own: &mut Vec<Row>) -> Result<(), NoMemo
     Ok(())
 }
 
-/// Adds the calls of the session's task, whose answers its thread compares.
+/// Adds the calls of the session's task. Their texts are empty, since the session's thread compares the replies itself.
 fn add_task(crew: &Crew, session: u16, own: &mut Vec<Row>) -> Result<(), NoMemory> {
     let place = usize::from(session);
     let Some(plan) = crew.plan(place) else {
@@ -50,7 +50,7 @@ fn add_task(crew: &Crew, session: u16, own: &mut Vec<Row>) -> Result<(), NoMemor
     Ok(())
 }
 
-/// Adds the calls of the session that are asked of each link in turn.
+/// Adds the session's calls for each link in order.
 fn add_asks(asks: &[Ask], links: usize, session: u16, own: &mut Vec<Row>) -> Result<(), NoMemory> {
     for place in 0..links {
         for asked in asks {
@@ -60,7 +60,7 @@ fn add_asks(asks: &[Ask], links: usize, session: u16, own: &mut Vec<Row>) -> Res
     Ok(())
 }
 
-/// The calls of the session in the scene, in order: what its journal is to tell.
+/// The calls of the session in the scene, in order. Its journal must have exactly these.
 pub(super) fn calls_of(
     alloc: Global,
     scene: &Scene<'_>,
@@ -81,23 +81,23 @@ pub(super) fn calls_of(
     Ok(own)
 }
 
-/// Whether the answer has the row's call, and the reply that the row tells, if it tells one.
+/// Whether the entry has the row's call and, if the row has a text, the reply with this text.
 fn is_recorded(
     alloc: Global,
     answer: &Entry<DemoScheme>,
     links: &[Link],
     row: &Row,
 ) -> Result<bool, NoMemory> {
-    let Row(_, place, asked, told) = row;
+    let Row(_, place, asked, expected) = row;
     let Some(link) = links.get(*place) else {
         return Ok(false);
     };
     let call = call_of(asked, link)?;
     let text = text_of(alloc, answer.reply(), link)?;
-    Ok(answer.call().is_same(&call) && (told.is_empty() || text.as_str() == *told))
+    Ok(answer.call().is_same(&call) && (expected.is_empty() || text.as_str() == *expected))
 }
 
-/// Whether the journal has the calls of the rows and no others, in order, each answered as its row tells.
+/// Whether the journal has the calls of the rows and no others, in order, each with the reply of its row.
 pub(super) fn are_recorded(
     alloc: Global,
     journal: &[Entry<DemoScheme>],
@@ -112,7 +112,7 @@ pub(super) fn are_recorded(
     Ok(journal.len() == rows.len())
 }
 
-/// Whether the front has as many parts as one of its length.
+/// Whether the front has the right number of parts for its length.
 fn has_parts(front: &History<DemoScheme>) -> bool {
     let (length, parts) = (front.len(), front.parts());
     for (some, wanted) in PARTS {
@@ -123,8 +123,8 @@ fn has_parts(front: &History<DemoScheme>) -> bool {
     parts == length / 256 + length % 256
 }
 
-/// Whether the front of each answer ends with the session's call of that place, and has a part for each full chunk of 256 events and
-/// for each event behind them: none copies what is in a full chunk.
+/// Whether the front of each entry ends with the session's call at that place, and has one part for each full chunk of 256 events
+/// and one for each later event. So no front copies the events of a full chunk.
 pub(super) fn are_fronts(journal: &[Entry<DemoScheme>], session: u16) -> bool {
     for (answer, number) in journal.iter().zip(1u32..) {
         let Some(last) = answer.front().last() else {
@@ -138,7 +138,7 @@ pub(super) fn are_fronts(journal: &[Entry<DemoScheme>], session: u16) -> bool {
     true
 }
 
-/// Whether each front of the journal begins the next one, which does not begin it.
+/// Whether each front of the journal is a prefix of the next one, and not the other way round.
 pub(super) fn grows(journal: &[Entry<DemoScheme>]) -> bool {
     for (earlier, later) in journal.iter().zip(journal.iter().skip(1)) {
         let (earlier, later) = (earlier.front(), later.front());
@@ -150,7 +150,7 @@ pub(super) fn grows(journal: &[Entry<DemoScheme>]) -> bool {
 }
 
 /// Whether the session's events in the history are the calls of its journal, in order.
-pub(super) fn stands(
+pub(super) fn matches_history(
     history: &History<DemoScheme>,
     journal: &[Entry<DemoScheme>],
     session: u16,

@@ -1,11 +1,11 @@
-//! The one function that makes stores: each test plays a scene on one.
+//! Scenes, which tests play on stores. Only this module makes the stores that settle.
 ghost use Rattle.std.specs.Prelude.{◌≡◌};
 ghost use Rattle.nw_store.specs.Journal.{origin_of};
 ghost use Rattle.nw_store.specs.Kept.{parts_of_a_ledger};
 
 use super::chains::Link;
 use super::crowds::in_threads;
-use super::notes::tell;
+use super::notes::exchange_notes;
 use super::scripts::{Row, play_script};
 use super::settling::{Seen, seen_settled};
 use super::tasks::Crew;
@@ -14,19 +14,19 @@ use nw_store::{Opening, TooMany};
 use std::marker::Brand;
 use std::thread::Threads;
 
-/// What is done in the sessions of a store, whose number is given.
+/// What the sessions of a store do.
 #[derive(Drop)]
 pub(super) enum Scene<'a> {
-    /// They ask these rows of the crew's blocks in turn.
+    /// This many sessions ask the rows in order, about the crew's blocks.
     Script(u16, &'a [Row], &'a Crew),
-    /// They ask these rows in turn, and then each does its task of the crew in a thread of its own.
+    /// This many sessions ask the rows in order, and then each does its task of the crew in its own thread.
     Crowd(u16, &'a [Row], &'a Crew),
-    /// One of two threads writes these blocks, and tells the other of each.
+    /// One of two threads writes these blocks, and sends the other a note after each.
     Notes(&'a [Link]),
 }
 
 impl Scene<'_> {
-    /// How many sessions it has.
+    /// The number of sessions.
     pub(super) fn sessions(&self) -> u16 {
         match self {
             Scene::Script(count, _, _) | Scene::Crowd(count, _, _) => *count,
@@ -34,7 +34,7 @@ impl Scene<'_> {
         }
     }
 
-    /// The blocks that they ask of.
+    /// The blocks of the scene.
     pub(super) fn links(&self) -> &[Link] {
         match self {
             Scene::Script(_, _, crew) | Scene::Crowd(_, _, crew) => crew.links(),
@@ -43,7 +43,7 @@ impl Scene<'_> {
     }
 }
 
-/// Makes so many sessions, which are all that the store makes.
+/// Makes this many sessions, which must be as many as the store's limit allows.
 fn make_sessions<L: Home, R: Wait>(
     rt: &R,
     alloc: Global,
@@ -58,7 +58,7 @@ fn make_sessions<L: Home, R: Wait>(
         Err(TooMany) => Ok(()),
         Ok(more) => {
             drop(more);
-            Err(Fail::from("one session more is made"))
+            Err(Fail::from("the store made one session too many"))
         }
     }
 }
@@ -84,7 +84,7 @@ fn perform<L: Home, R: Threads + Wait + Sync>(
         }
         Scene::Notes(links) => {
             make_sessions(rt, alloc, store, sessions, 2)?;
-            tell(rt, alloc, store, sessions, links)
+            exchange_notes(rt, alloc, store, sessions, links)
         }
     }
 }
@@ -107,7 +107,7 @@ fn on_store<L: Home, R: Threads + Wait + Sync>(
     }
 }
 
-/// Plays the scene on a store that goes on with the book.
+/// Plays the scene on a store over the book.
 fn play<L: Home, R: Threads + Wait + Sync>(
     rt: &R,
     alloc: Global,
@@ -128,7 +128,7 @@ fn play<L: Home, R: Threads + Wait + Sync>(
     }
 }
 
-/// Plays the scene on a store of its own, which goes on with the book, and settles its sessions.
+/// Plays the scene on a new store over the book, and settles its sessions.
 pub(super) fn played<R: Threads + Wait + Sync>(
     rt: &R,
     alloc: Global,

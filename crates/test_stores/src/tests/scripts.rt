@@ -1,4 +1,4 @@
-//! What sessions ask in turn, and what they are told.
+//! Scripts: rows that sessions ask in order, each with its expected reply.
 use super::asking::{Ask, reply_to};
 use super::chains::Link;
 use super::tasks::Crew;
@@ -7,7 +7,7 @@ use nw_intake::Gate;
 use nw_model::Wanted;
 use nw_store::{Block, NoMemory};
 
-/// A session, the place of a block, what the session asks of it, and the text of what it is told. An empty text is not compared.
+/// A session, the place of a block, what the session asks, and the text of the expected reply. An empty text is not compared.
 #[derive(Clone, Copy)]
 pub(super) struct Row(
     pub(super) usize,
@@ -20,13 +20,13 @@ pub(super) struct Row(
 pub(super) const PARENT: Digest = Digest([7; 32]);
 
 impl Row {
-    /// Whether the session's journal has it, as it has each call that is not refused.
+    /// Whether the session's journal records it: it is a call that is not refused.
     pub(super) fn is_recorded(&self) -> bool {
         self.2.is_call() && !self.3.starts_with(REFUSED)
     }
 }
 
-/// How the text of a refusal begins.
+/// The beginning of a refusal's text.
 const REFUSED: &str = "refused ";
 
 /// The rounds of the blocks.
@@ -38,7 +38,7 @@ fn rounds_of(alloc: Global, blocks: &[Shared<Block>]) -> Result<Vec<u64>, NoMemo
     Ok(rounds)
 }
 
-/// The text of what is missing: of a single parent its round and author, and whether it is the one that is not held.
+/// The text of wanted parents: for a single one its round, its author, and whether it is `PARENT`; otherwise their number.
 fn missing(alloc: Global, wanted: &[Wanted]) -> Result<String, NoMemory> {
     match wanted {
         [only] => {
@@ -49,7 +49,7 @@ fn missing(alloc: Global, wanted: &[Wanted]) -> Result<String, NoMemory> {
     }
 }
 
-/// The text of the reply: of a block or a certificate whether it is this one, and of a list its rounds.
+/// The text of the reply: for a block or certificate whether it is that of the link, and for a list the rounds.
 pub(super) fn text_of(alloc: Global, reply: &Reply, link: &Link) -> Result<String, NoMemory> {
     match reply {
         Reply::Certificate(Some(kept)) => {
@@ -69,35 +69,35 @@ pub(super) fn text_of(alloc: Global, reply: &Reply, link: &Link) -> Result<Strin
     }
 }
 
-/// Whether this text tells of the reply, or of the refusal.
-fn is_told(
+/// Whether the reply or the refusal has this text.
+fn has_text(
     alloc: Global,
     reply: &Result<Reply, NoStep>,
     link: &Link,
-    told: &str,
+    expected: &str,
 ) -> Result<bool, NoMemory> {
     let text = match reply {
         Ok(reply) => text_of(alloc, reply, link)?,
         Err(refusal) => format!(in alloc; "refused {refusal:?}")?,
     };
-    Ok(text.as_str() == told)
+    Ok(text.as_str() == expected)
 }
 
-/// Whether this text tells how many parts the ticket's view has.
+/// Whether the number of parts of the ticket's view has this text.
 fn has_parts(
     alloc: Global,
     ticket: &Option<Ticket<DemoScheme>>,
-    told: &str,
+    expected: &str,
 ) -> Result<bool, NoMemory> {
     let parts = match ticket {
         Some(ticket) => ticket.view().parts(),
         None => 0,
     };
     let text = format!(in alloc; "Parts({parts})")?;
-    Ok(text.as_str() == told)
+    Ok(text.as_str() == expected)
 }
 
-/// Whether the session is told what the row says.
+/// Asks the row. Whether the reply is the expected one.
 fn is_answered<L: Home, R: Wait>(
     rt: &R,
     alloc: Global,
@@ -107,12 +107,12 @@ fn is_answered<L: Home, R: Wait>(
     ticket: &mut Option<Ticket<DemoScheme>>,
     row: &Row,
 ) -> Result<bool, NoMemory> {
-    let Row(_, place, asked, told) = row;
+    let Row(_, place, asked, expected) = row;
     let Some(link) = crew.links().get(*place) else {
         return Ok(false);
     };
     match asked {
-        Ask::Parts => has_parts(alloc, ticket, told),
+        Ask::Parts => has_parts(alloc, ticket, expected),
         Ask::Compact => Ok(store.compact(rt, alloc).is_ok()),
         Ask::Start(point) => Ok(crew.passes(*point)),
         Ask::Reach(point) => {
@@ -121,14 +121,14 @@ fn is_answered<L: Home, R: Wait>(
         }
         _ => {
             let reply = reply_to(rt, alloc, store, session, link, ticket, asked);
-            let is_told = is_told(alloc, &reply, link, told);
+            let has_text = has_text(alloc, &reply, link, expected);
             drop(reply);
-            is_told
+            has_text
         }
     }
 }
 
-/// Asks the rows in turn, up to the first that is answered otherwise, whose text is the failure's.
+/// Asks the rows in order, up to the first with another reply. The failure has the text of that row.
 fn ask_all<L: Home, R: Wait>(
     rt: &R,
     alloc: Global,
@@ -140,7 +140,7 @@ fn ask_all<L: Home, R: Wait>(
 ) -> Result<(), Fail> {
     for row in rows {
         let Some(session) = sessions.get_mut(row.0) else {
-            return Err(Fail::from("the row has a session"));
+            return Err(Fail::from("a row has no session"));
         };
         if !is_answered(rt, alloc, store, session, crew, ticket, row)? {
             return Err(Fail::from(row.3));
@@ -149,7 +149,7 @@ fn ask_all<L: Home, R: Wait>(
     Ok(())
 }
 
-/// Asks the rows in turn, each of which is answered as it says.
+/// Asks the rows in order. Fails at the first with another reply.
 pub(super) fn play_script<L: Home, R: Wait>(
     rt: &R,
     alloc: Global,
@@ -164,7 +164,7 @@ pub(super) fn play_script<L: Home, R: Wait>(
     played
 }
 
-/// Asks the session's own rows in turn. Whether each is answered as it says.
+/// Asks the session's own rows in order. Whether each gets the expected reply.
 fn ask_own<L: Home, R: Wait>(
     rt: &R,
     alloc: Global,
@@ -183,7 +183,7 @@ fn ask_own<L: Home, R: Wait>(
     Ok(true)
 }
 
-/// The same. The last ticket is dropped.
+/// The same, without a ticket from the caller.
 pub(super) fn play_own<L: Home, R: Wait>(
     rt: &R,
     alloc: Global,
@@ -198,7 +198,7 @@ pub(super) fn play_own<L: Home, R: Wait>(
     played
 }
 
-/// Asks the session's own rows in turn. The last ticket, if each row is answered as it says and there is one.
+/// Asks the session's own rows in order. Returns the last ticket, if there is one and each row gets the expected reply.
 pub(super) fn opened_by<L: Home, R: Wait>(
     rt: &R,
     alloc: Global,

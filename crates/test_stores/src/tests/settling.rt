@@ -1,23 +1,23 @@
-//! What is seen of a store once its sessions settle.
-use super::records::{are_fronts, are_recorded, calls_of, grows, stands};
+//! Settling the sessions of a store, and what the journals then have.
+use super::records::{are_fronts, are_recorded, calls_of, grows, matches_history};
 use super::scenes::Scene;
 use super::*;
 use nw_store::{Entry, NoMemory, SettleFault, Settled, Unsettled, settle, settle_locked};
 
-/// What is seen of a store once its sessions settle.
+/// What a settled store shows.
 #[derive(Clone, Copy)]
 pub(super) struct Seen {
-    /// How many sessions were made and given, when the last one was withheld.
+    /// The numbers of made and of given sessions that the fault reported when one session was missing.
     pub(super) withheld: (u16, usize),
-    /// How many events there are.
+    /// The number of events.
     pub(super) events: usize,
-    /// How many calls are in journals that tell exactly what was asked and answered, in the order of the history.
-    pub(super) told: usize,
+    /// The number of calls in journals that have exactly the session's calls and replies, in the order of the history.
+    pub(super) recorded: usize,
 }
 
 /// Whether the session's journal has exactly the session's calls of the scene, in order, each with its answer and its front, and
 /// the history has them in the same order.
-fn is_told<L: Home>(
+fn is_exact<L: Home>(
     alloc: Global,
     settled: &Settled<DemoScheme, L>,
     scene: &Scene<'_>,
@@ -29,27 +29,27 @@ fn is_told<L: Home>(
         are_recorded(alloc, journal, scene.links(), &rows)?
             && grows(journal)
             && are_fronts(journal, session)
-            && stands(settled.history(), journal, session),
+            && matches_history(settled.history(), journal, session),
     )
 }
 
-/// How many calls are in such journals.
-fn count_told<L: Home>(
+/// The number of calls in exact journals.
+fn count_recorded<L: Home>(
     alloc: Global,
     settled: &Settled<DemoScheme, L>,
     scene: &Scene<'_>,
 ) -> Result<usize, NoMemory> {
-    let mut told: usize = 0;
+    let mut recorded: usize = 0;
     for session in 0..scene.sessions() {
         let journal = settled.journal(session).unwrap_or(&[]);
-        if is_told(alloc, settled, scene, session, journal)? {
-            told = told.saturating_add(journal.len());
+        if is_exact(alloc, settled, scene, session, journal)? {
+            recorded = recorded.saturating_add(journal.len());
         }
     }
-    Ok(told)
+    Ok(recorded)
 }
 
-/// Settles the sessions twice: without the last one, which is refused, and then with all of them.
+/// Settles the sessions twice: first without the last one, which must fail, and then with all of them.
 pub(super) fn seen_settled<L: Home>(
     alloc: Global,
     store: Store<DemoScheme, L>,
@@ -62,12 +62,12 @@ pub(super) fn seen_settled<L: Home>(
         (settled, last) => {
             drop(settled);
             drop(last);
-            Err(Fail::from("a session is withheld"))
+            Err(Fail::from("sessions settled although one was missing"))
         }
     }
 }
 
-/// Settles all sessions, with the one that was withheld.
+/// Settles all sessions, including the one that was missing before.
 fn seen_of_all<L: Home>(
     alloc: Global,
     refused: Unsettled<DemoScheme, L>,
@@ -84,24 +84,24 @@ fn seen_of_all<L: Home>(
     match settle_locked(locked, sessions) {
         Ok(settled) => {
             let events = settled.history().len();
-            let told = count_told(alloc, &settled, scene);
+            let recorded = count_recorded(alloc, &settled, scene);
             drop(settled);
             pushed?;
             Ok(Seen {
                 withheld,
                 events,
-                told: told?,
+                recorded: recorded?,
             })
         }
         Err((_, locked, sessions)) => {
             drop(locked);
             drop(sessions);
-            Err(Fail::from("all sessions are given"))
+            Err(Fail::from("the sessions did not settle"))
         }
     }
 }
 
-/// How many sessions were made and given, if all that were given came back.
+/// The numbers of made and of given sessions that the fault reports, if all given sessions came back.
 fn withheld(fault: SettleFault, back: usize) -> (u16, usize) {
     match fault {
         SettleFault::Unfinished { made, given } if given == back => (made, given),
@@ -109,7 +109,7 @@ fn withheld(fault: SettleFault, back: usize) -> (u16, usize) {
     }
 }
 
-/// Why sessions do not settle, in words. No program gets the second fault: sessions of another store have another type.
+/// The texts of the faults. No program of the tests gets the second fault: sessions of another store have another type.
 const FAULTS: [(SettleFault, &str); 2] = [
     (
         SettleFault::Unfinished { made: 2, given: 1 },

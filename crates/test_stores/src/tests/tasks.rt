@@ -1,4 +1,4 @@
-//! What sessions do round one chain, each in a thread of its own.
+//! Sessions that do their tasks on one chain, each in its own thread.
 use super::asking::reply_to;
 use super::chains::Link;
 use super::followers::Follower;
@@ -12,26 +12,27 @@ use std::sync::atomic::AtomicU64;
 use std::sync::atomic::Ordering::SeqCst;
 use std::thread::yield_now;
 
-/// How often a session tries to pass the gate, before it gives up.
+/// The number of times that a session tries to pass the gate.
 const TRIES: u32 = 20;
 
-/// Blocks, what each session does with them under these limits, and what the sessions tell each other.
+/// The blocks, the tasks of the sessions, and the counters by which the sessions wait for each other.
 #[derive(Drop)]
 pub(super) struct Crew {
     links: Vec<Link>,
     tasks: Vec<Task>,
     limits: Limits,
-    /// How many links were handed in, or read in vain by a session that others wait for.
+    /// The number of certified links, and of early reads that found no block.
     steps: AtomicU64,
-    /// How many walks were reached, and how many writes were done, of those that wait for each other.
+    /// The number of walks that reached their start point.
     walks: AtomicU64,
+    /// The number of writes that are done.
     writes: AtomicU64,
-    /// How many sessions found each answer and each walk as it is to be.
+    /// The number of sessions that got only expected replies and walks.
     agreeing: AtomicU64,
 }
 
 impl Crew {
-    /// Nothing is done yet.
+    /// A crew that has done nothing yet.
     pub(super) fn new(links: Vec<Link>, tasks: Vec<Task>, limits: Limits) -> Crew {
         Crew {
             links,
@@ -49,18 +50,18 @@ impl Crew {
         &self.links
     }
 
-    /// How the session of this place does its task, turn by turn, if no rows say it.
+    /// The plan of the session at this place, or `None` if rows describe its task.
     pub(super) fn plan(&self, place: usize) -> Option<&'static Plan> {
         self.tasks.get(place)?.plan()
     }
 
-    /// In how many sessions all was as it is to be.
+    /// The number of sessions that got only expected replies and walks.
     pub(super) fn agreeing(&self) -> u64 {
         self.agreeing.load(SeqCst)
     }
 
-    /// Counts the link, if the reply to this plan's call says that others may go on.
-    fn hears(&self, reply: &Reply, plan: &Plan) {
+    /// Counts a step, if this reply lets other sessions continue.
+    fn count_step(&self, reply: &Reply, plan: &Plan) {
         let counts = match reply {
             Reply::Certify(CertifyReply::Certified) => true,
             Reply::Read(None) => plan.early,
@@ -71,7 +72,7 @@ impl Crew {
         }
     }
 
-    /// Whether the start passes, after a while.
+    /// Waits for a while until the start point may pass. Whether it passed.
     pub(super) fn passes(&self, start: Point) -> bool {
         for _ in 0..TRIES {
             if pass_start(self, start).is_ok() {
@@ -82,8 +83,8 @@ impl Crew {
     }
 }
 
-/// The crew is the gate of its sessions. A check starts once as many links were counted as its number says, a write once as many
-/// walks were reached, and a walk once as many writes were done. The crew yields before it says no.
+/// The crew is the gate of its sessions. A start point has a number, and passes when a counter has reached it: `steps` for a check,
+/// `walks` for a write, and `writes` for a walk. The crew yields before it returns false.
 impl Gate for Crew {
     ghost says = { λ _ _ _. Unit {0} };
 
@@ -112,7 +113,7 @@ impl Gate for Crew {
     }
 }
 
-/// Does the task of this place, and tells the crew whether all was as it is to be.
+/// Does the task at this place, and counts the session if it got only expected replies and walks.
 pub(super) fn work<L: Home, R: Wait>(
     rt: &R,
     alloc: Global,
@@ -130,7 +131,7 @@ pub(super) fn work<L: Home, R: Wait>(
     }
 }
 
-/// Takes all turns of the plan, and compares each walk: whether all is as it is to be.
+/// Takes all turns of the plan, with a new follower. Whether each reply and each walk is the expected one.
 fn follows<L: Home, R: Wait>(
     rt: &R,
     alloc: Global,
@@ -156,7 +157,7 @@ fn follows<L: Home, R: Wait>(
     matches!(done, Ok(true))
 }
 
-/// Takes all turns: whether each answer and each walk is as it is to be.
+/// Takes all turns of the plan. Whether each reply and each walk is the expected one.
 fn turns<L: Home, R: Wait>(
     rt: &R,
     alloc: Global,
@@ -180,7 +181,7 @@ fn turns<L: Home, R: Wait>(
     Ok(true)
 }
 
-/// Asks of the link all that the plan asks: whether each answer is as it is to be.
+/// Asks all that the plan asks about the link. Whether each reply is the expected one.
 fn ask_all<L: Home, R: Wait>(
     rt: &R,
     alloc: Global,
@@ -194,7 +195,7 @@ fn ask_all<L: Home, R: Wait>(
     let round = link.block.block().get().round.get();
     for asked in plan.asks {
         let reply = reply_to(rt, alloc, store, session, link, ticket, asked)?;
-        crew.hears(&reply, plan);
+        crew.count_step(&reply, plan);
         if !plan.accepts(&reply, round) {
             return Ok(false);
         }

@@ -8,7 +8,7 @@ use Rattle.nw_store.proofs.locked.renew_locked.Goals as goal
 pub invariant_of-session : goal.invariant_of-session
 invariant_of-session g c =
     let s = c.session.inside in
-    subst (λ (l : List Story). IsSession s.pass.mine.parts s.pass.mine.amount (record { id = s.id; answers = s.journal.items; known = l })) (sym c.compare.ensures.claim) c.session.invariant
+    subst (λ (l : List Story). IsSession s.pass.share.parts s.pass.share.amount (record { id = s.id; answers = s.journal.items; known = l })) (sym c.compare.ensures.claim) c.session.invariant
 
 pub returns-clause-begun : goal.returns-clause-begun
 returns-clause-begun g c =

@@ -5,7 +5,7 @@ use Rattle.nw_model.specs.History.{IsAdmitted}
 use Rattle.nw_history.specs.Story.{Story, IsLegalStory, bounds_of, state_of}
 use Rattle.nw_book.specs.Turn.{IsInTurn, HasRoom}
 use Rattle.nw_book.proofs.Longer.{is_last, some_last}
-use Rattle.nw_book.proofs.Stands.{legal_next}
+use Rattle.nw_book.proofs.Represent.{legal_next}
 use Rattle.nw_book.proofs.book.Book.record.Goals as goal
 
 pub with_event-requires-clause-legal : goal.with_event-requires-clause-legal
@@ -26,42 +26,42 @@ with_event-requires-clause-room g c =
 pub unwrap-requires : goal.unwrap-requires
 unwrap-requires g c = some_last c.self.inside.history.events c.in_ok-front.front.events c.args.event c.last.result c.last.ensures.last (ap (λ (s : Story). s.events) c.in_ok-front.ensures)
 
-pub enter-requires-clause-front : goal.enter-requires-clause-front
-enter-requires-clause-front g c =
+pub advance-requires-clause-front : goal.advance-requires-clause-front
+advance-requires-clause-front g c =
     let is : c.unwrap.result.now ≡ c.args.event = is_last _ _ c.args.event c.unwrap.result.now (sym (ap option_copied c.unwrap.ensures) ∙ c.last.ensures.last) (ap (λ (s : Story). s.events) c.in_ok-front.ensures) in
     rw (is, ← c.self.view_is) c.in_ok-front.ensures
 
-pub enter-requires-clause-legal : goal.enter-requires-clause-legal
-enter-requires-clause-legal g c =
+pub advance-requires-clause-legal : goal.advance-requires-clause-legal
+advance-requires-clause-legal g c =
     let is : c.unwrap.result.now ≡ c.args.event = is_last _ _ c.args.event c.unwrap.result.now (sym (ap option_copied c.unwrap.ensures) ∙ c.last.ensures.last) (ap (λ (s : Story). s.events) c.in_ok-front.ensures) in
     rw (is, ← c.self.view_is) (subst (IsLegalStory g.S.Scheme.accepts) c.in_ok-front.ensures c.try_clone.ensures.legal)
 
-pub enter-requires-clause-reply : goal.enter-requires-clause-reply
-enter-requires-clause-reply g c =
+pub advance-requires-clause-reply : goal.advance-requires-clause-reply
+advance-requires-clause-reply g c =
     let is : c.unwrap.result.now ≡ c.args.event = is_last _ _ c.args.event c.unwrap.result.now (sym (ap option_copied c.unwrap.ensures) ∙ c.last.ensures.last) (ap (λ (s : Story). s.events) c.in_ok-front.ensures) in
     rw is c.requires.reply
 
-pub enter-requires-clause-turn : goal.enter-requires-clause-turn
-enter-requires-clause-turn g c =
+pub advance-requires-clause-turn : goal.advance-requires-clause-turn
+advance-requires-clause-turn g c =
     let is : c.unwrap.result.now ≡ c.args.event = is_last _ _ c.args.event c.unwrap.result.now (sym (ap option_copied c.unwrap.ensures) ∙ c.last.ensures.last) (ap (λ (s : Story). s.events) c.in_ok-front.ensures) in
     rw is c.requires.turn
 
 pub returns-clause-history : goal.returns-clause-history
 returns-clause-history g c =
     let is : c.unwrap.result.now ≡ c.args.event = is_last _ _ c.args.event c.unwrap.result.now (sym (ap option_copied c.unwrap.ensures) ∙ c.last.ensures.last) (ap (λ (s : Story). s.events) c.in_ok-front.ensures) in
-    rw is at c.in_ok-enter.ensures.history
+    rw is at c.in_ok-advance.ensures.history
 
 pub returns-clause-front : goal.returns-clause-front
 returns-clause-front g c =
     let is : c.unwrap.result.now ≡ c.args.event = is_last _ _ c.args.event c.unwrap.result.now (sym (ap option_copied c.unwrap.ensures) ∙ c.last.ensures.last) (ap (λ (s : Story). s.events) c.in_ok-front.ensures) in
-    rw (← c.self.view_is) c.in_ok-front.ensures ∙ sym (rw is at c.in_ok-enter.ensures.history)
+    rw (← c.self.view_is) c.in_ok-front.ensures ∙ sym (rw is at c.in_ok-advance.ensures.history)
 
 pub returns-clause-kept : goal.returns-clause-kept
 returns-clause-kept g c =
     let is : c.unwrap.result.now ≡ c.args.event = is_last _ _ c.args.event c.unwrap.result.now (sym (ap option_copied c.unwrap.ensures) ∙ c.last.ensures.last) (ap (λ (s : Story). s.events) c.in_ok-front.ensures) in
-    c.in_ok-kept.ensures.same ∙ rw (← c.self.view_is) c.in_ok-front.ensures ∙ sym (rw is at c.in_ok-enter.ensures.history)
+    c.in_ok-kept.ensures.same ∙ rw (← c.self.view_is) c.in_ok-front.ensures ∙ sym (rw is at c.in_ok-advance.ensures.history)
 
 pub returns-clause-legal : goal.returns-clause-legal
 returns-clause-legal g c =
     let is : c.unwrap.result.now ≡ c.args.event = is_last _ _ c.args.event c.unwrap.result.now (sym (ap option_copied c.unwrap.ensures) ∙ c.last.ensures.last) (ap (λ (s : Story). s.events) c.in_ok-front.ensures) in
-    rw c.in_ok-enter.ensures.history (rw (is, ← c.self.view_is) (subst (IsLegalStory g.S.Scheme.accepts) c.in_ok-front.ensures c.try_clone.ensures.legal))
+    rw c.in_ok-advance.ensures.history (rw (is, ← c.self.view_is) (subst (IsLegalStory g.S.Scheme.accepts) c.in_ok-front.ensures c.try_clone.ensures.legal))

@@ -4,7 +4,7 @@ use Rattle.nw_book.proofs.Agreed.{other_there, tickets_agree}
 use Rattle.nw_book.proofs.Opened.{ticket_there}
 use Rattle.nw_book.proofs.ticket.Ticket.agree.Goals as goal
 
--- the digests of two tickets are one where those that are seen of them are
+-- two tickets have one digest if contracts see one digest of both
 one_digest : (t u x y : Given) → x ≡ t → y ≡ u → t.digest ≡ u.digest → x.digest ≡ y.digest
 one_digest t u x y first second same = ap (λ (z : Given). z.digest) first ∙ same ∙ sym (ap (λ (z : Given). z.digest) second)
 

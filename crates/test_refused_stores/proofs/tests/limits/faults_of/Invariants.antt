@@ -2,14 +2,14 @@ use Rattle.nw_history.specs.Story.{first_origin}
 use Rattle.nw_store.specs.Kept.{parts_of_a_ledger}
 use Rattle.test_refused_stores.proofs.tests.limits.faults_of.Given as goal
 
--- the ledger that was opened
+-- the ledger of the opening
 abbrev pub ghosts-fault_of-L-Ledger : goal.ghosts-fault_of-L-Ledger
 ghosts-fault_of-L-Ledger a = record { name = a.opening.ledger; parts = parts_of_a_ledger }
 
--- the log that was opened
+-- the log of the opening
 abbrev pub ghosts-fault_of-L-Place : goal.ghosts-fault_of-L-Place
 ghosts-fault_of-L-Place a = record { log = a.opening.log }
 
--- what a store would start with
+-- the origin that a store would have
 abbrev pub ghosts-fault_of-L-Home : goal.ghosts-fault_of-L-Home
 ghosts-fault_of-L-Home a = record { origin = first_origin a.committee a.limits }

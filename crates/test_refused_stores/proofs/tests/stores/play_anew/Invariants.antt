@@ -2,14 +2,14 @@ use Rattle.nw_history.specs.Story.{first_origin}
 use Rattle.nw_store.specs.Kept.{parts_of_a_ledger}
 use Rattle.test_refused_stores.proofs.tests.stores.play_anew.Given as goal
 
--- the ledger that was opened
+-- the ledger of the opening
 abbrev pub ghosts-play_new-L-Ledger : goal.ghosts-play_new-L-Ledger
 ghosts-play_new-L-Ledger g a = record { name = a.opening.ledger; parts = parts_of_a_ledger }
 
--- the log that was opened
+-- the log of the opening
 abbrev pub ghosts-play_new-L-Place : goal.ghosts-play_new-L-Place
 ghosts-play_new-L-Place g a = record { log = a.opening.log }
 
--- what the store starts with
+-- the origin of the store
 abbrev pub ghosts-play_new-L-Home : goal.ghosts-play_new-L-Home
 ghosts-play_new-L-Home g a = record { origin = first_origin a.committee a.limits }

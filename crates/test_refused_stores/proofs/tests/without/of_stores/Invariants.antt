@@ -2,14 +2,14 @@ use Rattle.nw_store.specs.Journal.{origin_of}
 use Rattle.nw_store.specs.Kept.{parts_of_a_ledger}
 use Rattle.test_refused_stores.proofs.tests.without.of_stores.Given as goal
 
--- the ledger that was opened
+-- the ledger of the opening
 abbrev pub ghosts-of_a_store-L-Ledger : goal.ghosts-of_a_store-L-Ledger
 ghosts-of_a_store-L-Ledger g a = record { name = a.opening.ledger; parts = parts_of_a_ledger }
 
--- the log that was opened
+-- the log of the opening
 abbrev pub ghosts-of_a_store-L-Place : goal.ghosts-of_a_store-L-Place
 ghosts-of_a_store-L-Place g a = record { log = a.opening.log }
 
--- what the book starts with
+-- the origin of the book
 abbrev pub ghosts-of_a_store-L-Home : goal.ghosts-of_a_store-L-Home
 ghosts-of_a_store-L-Home g a = record { origin = origin_of a.book }

@@ -12,7 +12,7 @@ use Rattle.test_stores.proofs.tests.crowds.in_threads.Goals as goal
 pub for_each_mut-requires-send-T : goal.for_each_mut-requires-send-T
 for_each_mut-requires-send-T g c κs within = search (sendable, session_send) depth 20
 
--- what the closure captures by reference: the handle, the allocator, the store and the crew
+-- what the closure captures by reference: the runtime, the allocator, the store and the crew
 pub for_each_mut-requires-sync-F : goal.for_each_mut-requires-sync-F
 for_each_mut-requires-sync-F g c κs within =
     let store = store_sync demo.the_row (param 0 g.row.L) demo_is.ghosts g.L.Home g.L.Place g.L.Ledger in

@@ -14,14 +14,14 @@ use Rattle.nw_store.proofs.Crossing.Sends.{none, also}
 use Rattle.test_stores.proofs.tests.chains.Link.TheSendSync as link
 use Rattle.test_stores.proofs.tests.notes.in_both.Goals as goal
 
--- what the writer takes along: the handle, the allocator, the store, the session, the blocks, and where notes go
+-- what the writer's closure captures: the runtime, the allocator, the store, the session, the blocks and the sender of notes
 pub join-requires-send-F : goal.join-requires-send-F
 join-requires-send-F g c κs within =
     let store = store_sync demo.the_row (param 0 g.row.L) demo_is.ghosts g.L.Home g.L.Place g.L.Ledger in
     let session = session_send demo.the_row (param 0 g.row.L) demo_is.ghosts g.L.Home g.L.Place g.L.Ledger in
-    let told : IsSend (senders.the_row (notes.the_row demo.the_row (param 0 g.row.L) demo_is.ghosts g.L.Home g.L.Place g.L.Ledger) heap.the_row ghosts) = search (sender.the_send, note_send, send, sync, frees) depth 20 in
-    along_send _ _ _ _ (also _ _ (shr_send _ _ _ c.type_bounds.sync-R) (also _ _ send (also _ _ (shr_send _ _ _ store) (also _ _ session (also _ _ (shr_slice_send _ _ _ link.the_sync) (also _ _ told none))))))
+    let notes_out : IsSend (senders.the_row (notes.the_row demo.the_row (param 0 g.row.L) demo_is.ghosts g.L.Home g.L.Place g.L.Ledger) heap.the_row ghosts) = search (sender.the_send, note_send, send, sync, frees) depth 20 in
+    along_send _ _ _ _ (also _ _ (shr_send _ _ _ c.type_bounds.sync-R) (also _ _ send (also _ _ (shr_send _ _ _ store) (also _ _ session (also _ _ (shr_slice_send _ _ _ link.the_sync) (also _ _ notes_out none))))))
 
--- what it hands back: the session, and a count
+-- what the writer returns: the session and a count
 pub join-requires-send-A : goal.join-requires-send-A
 join-requires-send-A g c κs within = search (taken_send, sendable, session_send) depth 20

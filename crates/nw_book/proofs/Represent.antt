@@ -1,4 +1,4 @@
--- The tables and the counts after one more event.
+-- The invariant of a book after one more event.
 use Rattle.std.proofs.Common.{◌≡◌, ◌≢◌, ℕ, ◌+◌, ◌<◌, ◌≤◌, Bool, true, false, cond, List, [], ◌∷◌, ◌++◌, length, set, get_or, ap, sym, ◌∙◌, length-append, length-set, get_or-set_same, get_or-set_other, arith, refl}
 use Rattle.std.specs.Prelude.{◌==◌}
 use Rattle.std.proofs.lemmas.Bool.{eqb-true, eqb-false}
@@ -12,11 +12,11 @@ use Rattle.nw_model.specs.declared.event.Event.{Event}
 use Rattle.nw_model.specs.declared.reply.Reply.{Reply}
 use Rattle.nw_history.specs.Story.{Story, IsLegalStory, terms_of, bounds_of, state_of, tables_of, with_event}
 use Rattle.nw_book.specs.Answer.{Takes}
-use Rattle.nw_book.specs.Turn.{IsInTurn, HasRoom, AreCounts, StandFor, event}
+use Rattle.nw_book.specs.Turn.{IsInTurn, HasRoom, AreCounts, Represent, event}
 use Rattle.nw_book.proofs.Longer.{replay_last, events_of_last, legal_last}
 
--- the event of a call in its turn, with the step's reply, which is no list, keeps the history legal
-pub legal_next : (accepts : Meaning) (t : Tables) (counts : List ℕ) (s : Story) (e : Event) → StandFor accepts t counts s → IsInTurn s e.session e.number → HasRoom s
+-- an event in turn, with the reply of the step, which is not a list, keeps the history legal
+pub legal_next : (accepts : Meaning) (t : Tables) (counts : List ℕ) (s : Story) (e : Event) → Represent accepts t counts s → IsInTurn s e.session e.number → HasRoom s
     → IsAdmitted accepts s.committee e.call → IsReply (bounds_of s.limits) (state_of s) e.call e.reply → IsShort e.reply → IsLegalStory accepts (with_event s e)
 legal_next accepts t counts s e h turn room admitted is short =
     legal_last accepts (terms_of s) s.base s.events e h.legal is short turn.session_below turn.number_next room admitted
@@ -44,11 +44,11 @@ counts_next counts s e h below = record {
       ∙ ap length (sym (events_of_last k s.events e));
 }
 
--- tables and counts that take the step of an event stand for the history with it
-pub stand_next : (accepts : Meaning) (t u : Tables) (counts : List ℕ) (s n : Story) (e : Event) (session place count : ℕ) → StandFor accepts t counts s → IsLegalStory accepts (with_event s e)
+-- tables and counts that take the step of an event represent the history with this event
+pub represent_next : (accepts : Meaning) (t u : Tables) (counts : List ℕ) (s n : Story) (e : Event) (session place count : ℕ) → Represent accepts t counts s → IsLegalStory accepts (with_event s e)
     → session < s.limits.sessions → e.session ≡ session → place ≡ session → count ≡ get_or counts place count
-    → n ≡ with_event s e → u ≡ record t { state = after t.bounds t.state e.call } → StandFor accepts u (set counts place (count + 1)) n
-stand_next accepts t u counts s n e session place count h legal below own here value story_is tables_is =
+    → n ≡ with_event s e → u ≡ record t { state = after t.bounds t.state e.call } → Represent accepts u (set counts place (count + 1)) n
+represent_next accepts t u counts s n e session place count h legal below own here value story_is tables_is =
     let inside : e.session < length counts = omega (arith, h.counted.sessions) in
     let same : place ≡ e.session = here ∙ sym own in
     let number : count ≡ get_or counts e.session 0 = value ∙ ap (λ i. get_or counts i count) same ∙ get_or_default_zero counts e.session count inside in
@@ -60,8 +60,8 @@ stand_next accepts t u counts s n e session place count h legal below own here v
       counted = counts_next counts s e h.counted inside;
     })
 
--- the number of a session's calls is small
-pub count_fits : (accepts : Meaning) (t : Tables) (counts : List ℕ) (s : Story) (session place count : ℕ) → StandFor accepts t counts s → session < s.limits.sessions
+-- the number of a session's calls is at most 65536
+pub count_fits : (accepts : Meaning) (t : Tables) (counts : List ℕ) (s : Story) (session place count : ℕ) → Represent accepts t counts s → session < s.limits.sessions
     → place ≡ session → count ≡ get_or counts place count → count ≤ 65536
 count_fits accepts t counts s session place count h below here value =
     let inside : session < length counts = omega (arith, h.counted.sessions, below) in
@@ -73,7 +73,7 @@ count_fits accepts t counts s session place count h below here value =
     let bound : s.limits.events ≤ 65536 = h.in_range.events.bounded in
     omega (arith, number, many, few, fewer, short, bound)
 
--- the step that was taken, with the event that was recorded
+-- the step of a call is taken, if its event was added to the history
 pub takes_next : (accepts : Meaning) (old new : Story) (session number : ℕ) (asked : Call) (given : Reply) (e : Event) (front : Story) → e ≡ event session number asked given
     → IsReply (bounds_of old.limits) (state_of old) asked given → new ≡ with_event old e → front ≡ new → IsLegalStory accepts new
     → Takes accepts old new session number asked given front

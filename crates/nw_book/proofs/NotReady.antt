@@ -1,4 +1,4 @@
--- What an answer tells, where no ticket stands for it.
+-- The reply to a call that is not a causal read is never Ready.
 use Rattle.std.proofs.Common.{◌≢◌, subst}
 use Rattle.nw_model.specs.State.{State}
 use Rattle.nw_model.specs.Step.{Bounds, IsReply}
@@ -8,7 +8,7 @@ use Rattle.nw_model.specs.declared.reply.Reply.{Reply}
 use Rattle.nw_model.specs.declared.reply.Reply.TheVariants as replies
 use Rattle.nw_book.specs.Command.{IsNoCausalRead}
 
--- Ready replies to causal reads alone
+-- only causal reads get the reply Ready
 pub not_ready : (bounds : Bounds) (s : State) (asked : Call) (r : Reply) → IsNoCausalRead asked → IsReply bounds s asked r → r ≢ replies.Ready
 not_ready bounds s (calls.Write d b) r no_read is e = subst (λ q. IsReply bounds s (calls.Write d b) q) e is
 not_ready bounds s (calls.Certify c) r no_read is e = subst (λ q. IsReply bounds s (calls.Certify c) q) e is

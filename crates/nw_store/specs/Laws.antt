@@ -1,0 +1,30 @@
+-- The law of notes.
+use Rattle.nw_sig.specs.Signed.{Meaning}
+use Rattle.nw_model.specs.declared.call.Call.{Call}
+use Rattle.nw_model.specs.declared.reply.Reply.{Reply}
+use Rattle.nw_history.specs.Story.{Story}
+use Rattle.nw_history.specs.Prefix.{IsPrefixOf}
+use Rattle.std.specs.Prelude.{List}
+use Rattle.nw_store.specs.Journal.{Journal, KnowsAll}
+use Rattle.nw_store.specs.Answered.{IsAnswered}
+
+-- one answered call of a session
+pub record AnsweredCall (accepts : Meaning) : Type 0 where
+  -- the history before the call
+  pub history : Story
+  -- the session before the call
+  pub before : Journal
+  -- the session after the call
+  pub after : Journal
+  pub call : Call
+  pub reply : Reply
+  pub front : Story
+  -- the call got this reply and this front
+  pub answered : IsAnswered accepts history before after call reply front
+
+-- take a note of all that a session knows after a first call; if the session of a second call knew all of the note before that call,
+-- the first front is a prefix of the second
+abbrev pub NotesCarryOrder : Type 0
+NotesCarryOrder =
+    (accepts : Meaning) (first second : AnsweredCall accepts) (note : List Story)
+    → KnowsAll note first.after.known → KnowsAll second.before.known note → IsPrefixOf first.front second.front
