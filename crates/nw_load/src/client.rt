@@ -17,7 +17,7 @@ pub(crate) struct Client<'a, L: Home, G: Gate> {
     node: u32,
     rounds: u32,
     store: ClientCalls<'a, L>,
-    news: ClientChannel,
+    channel: ClientChannel,
     gate: &'a G,
 }
 
@@ -27,14 +27,14 @@ impl<'a, L: Home, G: Gate> Client<'a, L, G> {
         context: &LoadContext<'a, R, G>,
         node: u16,
         store: ClientCalls<'a, L>,
-        news: ClientChannel,
+        channel: ClientChannel,
     ) -> Client<'a, L, G> {
         Client {
             alloc: context.alloc,
             node: u32::from(node),
             rounds: context.rounds,
             store,
-            news,
+            channel,
             gate: context.gate,
         }
     }
@@ -43,7 +43,7 @@ impl<'a, L: Home, G: Gate> Client<'a, L, G> {
     pub(crate) fn run<R: Wait>(&mut self, rt: &R) -> Result<usize, End> {
         let mut last = 0;
         for round in 0..self.rounds {
-            let digest = self.news.receive(rt)?;
+            let digest = self.channel.receive(rt)?;
             last = self.read(rt, round, digest)?;
         }
         Ok(last)

@@ -158,7 +158,8 @@ impl<'a, L: Home, G: Gate> Link<'a, L, G> {
         self.gate.reach(Point::WriteDone { node, number });
         let digest = checked.digest();
         let block = checked.block().get();
-        self.table.hold(block.round.get(), block.author, digest);
+        self.table
+            .record_held(block.round.get(), block.author, digest);
         if !vote {
             return Ok(());
         }
@@ -206,7 +207,7 @@ impl<'a, L: Home, G: Gate> Link<'a, L, G> {
         let digest = certificate.digest();
         let certificate = certificate.certificate().get();
         self.table
-            .certify(certificate.round.get(), certificate.author, digest);
+            .record_certified(certificate.round.get(), certificate.author, digest);
         Ok(())
     }
 

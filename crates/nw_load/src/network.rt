@@ -62,7 +62,7 @@ fn sent<T: Drop>(outcome: Result<(), SendError<T>>) -> Result<(), End> {
 pub(crate) struct LinkChannels<'a> {
     pub(crate) network: &'a Network,
     pub(crate) inbox: &'a Inbox,
-    pub(crate) client: Sender<Digest>,
+    pub(crate) to_client: Sender<Digest>,
 }
 
 impl<'a> LinkChannels<'a> {
@@ -78,20 +78,20 @@ impl<'a> LinkChannels<'a> {
 
     /// Tells the client that the node's block of the next round, which has this digest, is certified.
     pub(crate) fn tell_client<R: Wait>(&self, rt: &R, digest: Digest) -> Result<(), End> {
-        sent(self.client.send(rt, digest))
+        sent(self.to_client.send(rt, digest))
     }
 }
 
 /// The channel of a client: from its link.
 #[derive(Drop)]
 pub(crate) struct ClientChannel {
-    pub(crate) link: Receiver<Digest>,
+    pub(crate) from_link: Receiver<Digest>,
 }
 
 impl ClientChannel {
     /// Waits for the digest of the node's next certified block.
     pub(crate) fn receive<R: Wait>(&self, rt: &R) -> Result<Digest, End> {
-        received(self.link.recv(rt))
+        received(self.from_link.recv(rt))
     }
 }
 

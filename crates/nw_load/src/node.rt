@@ -134,10 +134,17 @@ fn run_threads<L: Home, R: Threads + Wait + Sync, G: Gate + Sync>(
     inbox: &Inbox,
     store: &Store<DemoScheme, L>,
 ) -> Result<Finished<L>, End> {
-    let (client, news) = unbounded(context.alloc)?;
+    let (to_client, from_link) = unbounded(context.alloc)?;
     let first = new_session(context, node, store)?;
     match new_session(context, node, store) {
-        Ok(second) => run_both(context, node, inbox, store, (first, second), (client, news)),
+        Ok(second) => run_both(
+            context,
+            node,
+            inbox,
+            store,
+            (first, second),
+            (to_client, from_link),
+        ),
         Err(end) => {
             drop(first);
             Err(end)
@@ -145,19 +152,19 @@ fn run_threads<L: Home, R: Threads + Wait + Sync, G: Gate + Sync>(
     }
 }
 
-/// Runs the client in a new thread and the link in this one. `client` and `news` are the ends of the channel between them.
+/// Runs the client in a new thread and the link in this one. `to_client` and `from_link` are the ends of the channel between them.
 fn run_both<L: Home, R: Threads + Wait + Sync, G: Gate + Sync>(
     context: &LoadContext<'_, R, G>,
     node: u16,
     inbox: &Inbox,
     store: &Store<DemoScheme, L>,
     (first, second): (Session<DemoScheme, L>, Session<DemoScheme, L>),
-    (client, news): (Sender<Digest>, Receiver<Digest>),
+    (to_client, from_link): (Sender<Digest>, Receiver<Digest>),
 ) -> Result<Finished<L>, End> {
     thread::scope(thread::scope_env(), context.rt, move |scope| {
-        match start_client(scope, context, node, store, second, news) {
+        match start_client(scope, context, node, store, second, from_link) {
             Ok(started) => {
-                let (first, linked) = run_link(context, node, store, first, inbox, client);
+                let (first, linked) = run_link(context, node, store, first, inbox, to_client);
                 let (second, walked) = started.join(context.rt);
                 both_sessions(context.alloc, first, second, combined(linked, walked))
             }
@@ -196,9 +203,9 @@ fn start_client<'s, 'e, L: Home, R: Threads + Wait + Sync, G: Gate + Sync>(
     node: u16,
     store: &'e Store<DemoScheme, L>,
     session: Session<DemoScheme, L>,
-    news: Receiver<Digest>,
+    from_link: Receiver<Digest>,
 ) -> Result<JoinHandle<ClientOutcome<L>>, End> {
-    match scope.spawn(move || run_client(context, node, store, session, news)) {
+    match scope.spawn(move || run_client(context, node, store, session, from_link)) {
         Ok(started) => Ok(started),
         Err(_) => Err(End::Spawn),
     }
@@ -220,9 +227,9 @@ fn run_link<L: Home, R: Wait, G: Gate>(
     store: &Store<DemoScheme, L>,
     mut session: Session<DemoScheme, L>,
     inbox: &Inbox,
-    client: Sender<Digest>,
+    to_client: Sender<Digest>,
 ) -> (Session<DemoScheme, L>, Result<(), End>) {
-    let linked = run_link_on(&*context, node, &*store, &mut session, &*inbox, client);
+    let linked = run_link_on(&*context, node, &*store, &mut session, &*inbox, to_client);
     if linked.is_err() {
         context.network.close(context.rt);
     }
@@ -236,7 +243,7 @@ fn run_link_on<'a, L: Home, R: Wait, G: Gate>(
     store: &'a Store<DemoScheme, L>,
     session: &'a mut Session<DemoScheme, L>,
     inbox: &'a Inbox,
-    client: Sender<Digest>,
+    to_client: Sender<Digest>,
 ) -> Result<(), End> {
     let store = LinkCalls {
         node: u32::from(node),
@@ -246,7 +253,7 @@ fn run_link_on<'a, L: Home, R: Wait, G: Gate>(
     let channels = LinkChannels {
         network: context.network,
         inbox,
-        client,
+        to_client,
     };
     let mut link = Link::new(context, node, store, channels);
     let linked = link.run(context.rt);
@@ -260,9 +267,9 @@ fn run_client<L: Home, R: Wait, G: Gate>(
     node: u16,
     store: &Store<DemoScheme, L>,
     mut session: Session<DemoScheme, L>,
-    link: Receiver<Digest>,
+    from_link: Receiver<Digest>,
 ) -> ClientOutcome<L> {
-    let walked = run_client_on(&*context, node, &*store, &mut session, link);
+    let walked = run_client_on(&*context, node, &*store, &mut session, from_link);
     if walked.is_err() {
         context.network.close(context.rt);
     }
@@ -275,14 +282,14 @@ fn run_client_on<'a, L: Home, R: Wait, G: Gate>(
     node: u16,
     store: &'a Store<DemoScheme, L>,
     session: &'a mut Session<DemoScheme, L>,
-    link: Receiver<Digest>,
+    from_link: Receiver<Digest>,
 ) -> Result<usize, End> {
     let store = ClientCalls {
         node: u32::from(node),
         store,
         session,
     };
-    let mut client = Client::new(context, node, store, ClientChannel { link });
+    let mut client = Client::new(context, node, store, ClientChannel { from_link });
     let walked = client.run(context.rt);
     drop(client);
     walked

@@ -53,14 +53,14 @@ impl Table {
     }
 
     /// Records that the digest is held.
-    pub(crate) fn hold(&mut self, round: u64, author: u16, digest: Digest) {
+    pub(crate) fn record_held(&mut self, round: u64, author: u16, digest: Digest) {
         if let Some(slot) = self.slot(round, author) {
             slot.held = Some(digest);
         }
     }
 
     /// Records that the digest is certified.
-    pub(crate) fn certify(&mut self, round: u64, author: u16, digest: Digest) {
+    pub(crate) fn record_certified(&mut self, round: u64, author: u16, digest: Digest) {
         if let Some(slot) = self.slot(round, author) {
             slot.certified = Some(digest);
         }

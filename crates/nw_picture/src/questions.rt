@@ -7,7 +7,7 @@ use std::collections::BTreeSet;
 
 /// A script followed by questions.
 #[derive(Drop)]
-struct Extended {
+struct ExtendedScript {
     text: String,
     /// The limit on events of a history.
     events: u32,
@@ -15,7 +15,7 @@ struct Extended {
     room: u32,
 }
 
-impl Extended {
+impl ExtendedScript {
     // Makes room for one more call. If the history is full, the store settles and reopens, with an empty history.
     fn make_room(&mut self) -> Result<(), AllocError> {
         if self.room == 0 {
@@ -33,14 +33,14 @@ pub fn with_questions(
     script: &[u8],
     scene: &Scene<'_>,
 ) -> Result<String, AllocError> {
-    let mut extended = Extended {
+    let mut extended = ExtendedScript {
         text: String::from_str(alloc, text_of(script))?,
         events: scene.events,
         room: 0,
     };
     match add_all(&mut extended, scene) {
         Ok(()) => {
-            let Extended { text, .. } = extended;
+            let ExtendedScript { text, .. } = extended;
             Ok(text)
         }
         Err(refused) => {
@@ -50,7 +50,8 @@ pub fn with_questions(
     }
 }
 
-fn add_all(extended: &mut Extended, scene: &Scene<'_>) -> Result<(), AllocError> {
+// Adds all questions to the script.
+fn add_all(extended: &mut ExtendedScript, scene: &Scene<'_>) -> Result<(), AllocError> {
     extended
         .text
         .push_str(if scene.is_settled { "\nreopen\n" } else { "\n" })?;
@@ -63,7 +64,7 @@ fn add_all(extended: &mut Extended, scene: &Scene<'_>) -> Result<(), AllocError>
 }
 
 // Which blocks have the same digest?
-fn add_digests(extended: &mut Extended, scene: &Scene<'_>) -> Result<(), AllocError> {
+fn add_digests(extended: &mut ExtendedScript, scene: &Scene<'_>) -> Result<(), AllocError> {
     for block in &scene.blocks {
         let name = block.line.name;
         write!(extended.text, "digest {name}\n")?;
@@ -72,7 +73,7 @@ fn add_digests(extended: &mut Extended, scene: &Scene<'_>) -> Result<(), AllocEr
 }
 
 // Which parents are wanted, and what is the garbage round?
-fn add_store_questions(extended: &mut Extended) -> Result<(), AllocError> {
+fn add_store_questions(extended: &mut ExtendedScript) -> Result<(), AllocError> {
     extended.make_room()?;
     extended.text.push_str("missing 65535\n")?;
     extended.make_room()?;
@@ -80,7 +81,7 @@ fn add_store_questions(extended: &mut Extended) -> Result<(), AllocError> {
 }
 
 // What does a causal read of each block answer? The tickets have unused names.
-fn add_opens(extended: &mut Extended, scene: &Scene<'_>) -> Result<(), AllocError> {
+fn add_opens(extended: &mut ExtendedScript, scene: &Scene<'_>) -> Result<(), AllocError> {
     let mut next = 0;
     for block in &scene.blocks {
         let ticket = unused_from(&scene.ticket_numbers, next);

@@ -111,7 +111,7 @@ fn record_request<'a>(
     Ok(())
 }
 
-// Records a causal read that was answered with this word. Any other answer is a refusal, which leaves the last one.
+// Records a causal read that was answered with this word. Any other word is a refusal, and the block keeps its last answer.
 fn record_open<'a>(
     alloc: Global,
     scene: &mut Scene<'a>,

@@ -22,11 +22,11 @@ pub spawn-requires-send-F : goal.spawn-requires-send-F
 spawn-requires-send-F g c κs within =
     let store = store_sync demo.the_row (param 0 g.row.L) demo_is.ghosts g.L.Home g.L.Place g.L.Ledger in
     let session = session_send demo.the_row (param 0 g.row.L) demo_is.ghosts g.L.Home g.L.Place g.L.Ledger in
-    let news : IsSend (receivers.the_row digests.the_row heap.the_row ghosts) = search (receiver.the_send, digest.the_send, send, sync, frees) depth 20 in
+    let channel : IsSend (receivers.the_row digests.the_row heap.the_row ghosts) = search (receiver.the_send, digest.the_send, send, sync, frees) depth 20 in
     let node : IsSend (UInt w16) = search sendable in
     along_send _ _ _ _ (
     also _ _ (shr_send _ _ _ (context.the_sync (record { mir = _; lft = _ }) (param 1 g.row.R) (param 2 g.row.G) c.type_bounds.sync-R c.type_bounds.sync-G))
-    (also _ _ node (also _ _ (shr_send _ _ _ store) (also _ _ session (also _ _ news none))))
+    (also _ _ node (also _ _ (shr_send _ _ _ store) (also _ _ session (also _ _ channel none))))
     )
 
 pub spawn-requires-send-T : goal.spawn-requires-send-T
