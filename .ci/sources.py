@@ -22,7 +22,7 @@ class Names:
             self.read(content(path))
         for path in paths(f"{folder}/proofs/Sent.antt"):
             self.laws.update(re.findall(rf"^ *pub ({NAME}) :", content(path), re.M))
-        self.edits, self.planted = files(f"{folder}/must-fail/*.edit") | files(f"{folder}/wrong/*.edit"), files(f"{folder}/planted/*.edit")
+        self.edits, self.planted = files(f"{folder}/must-fail/*.edit") | files(f"{folder}/must-fail-together/*.edit"), files(f"{folder}/planted/*.edit")
 
     def read(self, text):
         owner, name, is_open, is_test = None, None, False, False
