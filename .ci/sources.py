@@ -20,7 +20,7 @@ class Names:
         self.is_program = bool(paths(f"{folder}/src/main.rt"))
         for path in paths(f"{folder}/src/**/*.r[st]"):
             self.read(content(path))
-        for path in paths(f"{folder}/proofs/Sent.antt"):
+        for path in paths(f"{folder}/proofs/Send.antt"):
             self.laws.update(re.findall(rf"^ *pub ({NAME}) :", content(path), re.M))
         self.edits, self.planted = files(f"{folder}/must-fail/*.edit") | files(f"{folder}/must-fail-together/*.edit"), files(f"{folder}/planted/*.edit")
 

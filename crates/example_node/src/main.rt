@@ -9,7 +9,7 @@
 
 ghost use Rattle.std.specs.Prelude.{◌≡◌};
 ghost use Rattle.nw_history.specs.Story.{first_origin};
-ghost use Rattle.nw_store.specs.Kept.{parts_of_a_ledger};
+ghost use Rattle.nw_store.specs.Lock.{parts_of_a_ledger};
 
 use anyhow::Result;
 use hex::FromHex;
@@ -135,7 +135,7 @@ impl<'a, L: Home, R: Wait + Input + Print> Node<'a, L, R> {
     fn print_reply(&self, digest: Digest, done: &Done<Ed25519>) -> Result<()> {
         let digest = hex::encode(self.alloc, digest.0)?;
         match done.reply() {
-            // A validator signs `vote_text` here, and sends the vote.
+            // A validator signs `text_of_vote` here, and sends the vote.
             Reply::Write(WriteReply::Stored { vote: true }) => {
                 println!(self.rt; "vote for {digest}")?;
             }

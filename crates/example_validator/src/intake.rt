@@ -20,7 +20,7 @@ pub(crate) type Inbox = Receiver<Vec<Text>>;
 const WORKERS: usize = 2;
 
 /// The most messages that are checked at once.
-const MOST_TEXTS: usize = 1024;
+const MAX_TEXTS: usize = 1024;
 
 /// The values of the intake thread.
 #[derive(Drop)]
@@ -85,7 +85,7 @@ impl<'a, L: Home, R: Threads + Wait + Sync> Intake<'a, L, R> {
         for text in texts {
             copies.push(text.to_vec(alloc)?)?;
         }
-        if copies.len() > MOST_TEXTS {
+        if copies.len() > MAX_TEXTS {
             return Err(End::Unexpected);
         }
         Ok(check_all(rt, alloc, committee, copies, WORKERS, &FreeGate)?)

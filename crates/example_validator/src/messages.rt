@@ -9,7 +9,7 @@ use nw_codec::{
 };
 use nw_committee::{Committee, Key};
 use nw_digest::{Digest, Round, Sequence, Shared};
-use nw_sig::{block_text, vote_text};
+use nw_sig::{text_of_block, text_of_vote};
 use rand_core::utils::NextWord;
 use rand_pcg::Pcg32;
 use std::alloc::Global;
@@ -129,7 +129,7 @@ fn signed_block(
         return Err(End::Unexpected);
     }
     let digest = block_digest(&block);
-    let signature = sign(key(author), &block_text(&digest));
+    let signature = sign(key(author), &text_of_block(&digest));
     Ok((digest, encode_block(alloc, &block, &signature)?))
 }
 
@@ -138,7 +138,7 @@ fn certificate(alloc: Global, (round, author): (u64, u16), digest: Digest) -> Re
     let round = Round::new(round).unwrap_or(Round::ZERO);
     let mut votes = Vec::new(alloc);
     for signer in 0..MEMBERS {
-        let signature = sign(key(signer), &vote_text(&digest, round, author));
+        let signature = sign(key(signer), &text_of_vote(&digest, round, author));
         votes.push(Seal { signer, signature })?;
     }
     let votes = Sequence::new(votes);

@@ -1,7 +1,7 @@
 //! One validator: its store, its two threads, and how it settles and reopens the store.
 ghost use Rattle.std.specs.Prelude.{◌≡◌};
 ghost use Rattle.nw_store.specs.Journal.{origin_of};
-ghost use Rattle.nw_store.specs.Kept.{parts_of_a_ledger};
+ghost use Rattle.nw_store.specs.Lock.{parts_of_a_ledger};
 
 use crate::consensus::{Certified, Consensus, Decided, Decider};
 use crate::end::End;

@@ -3,13 +3,13 @@ use Rattle.nw_check.specs.declared.message.Checked.{Checked}
 use Rattle.nw_check.specs.declared.message.Checked.TheVariants as checked
 
 -- the message is a checked block
-abbrev pub IsBlock : {S : Type 0} → Checked S → Type 0
-IsBlock (checked.Block block) = Unit {0}
-IsBlock (checked.Cert certificate) = ⊥
-IsBlock (checked.Vote vote) = ⊥
-IsBlock (checked.BadText error) = ⊥
-IsBlock (checked.BadBlock fault) = ⊥
-IsBlock (checked.BadCert fault) = ⊥
+abbrev pub IsCheckedAsBlock : {S : Type 0} → Checked S → Type 0
+IsCheckedAsBlock (checked.Block block) = Unit {0}
+IsCheckedAsBlock (checked.Cert certificate) = ⊥
+IsCheckedAsBlock (checked.Vote vote) = ⊥
+IsCheckedAsBlock (checked.BadText error) = ⊥
+IsCheckedAsBlock (checked.BadBlock fault) = ⊥
+IsCheckedAsBlock (checked.BadCert fault) = ⊥
 
 -- the message is a checked block or a checked certificate
 abbrev pub IsVerified : {S : Type 0} → Checked S → Type 0

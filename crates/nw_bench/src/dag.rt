@@ -7,7 +7,7 @@ use nw_codec::{
 };
 use nw_committee::{Committee, Key};
 use nw_digest::{Digest, Round, Sequence, Shared};
-use nw_sig::{DemoSigner, Signer, block_text, vote_text};
+use nw_sig::{DemoSigner, Signer, text_of_block, text_of_vote};
 use std::alloc::Global;
 
 /// The number of transactions of a block: the most that are allowed.
@@ -101,7 +101,7 @@ fn messages_of(
         return Err(Error::msg("the block breaks a limit"));
     }
     let digest = block_digest(&block);
-    let text = encode_block(alloc, &block, &sign(author, &block_text(&digest)))?;
+    let text = encode_block(alloc, &block, &sign(author, &text_of_block(&digest)))?;
     Ok(Pair {
         author,
         digest,
@@ -129,7 +129,7 @@ fn certificate_message(
     round: Round,
     author: u16,
 ) -> Result<Vec<u8>, Error> {
-    let text = vote_text(&digest, round, author);
+    let text = text_of_vote(&digest, round, author);
     let mut votes = Vec::new(alloc);
     for signer in 0..u16::try_from(committee.quorum())? {
         votes.push(Seal {

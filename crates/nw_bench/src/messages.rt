@@ -5,7 +5,7 @@ use anyhow::Error;
 use nw_codec::{Block, Transactions, block_digest, encode_block};
 use nw_committee::{Committee, Key};
 use nw_digest::{NoMemory, Round, Sequence, Shared};
-use nw_sig::{DemoSigner, Signer, block_text};
+use nw_sig::{DemoSigner, Signer, text_of_block};
 use std::alloc::Global;
 
 // The key of the one member.
@@ -44,7 +44,7 @@ fn message(alloc: Global, number: u32, bytes: usize) -> Result<Vec<u8>, Error> {
     if !block.fits() {
         return Err(Error::msg("the block breaks a limit"));
     }
-    let signature = DemoSigner::new(KEY).sign(&block_text(&block_digest(&block)));
+    let signature = DemoSigner::new(KEY).sign(&text_of_block(&block_digest(&block)));
     Ok(encode_block(alloc, &block, &signature)?)
 }
 

@@ -1,7 +1,7 @@
 //! A node: a store, and threads that check and store the messages of a full DAG.
 ghost use Rattle.std.specs.Prelude.{◌≡◌};
 ghost use Rattle.nw_store.specs.Journal.{origin_of};
-ghost use Rattle.nw_store.specs.Kept.{parts_of_a_ledger};
+ghost use Rattle.nw_store.specs.Lock.{parts_of_a_ledger};
 
 use crate::crew::{Crew, work};
 use crate::dag::{Pair, committee, full_dag};
@@ -10,8 +10,7 @@ use anyhow::Error;
 use nw_digest::digest_of;
 use nw_sig::DemoScheme;
 use nw_store::{
-    Book, Home, Limits, MOST_BLOCKS, MOST_EVENTS, MOST_ROUNDS, MOST_SESSIONS, Opening, Session,
-    Store,
+    Book, Home, Limits, MAX_BLOCKS, MAX_EVENTS, MAX_SESSIONS, MAX_WINDOW, Opening, Session, Store,
 };
 use std::alloc::Global;
 use std::marker::Brand;
@@ -21,10 +20,10 @@ use std::time::{Clock, Duration, Instant};
 
 /// The largest limits that a store may have.
 const LIMITS: Limits = Limits {
-    blocks: MOST_BLOCKS,
-    events: MOST_EVENTS,
-    window: MOST_ROUNDS,
-    sessions: MOST_SESSIONS,
+    blocks: MAX_BLOCKS,
+    events: MAX_EVENTS,
+    window: MAX_WINDOW,
+    sessions: MAX_SESSIONS,
 };
 
 /// The work of a node, and its times.
@@ -183,7 +182,7 @@ fn run_threads<L: Home, R: Threads + Wait + Sync + Clock>(
     for_each_mut(
         rt,
         sessions,
-        MOST_SESSIONS as usize,
+        MAX_SESSIONS as usize,
         &|place, session: &mut Session<DemoScheme, L>| {
             work(rt, alloc, store, session, crew, place);
         },

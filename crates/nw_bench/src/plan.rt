@@ -1,15 +1,15 @@
 //! The plans that the program's arguments describe.
 ghost use Rattle.std.specs.Prelude.{◌≤◌, IfSome};
-ghost use Rattle.nw_bench.specs.declared.plan.TheConstants.{MOST_BYTES, MOST_WORKERS};
-ghost use Rattle.nw_history.specs.declared.limits.TheConstants.{MOST_SESSIONS};
+ghost use Rattle.nw_bench.specs.declared.plan.TheConstants.{MAX_BYTES, MAX_WORKERS};
+ghost use Rattle.nw_history.specs.declared.limits.TheConstants.{MAX_SESSIONS};
 
-use nw_store::MOST_SESSIONS;
+use nw_store::MAX_SESSIONS;
 
 // The most threads that check messages.
-const MOST_WORKERS: usize = 16;
+const MAX_WORKERS: usize = 16;
 
 // The most bytes of a transaction.
-const MOST_BYTES: usize = 65_536;
+const MAX_BYTES: usize = 65_536;
 
 /// The number of messages, the bytes of each one's transaction, and the number of threads that check them.
 #[derive(Clone, Copy, Debug, PartialEq, Eq)]
@@ -20,11 +20,11 @@ pub struct Plan {
 }
 
 impl Plan {
-    /// Reads the program's name and three numbers. `None` for other words, more than `MOST_BYTES` bytes, or not 1 to `MOST_WORKERS` workers.
+    /// Reads the program's name and three numbers. `None` for other words, more than `MAX_BYTES` bytes, or not 1 to `MAX_WORKERS` workers.
     pub fn read(words: &[String]) -> Option<Plan>
-        ensures bytes { IfSome result (λ plan. plan.bytes ≤ MOST_BYTES) }
+        ensures bytes { IfSome result (λ plan. plan.bytes ≤ MAX_BYTES) }
         ensures workers { IfSome result
-            (λ plan. (1 ≤ plan.workers) × (plan.workers ≤ MOST_WORKERS)) }
+            (λ plan. (1 ≤ plan.workers) × (plan.workers ≤ MAX_WORKERS)) }
     {
         let [_, messages, bytes, workers] = words else {
             return None;
@@ -34,7 +34,7 @@ impl Plan {
             bytes: bytes.parse().ok()?,
             workers: workers.parse().ok()?,
         };
-        let is_good = plan.bytes <= MOST_BYTES && plan.workers >= 1 && plan.workers <= MOST_WORKERS;
+        let is_good = plan.bytes <= MAX_BYTES && plan.workers >= 1 && plan.workers <= MAX_WORKERS;
         is_good.then_some(plan)
     }
 }
@@ -48,10 +48,10 @@ pub struct InputPlan {
 }
 
 impl InputPlan {
-    /// Reads the program's name, the word `ed25519` and three numbers. `None` for other words, or not 1 to `MOST_WORKERS` workers.
+    /// Reads the program's name, the word `ed25519` and three numbers. `None` for other words, or not 1 to `MAX_WORKERS` workers.
     pub fn read(words: &[String]) -> Option<InputPlan>
         ensures { IfSome result
-            (λ plan. (1 ≤ plan.workers) × (plan.workers ≤ MOST_WORKERS)) }
+            (λ plan. (1 ≤ plan.workers) × (plan.workers ≤ MAX_WORKERS)) }
     {
         let [_, word, members, messages, workers] = words else {
             return None;
@@ -64,7 +64,7 @@ impl InputPlan {
             messages: messages.parse().ok()?,
             workers: workers.parse().ok()?,
         };
-        let is_good = plan.workers >= 1 && plan.workers <= MOST_WORKERS;
+        let is_good = plan.workers >= 1 && plan.workers <= MAX_WORKERS;
         is_good.then_some(plan)
     }
 }
@@ -78,11 +78,11 @@ pub struct NodePlan {
 }
 
 impl NodePlan {
-    /// Reads the program's name, the word `node` and three numbers. `None` for other words, or not 1 to `MOST_SESSIONS` threads. Each thread
+    /// Reads the program's name, the word `node` and three numbers. `None` for other words, or not 1 to `MAX_SESSIONS` threads. Each thread
     /// has its own session.
     pub fn read(words: &[String]) -> Option<NodePlan>
         ensures { IfSome result
-            (λ plan. (1 ≤ plan.threads) × (plan.threads ≤ MOST_SESSIONS)) }
+            (λ plan. (1 ≤ plan.threads) × (plan.threads ≤ MAX_SESSIONS)) }
     {
         let [_, word, members, rounds, threads] = words else {
             return None;
@@ -95,7 +95,7 @@ impl NodePlan {
             rounds: rounds.parse().ok()?,
             threads: threads.parse().ok()?,
         };
-        let is_good = plan.threads >= 1 && u32::from(plan.threads) <= MOST_SESSIONS;
+        let is_good = plan.threads >= 1 && u32::from(plan.threads) <= MAX_SESSIONS;
         is_good.then_some(plan)
     }
 }

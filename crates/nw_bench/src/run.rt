@@ -1,6 +1,6 @@
 //! Measures one check of all messages.
 ghost use Rattle.std.specs.Prelude.{◌↔◌, ◌^◌, ◌<◌, IsTrue, All, vec_len};
-ghost use Rattle.nw_bench.specs.Blocks.{IsBlock, IsVerified};
+ghost use Rattle.nw_bench.specs.Blocks.{IsCheckedAsBlock, IsVerified};
 
 use crate::input::{read_committee, read_messages};
 use crate::messages::{committee, messages};
@@ -67,7 +67,7 @@ fn timed<S: Scheme + Send, R: Threads + Wait + Sync + Clock>(
 
 /// Whether each answer is a checked block.
 fn are_blocks<S: Scheme>(answers: &[Checked<S>]) -> bool
-    ensures { IsTrue result ↔ All IsBlock answers.now }
+    ensures { IsTrue result ↔ All IsCheckedAsBlock answers.now }
 {
     answers
         .iter()

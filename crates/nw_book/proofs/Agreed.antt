@@ -7,9 +7,9 @@ use Rattle.nw_codec.specs.declared.block.Block.{Block}
 use Rattle.nw_sig.specs.Signed.{Meaning}
 use Rattle.nw_model.specs.State.{State}
 use Rattle.nw_model.specs.Checks.{digest_of}
-use Rattle.nw_model.specs.Sound.{HasNoneBelow}
+use Rattle.nw_model.specs.Sound.{HasNoBlocksBelowFloor}
 use Rattle.nw_model.specs.Paths.{IsComplete, IsCausalList}
-use Rattle.nw_model.specs.View.{Frozen, Shows, IsThere, IsPathIn, IsAncestorIn, IsWalk}
+use Rattle.nw_model.specs.View.{Frozen, Shows, HasBlock, IsPathIn, IsAncestorIn, IsWalk}
 use Rattle.nw_model.proofs.Admitted.{admitted_left}
 use Rattle.nw_model.proofs.Listed.{contains_first, contains_later}
 use Rattle.nw_model.proofs.Views.{there_held, ancestors_shown}
@@ -17,14 +17,14 @@ use Rattle.nw_causal.specs.Agreement.{IsAgreement}
 use Rattle.nw_causal.specs.declared.agreement.Agreement.{Agreement}
 use Rattle.nw_causal.specs.declared.agreement.Agreement.TheVariants as agreements
 use Rattle.nw_history.specs.Story.{terms_of, state_of}
-use Rattle.nw_book.specs.Ticket.{Given, IsTicketWith, IsListOf, IsHeldAfter, IsAgreed}
+use Rattle.nw_book.specs.Ticket.{TicketView, IsTicketWith, IsListOf, IsHeldAfter, IsAgreed}
 use Rattle.nw_book.proofs.Opened.{story_sound, ticket_there, ticket_walk}
 
 -- ---- a causal list is a walk
 
 -- the digest at which a path ends is in the view
-last_there : (v : Frozen) (d : Digest) (path : List Digest) (a : Digest) → IsPathIn v d path a → (b : Block) × IsThere v a b
-last_there v d [] a on = (on.0.0, subst (λ q. IsThere v q on.0.0) on.1 on.0.1)
+last_there : (v : Frozen) (d : Digest) (path : List Digest) (a : Digest) → IsPathIn v d path a → (b : Block) × HasBlock v a b
+last_there v d [] a on = (on.0.0, subst (λ q. HasBlock v q on.0.0) on.1 on.0.1)
 last_there v d (e ∷ path) a on = last_there v e path a on.1
 
 -- two functions that agree on the items of a list map it to the same list
@@ -36,7 +36,7 @@ same_map f g (x ∷ xs) agree =
     cc
 
 -- the causal list of a complete block is its walk in a view that shows the state
-causal_is_walk : (v : Frozen) (s : State) (d : Digest) (blocks : List Block) → HasNoneBelow s → Shows v s → IsComplete s d → IsCausalList s d blocks → IsWalk v d blocks
+causal_is_walk : (v : Frozen) (s : State) (d : Digest) (blocks : List Block) → HasNoBlocksBelowFloor s → Shows v s → IsComplete s d → IsCausalList s d blocks → IsWalk v d blocks
 causal_is_walk v s d blocks kept shows whole causal = record {
   digests = causal.digests;
   found = same_map (get v.blocks) (get s.blocks) causal.digests (λ a among.
@@ -51,13 +51,13 @@ causal_is_walk v s d blocks kept shows whole causal = record {
 }
 
 -- the list of the ticket's causal read is the walk in the ticket's view
-list_is_walk : (accepts : Meaning) (t : Given) (v : Frozen) (blocks : List Block) → IsTicketWith accepts t v → IsListOf t blocks → IsWalk v t.digest blocks
+list_is_walk : (accepts : Meaning) (t : TicketView) (v : Frozen) (blocks : List Block) → IsTicketWith accepts t v → IsListOf t blocks → IsWalk v t.digest blocks
 list_is_walk accepts t v blocks h is = causal_is_walk v (state_of t.front) t.digest blocks (story_sound accepts t.front h.ticket.legal).blocks_kept h.shows is.0 is.1
 
 -- ---- blocks in a view
 
 -- the block that a ticket's view has under a digest is held after the front, and has that digest
-held_after : (accepts : Meaning) (t : Given) (v : Frozen) (d : Digest) (b : Block) → IsTicketWith accepts t v → IsThere v d b → IsHeldAfter t.front d b × (digest_of b ≡ d)
+held_after : (accepts : Meaning) (t : TicketView) (v : Frozen) (d : Digest) (b : Block) → IsTicketWith accepts t v → HasBlock v d b → IsHeldAfter t.front d b × (digest_of b ≡ d)
 held_after accepts t v d b h there =
     let held = (h.shows.complete d b).0 there in
     let own = admitted_left accepts (terms_of t.front) t.front.base t.front.events h.ticket.legal d b held.0 in
@@ -66,13 +66,13 @@ held_after accepts t v d b h there =
 -- ---- two tickets for one digest
 
 -- the digest of one ticket is also in the view of the other
-pub other_there : (accepts : Meaning) (d : Digest) (u : Given) (w : Frozen) → IsTicketWith accepts u w → d ≡ u.digest → (b : Block) × IsThere w d b
+pub other_there : (accepts : Meaning) (d : Digest) (u : TicketView) (w : Frozen) → IsTicketWith accepts u w → d ≡ u.digest → (b : Block) × HasBlock w d b
 other_there accepts d u w k same =
     let there = ticket_there accepts u w k in
-    (there.0, subst (λ q. IsThere w q there.0) (sym same) there.1)
+    (there.0, subst (λ q. HasBlock w q there.0) (sym same) there.1)
 
 -- an agreement of the walks in the views is an agreement of the tickets
-agreed : (accepts : Meaning) (t u : Given) (v w : Frozen) → IsTicketWith accepts t v → IsTicketWith accepts u w → t.digest ≡ u.digest → (a : Agreement) → IsAgreement v w t.digest a → IsAgreed t u a
+agreed : (accepts : Meaning) (t u : TicketView) (v w : Frozen) → IsTicketWith accepts t v → IsTicketWith accepts u w → t.digest ≡ u.digest → (a : Agreement) → IsAgreement v w t.digest a → IsAgreed t u a
 agreed accepts t u v w h k same agreements.Same walks =
     (walks.0, ticket_walk accepts t v walks.0 h walks.1, ticket_walk accepts u w walks.0 k (subst (λ d. IsWalk w d walks.0) same walks.2))
 agreed accepts t u v w h k same (agreements.Collision b c) (apart, (d, (in_one, in_other, differ))) =
@@ -83,7 +83,7 @@ agreed accepts t u v w h k same (agreements.Collision b c) (apart, (d, (in_one, 
     )
 
 -- the same, for a comparison that may fail
-pub tickets_agree : {E : Type 0} (accepts : Meaning) (t u : Given) (v w : Frozen) (r : Result Agreement E) → IsTicketWith accepts t v → IsTicketWith accepts u w → t.digest ≡ u.digest
+pub tickets_agree : {E : Type 0} (accepts : Meaning) (t u : TicketView) (v w : Frozen) (r : Result Agreement E) → IsTicketWith accepts t v → IsTicketWith accepts u w → t.digest ≡ u.digest
     → IfOk r (λ a. IsAgreement v w t.digest a) → IfOk r (λ a. IsAgreed t u a)
 tickets_agree accepts t u v w (Ok a) h k same is = agreed accepts t u v w h k same a is
 tickets_agree accepts t u v w (Err e) h k same is = tt

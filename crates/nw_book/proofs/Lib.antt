@@ -2,7 +2,7 @@ pub mod Longer
 pub mod Represent
 pub mod Opened
 pub mod Agreed
-pub mod Sent
+pub mod Send
 pub mod HeldCalls
 pub mod Runs
 pub mod NotReady

@@ -7,7 +7,7 @@ use Rattle.std.specs.Option.{option_copied, unwrap_or}
 use Rattle.std.proofs.lemmas.List.Elements.{All-push, filter-append}
 use Rattle.nw_sig.specs.Signed.{Meaning}
 use Rattle.nw_model.specs.State.{State}
-use Rattle.nw_model.specs.Step.{Bounds, after, IsReply, IsShort}
+use Rattle.nw_model.specs.Step.{Bounds, after, IsReply, HasNoList}
 use Rattle.nw_model.specs.History.{AreReplies, AreNumbered, IsAdmitted, Terms, IsLegal, replay, events_of}
 use Rattle.nw_model.specs.declared.event.Event.{Event}
 
@@ -15,7 +15,7 @@ pub replay_last : (b : Bounds) (s : State) (es : List Event) (e : Event) → rep
 replay_last b s [] e = refl
 replay_last b s (x ∷ es) e = replay_last b (after b s x.call) es e
 
-replies_last : (b : Bounds) (s : State) (es : List Event) (e : Event) → AreReplies b s es → IsReply b (replay b s es) e.call e.reply → IsShort e.reply → AreReplies b s (es ++ e ∷ [])
+replies_last : (b : Bounds) (s : State) (es : List Event) (e : Event) → AreReplies b s es → IsReply b (replay b s es) e.call e.reply → HasNoList e.reply → AreReplies b s (es ++ e ∷ [])
 replies_last b s [] e h is short = (is, short, tt)
 replies_last b s (x ∷ es) e h is short = (h.0, h.1, replies_last b (after b s x.call) es e h.2 is short)
 
@@ -35,7 +35,7 @@ same_session e session t = eqb-true e.session session t
 
 -- a legal history stays legal with one more event, whose reply is that of the step and whose number is its session's next
 pub legal_last : (accepts : Meaning) (t : Terms) (base : State) (es : List Event) (e : Event) → IsLegal accepts t base es
-    → IsReply t.bounds (replay t.bounds base es) e.call e.reply → IsShort e.reply → e.session < t.sessions → e.number ≡ length (events_of e.session es) + 1
+    → IsReply t.bounds (replay t.bounds base es) e.call e.reply → HasNoList e.reply → e.session < t.sessions → e.number ≡ length (events_of e.session es) + 1
     → length es < t.events → IsAdmitted accepts t.committee e.call → IsLegal accepts t base (es ++ e ∷ [])
 legal_last accepts t base es e h reply short below number room admitted = record {
   based = h.based;

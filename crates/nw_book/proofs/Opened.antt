@@ -7,7 +7,7 @@ use Rattle.nw_sig.specs.Signed.{Meaning}
 use Rattle.nw_model.specs.State.{State}
 use Rattle.nw_model.specs.Sound.{IsSound}
 use Rattle.nw_model.specs.Paths.{IsComplete}
-use Rattle.nw_model.specs.View.{Frozen, Shows, IsThere, IsWalk}
+use Rattle.nw_model.specs.View.{Frozen, Shows, HasBlock, IsWalk}
 use Rattle.nw_model.specs.Step.{Bounds, after, IsReply}
 use Rattle.nw_model.specs.History.{AreReplies, replay}
 use Rattle.nw_model.specs.declared.call.Call.TheVariants as calls
@@ -16,7 +16,7 @@ use Rattle.nw_model.specs.declared.reply.Reply.TheVariants as replies
 use Rattle.nw_model.proofs.Replayed.{legal_sound}
 use Rattle.nw_model.proofs.Views.{complete_there, walk_is_causal}
 use Rattle.nw_history.specs.Story.{Story, IsLegalStory, terms_of, bounds_of, state_of, with_event}
-use Rattle.nw_book.specs.Ticket.{Given, IsTicket, IsTicketWith}
+use Rattle.nw_book.specs.Ticket.{TicketView, IsTicket, IsTicketWith}
 use Rattle.nw_book.specs.Turn.{event}
 use Rattle.nw_book.proofs.Longer.{replay_last}
 
@@ -26,7 +26,7 @@ reply_last b s [] e h = h.0
 reply_last b s (x ∷ es) e h = reply_last b (after b s x.call) es e h.2
 
 -- a ticket's digest is complete after its front
-pub ticket_complete : (accepts : Meaning) (t : Given) → IsTicket accepts t → IsComplete (state_of t.front) t.digest
+pub ticket_complete : (accepts : Meaning) (t : TicketView) → IsTicket accepts t → IsComplete (state_of t.front) t.digest
 ticket_complete accepts t h =
     let b : Bounds = bounds_of t.front.limits in
     let es : List Event = h.last.0 in
@@ -41,14 +41,14 @@ pub story_sound : (accepts : Meaning) (s : Story) → IsLegalStory accepts s →
 story_sound accepts s legal = legal_sound accepts (terms_of s) s.base s.events legal
 
 -- a ticket's digest is in its view
-pub ticket_there : (accepts : Meaning) (t : Given) (v : Frozen) → IsTicketWith accepts t v → (b : Block) × IsThere v t.digest b
+pub ticket_there : (accepts : Meaning) (t : TicketView) (v : Frozen) → IsTicketWith accepts t v → (b : Block) × HasBlock v t.digest b
 ticket_there accepts t v h =
     let whole : IsComplete (state_of t.front) t.digest = ticket_complete accepts t h.ticket in
     let stands = whole.stands in
     (stands.0, complete_there v (state_of t.front) t.digest stands.0 (story_sound accepts t.front h.ticket.legal).blocks_kept h.shows whole stands.1)
 
 -- a walk in a ticket's view is the list of its causal read
-pub ticket_walk : (accepts : Meaning) (t : Given) (v : Frozen) (blocks : List Block) → IsTicketWith accepts t v → IsWalk v t.digest blocks
+pub ticket_walk : (accepts : Meaning) (t : TicketView) (v : Frozen) (blocks : List Block) → IsTicketWith accepts t v → IsWalk v t.digest blocks
     → IsReply (bounds_of t.front.limits) (state_of t.front) (calls.Causal t.digest) (replies.List blocks)
 ticket_walk accepts t v blocks h walk =
     let whole : IsComplete (state_of t.front) t.digest = ticket_complete accepts t h.ticket in
@@ -66,7 +66,7 @@ opened accepts old front session number d v is legal shows =
     }
 
 -- the same, for a walk that may fail
-pub ticket_walks : {Z E : Type 0} (accepts : Meaning) (t : Given) (v : Frozen) (r : Result (Vec Block Z) E) → IsTicketWith accepts t v → IfOk r (λ blocks. IsWalk v t.digest blocks.items)
+pub ticket_walks : {Z E : Type 0} (accepts : Meaning) (t : TicketView) (v : Frozen) (r : Result (Vec Block Z) E) → IsTicketWith accepts t v → IfOk r (λ blocks. IsWalk v t.digest blocks.items)
     → IfOk r (λ blocks. IsReply (bounds_of t.front.limits) (state_of t.front) (calls.Causal t.digest) (replies.List blocks.items))
 ticket_walks accepts t v (Ok blocks) h walked = ticket_walk accepts t v blocks.items h walked
 ticket_walks accepts t v (Err e) h walked = tt

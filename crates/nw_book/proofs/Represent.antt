@@ -5,19 +5,19 @@ use Rattle.std.proofs.lemmas.Bool.{eqb-true, eqb-false}
 use Rattle.std.proofs.lemmas.Grind.{get_or_default_zero}
 use Rattle.std.proofs.lemmas.List.Sums.{length-filter, count_by-le-length}
 use Rattle.nw_sig.specs.Signed.{Meaning}
-use Rattle.nw_model.specs.Step.{Tables, after, IsReply, IsShort}
+use Rattle.nw_model.specs.Step.{BoundedState, after, IsReply, HasNoList}
 use Rattle.nw_model.specs.History.{IsAdmitted, events_of}
 use Rattle.nw_model.specs.declared.call.Call.{Call}
 use Rattle.nw_model.specs.declared.event.Event.{Event}
 use Rattle.nw_model.specs.declared.reply.Reply.{Reply}
 use Rattle.nw_history.specs.Story.{Story, IsLegalStory, terms_of, bounds_of, state_of, tables_of, with_event}
 use Rattle.nw_book.specs.Answer.{Takes}
-use Rattle.nw_book.specs.Turn.{IsInTurn, HasRoom, AreCounts, Represent, event}
+use Rattle.nw_book.specs.Turn.{IsInTurn, HasRoom, AreEventCounts, Represent, event}
 use Rattle.nw_book.proofs.Longer.{replay_last, events_of_last, legal_last}
 
 -- an event in turn, with the reply of the step, which is not a list, keeps the history legal
-pub legal_next : (accepts : Meaning) (t : Tables) (counts : List ℕ) (s : Story) (e : Event) → Represent accepts t counts s → IsInTurn s e.session e.number → HasRoom s
-    → IsAdmitted accepts s.committee e.call → IsReply (bounds_of s.limits) (state_of s) e.call e.reply → IsShort e.reply → IsLegalStory accepts (with_event s e)
+pub legal_next : (accepts : Meaning) (t : BoundedState) (counts : List ℕ) (s : Story) (e : Event) → Represent accepts t counts s → IsInTurn s e.session e.number → HasRoom s
+    → IsAdmitted accepts s.committee e.call → IsReply (bounds_of s.limits) (state_of s) e.call e.reply → HasNoList e.reply → IsLegalStory accepts (with_event s e)
 legal_next accepts t counts s e h turn room admitted is short =
     legal_last accepts (terms_of s) s.base s.events e h.legal is short turn.session_below turn.number_next room admitted
 
@@ -32,8 +32,8 @@ counted counts i k below in_range false t =
     let apart : k ≢ i = λ e. eqb-false i k t (sym e) in rw get_or-set_other (omega arith)
 
 -- the counts with one more event of the session
-pub counts_next : (counts : List ℕ) (s : Story) (e : Event) → AreCounts counts s → e.session < length counts
-    → AreCounts (set counts e.session (get_or counts e.session 0 + 1)) (with_event s e)
+pub counts_next : (counts : List ℕ) (s : Story) (e : Event) → AreEventCounts counts s → e.session < length counts
+    → AreEventCounts (set counts e.session (get_or counts e.session 0 + 1)) (with_event s e)
 counts_next counts s e h below = record {
   sessions = length-set counts e.session (get_or counts e.session 0 + 1) ∙ h.sessions;
   each = λ k in_range.
@@ -45,7 +45,7 @@ counts_next counts s e h below = record {
 }
 
 -- tables and counts that take the step of an event represent the history with this event
-pub represent_next : (accepts : Meaning) (t u : Tables) (counts : List ℕ) (s n : Story) (e : Event) (session place count : ℕ) → Represent accepts t counts s → IsLegalStory accepts (with_event s e)
+pub represent_next : (accepts : Meaning) (t u : BoundedState) (counts : List ℕ) (s n : Story) (e : Event) (session place count : ℕ) → Represent accepts t counts s → IsLegalStory accepts (with_event s e)
     → session < s.limits.sessions → e.session ≡ session → place ≡ session → count ≡ get_or counts place count
     → n ≡ with_event s e → u ≡ record t { state = after t.bounds t.state e.call } → Represent accepts u (set counts place (count + 1)) n
 represent_next accepts t u counts s n e session place count h legal below own here value story_is tables_is =
@@ -55,13 +55,13 @@ represent_next accepts t u counts s n e session place count h legal below own he
     rw (story_is, same, number) (record {
       in_range = h.in_range;
       legal = legal;
-      state = tables_is ∙ ap (λ (v : Tables). record v { state = after v.bounds v.state e.call }) h.state
+      state = tables_is ∙ ap (λ (v : BoundedState). record v { state = after v.bounds v.state e.call }) h.state
           ∙ ap (λ x. record (tables_of s) { state = x }) (sym (replay_last (bounds_of s.limits) s.base s.events e));
       counted = counts_next counts s e h.counted inside;
     })
 
 -- the number of a session's calls is at most 65536
-pub count_fits : (accepts : Meaning) (t : Tables) (counts : List ℕ) (s : Story) (session place count : ℕ) → Represent accepts t counts s → session < s.limits.sessions
+pub count_fits : (accepts : Meaning) (t : BoundedState) (counts : List ℕ) (s : Story) (session place count : ℕ) → Represent accepts t counts s → session < s.limits.sessions
     → place ≡ session → count ≡ get_or counts place count → count ≤ 65536
 count_fits accepts t counts s session place count h below here value =
     let inside : session < length counts = omega (arith, h.counted.sessions, below) in

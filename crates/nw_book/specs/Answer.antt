@@ -9,11 +9,11 @@ use Rattle.nw_model.specs.declared.reply.CausalReply.{CausalReply}
 use Rattle.nw_model.specs.declared.reply.Reply.{Reply}
 use Rattle.nw_model.specs.declared.reply.Reply.TheVariants as replies
 use Rattle.nw_history.specs.Story.{Story, IsLegalStory, bounds_of, state_of, with_event}
-use Rattle.nw_book.specs.Ticket.{Given}
+use Rattle.nw_book.specs.Ticket.{TicketView}
 use Rattle.nw_book.specs.Turn.{event}
 
 -- an answer as contracts see it
-pub record Told : Type 0 where
+pub record DoneView : Type 0 where
   -- the event of the call
   pub event : Event
   -- the history up to and including the event
@@ -31,16 +31,16 @@ pub record Takes (accepts : Meaning) (old new : Story) (session number : ℕ) (c
   pub legal : IsLegalStory accepts new
 
 -- the reply to a causal read: Ready if it got a ticket
-abbrev pub reply_of : Result Given Told → Reply
+abbrev pub reply_of : Result TicketView DoneView → Reply
 reply_of (Ok ticket) = replies.Ready
 reply_of (Err done) = done.event.reply
 
 -- the front of the answer to a causal read
-abbrev pub front_of : Result Given Told → Story
+abbrev pub front_of : Result TicketView DoneView → Story
 front_of (Ok ticket) = ticket.front
 front_of (Err done) = done.front
 
 -- the ticket is for the digest; if there is no ticket, the reply says why there is no list
-abbrev pub IsFor : Digest → Result Given Told → Type 0
-IsFor d (Ok ticket) = ticket.digest ≡ d
-IsFor d (Err done) = (why : CausalReply) × (done.event.reply ≡ replies.Causal why)
+abbrev pub IsTicketFor : Digest → Result TicketView DoneView → Type 0
+IsTicketFor d (Ok ticket) = ticket.digest ≡ d
+IsTicketFor d (Err done) = (why : CausalReply) × (done.event.reply ≡ replies.Causal why)

@@ -4,10 +4,10 @@ use Rattle.nw_sig.specs.Signed.{Meaning}
 use Rattle.nw_model.specs.declared.call.Call.TheVariants as calls
 use Rattle.nw_model.specs.declared.reply.Reply.TheVariants as replies
 use Rattle.nw_history.specs.Story.{Story}
-use Rattle.nw_book.specs.Answer.{IsFor, Takes}
+use Rattle.nw_book.specs.Answer.{IsTicketFor, Takes}
 use Rattle.nw_book.specs.Command.{call_of, committee_of}
-use Rattle.nw_book.specs.Ticket.{Given, IsListOf}
-use Rattle.nw_book.specs.Turn.{IsOf, IsRefusal, next_number}
+use Rattle.nw_book.specs.Ticket.{TicketView, IsListOf}
+use Rattle.nw_book.specs.Turn.{MatchesCommittee, IsRefusal, next_number}
 use Rattle.nw_book.specs.declared.moves.Move.{Move}
 use Rattle.nw_book.specs.declared.moves.Move.TheVariants as moves
 use Rattle.nw_book.specs.declared.moves.Answer.{Answer}
@@ -22,29 +22,29 @@ pub record Progress (S : Type 0) : Type 0 where
   -- the book's history
   pub history : Story
   -- the tickets that the run got, in order
-  pub tickets : List Given
+  pub tickets : List TicketView
   -- the answers to the moves so far, in order
   pub answers : List (Answer S)
 
 -- the answer to a move, and the history and the tickets after it
-abbrev pub IsAnswer : {S : Type 0} → Meaning → Progress S → Move S → Answer S → Progress S → Type 0
-IsAnswer accepts old (moves.Call session command) (gets.Done done) new =
+abbrev pub AnswersMove : {S : Type 0} → Meaning → Progress S → Move S → Answer S → Progress S → Type 0
+AnswersMove accepts old (moves.Call session command) (gets.Done done) new =
     Takes accepts old.history new.history session (next_number old.history session) (call_of command) done.event.reply done.front
-    × IsOf old.history.committee (committee_of command) × (new.tickets ≡ old.tickets)
-IsAnswer accepts old (moves.Open session d) (gets.Done done) new =
+    × MatchesCommittee old.history.committee (committee_of command) × (new.tickets ≡ old.tickets)
+AnswersMove accepts old (moves.Open session d) (gets.Done done) new =
     Takes accepts old.history new.history session (next_number old.history session) (calls.Causal d) done.event.reply done.front
-    × IsFor d (Err done) × (new.tickets ≡ old.tickets)
-IsAnswer accepts old (moves.Open session d) gets.Opened new =
-    (t : Given) × Takes accepts old.history new.history session (next_number old.history session) (calls.Causal d) replies.Ready t.front
+    × IsTicketFor d (Err done) × (new.tickets ≡ old.tickets)
+AnswersMove accepts old (moves.Open session d) gets.Opened new =
+    (t : TicketView) × Takes accepts old.history new.history session (next_number old.history session) (calls.Causal d) replies.Ready t.front
     × (t.digest ≡ d) × (new.tickets ≡ old.tickets ++ t ∷ [])
-IsAnswer accepts old (moves.Walk ticket) (gets.Walked blocks) new =
-    (t : Given) × (slice_get old.tickets ticket ≡ Some t) × IsListOf t blocks
+AnswersMove accepts old (moves.Walk ticket) (gets.Walked blocks) new =
+    (t : TicketView) × (slice_get old.tickets ticket ≡ Some t) × IsListOf t blocks
     × (new.history ≡ old.history) × (new.tickets ≡ old.tickets)
-IsAnswer accepts old m other new = ⊥
+AnswersMove accepts old m other new = ⊥
 
 -- the move is made, and the run has one more answer
 abbrev pub Makes : {S : Type 0} → Meaning → Progress S → Move S → Progress S → Type 0
-Makes {S = S} accepts old m new = (answer : Answer S) × IsAnswer accepts old m answer new × (new.answers ≡ old.answers ++ answer ∷ [])
+Makes {S = S} accepts old m new = (answer : Answer S) × AnswersMove accepts old m answer new × (new.answers ≡ old.answers ++ answer ∷ [])
 
 -- the moves are made one after the other
 abbrev pub Runs : {S : Type 0} → Meaning → Progress S → List (Move S) → Progress S → Type 0
@@ -69,5 +69,5 @@ Stops {S = S} accepts old ms (Some stop) new =
 -- the run of the moves starts with the old history and no tickets, and ends with the new history
 abbrev pub IsRun : {S : Type 0} → Meaning → Story → List (Move S) → Run S → Story → Type 0
 IsRun accepts old ms run new =
-    (given : List Given) × Stops accepts (record { history = old; tickets = []; answers = [] }) ms run.stop
+    (given : List TicketView) × Stops accepts (record { history = old; tickets = []; answers = [] }) ms run.stop
     (record { history = new; tickets = given; answers = run.answers })

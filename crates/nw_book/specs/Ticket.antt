@@ -17,14 +17,14 @@ use Rattle.nw_history.specs.Story.{Story, IsLegalStory, bounds_of, state_of}
 use Rattle.nw_book.specs.Turn.{event}
 
 -- a ticket as contracts see it
-pub record Given : Type 0 where
+pub record TicketView : Type 0 where
   -- the digest of the causal read
   pub digest : Digest
   -- the history up to and including the causal read
   pub front : Story
 
 -- the ticket comes from a causal read
-pub record IsTicket (accepts : Meaning) (t : Given) : Type 0 where
+pub record IsTicket (accepts : Meaning) (t : TicketView) : Type 0 where
   -- the front is a legal history
   pub legal : IsLegalStory accepts t.front
   -- the front ends with a causal read of the digest, with the reply Ready
@@ -32,18 +32,18 @@ pub record IsTicket (accepts : Meaning) (t : Given) : Type 0 where
       × (t.front.events ≡ earlier ++ event session number (calls.Causal t.digest) replies.Ready ∷ [])
 
 -- the ticket comes from a causal read and has this view
-pub record IsTicketWith (accepts : Meaning) (t : Given) (v : Frozen) : Type 0 where
+pub record IsTicketWith (accepts : Meaning) (t : TicketView) (v : Frozen) : Type 0 where
   -- the ticket comes from a causal read
   pub ticket : IsTicket accepts t
   -- the view shows the state after the front
   pub shows : Shows v (state_of t.front)
 
 -- the list is the reply to the ticket's causal read
-abbrev pub IsListOf : Given → List Block → Type 0
+abbrev pub IsListOf : TicketView → List Block → Type 0
 IsListOf t blocks = IsReply (bounds_of t.front.limits) (state_of t.front) (calls.Causal t.digest) (replies.List blocks)
 
 -- one list is the reply to both reads
-abbrev pub HaveOneList : Given → Given → Type 0
+abbrev pub HaveOneList : TicketView → TicketView → Type 0
 HaveOneList t u = (blocks : List Block) × IsListOf t blocks × IsListOf u blocks
 
 -- after the front, the block is held under the digest and complete
@@ -56,10 +56,10 @@ pub record IsHeldAfter (front : Story) (d : Digest) (b : Block) : Type 0 where
   pub complete : IsComplete (state_of front) d
 
 -- b is held after the front of t, and c after the front of u; they are two different blocks with one digest, under which both are held
-abbrev pub HaveCollision : Given → Given → Block → Block → Type 0
+abbrev pub HaveCollision : TicketView → TicketView → Block → Block → Type 0
 HaveCollision t u b c = (d : Digest) × IsHeldAfter t.front d b × IsHeldAfter u.front d c × AreCollision d b c
 
 -- the agreement is Same if one list is the reply to both reads; otherwise it is a collision of two blocks
-abbrev pub IsAgreed : Given → Given → Agreement → Type 0
+abbrev pub IsAgreed : TicketView → TicketView → Agreement → Type 0
 IsAgreed t u agreements.Same = HaveOneList t u
 IsAgreed t u (agreements.Collision b c) = (HaveOneList t u → ⊥) × HaveCollision t u b c

@@ -2,7 +2,7 @@
 use Rattle.std.specs.Prelude.{◌≡◌, ℕ, ◌+◌, ◌<◌, List, Option, Some, None, length, slice_index}
 use Rattle.nw_committee.specs.declared.member.Member.{Member}
 use Rattle.nw_sig.specs.Signed.{Meaning}
-use Rattle.nw_model.specs.Step.{Tables}
+use Rattle.nw_model.specs.Step.{BoundedState}
 use Rattle.nw_model.specs.History.{events_of}
 use Rattle.nw_model.specs.declared.call.Call.{Call}
 use Rattle.nw_model.specs.declared.event.Event.{Event}
@@ -32,36 +32,36 @@ abbrev pub HasRoom : Story → Type 0
 HasRoom s = length s.events < s.limits.events
 
 -- the second committee, if there is one, is the first
-abbrev pub IsOf : List Member → Option (List Member) → Type 0
-IsOf members None = Unit {0}
-IsOf members (Some own) = own ≡ members
+abbrev pub MatchesCommittee : List Member → Option (List Member) → Type 0
+MatchesCommittee members None = Unit {0}
+MatchesCommittee members (Some own) = own ≡ members
 
 -- why a call of the session with this number takes no step: it is out of turn; else its block or certificate was checked under another
 -- committee; else the history is full; else an allocation failed
 abbrev pub IsRefusal : Story → ℕ → ℕ → Option (List Member) → NoStep → Type 0
 IsRefusal s session number under refusals.OutOfTurn = IsInTurn s session number → ⊥
-IsRefusal s session number under refusals.OtherCommittee = IsInTurn s session number × (IsOf s.committee under → ⊥)
-IsRefusal s session number under refusals.HistoryFull = IsInTurn s session number × IsOf s.committee under × (HasRoom s → ⊥)
-IsRefusal s session number under refusals.NoMemory = IsInTurn s session number × IsOf s.committee under × HasRoom s
+IsRefusal s session number under refusals.OtherCommittee = IsInTurn s session number × (MatchesCommittee s.committee under → ⊥)
+IsRefusal s session number under refusals.HistoryFull = IsInTurn s session number × MatchesCommittee s.committee under × (HasRoom s → ⊥)
+IsRefusal s session number under refusals.NoMemory = IsInTurn s session number × MatchesCommittee s.committee under × HasRoom s
 
 -- a call of the session with this number may take a step; `under` is the committee of its checked value, if it has one
 pub record MayStep (s : Story) (session number : ℕ) (under : Option (List Member)) : Type 0 where
   -- the call is in turn
   pub turn : IsInTurn s session number
   -- the checked value's committee is that of the history
-  pub own : IsOf s.committee under
+  pub own : MatchesCommittee s.committee under
   -- the history is not full
   pub room : HasRoom s
 
 -- the list has the number of each session's events, by session
-pub record AreCounts (counts : List ℕ) (s : Story) : Type 0 where
+pub record AreEventCounts (counts : List ℕ) (s : Story) : Type 0 where
   -- the list has an item for each session that the limits allow
   pub sessions : length counts ≡ s.limits.sessions
   -- the item of a session is the number of its events
   pub each : (session : ℕ) → session < length counts → slice_index counts session ≡ length (events_of session s.events)
 
 -- the invariant of a book: its tables and its counts represent its history
-pub record Represent (accepts : Meaning) (tables : Tables) (counts : List ℕ) (s : Story) : Type 0 where
+pub record Represent (accepts : Meaning) (tables : BoundedState) (counts : List ℕ) (s : Story) : Type 0 where
   -- the limits are in their ranges
   pub in_range : AreInRange s.limits
   -- the history is legal
@@ -69,4 +69,4 @@ pub record Represent (accepts : Meaning) (tables : Tables) (counts : List ℕ) (
   -- the tables have the state after the history
   pub state : tables ≡ tables_of s
   -- the counts are those of the history's events
-  pub counted : AreCounts counts s
+  pub counted : AreEventCounts counts s

@@ -4,7 +4,7 @@ ghost use Rattle.std.specs.Result.{IsErrOf};
 ghost use Rattle.nw_model.specs.declared.call.Call.TheVariants as Call;
 ghost use Rattle.nw_history.specs.Limits.{AreInRange};
 ghost use Rattle.nw_history.specs.Story.{IsLegalStory, first_origin, story_of};
-ghost use Rattle.nw_book.specs.Answer.{IsFor, Takes, front_of, reply_of};
+ghost use Rattle.nw_book.specs.Answer.{IsTicketFor, Takes, front_of, reply_of};
 ghost use Rattle.nw_book.specs.Command.{call_of, committee_of};
 ghost use Rattle.nw_book.specs.Turn.{IsRefusal, MayStep};
 
@@ -132,7 +132,7 @@ impl<S: Scheme> Book<S> {
     ) -> Result<Result<Ticket<S>, Done<S>>, NoStep>
         ensures taken { IfOk result (λ answer. Takes S.accepts self.old self.new session number
             (Call.Causal digest) (reply_of answer) (front_of answer)) }
-        ensures told { IfOk result (IsFor digest) }
+        ensures told { IfOk result (IsTicketFor digest) }
         ensures may { OnOk result (MayStep self.old session number None) }
         ensures refused { IfErr result (IsRefusal self.old session number None) }
         ensures unchanged { OnErr result (self.new ≡ self.old) }

@@ -4,7 +4,7 @@ ghost use Rattle.std.specs.Option.{option_copied};
 ghost use Rattle.nw_committee.specs.declared.member.Member.{Member};
 ghost use Rattle.nw_model.specs.History.{IsAdmitted};
 ghost use Rattle.nw_book.specs.Command.{IsNoCausalRead, call_of, committee_of};
-ghost use Rattle.nw_book.specs.Turn.{IsOf};
+ghost use Rattle.nw_book.specs.Turn.{MatchesCommittee};
 
 use nw_check::{CheckedBlock, CheckedCert};
 use nw_committee::Committee;
@@ -37,7 +37,7 @@ impl<S: Scheme> Command<S> {
     pub fn call(&self) -> Result<Call, NoMemory>
         ensures call { IfOk result (λ call. call ≡ call_of self.now) }
         ensures no_read { IfOk result IsNoCausalRead }
-        ensures admitted { (members : List Member) → IsOf members (committee_of self.now)
+        ensures admitted { (members : List Member) → MatchesCommittee members (committee_of self.now)
             → IsAdmitted S.accepts members (call_of self.now) }
     {
         match self {

@@ -20,9 +20,9 @@ impl<S: Scheme> Model for Entry<S> {
     ghost use Rattle.std.specs.Prelude.{◌≡◌, ◌-◌, Some, length, slice_get};
     ghost use Rattle.std.specs.Coded.{codes};
     ghost use Rattle.nw_model.specs.State.{coded_state};
-    ghost use Rattle.nw_book.specs.Answer.{Told};
+    ghost use Rattle.nw_book.specs.Answer.{DoneView};
 
-    ghost Value = { Told };
+    ghost Value = { DoneView };
 
     ghost coded = { Prim.hlevel (codes, coded_state) };
 

@@ -2,7 +2,7 @@
 ghost use Rattle.std.specs.Prelude.{◌≡◌, ◌++◌, [], ◌∷◌, List, None, OnOk, OnErr, IfErr};
 ghost use Rattle.nw_history.specs.Story.{Story};
 ghost use Rattle.nw_book.specs.Command.{call_of, committee_of};
-ghost use Rattle.nw_book.specs.Ticket.{Given};
+ghost use Rattle.nw_book.specs.Ticket.{TicketView};
 ghost use Rattle.nw_book.specs.Run.{Makes, IsStop, IsRun};
 ghost use Rattle.nw_book.specs.Turn.{IsRefusal, next_number};
 
@@ -75,7 +75,7 @@ fn make_call<S: Scheme>(
     command: &Command<S>,
     answers: &mut Vec<Answer<S>>,
 ) -> Result<(), NoStep>
-    ensures made { OnOk result ((tickets : List Given) → Makes S.accepts
+    ensures made { OnOk result ((tickets : List TicketView) → Makes S.accepts
         (record { history = book.old; tickets = tickets; answers = answers.old.items })
         (Move.Call session command.now)
         (record { history = book.new; tickets = tickets; answers = answers.new.items })) }

@@ -26,9 +26,9 @@ pub struct Ticket<S: Scheme> {
 }
 
 impl<S: Scheme> Model for Ticket<S> {
-    ghost use Rattle.nw_book.specs.Ticket.{Given, IsTicketWith};
+    ghost use Rattle.nw_book.specs.Ticket.{TicketView, IsTicketWith};
 
-    ghost Value = { Given };
+    ghost Value = { TicketView };
 
     ghost use Rattle.std.specs.Coded.{codes};
     ghost use Rattle.nw_model.specs.State.{coded_state};

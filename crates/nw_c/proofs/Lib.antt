@@ -1,3 +1,3 @@
 pub mod AsBox
-pub mod Sent
+pub mod Send
 pub mod Cut

@@ -16,9 +16,9 @@ use Rattle.nw_c.specs.declared.content.Content.{Content}
 use Rattle.nw_c.specs.declared.content.Content.TheVariants as kind
 
 -- it is the answer to a read that found the block
-abbrev pub IsFound : Content → Content → Type 0
-IsFound (kind.Answer told) (kind.Block b) = told.event.reply ≡ reply.Read (Some b)
-IsFound answer other = ⊥
+abbrev pub FindsBlock : Content → Content → Type 0
+FindsBlock (kind.Answer told) (kind.Block b) = told.event.reply ≡ reply.Read (Some b)
+FindsBlock answer other = ⊥
 
 -- the text is the message of the certificate of this reply
 abbrev pub IsSpelledIn : Reply → List ℕ → Type 0

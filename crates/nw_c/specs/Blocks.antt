@@ -49,9 +49,9 @@ HasCounts (kind.Block b) parents transactions = (parents ≡ length b.parents) �
 HasCounts other parents transactions = ⊥
 
 -- it is a block whose parent at the index is p
-abbrev pub HasParent : Content → ℕ → CParent → Type 0
-HasParent (kind.Block b) index p = slice_get b.parents index ≡ Some (parent_in p)
-HasParent other index p = ⊥
+abbrev pub HasParentAt : Content → ℕ → CParent → Type 0
+HasParentAt (kind.Block b) index p = slice_get b.parents index ≡ Some (parent_in p)
+HasParentAt other index p = ⊥
 
 -- it is a block whose transaction at the index has these bytes
 abbrev pub HasTransaction : Content → ℕ → List ℕ → Type 0
@@ -69,9 +69,9 @@ HasMessage (kind.Block b) s text = Spells text (messages.Block b (record { 0 = s
 HasMessage other s text = ⊥
 
 -- it is a block that breaks a limit or an order of the format
-abbrev pub IsOverLimit : Content → Type 0
-IsOverLimit (kind.Block b) = Fits b → ⊥
-IsOverLimit other = ⊥
+abbrev pub IsBlockOverLimit : Content → Type 0
+IsBlockOverLimit (kind.Block b) = Fits b → ⊥
+IsBlockOverLimit other = ⊥
 
 -- it is a block with no parent at the index
 abbrev pub HasNoParentAt : Content → ℕ → Type 0

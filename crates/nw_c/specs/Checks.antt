@@ -33,6 +33,6 @@ IsSpelledBy (kind.Checked (checked.Vote v)) text = Spells text (messages.Vote v)
 IsSpelledBy other text = ⊥
 
 -- it is a checked certificate that breaks a limit or an order of the format
-abbrev pub IsOverLimit : Content → Type 0
-IsOverLimit (kind.Checked (checked.Cert c)) = CertificateFits c.certificate → ⊥
-IsOverLimit other = ⊥
+abbrev pub IsCertificateOverLimit : Content → Type 0
+IsCertificateOverLimit (kind.Checked (checked.Cert c)) = CertificateFits c.certificate → ⊥
+IsCertificateOverLimit other = ⊥

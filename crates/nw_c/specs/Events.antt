@@ -50,9 +50,9 @@ HasEventAt (Some s) index t = IsSomeTold (slice_get s.events index) t
 HasEventAt None index t = ⊥
 
 -- there are two histories, and b says whether the first begins the second
-abbrev pub Begins : Option Story → Option Story → Bool → Type 0
-Begins (Some one) (Some other) b = IsTrue b ↔ IsPrefixOf one other
-Begins one other b = ⊥
+abbrev pub ComparesHistories : Option Story → Option Story → Bool → Type 0
+ComparesHistories (Some one) (Some other) b = IsTrue b ↔ IsPrefixOf one other
+ComparesHistories one other b = ⊥
 
 -- there is a history, and it has no event at the index
 abbrev pub HasNoEventAt : Option Story → ℕ → Type 0

@@ -18,10 +18,10 @@ IsCommandOf (kind.Checked (checked.Cert b)) (command.Certify c) = b ≡ c
 IsCommandOf content other = ⊥
 
 -- the committee under which the block or certificate was checked
-abbrev pub committee_of : Content → Option (List Member)
-committee_of (kind.Checked (checked.Block b)) = Some b.committee
-committee_of (kind.Checked (checked.Cert c)) = Some c.committee
-committee_of other = None
+abbrev pub committee_checked_under : Content → Option (List Member)
+committee_checked_under (kind.Checked (checked.Block b)) = Some b.committee
+committee_checked_under (kind.Checked (checked.Cert c)) = Some c.committee
+committee_checked_under other = None
 
 -- the book takes the write of the checked block, or the checked certificate, and the answer is the step's
 abbrev pub IsHandedIn : Meaning → ℕ → ℕ → Content → Content → Content → Content → Type 0

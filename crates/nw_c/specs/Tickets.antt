@@ -4,7 +4,7 @@ use Rattle.nw_model.specs.Step.{IsReply}
 use Rattle.nw_model.specs.declared.call.Call.TheVariants as call
 use Rattle.nw_model.specs.declared.reply.Reply.TheVariants as reply
 use Rattle.nw_history.specs.Story.{bounds_of, state_of}
-use Rattle.nw_book.specs.Ticket.{Given, HaveOneList}
+use Rattle.nw_book.specs.Ticket.{TicketView, HaveOneList}
 use Rattle.nw_c.specs.Plain.{digest_in}
 use Rattle.nw_c.specs.declared.plain.CDigest.{CDigest}
 use Rattle.nw_c.specs.declared.codes.TheConstants.{APART, CLOSED, OTHER_KIND}
@@ -12,7 +12,7 @@ use Rattle.nw_c.specs.declared.content.Content.{Content}
 use Rattle.nw_c.specs.declared.content.Content.TheVariants as kind
 
 -- the garbage round at the call that opened the ticket
-abbrev pub floor_of : Given → ℕ
+abbrev pub floor_of : TicketView → ℕ
 floor_of given = (state_of given.front).floor
 
 -- it is a ticket for this digest, with this garbage round
@@ -26,11 +26,11 @@ Agrees (kind.Ticket one) (kind.Ticket other) b = IsTrue b ↔ HaveOneList one ot
 Agrees one other b = ⊥
 
 -- the tickets are for two digests or have two garbage rounds
-abbrev pub DifferInScope : Given → Given → Type 0
+abbrev pub DifferInScope : TicketView → TicketView → Type 0
 DifferInScope one other = one.digest ≡ other.digest → floor_of one ≡ floor_of other → ⊥
 
 -- the code is that of a refusal, and is APART only of tickets that differ so
-pub record IsWhyApart (one other : Given) (code : ℤ) : Type 0 where
+pub record IsWhyApart (one other : TicketView) (code : ℤ) : Type 0 where
   pub not_done : code ≡ pos 0 → ⊥
   pub not_closed : code ≡ CLOSED → ⊥
   pub not_other_kind : code ≡ OTHER_KIND → ⊥

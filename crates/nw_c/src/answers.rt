@@ -1,7 +1,7 @@
 //! What answers carry.
 ghost use Rattle.std.specs.Prelude.{◌≡◌, ◌<◌, pos, take, true, length, None};
 ghost use Rattle.nw_model.specs.declared.reply.Reply.TheVariants as Reply;
-ghost use Rattle.nw_c.specs.Answers.{AnswersCertificate, AnswersMissing, AnswersOverLimit, AnswersRead, AnswersStatus, HasNoMissingAt, HasReply, IsCertificateTold, IsFound, IsMissingAt, IsStatusTold};
+ghost use Rattle.nw_c.specs.Answers.{AnswersCertificate, AnswersMissing, AnswersOverLimit, AnswersRead, AnswersStatus, HasNoMissingAt, HasReply, IsCertificateTold, FindsBlock, IsMissingAt, IsStatusTold};
 ghost use Rattle.nw_c.specs.Kinds.{IsAsBefore};
 ghost use Rattle.nw_c.specs.declared.codes.TheConstants.{ABSENT, CLOSED, OPEN, OTHER_KIND, OVER_LIMIT, SMALL};
 
@@ -45,7 +45,7 @@ pub extern "C" fn nw_answer_block(
     answer: &mut AnswerHandle,
     out: &mut BlockHandle,
 ) -> i32
-    ensures found { result ≡ pos 0 → IsFound answer.old.value out.new.value }
+    ensures found { result ≡ pos 0 → FindsBlock answer.old.value out.new.value }
     ensures same { IsAsBefore answer.old answer.new }
     ensures unchanged { (result ≡ pos 0 → ⊥) → IsAsBefore out.old out.new }
     ensures opened { result ≡ pos 0 → out.new.held ≡ true }

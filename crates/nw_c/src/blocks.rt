@@ -1,8 +1,8 @@
 //! Blocks.
 ghost use Rattle.std.specs.Prelude.{◌≡◌, ◌<◌, pos, take, slice_get, true, length};
 ghost use Rattle.std.specs.Option.{option_copied};
-ghost use Rattle.nw_c.specs.Blocks.{HasBody, HasCounts, HasMessage, HasNoParentAt, HasNoTransactionAt, HasParent, HasSlot, HasTransaction, IsOverLimit};
-ghost use Rattle.nw_c.specs.Kinds.{IsAsBefore, IsBlock};
+ghost use Rattle.nw_c.specs.Blocks.{HasBody, HasCounts, HasMessage, HasNoParentAt, HasNoTransactionAt, HasParentAt, HasSlot, HasTransaction, IsBlockOverLimit};
+ghost use Rattle.nw_c.specs.Kinds.{IsAsBefore, HoldsBlock};
 ghost use Rattle.nw_c.specs.declared.codes.TheConstants.{ABSENT, CLOSED, OTHER_KIND, OVER_LIMIT, SMALL};
 
 use crate::codes::{ABSENT, CLOSED, DONE, OTHER_KIND, OVER_LIMIT};
@@ -30,8 +30,8 @@ pub extern "C" fn nw_block_slot(block: &mut BlockHandle, out: &mut CSlot) -> i32
     ensures slot { result ≡ pos 0 → HasSlot block.old.value out.new }
     ensures same { IsAsBefore block.old block.new }
     ensures closed { result ≡ CLOSED → block.old.held ≡ true → ⊥ }
-    ensures other_kind { result ≡ OTHER_KIND → IsBlock block.old.value → ⊥ }
-    ensures over_limit { result ≡ OVER_LIMIT → IsOverLimit block.old.value }
+    ensures other_kind { result ≡ OTHER_KIND → HoldsBlock block.old.value → ⊥ }
+    ensures over_limit { result ≡ OVER_LIMIT → IsBlockOverLimit block.old.value }
 {
     if !block.is_open() {
         return CLOSED;
@@ -57,7 +57,7 @@ pub extern "C" fn nw_block_counts(
     ensures counts { result ≡ pos 0 → HasCounts block.old.value parents.new transactions.new }
     ensures same { IsAsBefore block.old block.new }
     ensures closed { result ≡ CLOSED → block.old.held ≡ true → ⊥ }
-    ensures other_kind { result ≡ OTHER_KIND → IsBlock block.old.value → ⊥ }
+    ensures other_kind { result ≡ OTHER_KIND → HoldsBlock block.old.value → ⊥ }
 {
     if !block.is_open() {
         return CLOSED;
@@ -75,10 +75,10 @@ pub extern "C" fn nw_block_counts(
 /// Writes the parent at the index, from 0; parents ascend by author. Returns `NW_ABSENT` past the last.
 #[unsafe(no_mangle)]
 pub extern "C" fn nw_block_parent(block: &mut BlockHandle, index: usize, out: &mut CParent) -> i32
-    ensures parent { result ≡ pos 0 → HasParent block.old.value index out.new }
+    ensures parent { result ≡ pos 0 → HasParentAt block.old.value index out.new }
     ensures same { IsAsBefore block.old block.new }
     ensures closed { result ≡ CLOSED → block.old.held ≡ true → ⊥ }
-    ensures other_kind { result ≡ OTHER_KIND → IsBlock block.old.value → ⊥ }
+    ensures other_kind { result ≡ OTHER_KIND → HoldsBlock block.old.value → ⊥ }
     ensures absent { result ≡ ABSENT → HasNoParentAt block.old.value index }
 {
     if !block.is_open() {
@@ -125,7 +125,7 @@ pub extern "C" fn nw_block_transaction(
     ensures transaction { result ≡ pos 0 → HasTransaction block.old.value index (take needed.new buffer.new) }
     ensures same { IsAsBefore block.old block.new }
     ensures closed { result ≡ CLOSED → block.old.held ≡ true → ⊥ }
-    ensures other_kind { result ≡ OTHER_KIND → IsBlock block.old.value → ⊥ }
+    ensures other_kind { result ≡ OTHER_KIND → HoldsBlock block.old.value → ⊥ }
     ensures absent { result ≡ ABSENT → HasNoTransactionAt block.old.value index }
     ensures small { result ≡ SMALL → length buffer.old < needed.new }
     ensures unchanged { (result ≡ pos 0 → ⊥) → buffer.new ≡ buffer.old }
@@ -153,8 +153,8 @@ pub extern "C" fn nw_block_body(
     ensures body { result ≡ pos 0 → HasBody block.old.value (take needed.new buffer.new) }
     ensures same { IsAsBefore block.old block.new }
     ensures closed { result ≡ CLOSED → block.old.held ≡ true → ⊥ }
-    ensures other_kind { result ≡ OTHER_KIND → IsBlock block.old.value → ⊥ }
-    ensures over_limit { result ≡ OVER_LIMIT → IsOverLimit block.old.value }
+    ensures other_kind { result ≡ OTHER_KIND → HoldsBlock block.old.value → ⊥ }
+    ensures over_limit { result ≡ OVER_LIMIT → IsBlockOverLimit block.old.value }
     ensures small { result ≡ SMALL → length buffer.old < needed.new }
     ensures unchanged { (result ≡ pos 0 → ⊥) → buffer.new ≡ buffer.old }
 {
@@ -183,8 +183,8 @@ pub extern "C" fn nw_block_message(
     ensures message { result ≡ pos 0 → HasMessage block.old.value signature.now (take needed.new buffer.new) }
     ensures same { IsAsBefore block.old block.new }
     ensures closed { result ≡ CLOSED → block.old.held ≡ true → ⊥ }
-    ensures other_kind { result ≡ OTHER_KIND → IsBlock block.old.value → ⊥ }
-    ensures over_limit { result ≡ OVER_LIMIT → IsOverLimit block.old.value }
+    ensures other_kind { result ≡ OTHER_KIND → HoldsBlock block.old.value → ⊥ }
+    ensures over_limit { result ≡ OVER_LIMIT → IsBlockOverLimit block.old.value }
     ensures small { result ≡ SMALL → length buffer.old < needed.new }
     ensures unchanged { (result ≡ pos 0 → ⊥) → buffer.new ≡ buffer.old }
 {

@@ -6,7 +6,7 @@ ghost use Rattle.nw_book.specs.declared.error.NoStep.{NoStep as Refusal};
 ghost use Rattle.nw_history.specs.Limits.{AreInRange};
 ghost use Rattle.nw_c.specs.Books.{HasEvents, IsEmptyBook, IsRefusedBy, IsRestarted, IsTaken, limits_in};
 ghost use Rattle.nw_c.specs.Codes.{step_code};
-ghost use Rattle.nw_c.specs.Kinds.{IsAsBefore, IsBook, IsCommittee, IsRoom};
+ghost use Rattle.nw_c.specs.Kinds.{IsAsBefore, HoldsBook, HoldsCommittee, HoldsRoom};
 ghost use Rattle.nw_c.specs.declared.codes.TheConstants.{BAD_LIMITS, BAD_ROUND, CLOSED, OPEN, OTHER_KIND};
 
 use crate::codes::{BAD_LIMITS, CLOSED, DONE, NO_MEMORY, OPEN, OTHER_KIND, code_of_step};
@@ -57,7 +57,7 @@ pub extern "C" fn nw_book_new(
     ensures opened { result ≡ pos 0 → out.new.held ≡ true }
     ensures occupied { result ≡ OPEN → out.old.held ≡ true }
     ensures closed { result ≡ CLOSED → committee.old.held ≡ true → ⊥ }
-    ensures other_kind { result ≡ OTHER_KIND → IsCommittee committee.old.value → ⊥ }
+    ensures other_kind { result ≡ OTHER_KIND → HoldsCommittee committee.old.value → ⊥ }
     ensures bad_limits { result ≡ BAD_LIMITS → AreInRange (limits_in limits.now) → ⊥ }
 {
     if !committee.is_open() {
@@ -85,7 +85,7 @@ pub extern "C" fn nw_book_events(book: &mut BookHandle, out: &mut usize) -> i32
     ensures events { result ≡ pos 0 → HasEvents book.old.value out.new }
     ensures same { IsAsBefore book.old book.new }
     ensures closed { result ≡ CLOSED → book.old.held ≡ true → ⊥ }
-    ensures other_kind { result ≡ OTHER_KIND → IsBook book.old.value → ⊥ }
+    ensures other_kind { result ≡ OTHER_KIND → HoldsBook book.old.value → ⊥ }
 {
     if !book.is_open() {
         return CLOSED;
@@ -101,7 +101,7 @@ pub extern "C" fn nw_book_events(book: &mut BookHandle, out: &mut usize) -> i32
 
 /// Whether an answer can be put in the place of this content.
 pub(crate) fn is_room(content: &Content) -> bool
-    ensures { result ≡ false → IsRoom content.now → ⊥ }
+    ensures { result ≡ false → HoldsRoom content.now → ⊥ }
 {
     matches!(
         content,
@@ -127,7 +127,7 @@ pub(crate) fn take(
     ensures stays { book.new.held ≡ book.old.held }
     ensures answer_stays { answer.new.held ≡ answer.old.held }
     ensures closed { result ≡ CLOSED → book.old.held ≡ true → answer.old.held ≡ true → ⊥ }
-    ensures other_kind { result ≡ OTHER_KIND → IsBook book.old.value → IsRoom answer.old.value → ⊥ }
+    ensures other_kind { result ≡ OTHER_KIND → HoldsBook book.old.value → HoldsRoom answer.old.value → ⊥ }
     ensures not_bad_round { result ≡ BAD_ROUND → ⊥ }
 {
     if !book.is_open() || !answer.is_open() {
@@ -153,7 +153,7 @@ pub(crate) fn take(
 pub extern "C" fn nw_book_compact(alloc: Global, book: &mut BookHandle) -> i32
     ensures same { IsAsBefore book.old book.new }
     ensures closed { result ≡ CLOSED → book.old.held ≡ true → ⊥ }
-    ensures other_kind { result ≡ OTHER_KIND → IsBook book.old.value → ⊥ }
+    ensures other_kind { result ≡ OTHER_KIND → HoldsBook book.old.value → ⊥ }
 {
     if !book.is_open() {
         return CLOSED;
@@ -175,7 +175,7 @@ pub extern "C" fn nw_book_restart(alloc: Global, book: &mut BookHandle) -> i32
     ensures unchanged { (result ≡ pos 0 → ⊥) → IsAsBefore book.old book.new }
     ensures stays { book.new.held ≡ book.old.held }
     ensures closed { result ≡ CLOSED → book.old.held ≡ true → ⊥ }
-    ensures other_kind { result ≡ OTHER_KIND → IsBook book.old.value → ⊥ }
+    ensures other_kind { result ≡ OTHER_KIND → HoldsBook book.old.value → ⊥ }
 {
     if !book.is_open() {
         return CLOSED;

@@ -1,8 +1,8 @@
 //! Texts that are decoded and checked.
 ghost use Rattle.std.specs.Prelude.{◌≡◌, ◌⊎◌, ◌<◌, pos, take, true, length};
 ghost use Rattle.nw_ed25519.specs.Accepts.{accepts};
-ghost use Rattle.nw_c.specs.Checks.{IsBlockOf, IsCheckOf, IsOverLimit, IsSpelledBy, IsToldOf};
-ghost use Rattle.nw_c.specs.Kinds.{IsAsBefore, IsChecked, IsCheckedBlock, IsCheckedCert, IsCommittee, IsVote};
+ghost use Rattle.nw_c.specs.Checks.{IsBlockOf, IsCheckOf, IsCertificateOverLimit, IsSpelledBy, IsToldOf};
+ghost use Rattle.nw_c.specs.Kinds.{IsAsBefore, HoldsChecked, HoldsCheckedBlock, HoldsCheckedCert, HoldsCommittee, HoldsVote};
 ghost use Rattle.nw_c.specs.declared.codes.TheConstants.{CLOSED, OPEN, OTHER_KIND, OVER_LIMIT, SMALL};
 
 use crate::codes::{CLOSED, DONE, NO_MEMORY, OPEN, OTHER_KIND};
@@ -30,7 +30,7 @@ pub extern "C" fn nw_check(
     ensures opened { result ≡ pos 0 → out.new.held ≡ true }
     ensures occupied { result ≡ OPEN → out.old.held ≡ true }
     ensures closed { result ≡ CLOSED → committee.old.held ≡ true → ⊥ }
-    ensures other_kind { result ≡ OTHER_KIND → IsCommittee committee.old.value → ⊥ }
+    ensures other_kind { result ≡ OTHER_KIND → HoldsCommittee committee.old.value → ⊥ }
 {
     if !committee.is_open() {
         return CLOSED;
@@ -53,7 +53,7 @@ pub extern "C" fn nw_checked_told(checked: &mut CheckedHandle, out: &mut CMessag
     ensures told { result ≡ pos 0 → IsToldOf checked.old.value out.new }
     ensures same { IsAsBefore checked.old checked.new }
     ensures closed { result ≡ CLOSED → checked.old.held ≡ true → ⊥ }
-    ensures other_kind { result ≡ OTHER_KIND → IsChecked checked.old.value → ⊥ }
+    ensures other_kind { result ≡ OTHER_KIND → HoldsChecked checked.old.value → ⊥ }
 {
     if !checked.is_open() {
         return CLOSED;
@@ -80,7 +80,7 @@ pub extern "C" fn nw_checked_block(
     ensures opened { result ≡ pos 0 → out.new.held ≡ true }
     ensures occupied { result ≡ OPEN → out.old.held ≡ true }
     ensures closed { result ≡ CLOSED → checked.old.held ≡ true → ⊥ }
-    ensures other_kind { result ≡ OTHER_KIND → IsCheckedBlock checked.old.value → ⊥ }
+    ensures other_kind { result ≡ OTHER_KIND → HoldsCheckedBlock checked.old.value → ⊥ }
 {
     if !checked.is_open() {
         return CLOSED;
@@ -109,8 +109,8 @@ pub extern "C" fn nw_checked_message(
     ensures message { result ≡ pos 0 → IsSpelledBy checked.old.value (take needed.new buffer.new) }
     ensures same { IsAsBefore checked.old checked.new }
     ensures closed { result ≡ CLOSED → checked.old.held ≡ true → ⊥ }
-    ensures other_kind { result ≡ OTHER_KIND → (IsCheckedCert checked.old.value ⊎ IsVote checked.old.value) → ⊥ }
-    ensures over_limit { result ≡ OVER_LIMIT → IsOverLimit checked.old.value }
+    ensures other_kind { result ≡ OTHER_KIND → (HoldsCheckedCert checked.old.value ⊎ HoldsVote checked.old.value) → ⊥ }
+    ensures over_limit { result ≡ OVER_LIMIT → IsCertificateOverLimit checked.old.value }
     ensures small { result ≡ SMALL → length buffer.old < needed.new }
     ensures unchanged { (result ≡ pos 0 → ⊥) → buffer.new ≡ buffer.old }
 {

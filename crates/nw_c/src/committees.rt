@@ -1,8 +1,8 @@
 //! Committees.
 ghost use Rattle.std.specs.Prelude.{◌≡◌, pos, map, IfOk, IfErr, true};
-ghost use Rattle.nw_committee.specs.Committee.{IsCommittee as IsValid};
+ghost use Rattle.nw_committee.specs.Committee.{HoldsCommittee as IsValid};
 ghost use Rattle.nw_c.specs.Committees.{AreOneCommittee, HasMember, HasQuorum, HasSize, IsCommitteeOf, LacksMember, member_in};
-ghost use Rattle.nw_c.specs.Kinds.{IsAsBefore, IsCommittee};
+ghost use Rattle.nw_c.specs.Kinds.{IsAsBefore, HoldsCommittee};
 ghost use Rattle.nw_c.specs.declared.codes.TheConstants.{ABSENT, BAD_COMMITTEE, CLOSED, OPEN, OTHER_KIND};
 
 use crate::codes::{ABSENT, BAD_COMMITTEE, CLOSED, DONE, NO_MEMORY, OPEN, OTHER_KIND};
@@ -90,7 +90,7 @@ pub extern "C" fn nw_committee_share(
     ensures opened { result ≡ pos 0 → out.new.held ≡ true }
     ensures occupied { result ≡ OPEN → out.old.held ≡ true }
     ensures closed { result ≡ CLOSED → committee.old.held ≡ true → ⊥ }
-    ensures other_kind { result ≡ OTHER_KIND → IsCommittee committee.old.value → ⊥ }
+    ensures other_kind { result ≡ OTHER_KIND → HoldsCommittee committee.old.value → ⊥ }
 {
     if !committee.is_open() {
         return CLOSED;
@@ -113,7 +113,7 @@ pub extern "C" fn nw_committee_size(committee: &mut CommitteeHandle, out: &mut u
     ensures size { result ≡ pos 0 → HasSize committee.old.value out.new }
     ensures same { IsAsBefore committee.old committee.new }
     ensures closed { result ≡ CLOSED → committee.old.held ≡ true → ⊥ }
-    ensures other_kind { result ≡ OTHER_KIND → IsCommittee committee.old.value → ⊥ }
+    ensures other_kind { result ≡ OTHER_KIND → HoldsCommittee committee.old.value → ⊥ }
 {
     if !committee.is_open() {
         return CLOSED;
@@ -137,7 +137,7 @@ pub extern "C" fn nw_committee_member(
     ensures member { result ≡ pos 0 → HasMember committee.old.value number out.new }
     ensures same { IsAsBefore committee.old committee.new }
     ensures closed { result ≡ CLOSED → committee.old.held ≡ true → ⊥ }
-    ensures other_kind { result ≡ OTHER_KIND → IsCommittee committee.old.value → ⊥ }
+    ensures other_kind { result ≡ OTHER_KIND → HoldsCommittee committee.old.value → ⊥ }
     ensures absent { result ≡ ABSENT → LacksMember committee.old.value number }
 {
     if !committee.is_open() {
@@ -161,7 +161,7 @@ pub extern "C" fn nw_committee_quorum(committee: &mut CommitteeHandle, out: &mut
     ensures quorum { result ≡ pos 0 → HasQuorum committee.old.value out.new }
     ensures same { IsAsBefore committee.old committee.new }
     ensures closed { result ≡ CLOSED → committee.old.held ≡ true → ⊥ }
-    ensures other_kind { result ≡ OTHER_KIND → IsCommittee committee.old.value → ⊥ }
+    ensures other_kind { result ≡ OTHER_KIND → HoldsCommittee committee.old.value → ⊥ }
 {
     if !committee.is_open() {
         return CLOSED;

@@ -1,7 +1,7 @@
 //! The events of the histories that explain answers.
 ghost use Rattle.std.specs.Prelude.{◌≡◌, pos, true};
 ghost use Rattle.std.specs.Option.{option_copied};
-ghost use Rattle.nw_c.specs.Events.{Begins, HasEventAt, HasLength, HasNoEventAt, IsCallTold, IsEventTold, front_in};
+ghost use Rattle.nw_c.specs.Events.{ComparesHistories, HasEventAt, HasLength, HasNoEventAt, IsCallTold, IsEventTold, front_in};
 ghost use Rattle.nw_c.specs.Kinds.{HasHistory, IsAsBefore};
 ghost use Rattle.nw_c.specs.declared.codes.TheConstants.{ABSENT, CLOSED, OTHER_KIND};
 
@@ -132,7 +132,7 @@ pub extern "C" fn nw_answer_begins(
     other: &mut AnswerHandle,
     out: &mut bool,
 ) -> i32
-    ensures begins { result ≡ pos 0 → Begins (front_in answer.old.value) (front_in other.old.value) out.new }
+    ensures begins { result ≡ pos 0 → ComparesHistories (front_in answer.old.value) (front_in other.old.value) out.new }
     ensures same { IsAsBefore answer.old answer.new }
     ensures other { IsAsBefore other.old other.new }
     ensures closed { result ≡ CLOSED → answer.old.held ≡ true → other.old.held ≡ true → ⊥ }

@@ -4,7 +4,7 @@ ghost use Rattle.nw_ed25519.specs.Accepts.{accepts};
 ghost use Rattle.nw_check.specs.declared.fault.GatherFault.{GatherFault as Fault};
 ghost use Rattle.nw_c.specs.Codes.{gather_code};
 ghost use Rattle.nw_c.specs.Gathers.{HasFewVotes, IsCertificateOf, IsCountedIn, IsNewGather, IsNotCounted, LacksAuthor};
-ghost use Rattle.nw_c.specs.Kinds.{IsAsBefore, IsCommittee, IsGather, IsVote};
+ghost use Rattle.nw_c.specs.Kinds.{IsAsBefore, HoldsCommittee, HoldsGather, HoldsVote};
 ghost use Rattle.nw_c.specs.declared.codes.TheConstants.{BAD_ROUND, CLOSED, FEW_VOTES, NO_MEMBER, OPEN, OTHER_KIND};
 
 use crate::codes::{
@@ -33,7 +33,7 @@ pub extern "C" fn nw_gather_new(
     ensures opened { result ≡ pos 0 → out.new.held ≡ true }
     ensures occupied { result ≡ OPEN → out.old.held ≡ true }
     ensures closed { result ≡ CLOSED → committee.old.held ≡ true → ⊥ }
-    ensures other_kind { result ≡ OTHER_KIND → IsCommittee committee.old.value → ⊥ }
+    ensures other_kind { result ≡ OTHER_KIND → HoldsCommittee committee.old.value → ⊥ }
     ensures bad_round { result ≡ BAD_ROUND → 2 ^ 48 ≤ slot.now.round }
     ensures no_member { result ≡ NO_MEMBER → LacksAuthor committee.old.value slot.now.author }
 {
@@ -73,7 +73,7 @@ pub extern "C" fn nw_gather_add(
     ensures same { IsAsBefore vote.old vote.new }
     ensures stays { gather.new.held ≡ gather.old.held }
     ensures closed { result ≡ CLOSED → gather.old.held ≡ true → vote.old.held ≡ true → ⊥ }
-    ensures other_kind { result ≡ OTHER_KIND → IsGather gather.old.value → IsVote vote.old.value → ⊥ }
+    ensures other_kind { result ≡ OTHER_KIND → HoldsGather gather.old.value → HoldsVote vote.old.value → ⊥ }
 {
     if !gather.is_open() || !vote.is_open() {
         return CLOSED;
@@ -106,7 +106,7 @@ pub extern "C" fn nw_gather_certificate(
     ensures opened { result ≡ pos 0 → out.new.held ≡ true }
     ensures occupied { result ≡ OPEN → out.old.held ≡ true }
     ensures closed { result ≡ CLOSED → gather.old.held ≡ true → ⊥ }
-    ensures other_kind { result ≡ OTHER_KIND → IsGather gather.old.value → ⊥ }
+    ensures other_kind { result ≡ OTHER_KIND → HoldsGather gather.old.value → ⊥ }
     ensures few_votes { result ≡ FEW_VOTES → HasFewVotes gather.old.value }
 {
     if !gather.is_open() {

@@ -5,8 +5,8 @@ ghost use Rattle.nw_book.specs.declared.error.NoStep.{NoStep as Refusal};
 ghost use Rattle.nw_c.specs.declared.content.Content.{Content as Held};
 ghost use Rattle.nw_c.specs.Books.{IsRefusedBy};
 ghost use Rattle.nw_c.specs.Codes.{step_code};
-ghost use Rattle.nw_c.specs.Handed.{IsCommandOf, IsHandedIn, committee_of};
-ghost use Rattle.nw_c.specs.Kinds.{IsAsBefore, IsBook, IsCheckedBlock, IsCheckedCert, IsRoom};
+ghost use Rattle.nw_c.specs.Handed.{IsCommandOf, IsHandedIn, committee_checked_under};
+ghost use Rattle.nw_c.specs.Kinds.{IsAsBefore, HoldsBook, HoldsCheckedBlock, HoldsCheckedCert, HoldsRoom};
 ghost use Rattle.nw_c.specs.declared.codes.TheConstants.{CLOSED, OTHER_KIND};
 
 use crate::books::take;
@@ -24,7 +24,7 @@ fn command_of(content: Content) -> Result<Command<Ed25519>, Content>
     ensures command { IfOk result (IsCommandOf content) }
     ensures back { IfErr result (λ back. back ≡ content) }
     ensures neither { IfErr result
-        (λ _. (IsCheckedBlock content ⊎ IsCheckedCert content) → ⊥) }
+        (λ _. (HoldsCheckedBlock content ⊎ HoldsCheckedCert content) → ⊥) }
 {
     match content {
         Content::Checked(Checked::Block(block)) => Ok(Command::Write(block)),
@@ -59,14 +59,14 @@ pub extern "C" fn nw_book_take(
     ensures taken { result ≡ pos 0 → IsHandedIn accepts session number checked.old.value
         book.old.value book.new.value answer.new.value }
     ensures refused { (why : Refusal) → result ≡ step_code why
-        → IsRefusedBy book.old.value session number (committee_of checked.old.value) why }
+        → IsRefusedBy book.old.value session number (committee_checked_under checked.old.value) why }
     ensures unchanged { (result ≡ pos 0 → ⊥) → IsAsBefore book.old book.new }
     ensures answer { (result ≡ pos 0 → ⊥) → IsAsBefore answer.old answer.new }
     ensures same { IsAsBefore checked.old checked.new }
     ensures stays { book.new.held ≡ book.old.held }
     ensures answer_stays { answer.new.held ≡ answer.old.held }
     ensures closed { result ≡ CLOSED → book.old.held ≡ true → checked.old.held ≡ true → answer.old.held ≡ true → ⊥ }
-    ensures other_kind { result ≡ OTHER_KIND → (IsCheckedBlock checked.old.value ⊎ IsCheckedCert checked.old.value) → IsBook book.old.value → IsRoom answer.old.value → ⊥ }
+    ensures other_kind { result ≡ OTHER_KIND → (HoldsCheckedBlock checked.old.value ⊎ HoldsCheckedCert checked.old.value) → HoldsBook book.old.value → HoldsRoom answer.old.value → ⊥ }
 {
     if !checked.is_open() {
         return CLOSED;

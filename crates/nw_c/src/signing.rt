@@ -2,7 +2,7 @@
 ghost use Rattle.std.specs.Prelude.{◌≡◌, ◌^◌, ◌≤◌, ◌<◌, pos, take, length};
 ghost use Rattle.sha2.specs.Sha256.{sha256};
 ghost use Rattle.nw_codec.specs.Spelled.{Spells};
-ghost use Rattle.nw_sig.specs.Signed.{block_text, vote_text};
+ghost use Rattle.nw_sig.specs.Signed.{text_of_block, text_of_vote};
 ghost use Rattle.nw_c.specs.Plain.{digest_in};
 ghost use Rattle.nw_c.specs.Votes.{vote_of};
 ghost use Rattle.nw_c.specs.declared.codes.TheConstants.{BAD_ROUND, SMALL};
@@ -12,7 +12,7 @@ use crate::plain::{CDigest, CSignature, CSlot};
 use crate::texts::hand_out_encoded;
 use nw_codec::{Message, Signature, Vote, encode_message};
 use nw_digest::{Round, digest_of};
-use nw_sig::{block_text, vote_text};
+use nw_sig::{text_of_block, text_of_vote};
 use std::alloc::Global;
 
 /// The 36 bytes that the author of a block signs.
@@ -40,10 +40,10 @@ pub extern "C" fn nw_digest_of(bytes: &[u8], out: &mut CDigest)
 /// Writes the text that the author of the block of this digest signs.
 #[unsafe(no_mangle)]
 pub extern "C" fn nw_text_of_block(digest: &CDigest, out: &mut CBlockText)
-    ensures { out.new.bytes ≡ block_text (digest_in digest.now) }
+    ensures { out.new.bytes ≡ text_of_block (digest_in digest.now) }
 {
     *out = CBlockText {
-        bytes: block_text(&digest.get()),
+        bytes: text_of_block(&digest.get()),
     };
 }
 
@@ -51,14 +51,14 @@ pub extern "C" fn nw_text_of_block(digest: &CDigest, out: &mut CBlockText)
 #[unsafe(no_mangle)]
 pub extern "C" fn nw_text_of_vote(slot: &CSlot, out: &mut CVoteText) -> i32
     ensures text { result ≡ pos 0 → out.new.bytes
-        ≡ vote_text (digest_in slot.now.digest) slot.now.round slot.now.author }
+        ≡ text_of_vote (digest_in slot.now.digest) slot.now.round slot.now.author }
     ensures bad_round { result ≡ BAD_ROUND → 2 ^ 48 ≤ slot.now.round }
 {
     let Some(round) = Round::new(slot.round) else {
         return BAD_ROUND;
     };
     *out = CVoteText {
-        bytes: vote_text(&slot.digest.get(), round, slot.author),
+        bytes: text_of_vote(&slot.digest.get(), round, slot.author),
     };
     DONE
 }

@@ -3,7 +3,7 @@ ghost use Rattle.std.specs.Prelude.{◌≡◌, ◌↔◌, pos, IfOk, IfErr, IsTr
 ghost use Rattle.nw_book.specs.Ticket.{HaveOneList};
 ghost use Rattle.nw_c.specs.Tickets.{Agrees, AreApart, HasBlocks, HasNoBlockAt, IsAbout, IsBlockAt, IsWalkOf};
 ghost use Rattle.nw_c.specs.Tickets.{IsWhyApart};
-ghost use Rattle.nw_c.specs.Kinds.{IsAsBefore, IsList, IsTicket};
+ghost use Rattle.nw_c.specs.Kinds.{IsAsBefore, HoldsList, HoldsTicket};
 ghost use Rattle.nw_c.specs.declared.codes.TheConstants.{ABSENT, APART, CLOSED, OPEN, OTHER_KIND};
 
 use crate::codes::{ABSENT, APART, CLOSED, DONE, NO_MEMORY, OPEN, OTHER_KIND};
@@ -26,7 +26,7 @@ pub extern "C" fn nw_ticket_about(
     ensures about { result ≡ pos 0 → IsAbout ticket.old.value digest.new floor.new }
     ensures same { IsAsBefore ticket.old ticket.new }
     ensures closed { result ≡ CLOSED → ticket.old.held ≡ true → ⊥ }
-    ensures other_kind { result ≡ OTHER_KIND → IsTicket ticket.old.value → ⊥ }
+    ensures other_kind { result ≡ OTHER_KIND → HoldsTicket ticket.old.value → ⊥ }
 {
     if !ticket.is_open() {
         return CLOSED;
@@ -70,7 +70,7 @@ pub extern "C" fn nw_ticket_agree(
     ensures same { IsAsBefore ticket.old ticket.new }
     ensures other { IsAsBefore other.old other.new }
     ensures closed { result ≡ CLOSED → ticket.old.held ≡ true → other.old.held ≡ true → ⊥ }
-    ensures other_kind { result ≡ OTHER_KIND → IsTicket ticket.old.value → IsTicket other.old.value → ⊥ }
+    ensures other_kind { result ≡ OTHER_KIND → HoldsTicket ticket.old.value → HoldsTicket other.old.value → ⊥ }
 {
     if !ticket.is_open() || !other.is_open() {
         return CLOSED;
@@ -101,7 +101,7 @@ pub extern "C" fn nw_ticket_walk(
     ensures opened { result ≡ pos 0 → out.new.held ≡ true }
     ensures occupied { result ≡ OPEN → out.old.held ≡ true }
     ensures closed { result ≡ CLOSED → ticket.old.held ≡ true → ⊥ }
-    ensures other_kind { result ≡ OTHER_KIND → IsTicket ticket.old.value → ⊥ }
+    ensures other_kind { result ≡ OTHER_KIND → HoldsTicket ticket.old.value → ⊥ }
 {
     if !ticket.is_open() {
         return CLOSED;
@@ -124,7 +124,7 @@ pub extern "C" fn nw_list_len(list: &mut ListHandle, out: &mut usize) -> i32
     ensures len { result ≡ pos 0 → HasBlocks list.old.value out.new }
     ensures same { IsAsBefore list.old list.new }
     ensures closed { result ≡ CLOSED → list.old.held ≡ true → ⊥ }
-    ensures other_kind { result ≡ OTHER_KIND → IsList list.old.value → ⊥ }
+    ensures other_kind { result ≡ OTHER_KIND → HoldsList list.old.value → ⊥ }
 {
     if !list.is_open() {
         return CLOSED;
@@ -152,7 +152,7 @@ pub extern "C" fn nw_list_block(
     ensures opened { result ≡ pos 0 → out.new.held ≡ true }
     ensures occupied { result ≡ OPEN → out.old.held ≡ true }
     ensures closed { result ≡ CLOSED → list.old.held ≡ true → ⊥ }
-    ensures other_kind { result ≡ OTHER_KIND → IsList list.old.value → ⊥ }
+    ensures other_kind { result ≡ OTHER_KIND → HoldsList list.old.value → ⊥ }
     ensures absent { result ≡ ABSENT → HasNoBlockAt list.old.value index }
 {
     if !list.is_open() {

@@ -8,7 +8,7 @@ use Rattle.nw_codec.specs.declared.block.Ref.{Ref}
 use Rattle.nw_codec.specs.declared.block.Block.{Block}
 use Rattle.nw_digest.specs.Order.{digest_cmp}
 use Rattle.nw_model.specs.State.{block_slot}
-use Rattle.nw_model.specs.View.{Frozen, HasParent, IsClosed, IsThere, IsParentIn, IsPathIn, IsAncestorIn, IsWalk}
+use Rattle.nw_model.specs.View.{Frozen, HasParent, IsClosed, HasBlock, IsParentIn, IsPathIn, IsAncestorIn, IsWalk}
 use Rattle.nw_model.proofs.Complete.{one_block}
 use Rattle.nw_model.proofs.Listed.{contains_first, contains_later, block_of, digest_of}
 use Rattle.nw_causal.specs.Agreement.{HaveOneWalk, CollideAt, IsMatched, IsRival, MatchAt}
@@ -36,7 +36,7 @@ parent_of v d e b at (c, r, at_c, above, among, same) =
 
 -- a reference of a block above the floor names a block of the preceding round with the named author
 pub named_by : (v : Frozen) (d e : Digest) (b : Block) (r : Ref) → IsClosed v → get v.blocks d ≡ Some b → v.floor < b.round → Contains b.parents r → r.digest ≡ e
-    → (p : Block) × IsThere v e p × (p.author ≡ r.author) × (p.round + 1 ≡ b.round)
+    → (p : Block) × HasBlock v e p × (p.author ≡ r.author) × (p.round + 1 ≡ b.round)
 named_by v d e b r closed at above among same =
     let has : HasParent v.blocks b.round r = All-contains (HasParent v.blocks b.round) b.parents r (closed.parents d b at above) among in
     let before : has.0.round + 1 ≡ b.round = has.3 in
@@ -59,7 +59,7 @@ lower v d (e ∷ path) a b p closed at_d at_a (parent, on) =
 
 -- blocks of one slot under the digest in both views are equal
 abbrev pub IsOne : Frozen → Frozen → Digest → Type 0
-IsOne v w e = (p q : Block) → IsThere v e p → IsThere w e q → block_slot p ≡ block_slot q → p ≡ q
+IsOne v w e = (p q : Block) → HasBlock v e p → HasBlock w e q → block_slot p ≡ block_slot q → p ≡ q
 
 -- this holds for each common ancestor
 abbrev pub AreOne : Frozen → Frozen → Digest → Type 0
@@ -67,11 +67,11 @@ AreOne v w d = (e : Digest) → IsAncestorIn v d e → IsAncestorIn w d e → Is
 
 -- both views have one block under the digest
 abbrev pub IsShared : Frozen → Frozen → Digest → Type 0
-IsShared v w e = (b : Block) × IsThere v e b × IsThere w e b
+IsShared v w e = (b : Block) × HasBlock v e b × HasBlock w e b
 
 -- if both views have the block, a parent in the first is a parent in the other, and the parent's blocks are of one slot
 both_parents : (v w : Frozen) (d e : Digest) (b : Block) → IsClosed v → IsClosed w → v.floor ≡ w.floor → get v.blocks d ≡ Some b → get w.blocks d ≡ Some b → IsParentIn v d e
-    → (p : Block) × (q : Block) × IsThere v e p × IsThere w e q × (block_slot p ≡ block_slot q) × IsParentIn w d e
+    → (p : Block) × (q : Block) × HasBlock v e p × HasBlock w e q × (block_slot p ≡ block_slot q) × IsParentIn w d e
 both_parents v w d e b closed_v closed_w floor at_v at_w parent =
     let named = parent_of v d e b at_v parent in
     let r : Ref = named.0 in
@@ -93,11 +93,11 @@ same_path v w d (e ∷ path) a closed_v closed_w floor (b, in_v, in_w) one (pare
     let both = both_parents v w d e b closed_v closed_w floor in_v.0 in_w.0 parent in
     let p : Block = both.0 in
     let q : Block = both.1 in
-    let p_there : IsThere v e p = both.2 in
-    let q_there : IsThere w e q = both.3 in
+    let p_there : HasBlock v e p = both.2 in
+    let q_there : HasBlock w e q = both.3 in
     let in_other : IsParentIn w d e = both.5 in
     let same : p ≡ q = one e (e ∷ [], (parent, ((p, p_there), refl))) (e ∷ [], (in_other, ((q, q_there), refl))) p q p_there q_there both.4 in
-    let below = same_path v w e path a closed_v closed_w floor (p, p_there, subst (λ x. IsThere w e x) (sym same) q_there)
+    let below = same_path v w e path a closed_v closed_w floor (p, p_there, subst (λ x. HasBlock w e x) (sym same) q_there)
     (λ f one_way other_way. one f (e ∷ one_way.0, (parent, one_way.1)) (e ∷ other_way.0, (in_other, other_way.1))) on in
     ((in_other, below.0), below.1)
 
@@ -128,7 +128,7 @@ same_under m n (a ∷ digests) agree =
     cc
 
 -- if the blocks match at each ancestor, the views have one walk
-pub one_walk : (v w : Frozen) (d : Digest) (blocks : List Block) → IsClosed v → IsClosed w → v.floor ≡ w.floor → (b : Block) × IsThere v d b → (b : Block) × IsThere w d b
+pub one_walk : (v w : Frozen) (d : Digest) (blocks : List Block) → IsClosed v → IsClosed w → v.floor ≡ w.floor → (b : Block) × HasBlock v d b → (b : Block) × HasBlock w d b
     → IsWalk v d blocks → ((a : Digest) → IsAncestorIn v d a → MatchAt v w a) → HaveOneWalk v w d
 one_walk v w d blocks closed_v closed_w floor (b, in_v) (c, in_w) walk at = (
   blocks,
@@ -142,7 +142,7 @@ one_walk v w d blocks closed_v closed_w floor (b, in_v) (c, in_w) walk at = (
 )
   where
     shared : IsShared v w d
-    shared = let one : b ≡ c = at d ([], ((b, in_v), refl)) b c in_v in_w in (b, in_v, subst (λ x. IsThere w d x) (sym one) in_w)
+    shared = let one : b ≡ c = at d ([], ((b, in_v), refl)) b c in_v in_w in (b, in_v, subst (λ x. HasBlock w d x) (sym one) in_w)
 
     same : HaveSame v w d
     same = have_same v w d closed_v closed_w floor shared (λ e ancestor other p q p_there q_there slots. at e ancestor p q p_there q_there)
@@ -165,7 +165,7 @@ ones v w d closed_w walks e ancestor other p q p_there q_there slots =
     one_block p q (subst (λ z. get w.blocks z ≡ Some p) (sym same) x.2) q_there.0
 
 -- the digest's blocks in the two views are equal, since each is the highest of its walk
-one_top : (v w : Frozen) (d : Digest) (b c : Block) → IsClosed v → IsClosed w → IsThere v d b → IsThere w d c → HaveOneWalk v w d → b ≡ c
+one_top : (v w : Frozen) (d : Digest) (b c : Block) → IsClosed v → IsClosed w → HasBlock v d b → HasBlock w d c → HaveOneWalk v w d → b ≡ c
 one_top v w d b c closed_v closed_w in_v in_w walks =
     let x = in_other v w d d b walks ([], ((b, in_v), refl)) in_v.0 in
     let y = in_other w v d d c (walks.0, walks.2, walks.1) ([], ((c, in_w), refl)) in_w.0 in
@@ -178,9 +178,9 @@ one_top v w d b c closed_v closed_w in_v in_w walks =
     ]
 
 -- if blocks collide at an ancestor, no list is the walk in both views
-pub no_walk : (v w : Frozen) (d e : Digest) (b c : Block) → IsClosed v → IsClosed w → v.floor ≡ w.floor → (b : Block) × IsThere v d b → (b : Block) × IsThere w d b
+pub no_walk : (v w : Frozen) (d e : Digest) (b c : Block) → IsClosed v → IsClosed w → v.floor ≡ w.floor → (b : Block) × HasBlock v d b → (b : Block) × HasBlock w d b
     → IsAncestorIn v d e → CollideAt v w e b c → HaveOneWalk v w d → ⊥
 no_walk v w d e b c closed_v closed_w floor (x, in_v) (y, in_w) (path, on) (b_there, c_there, differ) walks =
     let top : x ≡ y = one_top v w d x y closed_v closed_w in_v in_w walks in
-    let both = (same_path v w d path e closed_v closed_w floor (x, in_v, subst (λ z. IsThere w d z) (sym top) in_w) (ones v w d closed_w walks) on).1 in
+    let both = (same_path v w d path e closed_v closed_w floor (x, in_v, subst (λ z. HasBlock w d z) (sym top) in_w) (ones v w d closed_w walks) on).1 in
     differ (one_block b both.0 b_there.0 both.1.0 ∙ one_block both.0 c both.2.0 c_there.0)

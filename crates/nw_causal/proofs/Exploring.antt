@@ -8,7 +8,7 @@ use Rattle.std.proofs.lemmas.List.Elements.{All-nil, All-append, All-contains, C
 use Rattle.nw_digest.specs.declared.digest.Digest.{Digest}
 use Rattle.nw_codec.specs.declared.block.Block.{Block}
 use Rattle.nw_model.specs.Search.{IsParentOfAny}
-use Rattle.nw_model.specs.View.{Frozen, IsClosed, IsThere, IsParentIn, IsPathIn, IsAncestorIn}
+use Rattle.nw_model.specs.View.{Frozen, IsClosed, HasBlock, IsParentIn, IsPathIn, IsAncestorIn}
 use Rattle.nw_model.proofs.Complete.{one_block}
 use Rattle.nw_model.proofs.Finding.{there_is}
 use Rattle.nw_model.proofs.Listed.{contains_first, contains_cases, contains_none}
@@ -33,7 +33,7 @@ pub record Explores (v : Frozen) (d : Digest) (found level : List Ancestor) (rou
   pub whole : (e f : Digest) → Contains (digests found) e → IsParentIn v e f → IsIn found level f
 
 -- a path to a digest continues to its parents
-path_on : (v : Frozen) (d e f : Digest) (path : List Digest) → IsPathIn v d path e → IsParentIn v e f → (b : Block) × IsThere v f b → IsPathIn v d (path ++ f ∷ []) f
+path_on : (v : Frozen) (d e f : Digest) (path : List Digest) → IsPathIn v d path e → IsParentIn v e f → (b : Block) × HasBlock v f b → IsPathIn v d (path ++ f ∷ []) f
 path_on v d e f [] (there, same) parent last = (subst (λ q. IsParentIn v q f) (sym same) parent, (last, refl))
 path_on v d e f (next ∷ path) (step, on) parent last = (step, path_on v next e f path on parent last)
 
@@ -51,9 +51,9 @@ in_either : (found level : List Ancestor) (e : Digest) → Contains (digests (fo
 in_either found level e among = Contains-append_cases (digests found) (digests level) e (rw (← map-append (λ (a : Ancestor). a.digest.now) found level) among)
 
 -- at first the level is the block itself
-pub explores_first : (v : Frozen) (d : Digest) (a : Ancestor) → (b : Block) × IsThere v d b → a.digest.now ≡ d → get v.blocks d ≡ Some a.block.now → Explores v d [] (a ∷ []) a.block.now.round
+pub explores_first : (v : Frozen) (d : Digest) (a : Ancestor) → (b : Block) × HasBlock v d b → a.digest.now ≡ d → get v.blocks d ≡ Some a.block.now → Explores v d [] (a ∷ []) a.block.now.round
 explores_first v d a there named at =
-    let here : IsThere v d a.block.now = there_is v d a.block.now there at in
+    let here : HasBlock v d a.block.now = there_is v d a.block.now there at in
     record {
       floor = here.1;
       last = level_one v a (ap (get v.blocks) named ∙ at);

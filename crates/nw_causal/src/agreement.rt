@@ -1,6 +1,6 @@
 //! Compares two walks.
 ghost use Rattle.std.specs.Prelude.{◌≡◌, ◌↔◌, IfOk, IsTrue, MatchOption};
-ghost use Rattle.nw_model.specs.View.{IsThere};
+ghost use Rattle.nw_model.specs.View.{HasBlock};
 ghost use Rattle.nw_causal.specs.Agreement.{IsAgreement, IsMatched, IsRival};
 
 use crate::ancestor::Ancestor;
@@ -32,8 +32,8 @@ pub enum Agreement {
 /// `NoMemory`: an allocation failed.
 pub fn agree(alloc: Global, one: &View, other: &View, digest: Digest) -> Result<Agreement, NoMemory>
     requires floor { one.now.frozen.floor ≡ other.now.frozen.floor }
-    requires in_one { (b : Block) × IsThere one.now.frozen digest b }
-    requires in_other { (b : Block) × IsThere other.now.frozen digest b }
+    requires in_one { (b : Block) × HasBlock one.now.frozen digest b }
+    requires in_other { (b : Block) × HasBlock other.now.frozen digest b }
     ensures { IfOk result
         (λ agreement. IsAgreement one.now.frozen other.now.frozen digest agreement) }
 {

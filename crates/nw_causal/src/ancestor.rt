@@ -2,7 +2,7 @@
 ghost use Rattle.std.specs.Prelude.{◌≡◌, Some};
 ghost use Rattle.std.specs.FinMap as map;
 ghost use Rattle.nw_model.specs.View.{IsClosed};
-ghost use Rattle.nw_generation.specs.Seen.{IsOf};
+ghost use Rattle.nw_generation.specs.Seen.{IsOfRound};
 
 use nw_codec::Block;
 use nw_digest::{Digest, Round, Shared};
@@ -23,12 +23,12 @@ impl<'a> Ancestor<'a> {
         digest: &'a Digest,
     ) -> Ancestor<'a>
         requires there { (b : Block) × (map.get view.now.frozen.blocks digest.now ≡ Some b) }
-        requires slot { IsOf slot (map.get view.now.frozen.blocks digest.now) }
+        requires slot { IsOfRound slot (map.get view.now.frozen.blocks digest.now) }
         ensures digest { result.digest.now ≡ digest.now }
         ensures block { map.get view.now.frozen.blocks digest.now ≡ Some result.block.now }
         ensures closed { IsClosed view.now.frozen }
     {
-        let Some(block) = view.get_of(slot, digest) else {
+        let Some(block) = view.get_in_slot(slot, digest) else {
             unreachable!()
         };
         Ancestor { digest, block }

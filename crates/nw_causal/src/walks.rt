@@ -2,7 +2,7 @@
 ghost use Rattle.std.specs.Prelude.{◌≡◌, ◌+◌, ◌≤◌, IfOk, OnOk, [], All, length};
 ghost use Rattle.std.specs.List.Sorted.{IsBinarySearchResult, IsSearchInRange};
 ghost use Rattle.std.specs.Ordering.{nat_cmp};
-ghost use Rattle.nw_model.specs.View.{HasParent, IsClosed, IsThere, IsWalk};
+ghost use Rattle.nw_model.specs.View.{HasParent, IsClosed, HasBlock, IsWalk};
 ghost use Rattle.nw_model.specs.Search.{IsNamed, IsParentOfAny};
 ghost use Rattle.nw_causal.specs.declared.ancestor.Ancestor.{Ancestor};
 ghost use Rattle.nw_causal.specs.Looked.{AreFound, Gains, IsLevel, digests};
@@ -20,7 +20,7 @@ use std::mem::swap;
 ///
 /// `NoMemory`: an allocation failed.
 pub fn walk(alloc: Global, view: &View, digest: Digest) -> Result<Vec<Shared<Block>>, NoMemory>
-    requires { (b : Block) × IsThere view.now.frozen digest b }
+    requires { (b : Block) × HasBlock view.now.frozen digest b }
     ensures { IfOk result (λ blocks. IsWalk view.now.frozen digest blocks.items) }
 {
     let found = ancestors(alloc, view, &digest)?;
@@ -37,7 +37,7 @@ pub(crate) fn ancestors<'a>(
     view: &'a View,
     digest: &'a Digest,
 ) -> Result<Vec<Ancestor<'a>>, NoMemory>
-    requires { (b : Block) × IsThere view.now.frozen digest.now b }
+    requires { (b : Block) × HasBlock view.now.frozen digest.now b }
     ensures found { IfOk result (λ found. AreFound view.now.frozen digest.now found.items) }
     ensures closed { OnOk result (IsClosed view.now.frozen) }
 {

@@ -10,9 +10,9 @@ use Rattle.nw_codec.specs.Grammar.{seal}
 use Rattle.nw_codec.specs.declared.certificate.Seal.{Seal}
 use Rattle.nw_codec.specs.declared.vote.Vote.{Vote}
 use Rattle.nw_committee.specs.Committee.{ReachesQuorum}
-use Rattle.nw_sig.specs.Signed.{Meaning, vote_text}
+use Rattle.nw_sig.specs.Signed.{Meaning, text_of_vote}
 use Rattle.nw_model.specs.Checks.{IsMember, IsSignedBy, IsSealOf, IsValid}
-use Rattle.nw_check.specs.Gathering.{Gathering, IsGathering, IsPlace, MayCount, Counts, certificate_of}
+use Rattle.nw_check.specs.Gathering.{Gathering, IsGathering, IsPlace, CanCount, Counts, certificate_of}
 use Rattle.nw_check.proofs.Places.{few_below, place-rises}
 
 -- the number at a place is that of the seal at the place
@@ -65,13 +65,13 @@ module _ (accepts : Meaning) (g : Gathering) (ok : IsGathering accepts g) where
       }
 
 -- after the seal of a vote that may count is inserted at its place, the gatherer still keeps `IsGathering`
-pub counted-gathering : (accepts : Meaning) (g : Gathering) (v : Vote) (p : ℕ) → IsGathering accepts g → MayCount accepts g v → IsPlace (signers g.seals) v.signer p
+pub counted-gathering : (accepts : Meaning) (g : Gathering) (v : Vote) (p : ℕ) → IsGathering accepts g → CanCount accepts g v → IsPlace (signers g.seals) v.signer p
     → IsGathering accepts (record g { seals = insert g.seals p (seal v) })
 counted-gathering accepts g v p ok may place =
     let digest : v.digest ≡ g.digest = may.0.0.0 in
     let round : v.round ≡ g.round = may.0.0.1 in
     let author : v.author ≡ g.author = may.0.0.2 in
-    let text : vote_text v.digest v.round v.author ≡ vote_text g.digest g.round g.author = cc in
+    let text : text_of_vote v.digest v.round v.author ≡ text_of_vote g.digest g.round g.author = cc in
     gathering-insert accepts g ok p (seal v) place (subst (λ t. IsSignedBy accepts g.committee v.signer t v.signature) text may.2)
 
 -- a gatherer whose vote's seal was inserted at a place has counted the vote

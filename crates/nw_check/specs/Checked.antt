@@ -5,14 +5,14 @@ use Rattle.nw_codec.specs.declared.certificate.Certificate.{Certificate}
 use Rattle.nw_committee.specs.declared.member.Member.{Member}
 
 -- a block and a committee
-pub record BlockUnder : Type 0 where
+pub record CheckedBlockView : Type 0 where
   -- the checked block
   pub block : Block
   -- the members under which it is well formed
   pub committee : List Member
 
 -- a certificate and a committee
-pub record CertificateUnder : Type 0 where
+pub record CheckedCertView : Type 0 where
   -- the checked certificate
   pub certificate : Certificate
   -- the members under which it is valid

@@ -7,7 +7,7 @@ use Rattle.nw_codec.specs.declared.certificate.Seal.{Seal}
 use Rattle.nw_codec.specs.declared.certificate.Certificate.{Certificate}
 use Rattle.nw_committee.specs.Committee.{ReachesQuorum}
 use Rattle.nw_committee.specs.declared.member.Member.{Member}
-use Rattle.nw_sig.specs.Signed.{Meaning, block_text}
+use Rattle.nw_sig.specs.Signed.{Meaning, text_of_block}
 use Rattle.nw_model.specs.Checks.{digest_of, IsMember, IsSignedBy, IsWellFormedWith, IsSealOf, IsValid}
 use Rattle.nw_check.specs.declared.fault.BlockFault.{BlockFault}
 use Rattle.nw_check.specs.declared.fault.BlockFault.TheVariants as block_fault
@@ -28,7 +28,7 @@ BreaksRule accepts members b signature block_fault.Author = IsMember members b.a
 BreaksRule accepts members b signature block_fault.ParentAuthor = IsMember members b.author × (All (IsMember members) (authors b.parents) → ⊥)
 BreaksRule accepts members b signature block_fault.GenesisParents = HasMembers members b × (b.round ≡ 0) × (b.parents ≢ [])
 BreaksRule accepts members b signature block_fault.FewParents = HasMembers members b × (0 < b.round) × (ReachesQuorum members (authors b.parents) → ⊥)
-BreaksRule accepts members b signature block_fault.Signature = HasParents members b × (IsSignedBy accepts members b.author (block_text (digest_of b)) signature → ⊥)
+BreaksRule accepts members b signature block_fault.Signature = HasParents members b × (IsSignedBy accepts members b.author (text_of_block (digest_of b)) signature → ⊥)
 BreaksRule accepts members b signature block_fault.NoMemory = ⊥
 
 -- the block may get this fault: it is the first rule that the block breaks, or it is `NoMemory` and the block is well formed

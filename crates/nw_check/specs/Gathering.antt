@@ -9,7 +9,7 @@ use Rattle.nw_codec.specs.declared.certificate.Certificate.{Certificate}
 use Rattle.nw_codec.specs.declared.vote.Vote.{Vote}
 use Rattle.nw_committee.specs.Committee.{IsCommittee, ReachesQuorum}
 use Rattle.nw_committee.specs.declared.member.Member.{Member}
-use Rattle.nw_sig.specs.Signed.{Meaning, vote_text}
+use Rattle.nw_sig.specs.Signed.{Meaning, text_of_vote}
 use Rattle.nw_model.specs.Checks.{IsMember, IsSignedBy, IsSealOf}
 use Rattle.nw_check.specs.declared.fault.GatherFault.{GatherFault}
 use Rattle.nw_check.specs.declared.fault.GatherFault.TheVariants as fault
@@ -45,28 +45,28 @@ pub record IsGathering (accepts : Meaning) (g : Gathering) : Type 0 where
   pub sealed : All (IsSealOf accepts g.committee (certificate_of g)) g.seals
 
 -- the vote is for the block: for its digest, round and author
-abbrev pub IsFor : Gathering → Vote → Type 0
-IsFor g v = (v.digest ≡ g.digest) × (v.round ≡ g.round) × (v.author ≡ g.author)
+abbrev pub IsVoteForBlock : Gathering → Vote → Type 0
+IsVoteForBlock g v = (v.digest ≡ g.digest) × (v.round ≡ g.round) × (v.author ≡ g.author)
 
 -- the vote is for the block, and no vote of its signer was counted
 abbrev pub IsNew : Gathering → Vote → Type 0
-IsNew g v = IsFor g v × (Contains (signers g.seals) v.signer → ⊥)
+IsNew g v = IsVoteForBlock g v × (Contains (signers g.seals) v.signer → ⊥)
 
 -- the vote has its signer's signature
 abbrev pub IsVoteOf : Meaning → List Member → Vote → Type 0
-IsVoteOf accepts members v = IsSignedBy accepts members v.signer (vote_text v.digest v.round v.author) v.signature
+IsVoteOf accepts members v = IsSignedBy accepts members v.signer (text_of_vote v.digest v.round v.author) v.signature
 
 -- the vote is new, and a member signed it
-abbrev pub MayCount : Meaning → Gathering → Vote → Type 0
-MayCount accepts g v = IsNew g v × IsMember g.committee v.signer × IsVoteOf accepts g.committee v
+abbrev pub CanCount : Meaning → Gathering → Vote → Type 0
+CanCount accepts g v = IsNew g v × IsMember g.committee v.signer × IsVoteOf accepts g.committee v
 
 -- the vote may get this fault: it is the first reason not to count the vote, or it is `NoMemory` and the vote may count
 abbrev pub IsGatherFault : Meaning → Gathering → Vote → GatherFault → Type 0
-IsGatherFault accepts g v fault.OtherBlock = IsFor g v → ⊥
-IsGatherFault accepts g v fault.Repeated = IsFor g v × Contains (signers g.seals) v.signer
+IsGatherFault accepts g v fault.OtherBlock = IsVoteForBlock g v → ⊥
+IsGatherFault accepts g v fault.Repeated = IsVoteForBlock g v × Contains (signers g.seals) v.signer
 IsGatherFault accepts g v fault.Signer = IsNew g v × (IsMember g.committee v.signer → ⊥)
 IsGatherFault accepts g v fault.Signature = IsNew g v × IsMember g.committee v.signer × (IsVoteOf accepts g.committee v → ⊥)
-IsGatherFault accepts g v fault.NoMemory = MayCount accepts g v
+IsGatherFault accepts g v fault.NoMemory = CanCount accepts g v
 
 -- the number belongs at this place among ascending numbers
 pub record IsPlace (numbers : List ℕ) (number place : ℕ) : Type 0 where
@@ -78,13 +78,13 @@ pub record IsPlace (numbers : List ℕ) (number place : ℕ) : Type 0 where
   pub above : All (λ n. number < n) (drop place numbers)
 
 -- the new list is the old one with the seal inserted somewhere
-abbrev pub Adds : List Seal → Seal → List Seal → Type 0
-Adds old one new = (before after : List Seal) × (old ≡ before ++ after) × (new ≡ before ++ one ∷ after)
+abbrev pub AddsSeal : List Seal → Seal → List Seal → Type 0
+AddsSeal old one new = (before after : List Seal) × (old ≡ before ++ after) × (new ≡ before ++ one ∷ after)
 
 -- the vote was counted
 pub record Counts (old : Gathering) (v : Vote) (new : Gathering) : Type 0 where
   -- its seal was added
-  pub seals : Adds old.seals (seal v) new.seals
+  pub seals : AddsSeal old.seals (seal v) new.seals
   -- nothing else changed
   pub others : new ≡ record old { seals = new.seals }
 

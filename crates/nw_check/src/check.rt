@@ -10,7 +10,7 @@ use crate::{BlockFault, CertFault, CheckedBlock, CheckedCert};
 use nw_codec::{Block, Certificate, Signature, block_digest};
 use nw_committee::Committee;
 use nw_digest::{Digest, Shared};
-use nw_sig::{Scheme, block_text, vote_text};
+use nw_sig::{Scheme, text_of_block, text_of_vote};
 use std::alloc::Global;
 
 /// Checks the block and its author's signature.
@@ -55,7 +55,7 @@ fn block_fault<S: Scheme>(
         (BreaksRule S.accepts committee.now block.now signature.now) }
 {
     let parents = block.parents.as_slice();
-    let text = block_text(digest);
+    let text = text_of_block(digest);
     if !is_member(committee, block.author) {
         Some(BlockFault::Author)
     } else if !are_members(committee, parents) {
@@ -132,7 +132,7 @@ fn first_bad_signer<S: Scheme>(committee: &Committee, certificate: &Certificate)
         (All (IsSealOf S.accepts committee.now certificate.now) certificate.now.votes)
         (IsFirstBadSeal S.accepts committee.now certificate.now) }
 {
-    let text = vote_text(&certificate.digest, certificate.round, certificate.author);
+    let text = text_of_vote(&certificate.digest, certificate.round, certificate.author);
     for seal in certificate.votes.as_slice() {
         if !is_signed_by::<S>(committee, seal.signer, &text, &seal.signature) {
             return Some(seal.signer);

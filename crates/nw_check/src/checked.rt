@@ -20,9 +20,9 @@ pub struct CheckedBlock<S: Scheme> {
 impl<S: Scheme> Model for CheckedBlock<S> {
     ghost use Rattle.std.specs.Prelude.{◌≡◌};
     ghost use Rattle.nw_model.specs.Checks.{digest_of, IsWellFormed};
-    ghost use Rattle.nw_check.specs.Checked.{BlockUnder};
+    ghost use Rattle.nw_check.specs.Checked.{CheckedBlockView};
 
-    ghost Value = { BlockUnder };
+    ghost Value = { CheckedBlockView };
 
     ghost view = { λ c. record { block = c.block; committee = c.committee } };
 
@@ -84,9 +84,9 @@ pub struct CheckedCert<S: Scheme> {
 
 impl<S: Scheme> Model for CheckedCert<S> {
     ghost use Rattle.nw_model.specs.Checks.{IsValid};
-    ghost use Rattle.nw_check.specs.Checked.{CertificateUnder};
+    ghost use Rattle.nw_check.specs.Checked.{CheckedCertView};
 
-    ghost Value = { CertificateUnder };
+    ghost Value = { CheckedCertView };
 
     ghost view = { λ c. record { certificate = c.certificate; committee = c.committee } };
 

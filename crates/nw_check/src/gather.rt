@@ -6,7 +6,7 @@ ghost use Rattle.std.specs.List.Sorted.{IsStrictlyIncreasing};
 ghost use Rattle.nw_codec.specs.Fits.{signers};
 ghost use Rattle.nw_committee.specs.Committee.{ReachesQuorum};
 ghost use Rattle.nw_model.specs.Checks.{IsMember};
-ghost use Rattle.nw_check.specs.Gathering.{IsGathering, MayCount, IsGatherFault, IsFor, IsPlace};
+ghost use Rattle.nw_check.specs.Gathering.{IsGathering, CanCount, IsGatherFault, IsVoteForBlock, IsPlace};
 ghost use Rattle.nw_check.specs.Gathering.{Counts, IsCount, certificate_of};
 
 use crate::members::{is_member, is_signed_by, reach_quorum};
@@ -14,7 +14,7 @@ use crate::{CheckedCert, Counted, FinishFault, GatherFault, StartFault};
 use nw_codec::{Certificate, Seal, Vote};
 use nw_committee::Committee;
 use nw_digest::{Digest, NoMemory, Round, Sequence, Shared};
-use nw_sig::{Scheme, vote_text};
+use nw_sig::{Scheme, text_of_vote};
 use std::alloc::Global;
 use std::marker::{Model, PhantomData};
 
@@ -100,7 +100,7 @@ impl<S: Scheme> Gather<S> {
         ensures counted { OnOk result (Counts self.old vote.now self.new) }
         ensures quorum { IfOk result (IsCount self.new) }
         ensures gathering { IsGathering S.accepts self.new }
-        ensures may_count { OnOk result (MayCount S.accepts self.old vote.now) }
+        ensures may_count { OnOk result (CanCount S.accepts self.old vote.now) }
         ensures fault { IfErr result (IsGatherFault S.accepts self.old vote.now) }
         ensures unchanged { OnErr result (self.new ≡ self.old) }
     {
@@ -119,7 +119,7 @@ impl<S: Scheme> Gather<S> {
 
     /// The place of the vote's seal among the counted ones, or the first reason not to count the vote.
     fn place_for(&self, vote: &Vote) -> Result<usize, GatherFault>
-        ensures may_count { OnOk result (MayCount S.accepts self.now vote.now) }
+        ensures may_count { OnOk result (CanCount S.accepts self.now vote.now) }
         ensures place { IfOk result (IsPlace (signers self.now.seals) vote.now.signer) }
         ensures fault { IfErr result (IsGatherFault S.accepts self.now vote.now) }
     {
@@ -132,7 +132,7 @@ impl<S: Scheme> Gather<S> {
         if !is_member(self.committee.get(), vote.signer) {
             return Err(GatherFault::Signer);
         }
-        let text = vote_text(&vote.digest, vote.round, vote.author);
+        let text = text_of_vote(&vote.digest, vote.round, vote.author);
         if !is_signed_by::<S>(self.committee.get(), vote.signer, &text, &vote.signature) {
             return Err(GatherFault::Signature);
         }
@@ -141,7 +141,7 @@ impl<S: Scheme> Gather<S> {
 
     /// Whether the vote is for the block of this gatherer.
     fn is_for(&self, vote: &Vote) -> bool
-        ensures { IsTrue result ↔ IsFor self.now vote.now }
+        ensures { IsTrue result ↔ IsVoteForBlock self.now vote.now }
     {
         vote.digest == self.digest && vote.round == self.round && vote.author == self.author
     }

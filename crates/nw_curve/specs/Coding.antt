@@ -3,7 +3,7 @@ use Rattle.std.specs.Prelude.{ℕ, ◌+◌, ◌-◌, ◌/◌, ◌%◌, ◌^◌, 
 use Rattle.std.specs.Bool.{beq}
 use Rattle.std.specs.Hash.{le_bytes}
 use Rattle.std.specs.Int.{bit_at}
-use Rattle.nw_field.specs.Bytes.{number_of}
+use Rattle.nw_field.specs.Bytes.{number_from_bytes}
 use Rattle.nw_field.specs.Field.{prime, plus, minus, times, negative, power, inverse}
 use Rattle.nw_curve.specs.Curve.{curve_d}
 use Rattle.nw_curve.specs.declared.point.Point.{Point}
@@ -41,7 +41,7 @@ affine y (Some x) = Some (record { x = x; y = y; z = 1; t = times x y })
 -- the point that 32 bytes encode: 255 bits of y, which must be below the prime, and then the sign of x
 unfoldable pub decoded : List ℕ → Option Point
 decoded bytes =
-    let n = number_of bytes in
+    let n = number_from_bytes bytes in
     let y = n % 2 ^ 255 in
     if nat_lt y prime then affine y (recovered y (bit_at n 255 == 1)) else None
 

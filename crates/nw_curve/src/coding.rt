@@ -15,7 +15,7 @@ impl Point {
         ensures { result ≡ decoded bytes.now }
     {
         let whole = Whole::from_bytes(bytes);
-        let y = Number::from_whole(&whole.without_top())?;
+        let y = Number::from_whole(&whole.without_top_bit())?;
         let x = recovered(&y, whole.is_set(255))?;
         Some(Point {
             t: x.times(&y),
@@ -33,7 +33,7 @@ impl Point {
         let inverse = self.z.inverse();
         let x = self.x.times(&inverse);
         let y = self.y.times(&inverse);
-        y.to_whole().with_top(x.is_odd()).to_bytes()
+        y.to_whole().with_top_bit(x.is_odd()).to_bytes()
     }
 }
 

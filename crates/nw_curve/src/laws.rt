@@ -6,7 +6,7 @@ ghost use Rattle.nw_curve.specs.Coding.{root_of_minus_one};
 
 /// d is -121665 / 121666, and the root of -1 is a square root of -1. The base point is on the curve: its y is 4 / 5, and its x is even.
 #[tactic(auto, unfolding(crate::specs::Curve::base, crate::specs::Curve::curve_d, crate::specs::Coding::root_of_minus_one, nw_field::specs::Field::prime))]
-pub fn numbers_of_the_curve()
+pub fn constants_of_the_curve()
     ensures d { plus (times curve_d 121666) 121665 ≡ 0 }
     ensures root { plus (times root_of_minus_one root_of_minus_one) 1 ≡ 0 }
     ensures base_y { times base.y 5 ≡ 4 }

@@ -10,5 +10,5 @@ mod constants;
 mod laws;
 mod point;
 
-pub use laws::numbers_of_the_curve;
+pub use laws::constants_of_the_curve;
 pub use point::Point;

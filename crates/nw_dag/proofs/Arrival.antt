@@ -9,8 +9,8 @@ use Rattle.nw_waiting.specs.Pairs.{Pairs, Lacks, without_wanted}
 use Rattle.nw_model.specs.State.{State}
 use Rattle.nw_model.specs.Paths.{IsStanding}
 use Rattle.nw_model.proofs.Listed.{contains_cases, contains_first, contains_none}
-use Rattle.nw_held.specs.Standing.{Stands, IsMet, named_as}
-use Rattle.nw_dag.specs.Lacking.{Names, IsReady, IsPromoted, AreLacking, AreUnmet, AreUnmetWithout}
+use Rattle.nw_state.specs.Standing.{Stands, IsMet, name_of}
+use Rattle.nw_dag.specs.Lacking.{ReferencesParent, IsReady, IsPromoted, AreLacking, AreUnmet, AreUnmetWithout}
 use Rattle.nw_dag.specs.Settled.{AreListed}
 use Rattle.nw_dag.proofs.Pairs.{without_wanted_lacks}
 use Rattle.nw_dag.proofs.Cascade.{met_under}
@@ -22,8 +22,8 @@ pub record Arrives (s t : State) (d : Digest) : Type 0 where
 
 -- each block lacks the parents that it names in t, as they stand in s
 pub record AreLackingSince (s t : State) (d : Digest) (old new : Pairs) : Type 0 where
-  pub each : (h : Digest) (w : Wanted) → Names t h w → Lacks new h w ⊎ (IsMet s w × IsReady s old w.digest)
-  pub only : (h : Digest) (w : Wanted) → Lacks new h w → Names t h w × (IsMet s w → IsReady s old w.digest → ⊥)
+  pub each : (h : Digest) (w : Wanted) → ReferencesParent t h w → Lacks new h w ⊎ (IsMet s w × IsReady s old w.digest)
+  pub only : (h : Digest) (w : Wanted) → Lacks new h w → ReferencesParent t h w × (IsMet s w → IsReady s old w.digest → ⊥)
   pub same : (h : Digest) (w : Wanted) → (h ≡ d → ⊥) → Lacks new h w ↔ Lacks old h w
 
 module _ (s t : State) (d : Digest) (arrives : Arrives s t d) where
@@ -76,20 +76,20 @@ module _ (s t : State) (d : Digest) (arrives : Arrives s t d) where
     listed_apart complete listed among = arrives.absent (All-contains (IsReady s old) complete d listed.ready among).0
 
   -- the unmet parents of s are the unmet ones of t without counting d
-  pub unmet_arrived : (new : Pairs) → ((h : Digest) (w : Wanted) → Lacks new h w ↔ (Names t h w × (IsMet s w → ⊥))) → AreUnmetWithout t d new
+  pub unmet_arrived : (new : Pairs) → ((h : Digest) (w : Wanted) → Lacks new h w ↔ (ReferencesParent t h w × (IsMet s w → ⊥))) → AreUnmetWithout t d new
   unmet_arrived new since h w = (
     λ lacks. let both = (since h w).0 lacks in (both.0, λ (met, other). both.1 (met_before w met other)),
     λ (names, unmet). (since h w).1 (names, λ met. unmet (met_still w met, λ same. arrives.absent (subst (λ q. Stands s q) same (met.0, met.1)))),
   )
 
 -- d stands, and no block lacks it any longer
-pub met_now : (t : State) (d : Digest) (b : Block) (old new : Pairs) → IsStanding t d b → AreUnmetWithout t d old → new ≡ without_wanted old (named_as d b) → AreUnmet t new
+pub met_now : (t : State) (d : Digest) (b : Block) (old new : Pairs) → IsStanding t d b → AreUnmetWithout t d old → new ≡ without_wanted old (name_of d b) → AreUnmet t new
 met_now t d b old new stands since is h w = (
   λ lacks.
-      let was = (without_wanted_lacks old (named_as d b) w h).0 (subst (λ (m : Pairs). Lacks m h w) is lacks) in
+      let was = (without_wanted_lacks old (name_of d b) w h).0 (subst (λ (m : Pairs). Lacks m h w) is lacks) in
       let both = (since h w).0 was.0 in
       (both.0, λ met. both.1 (met, λ here. was.1 (sym (met_under t d b w stands.0 met here)))),
-  λ (names, unmet). subst (λ (m : Pairs). Lacks m h w) (sym is) ((without_wanted_lacks old (named_as d b) w h).1 (
+  λ (names, unmet). subst (λ (m : Pairs). Lacks m h w) (sym is) ((without_wanted_lacks old (name_of d b) w h).1 (
     (since h w).1 (names, λ without. unmet without.0),
     λ same. unmet (subst (λ (v : Wanted). IsMet t v) same (b, stands, refl, refl)),
   )),

@@ -11,16 +11,16 @@ use Rattle.nw_model.specs.State.{State}
 use Rattle.nw_model.specs.Paths.{IsStanding}
 use Rattle.nw_model.proofs.Complete.{one_block}
 use Rattle.nw_model.proofs.Listed.{contains_cases, contains_later}
-use Rattle.nw_held.specs.Standing.{IsMet, named_as}
-use Rattle.nw_dag.specs.Lacking.{Names, IsReady, IsPromoted, AreLacking}
+use Rattle.nw_state.specs.Standing.{IsMet, name_of}
+use Rattle.nw_dag.specs.Lacking.{ReferencesParent, IsReady, IsPromoted, AreLacking}
 use Rattle.nw_dag.specs.Changes.{Promotes}
 use Rattle.nw_dag.proofs.Pairs.{without_wanted_lacks, lacks_or_not, wanted_or_not}
 
-same_wanted : (w : Wanted) (e : Digest) (b : Block) → w.digest ≡ e → w.author ≡ b.author → w.round ≡ b.round → w ≡ named_as e b
+same_wanted : (w : Wanted) (e : Digest) (b : Block) → w.digest ≡ e → w.author ≡ b.author → w.round ≡ b.round → w ≡ name_of e b
 same_wanted w e b digest author round = λ i. record { round = round i; author = author i; digest = digest i }
 
 -- a parent that is met under e is named as e's block
-pub met_under : (s : State) (e : Digest) (b : Block) (w : Wanted) → get s.blocks e ≡ Some b → IsMet s w → w.digest ≡ e → w ≡ named_as e b
+pub met_under : (s : State) (e : Digest) (b : Block) (w : Wanted) → get s.blocks e ≡ Some b → IsMet s w → w.digest ≡ e → w ≡ name_of e b
 met_under s e b w held (p, stands, author, round) same =
     let here : p ≡ b = one_block p b (ap (get s.blocks) (sym same) ∙ stands.0) held in
     same_wanted w e b same (sym author ∙ ap (λ (x : Block). x.author) here) (sym round ∙ ap (λ (x : Block). x.round) here)
@@ -28,7 +28,7 @@ met_under s e b w held (p, stands, author, round) same =
 module _ (s : State) (e : Digest) (old new : Pairs) (complete more rest : List Digest) (far : AreLacking s old (e ∷ rest)) (ready_e : IsReady s old e) (once : Contains rest e → ⊥)
     (step : Promotes s e old new complete more) where
   abbrev v : Wanted
-  v = named_as e step.block
+  v = name_of e step.block
 
   abbrev due : List Digest
   due = rest ++ step.added
@@ -64,7 +64,7 @@ module _ (s : State) (e : Digest) (old new : Pairs) (complete more rest : List D
     )
   ]
 
-  each : (d : Digest) (w : Wanted) → Names s d w → Lacks new d w ⊎ (IsMet s w × IsPromoted s new due w.digest)
+  each : (d : Digest) (w : Wanted) → ReferencesParent s d w → Lacks new d w ⊎ (IsMet s w × IsPromoted s new due w.digest)
   each d w names = elim (far.each d w names) [
     | inl lacks ↦ elim (wanted_or_not v w) [
       | inl same ↦ inr (subst (λ (y : Wanted). IsMet s y × IsPromoted s new due y.digest) same ((step.block, stands_e, refl, refl), e_promoted))
@@ -73,7 +73,7 @@ module _ (s : State) (e : Digest) (old new : Pairs) (complete more rest : List D
     | inr (met, promoted) ↦ inr (met, keeps w.digest promoted)
   ]
 
-  only : (d : Digest) (w : Wanted) → Lacks new d w → Names s d w × (IsMet s w → IsPromoted s new due w.digest → ⊥)
+  only : (d : Digest) (w : Wanted) → Lacks new d w → ReferencesParent s d w × (IsMet s w → IsPromoted s new due w.digest → ⊥)
   only d w lacks =
       let was = fewer d w lacks in
       let names = far.only d w was.0 in

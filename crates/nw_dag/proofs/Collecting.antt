@@ -22,12 +22,12 @@ use Rattle.nw_model.proofs.Maps.{digests_total}
 use Rattle.nw_model.proofs.Listed.{contains_none}
 use Rattle.nw_model.proofs.Raised.{was_there, is_kept}
 use Rattle.nw_dag.specs.Lacking.{IsReady}
-use Rattle.nw_dag.specs.Changes.{Adds}
+use Rattle.nw_dag.specs.Changes.{AppendsThose}
 use Rattle.nw_dag.specs.Frozen.{Grows}
 use Rattle.nw_dag.specs.Settled.{AreListed, IsTally, IsSettling, IsCascading, IsSettled}
-use Rattle.nw_held.specs.Collection.{AreUpTo}
+use Rattle.nw_state.specs.Collection.{AreDigestsUpTo}
 use Rattle.nw_dag.specs.Collection.{AreReleased, StandsButLacks, IsCompleteBelow, HasCompleteBelow, IsCollecting}
-use Rattle.nw_held.proofs.Filtered.{filter_was, filter_has, distinct_filter}
+use Rattle.nw_state.proofs.Filtered.{filter_was, filter_has, distinct_filter}
 use Rattle.nw_dag.proofs.Listed.{listed_fits, most_left}
 use Rattle.nw_dag.proofs.Lists.{begins_more}
 use Rattle.nw_dag.proofs.Once.{among_or_not, no_longer, once_both, once_keys}
@@ -54,7 +54,7 @@ not_true false e = refl
 held_is : (found : Option Block) (b : Block) → found ≡ Some b → is_some found ≡ true
 held_is found b e = ap is_some e
 
-module _ (s : State) (round : ℕ) (unmet lacking : Pairs) (complete holders : List Digest) (sound : IsSound s) (higher : s.floor < round) (are : AreUpTo s round holders) (settled : IsSettling s unmet lacking complete []) where
+module _ (s : State) (round : ℕ) (unmet lacking : Pairs) (complete holders : List Digest) (sound : IsSound s) (higher : s.floor < round) (are : AreDigestsUpTo s round holders) (settled : IsSettling s unmet lacking complete []) where
   abbrev t : State
   t = raised s round
 
@@ -103,7 +103,7 @@ module _ (s : State) (round : ℕ) (unmet lacking : Pairs) (complete holders : L
       let many = no_longer adds.added gone adds.once (λ x among. lost_gone x ((adds.exactly x).0 among).1) in
       omega (arith, both, few, many, ap (λ (ys : List Digest). length ys) adds.are, counts)
 
-  module _ (met new : Pairs) (fresh more : List Digest) (met_without : AreReleased holders unmet met) (without : AreReleased holders lacking new) (adds : Adds (StandsButLacks t lacking) holders fresh more) where
+  module _ (met new : Pairs) (fresh more : List Digest) (met_without : AreReleased holders unmet met) (without : AreReleased holders lacking new) (adds : AppendsThose (StandsButLacks t lacking) holders fresh more) where
     all_listed : (x : Digest) → IsReady t new x → Contains (kept t complete ++ adds.added) x
     all_listed x ready = elim (among_or_not adds.added x) [
       | inl added ↦ Contains-append_right (kept t complete) adds.added x added
@@ -166,10 +166,10 @@ module _ (s : State) (unmet lacking : Pairs) (pending : ℕ) (holders : List Dig
   still = kept (raised far.before s.floor) far.settled.complete
 
   listed : AreListed (raised far.before s.floor) lacking still
-  listed = kept_listed far.before s.floor unmet lacking far.settled.complete holders far.sound far.higher far.up_to was
+  listed = kept_listed far.before s.floor unmet lacking far.settled.complete holders far.sound far.higher far.digests_up_to was
 
   counted : length still + far.lost ≡ length far.settled.complete
-  counted = kept_count far.before s.floor unmet lacking far.settled.complete holders far.sound far.higher far.up_to was far.lost far.are_lost
+  counted = kept_count far.before s.floor unmet lacking far.settled.complete holders far.sound far.higher far.digests_up_to was far.lost far.are_lost
 
   fits : length still ≤ len s.blocks
   fits = subst (λ (t : State). length still ≤ len t.blocks) (sym far.raised) (listed_fits (raised far.before s.floor) lacking still listed)
@@ -186,35 +186,35 @@ module _ (s : State) (unmet lacking : Pairs) (pending : ℕ) (holders : List Dig
     counts = omega (arith, is, far.counts, far.settled.counts, counted, fits, ap (λ (t : State). len t.blocks) far.raised);
   })
 
-  pub collected : (met new : Pairs) (fresh more : List Digest) (mid left place : ℕ) → mid ≡ pending - dropped → AreReleased holders unmet met → AreReleased holders lacking new → Adds (StandsButLacks s lacking) holders fresh more
+  pub collected : (met new : Pairs) (fresh more : List Digest) (mid left place : ℕ) → mid ≡ pending - dropped → AreReleased holders unmet met → AreReleased holders lacking new → AppendsThose (StandsButLacks s lacking) holders fresh more
       → length more + left ≡ length fresh + mid → place ≡ length fresh → IsCascading s met new (drop place more) left
-  collected met new fresh more mid left place is met_without without adds most at = subst (λ (t : State). Adds (StandsButLacks t lacking) holders fresh more → IsCascading t met new (drop place more) left) (sym far.raised) go adds
+  collected met new fresh more mid left place is met_without without adds most at = subst (λ (t : State). AppendsThose (StandsButLacks t lacking) holders fresh more → IsCascading t met new (drop place more) left) (sym far.raised) go adds
     where
-      go : Adds (StandsButLacks (raised far.before s.floor) lacking) holders fresh more → IsCascading (raised far.before s.floor) met new (drop place more) left
+      go : AppendsThose (StandsButLacks (raised far.before s.floor) lacking) holders fresh more → IsCascading (raised far.before s.floor) met new (drop place more) left
       go stuck = subst (λ xs. IsCascading (raised far.before s.floor) met new xs left) (sym (ap (drop place) stuck.are ∙ drop_at fresh stuck.added place (sym at))) (record {
         front = still;
-        settling = settling far.before s.floor unmet lacking far.settled.complete holders far.sound far.higher far.up_to was met new fresh more met_without without stuck;
+        settling = settling far.before s.floor unmet lacking far.settled.complete holders far.sound far.higher far.digests_up_to was met new fresh more met_without without stuck;
         counts = omega (arith, is, far.counts, far.settled.counts, counted, fits, ap (λ (t : State). len t.blocks) far.raised, length-append still stuck.added, most_left stuck mid left most);
       })
 
 -- the garbage round of a settled store was raised
 pub collecting : (before s : State) (round : ℕ) (unmet lacking : Pairs) (pending : ℕ) (low holders : List Digest) (lost dropped : ℕ) → s ≡ raised before round → IsSound before → IsSettled before unmet lacking pending
-    → before.floor < round → AreUpTo before round low → holders ≡ low → HasCompleteBelow before lacking round low lost → dropped + lost + len s.blocks ≡ len before.blocks → IsCollecting s unmet lacking pending holders dropped
-collecting before s round unmet lacking pending low holders lost dropped is sound settled higher up_to same are_lost counts =
+    → before.floor < round → AreDigestsUpTo before round low → holders ≡ low → HasCompleteBelow before lacking round low lost → dropped + lost + len s.blocks ≡ len before.blocks → IsCollecting s unmet lacking pending holders dropped
+collecting before s round unmet lacking pending low holders lost dropped is sound settled higher digests_up_to same are_lost counts =
     subst (λ (t : State). IsCollecting t unmet lacking pending holders dropped) (sym is) (record {
       before = before;
       sound = sound;
       settled = settled;
       higher = higher;
       raised = refl;
-      up_to = subst (AreUpTo before round) (sym same) up_to;
+      digests_up_to = subst (AreDigestsUpTo before round) (sym same) digests_up_to;
       lost = lost;
       are_lost = subst (λ xs. HasCompleteBelow before lacking round xs lost) (sym same) are_lost;
       counts = subst (λ (t : State). dropped + lost + len t.blocks ≡ len before.blocks) is counts;
     })
 
 -- the growth since the holders were released
-pub grown_collected : (s : State) (old mid new : Pairs) (holders fresh listed more : List Digest) → AreReleased holders old mid → Adds (StandsButLacks s old) holders fresh listed → Grows s (IsReady s mid) mid new listed more → Grows s (IsReady s old) old new fresh more
+pub grown_collected : (s : State) (old mid new : Pairs) (holders fresh listed more : List Digest) → AreReleased holders old mid → AppendsThose (StandsButLacks s old) holders fresh listed → Grows s (IsReady s mid) mid new listed more → Grows s (IsReady s old) old new fresh more
 grown_collected s old mid new holders fresh listed more without adds grown = record {
   still = λ x ready. grown.still x (ready.0, λ w lacks. ready.1 w ((without x w).0 lacks).0);
   begins = begins_more fresh listed more (adds.added, adds.are) grown.begins;

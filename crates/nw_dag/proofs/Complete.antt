@@ -13,7 +13,7 @@ use Rattle.nw_model.specs.Paths.{IsStanding, IsSatisfied, IsComplete}
 use Rattle.nw_model.specs.Sound.{IsSound}
 use Rattle.nw_model.proofs.Complete.{one_block, complete_from_parents, parents_complete}
 use Rattle.nw_model.proofs.Listed.{contains_none}
-use Rattle.nw_held.specs.Standing.{IsMet}
+use Rattle.nw_state.specs.Standing.{IsMet}
 use Rattle.nw_dag.specs.Lacking.{IsReady, AreLacking}
 use Rattle.nw_model.specs.Missing.{IsNamedBy}
 

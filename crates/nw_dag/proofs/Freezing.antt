@@ -19,8 +19,8 @@ use Rattle.nw_model.proofs.Kept.{after_insert, at_insert, same_digest}
 use Rattle.nw_model.proofs.Maps.{digests_apart, digests_total}
 use Rattle.nw_model.proofs.Raised.{is_kept, was_there}
 use Rattle.nw_model.proofs.Listed.{contains_cases, contains_first, contains_none}
-use Rattle.nw_generation.specs.Seen.{IsOver}
-use Rattle.nw_held.specs.Standing.{Stands}
+use Rattle.nw_generation.specs.Seen.{IsOverlay}
+use Rattle.nw_state.specs.Standing.{Stands}
 use Rattle.nw_dag.specs.Lacking.{IsReady}
 use Rattle.nw_dag.specs.Settled.{IsSettled}
 use Rattle.nw_dag.specs.Frozen.{IsHeldReady, AreHeldUnder, AreFrozen, AreFrozenExcept, AreAllOrFrom, Grows}
@@ -100,7 +100,7 @@ frozen_kept s lacking fresh all kept was (inr above) = frozen_above s lacking fr
 
 -- one more generation
 pub frozen_over : (s : State) (lacking : Pairs) (fresh : List Digest) (older newer blocks : FinMap digest_cmp Block) → AreFrozenExcept s lacking fresh older → ((d : Digest) → Contains fresh d → IsReady s lacking d) → AreHeldUnder s fresh newer
-    → IsOver newer older blocks → AreFrozen s lacking blocks
+    → IsOverlay newer older blocks → AreFrozen s lacking blocks
 frozen_over s lacking fresh older newer blocks was ready are over d b kept = (λ at. down (get newer d) (get older d) refl refl (sym (over d) ∙ at), up)
   where
     down : (one old : Option Block) → get newer d ≡ one → get older d ≡ old → option_or one old ≡ Some b → IsHeldReady s lacking d b
@@ -120,7 +120,7 @@ frozen_over s lacking fresh older newer blocks was ready are over d b kept = (λ
     ]
 
 -- one generation on top of none
-pub over_nothing : (newer older both : FinMap digest_cmp Block) → older ≡ empty → IsOver newer older both → both ≡ newer
+pub over_nothing : (newer older both : FinMap digest_cmp Block) → older ≡ empty → IsOverlay newer older both → both ≡ newer
 over_nothing newer older both none over = same_map digests_total digests_apart both newer (λ d.
     over d ∙ ap (option_or (get newer d)) (ap (λ (m : FinMap digest_cmp Block). get m d) none ∙ get-empty digest_cmp d) ∙ alone (get newer d))
   where

@@ -17,4 +17,4 @@ pub mod Releasing
 pub mod Collecting
 pub mod Refrozen
 pub mod Retained
-pub mod Sent
+pub mod Send

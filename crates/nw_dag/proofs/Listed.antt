@@ -15,7 +15,7 @@ use Rattle.nw_model.proofs.Kept.{same_digest}
 use Rattle.nw_model.proofs.Maps.{digests_total}
 use Rattle.nw_model.proofs.Listed.{contains_cases, contains_first, contains_none}
 use Rattle.nw_dag.specs.Lacking.{IsReady}
-use Rattle.nw_dag.specs.Changes.{Adds}
+use Rattle.nw_dag.specs.Changes.{AppendsThose}
 use Rattle.nw_dag.specs.Settled.{AreListed, IsTally}
 use Rattle.nw_dag.proofs.Once.{once_none, once_one, once_both}
 
@@ -59,7 +59,7 @@ pushed (Err e) items more same ok is = cc
 -- ---- ready digests
 
 -- one digest was tested, and added
-pub one_added : (P : Digest → Type 0) (d : Digest) (old new : List Digest) → P d → new ≡ old ++ d ∷ [] → Adds P (d ∷ []) old new
+pub one_added : (P : Digest → Type 0) (d : Digest) (old new : List Digest) → P d → new ≡ old ++ d ∷ [] → AppendsThose P (d ∷ []) old new
 one_added P d old new has is = record {
   added = d ∷ [];
   are = is;
@@ -68,7 +68,7 @@ one_added P d old new has is = record {
 }
 
 -- one digest was tested, and not added
-pub one_left : (P : Digest → Type 0) (d : Digest) (old : List Digest) → (P d → ⊥) → Adds P (d ∷ []) old old
+pub one_left : (P : Digest → Type 0) (d : Digest) (old : List Digest) → (P d → ⊥) → AppendsThose P (d ∷ []) old old
 one_left P d old fails = record {
   added = [];
   are = sym (append-nil old);
@@ -80,7 +80,7 @@ one_left P d old fails = record {
 }
 
 -- one more digest was tested, which is another one
-pub adds_more : (P : Digest → Type 0) (xs : List Digest) (d : Digest) (a b c : List Digest) → (Contains xs d → ⊥) → Adds P xs a b → Adds P (d ∷ []) b c → Adds P (xs ++ d ∷ []) a c
+pub adds_more : (P : Digest → Type 0) (xs : List Digest) (d : Digest) (a b c : List Digest) → (Contains xs d → ⊥) → AppendsThose P xs a b → AppendsThose P (d ∷ []) b c → AppendsThose P (xs ++ d ∷ []) a c
 adds_more P xs d a b c other one two = record {
   added = one.added ++ two.added;
   are = two.are ∙ ap (λ ys. ys ++ two.added) one.are ∙ append_assoc a one.added two.added;
@@ -100,20 +100,20 @@ adds_more P xs d a b c other one two = record {
   );
 }
 
-pub adds_none : (P : Digest → Type 0) (old : List Digest) → Adds P [] old old
+pub adds_none : (P : Digest → Type 0) (old : List Digest) → AppendsThose P [] old old
 adds_none P old = record { added = []; are = sym (append-nil old); once = once_none; exactly = λ x. (λ among. absurd (contains_none x among), λ both. absurd (contains_none x both.0)) }
 
 -- ---- added digests are no longer pending
 
 -- each added digest has P
-pub added_all : {P : Digest → Type 0} {digests old new : List Digest} → (adds : Adds P digests old new) → All P adds.added
+pub added_all : {P : Digest → Type 0} {digests old new : List Digest} → (adds : AppendsThose P digests old new) → All P adds.added
 added_all {P} adds = λ k d lt. ((adds.exactly (get_or adds.added k d)).0 (Contains-get_or adds.added k d lt)).1
 
-pub most_left : {P : Digest → Type 0} {digests old new : List Digest} (adds : Adds P digests old new) (pending left : ℕ) → length new + left ≡ length old + pending → length adds.added + left ≡ pending
+pub most_left : {P : Digest → Type 0} {digests old new : List Digest} (adds : AppendsThose P digests old new) (pending left : ℕ) → length new + left ≡ length old + pending → length adds.added + left ≡ pending
 most_left {old = old} adds pending left most = omega (arith, most, ap (λ (xs : List Digest). length xs) adds.are, length-append old adds.added)
 
 -- the next digest is pending if it is ready
-pub pending_next : (s : State) (lacking : Pairs) (digests seen old new : List Digest) (pending left : ℕ) (d : Digest) → IsTally s lacking digests pending → Adds (IsReady s lacking) seen old new → ((x : Digest) → Contains seen x → Contains digests x)
+pub pending_next : (s : State) (lacking : Pairs) (digests seen old new : List Digest) (pending left : ℕ) (d : Digest) → IsTally s lacking digests pending → AppendsThose (IsReady s lacking) seen old new → ((x : Digest) → Contains seen x → Contains digests x)
     → length new + left ≡ length old + pending → Contains digests d → (Contains seen d → ⊥) → IsReady s lacking d → 0 < left
 pending_next s lacking digests seen old new pending left d tally adds within most among other ready =
     pending_left s lacking (d ∷ []) left d (record {

@@ -3,11 +3,11 @@ use Rattle.std.proofs.Common.{ℕ, List}
 use Rattle.nw_waiting.specs.Pairs.{Pairs, AreFirst, AreWanted, WantedCount}
 use Rattle.nw_model.specs.declared.wanted.Wanted.{Wanted}
 use Rattle.nw_model.specs.State.{State}
-use Rattle.nw_model.specs.Missing.{AreExactly, AreFirstWanted, HasCount, IsWanted, wanted_cmp}
+use Rattle.nw_model.specs.Missing.{ListsExactly, AreFirstWanted, HasCount, IsWanted, wanted_cmp}
 use Rattle.nw_dag.specs.Lacking.{AreUnmet}
 use Rattle.nw_dag.proofs.Complete.{met_from_satisfied, satisfied_from_met}
 
-wanted_exactly : (s : State) (unmet : Pairs) (all : List Wanted) → AreUnmet s unmet → AreWanted unmet all → AreExactly wanted_cmp (IsWanted s) all
+wanted_exactly : (s : State) (unmet : Pairs) (all : List Wanted) → AreUnmet s unmet → AreWanted unmet all → ListsExactly wanted_cmp (IsWanted s) all
 wanted_exactly s unmet all standing are = record {
   exactly = λ w. (
     λ among.

@@ -9,14 +9,14 @@ use Rattle.nw_waiting.specs.Pairs.{Lacks, pair_cmp}
 use Rattle.nw_model.specs.declared.wanted.Wanted.{Wanted}
 use Rattle.nw_digest.specs.Order.{digest_cmp}
 use Rattle.nw_model.specs.State.{opening}
-use Rattle.nw_dag.specs.Lacking.{Names}
+use Rattle.nw_dag.specs.Lacking.{ReferencesParent}
 use Rattle.nw_dag.specs.Settled.{IsSettled}
 use Rattle.nw_dag.proofs.Once.{once_none}
 
 none_some : {X : Type 0} (x : X) → None ≡ Some x → ⊥
 none_some x e = cc
 
-names_nothing : (d : Digest) (w : Wanted) → Names opening d w → ⊥
+names_nothing : (d : Digest) (w : Wanted) → ReferencesParent opening d w → ⊥
 names_nothing d w (b, at, above, among) = none_some b (sym (get-empty digest_cmp d) ∙ at)
 
 lacks_nothing : (d : Digest) (w : Wanted) → Lacks empty d w → ⊥

@@ -16,9 +16,9 @@ use Rattle.nw_model.specs.Paths.{IsStanding}
 use Rattle.nw_model.proofs.Raised.{was_there, is_kept}
 use Rattle.nw_model.proofs.Complete.{one_block}
 use Rattle.nw_model.proofs.Listed.{contains_none}
-use Rattle.nw_held.specs.Standing.{Stands, IsMet}
-use Rattle.nw_dag.specs.Lacking.{Names, IsReady, IsPromoted, AreLacking, AreUnmet}
-use Rattle.nw_held.specs.Collection.{AreUpTo}
+use Rattle.nw_state.specs.Standing.{Stands, IsMet}
+use Rattle.nw_dag.specs.Lacking.{ReferencesParent, IsReady, IsPromoted, AreLacking, AreUnmet}
+use Rattle.nw_state.specs.Collection.{AreDigestsUpTo}
 use Rattle.nw_dag.specs.Collection.{AreReleased, StandsButLacks}
 
 some_certificate : (found : Option Certificate) → IsSome found → (c : Certificate) × (found ≡ Some c)
@@ -28,7 +28,7 @@ some_certificate None h = absurd cc
 is_there : (found : Option Certificate) (c : Certificate) → found ≡ Some c → IsSome found
 is_there found c e = subst IsSome (sym e) refl
 
-module _ (s : State) (round : ℕ) (sound : IsSound s) (higher : s.floor < round) (holders : List Digest) (are : AreUpTo s round holders) where
+module _ (s : State) (round : ℕ) (sound : IsSound s) (higher : s.floor < round) (holders : List Digest) (are : AreDigestsUpTo s round holders) where
   abbrev t : State
   t = raised s round
 
@@ -71,7 +71,7 @@ module _ (s : State) (round : ℕ) (sound : IsSound s) (higher : s.floor < round
   low_holder d b at among = are.only d b among at
 
   -- a block that names a parent now named it before, and is no holder
-  named : (d : Digest) (w : Wanted) → Names t d w → Names s d w × (Contains holders d → ⊥) × (round ≤ w.round)
+  named : (d : Digest) (w : Wanted) → ReferencesParent t d w → ReferencesParent s d w × (Contains holders d → ⊥) × (round ≤ w.round)
   named d w (b, at, above, among) =
       let was = was_held d b at in
       let (r, listed, by) = among in (
@@ -80,7 +80,7 @@ module _ (s : State) (round : ℕ) (sound : IsSound s) (higher : s.floor < round
         omega (arith, by.0, above),
       )
 
-  still_names : (d : Digest) (w : Wanted) → Names s d w → (Contains holders d → ⊥) → Names t d w
+  still_names : (d : Digest) (w : Wanted) → ReferencesParent s d w → (Contains holders d → ⊥) → ReferencesParent t d w
   still_names d w (b, at, above, among) apart = elim (cases_lt round b.round) [
     | inl high ↦ (b, is_kept (λ (x : Block). x.round) round s.blocks d b at (omega (arith, high)), high, among)
     | inr low ↦ absurd (apart (are.blocks d b at low))

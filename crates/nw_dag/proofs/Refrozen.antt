@@ -11,12 +11,12 @@ use Rattle.nw_model.specs.State.{State}
 use Rattle.nw_model.specs.Step.{raised}
 use Rattle.nw_model.specs.Sound.{IsSound}
 use Rattle.nw_model.proofs.Raised.{was_there, is_kept}
-use Rattle.nw_held.specs.Collection.{AreUpTo}
+use Rattle.nw_state.specs.Collection.{AreDigestsUpTo}
 use Rattle.nw_dag.specs.Lacking.{IsReady}
 use Rattle.nw_dag.specs.Frozen.{AreFrozenExcept, Grows}
 use Rattle.nw_dag.proofs.Raising.{held_stands, stood}
 
-module _ (s : State) (round : ℕ) (sound : IsSound s) (higher : s.floor < round) (holders : List Digest) (are : AreUpTo s round holders) (old new : Pairs) (fresh more : List Digest) (blocks : FinMap digest_cmp Block)
+module _ (s : State) (round : ℕ) (sound : IsSound s) (higher : s.floor < round) (holders : List Digest) (are : AreDigestsUpTo s round holders) (old new : Pairs) (fresh more : List Digest) (blocks : FinMap digest_cmp Block)
     (was : AreFrozenExcept s old fresh blocks) (grown : Grows (raised s round) (IsReady (raised s round) old) old new fresh more) where
   abbrev t : State
   t = raised s round

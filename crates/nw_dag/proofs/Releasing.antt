@@ -15,7 +15,7 @@ use Rattle.nw_model.specs.State.{State}
 use Rattle.nw_model.proofs.Listed.{contains_cases, contains_first, contains_none}
 use Rattle.nw_model.proofs.Maps.{digests_total}
 use Rattle.nw_dag.specs.Lacking.{LacksNothing, LacksSomething, IsReady}
-use Rattle.nw_dag.specs.Changes.{Adds}
+use Rattle.nw_dag.specs.Changes.{AppendsThose}
 use Rattle.nw_dag.specs.Settled.{AreListed, IsTally}
 use Rattle.nw_dag.specs.Collection.{AreReleased, StandsButLacks}
 use Rattle.nw_dag.proofs.Pairs.{without_holder_lacks}
@@ -36,7 +36,7 @@ lacking_apart s lacking complete holder listed lacks among = (All-contains (IsRe
 
 -- the holder lacked a parent, and is listed if it stands
 pub stuck_added : (s : State) (old new : Pairs) (holder : Digest) (complete more : List Digest) → new ≡ without_holder old holder → LacksSomething old holder
-    → Adds (IsReady s new) (holder ∷ []) complete more → Adds (StandsButLacks s old) (holder ∷ []) complete more
+    → AppendsThose (IsReady s new) (holder ∷ []) complete more → AppendsThose (StandsButLacks s old) (holder ∷ []) complete more
 stuck_added s old new holder complete more is lacks adds = record {
   added = adds.added;
   are = adds.are;
@@ -51,7 +51,7 @@ stuck_added s old new holder complete more is lacks adds = record {
     itself x among = elim (contains_cases holder [] x among) [ inl same ↦ same | inr none ↦ absurd (contains_none x none) ]
 
 -- the holder lacked nothing
-pub none_stuck : (s : State) (lacking : Pairs) (holder : Digest) (complete : List Digest) → LacksNothing lacking holder → Adds (StandsButLacks s lacking) (holder ∷ []) complete complete
+pub none_stuck : (s : State) (lacking : Pairs) (holder : Digest) (complete : List Digest) → LacksNothing lacking holder → AppendsThose (StandsButLacks s lacking) (holder ∷ []) complete complete
 none_stuck s lacking holder complete nothing = one_left (StandsButLacks s lacking) holder complete (λ both. nothing both.1.0 both.1.1)
 
 -- ---- one holder after another
@@ -85,8 +85,8 @@ not_before xs i d lt once (k, below, at) =
     wrong e = cc
 
 -- releasing other holders does not change what the next one lacks
-pub stuck_more : (s : State) (holders : List Digest) (d : Digest) (old mid : Pairs) (a b c : List Digest) → AreReleased holders old mid → (Contains holders d → ⊥) → Adds (StandsButLacks s old) holders a b
-    → Adds (StandsButLacks s mid) (d ∷ []) b c → Adds (StandsButLacks s old) (holders ++ d ∷ []) a c
+pub stuck_more : (s : State) (holders : List Digest) (d : Digest) (old mid : Pairs) (a b c : List Digest) → AreReleased holders old mid → (Contains holders d → ⊥) → AppendsThose (StandsButLacks s old) holders a b
+    → AppendsThose (StandsButLacks s mid) (d ∷ []) b c → AppendsThose (StandsButLacks s old) (holders ++ d ∷ []) a c
 stuck_more s holders d old mid a b c without apart adds last = adds_more (StandsButLacks s old) holders d a b c apart adds (record {
   added = last.added;
   are = last.are;
@@ -116,7 +116,7 @@ stuck_pending s old new holder pending is lacks tally ready = pending_left s new
   counts = tally.counts;
 }) (contains_first holder []) ready
 
-module _ (s : State) (old new : Pairs) (holders complete fresh more : List Digest) (without : AreReleased holders old new) (adds : Adds (StandsButLacks s old) holders fresh more) (listed : AreListed s old complete) where
+module _ (s : State) (old new : Pairs) (holders complete fresh more : List Digest) (without : AreReleased holders old new) (adds : AppendsThose (StandsButLacks s old) holders fresh more) (listed : AreListed s old complete) where
   still : (x : Digest) → IsReady s old x → IsReady s new x
   still x ready = (ready.0, λ w lacks. ready.1 w ((without x w).0 lacks).0)
 
@@ -130,7 +130,7 @@ module _ (s : State) (old new : Pairs) (holders complete fresh more : List Diges
       (record { ready = λ k d lt. freed (get_or adds.added k d) (Contains-get_or adds.added k d lt); once = adds.once })
       (λ x among before. let lacks = ((adds.exactly x).0 among).1.1 in (All-contains (IsReady s old) complete x listed.ready before).1 lacks.0 lacks.1)
 
-pub tally_released : (s : State) (old new : Pairs) (holders fresh more : List Digest) (pending left : ℕ) → AreReleased holders old new → Adds (StandsButLacks s old) holders fresh more → length more + left ≡ length fresh + pending → IsTally s old [] pending → IsTally s new [] left
+pub tally_released : (s : State) (old new : Pairs) (holders fresh more : List Digest) (pending left : ℕ) → AreReleased holders old new → AppendsThose (StandsButLacks s old) holders fresh more → length more + left ≡ length fresh + pending → IsTally s old [] pending → IsTally s new [] left
 tally_released s old new holders fresh more pending left without adds most tally = record {
   complete = tally.complete ++ adds.added;
   listed = released s old new holders tally.complete fresh more without adds tally.listed;

@@ -19,7 +19,7 @@ use Rattle.nw_model.specs.Missing.{HasCount}
 use Rattle.nw_model.proofs.Kept.{same_digest}
 use Rattle.nw_model.proofs.Listed.{contains_cases, contains_first, contains_later}
 use Rattle.nw_model.proofs.Maps.{digests_total, digests_apart, lookup_put, put_entries, get_lookup, len_sorted}
-use Rattle.nw_held.proofs.Opening.{ordered_none}
+use Rattle.nw_state.proofs.Opening.{ordered_none}
 
 -- the same digests, as keys in order
 record InOrder (xs : List Digest) : Type 0 where

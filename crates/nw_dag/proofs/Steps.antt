@@ -11,9 +11,9 @@ use Rattle.nw_model.specs.declared.wanted.Wanted.{Wanted}
 use Rattle.nw_waiting.specs.Pairs.{Pairs, Lacks, AreHolders, without_wanted}
 use Rattle.nw_model.specs.State.{State}
 use Rattle.nw_model.proofs.Listed.{contains_cases, contains_first, contains_none}
-use Rattle.nw_held.specs.Standing.{Stands, named_as}
+use Rattle.nw_state.specs.Standing.{Stands, name_of}
 use Rattle.nw_dag.specs.Lacking.{IsReady, AreUnmet, AreUnmetWithout}
-use Rattle.nw_dag.specs.Changes.{Adds, Promotes}
+use Rattle.nw_dag.specs.Changes.{AppendsThose, Promotes}
 use Rattle.nw_dag.specs.Frozen.{Grows}
 use Rattle.nw_dag.specs.Settled.{AreListed, IsTally, IsSettling, IsCascading, IsSettled, IsSettledWithout}
 use Rattle.nw_dag.proofs.Pairs.{without_wanted_lacks, lacks_or_not, same_or_not}
@@ -26,7 +26,7 @@ use Rattle.nw_dag.proofs.Once.{first_once, once_back}
 -- ---- one promotion
 
 -- the name of a held block
-pub name_is : (d : Digest) (found : Option Block) (w : Wanted) → Some w ≡ option_map (named_as d) found → (b : Block) × (found ≡ Some b) × (w ≡ named_as d b)
+pub name_is : (d : Digest) (found : Option Block) (w : Wanted) → Some w ≡ option_map (name_of d) found → (b : Block) × (found ≡ Some b) × (w ≡ name_of d b)
 name_is d (Some b) w e = (b, refl, cc)
 name_is d None w e = absurd cc
 
@@ -47,8 +47,8 @@ ready_before s old new v is x ready never =
     (ready.0, λ w lacks. ready.1 w (subst (λ (m : Pairs). Lacks m x w) (sym is) ((without_wanted_lacks old v w x).1 (lacks, λ same. never (subst (λ (y : Wanted). Lacks old x y) (sym same) lacks)))))
 
 -- no block lacks the promoted block any longer, and its holders that became ready are added
-pub promotes : (s : State) (e : Digest) (old new : Pairs) (v : Wanted) (complete more holders : List Digest) → Some v ≡ option_map (named_as e) (get s.blocks e) → AreHolders old v holders
-    → new ≡ without_wanted old v → Adds (IsReady s new) holders complete more → Promotes s e old new complete more
+pub promotes : (s : State) (e : Digest) (old new : Pairs) (v : Wanted) (complete more holders : List Digest) → Some v ≡ option_map (name_of e) (get s.blocks e) → AreHolders old v holders
+    → new ≡ without_wanted old v → AppendsThose (IsReady s new) holders complete more → Promotes s e old new complete more
 promotes s e old new v complete more holders name are is adds =
     let (b, held, same) = name_is e (get s.blocks e) v name in
     record {
@@ -95,21 +95,21 @@ module _ (s : State) (unmet old new : Pairs) (e : Digest) (rest fresh more : Lis
   longer = append_assoc far.front (e ∷ rest) step.added ∙ sym (append_assoc far.front (e ∷ []) (rest ++ step.added))
 
   stays : AreListed s new was
-  stays = listed_fewer s old new (named_as e step.block) was step.lost far.settling.listed
+  stays = listed_fewer s old new (name_of e step.block) was step.lost far.settling.listed
 
   added_ready : AreListed s new step.added
   added_ready = record { ready = λ k d lt. ((step.exactly (get_or step.added k d)).0 (Contains-get_or step.added k d lt)).1; once = step.once }
 
   unready : (x : Digest) → Contains step.added x → Contains was x → ⊥
-  unready x among before = (All-contains (IsReady s old) was x far.settling.listed.ready before).1 (named_as e step.block) ((step.exactly x).0 among).0
+  unready x among before = (All-contains (IsReady s old) was x far.settling.listed.ready before).1 (name_of e step.block) ((step.exactly x).0 among).0
 
   listed : AreListed s new (was ++ step.added)
   listed = listed_both s new was step.added stays added_ready unready
 
   all : (x : Digest) → IsReady s new x → Contains (was ++ step.added) x
-  all x ready = elim (lacks_or_not old x (named_as e step.block)) [
+  all x ready = elim (lacks_or_not old x (name_of e step.block)) [
     | inl lacked ↦ Contains-append_right was step.added x ((step.exactly x).1 (lacked, ready))
-    | inr never ↦ Contains-append_left was step.added x (far.settling.all x (ready_before s old new (named_as e step.block) step.lost x ready never))
+    | inr never ↦ Contains-append_left was step.added x (far.settling.all x (ready_before s old new (name_of e step.block) step.lost x ready never))
   ]
 
   -- the next digest is due
@@ -127,9 +127,9 @@ module _ (s : State) (unmet old new : Pairs) (e : Digest) (rest fresh more : Lis
 
   -- a digest that is ready now was ready before, or is listed
   pub ready_cases : (x : Digest) → IsReady s new x → IsReady s old x ⊎ Contains more x
-  ready_cases x ready = elim (lacks_or_not old x (named_as e step.block)) [
+  ready_cases x ready = elim (lacks_or_not old x (name_of e step.block)) [
     | inl lacked ↦ inr (subst (λ xs. Contains xs x) (sym step.are) (Contains-append_right fresh step.added x ((step.exactly x).1 (lacked, ready))))
-    | inr never ↦ inl (ready_before s old new (named_as e step.block) step.lost x ready never)
+    | inr never ↦ inl (ready_before s old new (name_of e step.block) step.lost x ready never)
   ]
 
 pub cascaded : (s : State) (unmet met old new : Pairs) (fresh more : List Digest) (pending left place : ℕ) (d : Digest) → IsCascading s unmet old (drop place fresh) pending → place < length fresh → met ≡ unmet
@@ -147,11 +147,11 @@ grown_same s lacking fresh = record { still = λ x ready. ready; begins = begins
 
 pub grown_more : (s : State) (P : Digest → Type 0) (first old new : Pairs) (start fresh more : List Digest) (e : Digest) → Grows s P first old start fresh → Promotes s e old new fresh more → Grows s P first new start more
 grown_more s P first old new start fresh more e grown step = record {
-  still = λ x ready. ready_fewer s old new (named_as e step.block) step.lost x (grown.still x ready);
+  still = λ x ready. ready_fewer s old new (name_of e step.block) step.lost x (grown.still x ready);
   begins = begins_more start fresh more grown.begins (step.added, step.are);
-  listed = λ x ready. elim (lacks_or_not old x (named_as e step.block)) [
+  listed = λ x ready. elim (lacks_or_not old x (name_of e step.block)) [
     | inl lacked ↦ inr (subst (λ xs. Contains xs x) (sym step.are) (Contains-append_right fresh step.added x ((step.exactly x).1 (lacked, ready))))
-    | inr never ↦ elim (grown.listed x (ready_before s old new (named_as e step.block) step.lost x ready never)) [
+    | inr never ↦ elim (grown.listed x (ready_before s old new (name_of e step.block) step.lost x ready never)) [
       | inl was ↦ inl was
       | inr among ↦ inr (subst (λ xs. Contains xs x) (sym step.are) (Contains-append_left fresh step.added x among))
     ]
@@ -166,7 +166,7 @@ none_due s unmet lacking fresh pending place far past =
 
 -- ---- one digest stands
 
-pub met_by_name : (s : State) (d : Digest) (v : Wanted) (old new : Pairs) → Some v ≡ option_map (named_as d) (get s.blocks d) → Stands s d → AreUnmetWithout s d old → new ≡ without_wanted old v → AreUnmet s new
+pub met_by_name : (s : State) (d : Digest) (v : Wanted) (old new : Pairs) → Some v ≡ option_map (name_of d) (get s.blocks d) → Stands s d → AreUnmetWithout s d old → new ≡ without_wanted old v → AreUnmet s new
 met_by_name s d v old new name stands but is =
     let (b, held, same) = name_is d (get s.blocks d) v name in
     met_now s d b old new (held, stands.1.1) but (is ∙ ap (without_wanted old) same)

@@ -9,7 +9,7 @@ use Rattle.nw_model.specs.declared.wanted.Wanted.{Wanted}
 use Rattle.nw_waiting.specs.Pairs.{Pairs, Lacks, LacksCount}
 use Rattle.nw_model.specs.State.{State}
 use Rattle.nw_model.proofs.Listed.{contains_first, contains_none}
-use Rattle.nw_held.specs.Standing.{Stands}
+use Rattle.nw_state.specs.Standing.{Stands}
 use Rattle.nw_dag.specs.Lacking.{IsNamedAmong, LacksNothing, LacksSomething, IsReady}
 use Rattle.nw_model.specs.Missing.{IsNamedBy}
 use Rattle.nw_dag.specs.Changes.{AreSameExcept, LacksAlso}

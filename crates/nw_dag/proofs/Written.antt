@@ -16,8 +16,8 @@ use Rattle.nw_model.proofs.Kept.{after_insert, at_insert, same_digest}
 use Rattle.nw_model.proofs.Listed.{contains_none}
 use Rattle.nw_model.proofs.Maps.{digests_total}
 use Rattle.nw_model.proofs.Replayed.{past, is_certified}
-use Rattle.nw_held.specs.Standing.{IsMet}
-use Rattle.nw_dag.specs.Lacking.{Names, IsNamedAmong, IsReady, AreUnmet, AreLacking}
+use Rattle.nw_state.specs.Standing.{IsMet}
+use Rattle.nw_dag.specs.Lacking.{ReferencesParent, IsNamedAmong, IsReady, AreUnmet, AreLacking}
 use Rattle.nw_dag.specs.Changes.{AreSameExcept, LacksAlso}
 use Rattle.nw_dag.specs.Settled.{IsSettling, IsSettled, IsSettledWithout}
 use Rattle.nw_waiting.proofs.Orders.{pairs_apart, pairs_total}
@@ -48,7 +48,7 @@ module _ (s : State) (d : Digest) (b : Block) (vote : Bool) (absent : get s.bloc
   abbrev named : Wanted → Type 0
   named w = (s.floor < b.round) × IsNamedAmong b.round b.parents w
 
-  nobody : (w : Wanted) → Names s d w → ⊥
+  nobody : (w : Wanted) → ReferencesParent s d w → ⊥
   nobody w (x, at, above, among) = some_none x (sym at ∙ absent)
 
   pub block_arrives : Arrives s t d
@@ -61,16 +61,16 @@ module _ (s : State) (d : Digest) (b : Block) (vote : Bool) (absent : get s.bloc
   }
 
   -- a block that names a parent now named it before, or is the new block
-  names_cases : (h : Digest) (w : Wanted) → Names t h w → ((h ≡ d) × named w) ⊎ Names s h w
+  names_cases : (h : Digest) (w : Wanted) → ReferencesParent t h w → ((h ≡ d) × named w) ⊎ ReferencesParent s h w
   names_cases h w (x, at, above, among) = elim (after_insert s.blocks d b h x at) [
     | inl new ↦ inl (new.0, subst (λ (y : Block). (s.floor < y.round) × IsNamedAmong y.round y.parents w) (sym new.1) (above, among))
     | inr old ↦ inr (x, old, above, among)
   ]
 
-  names_still : (h : Digest) (w : Wanted) → Names s h w → Names t h w
+  names_still : (h : Digest) (w : Wanted) → ReferencesParent s h w → ReferencesParent t h w
   names_still h w (x, at, above, among) = (x, get_other s.blocks d b h (λ same. some_none x (sym at ∙ ap (get s.blocks) same ∙ absent)) ∙ at, above, among)
 
-  names_new : (h : Digest) (w : Wanted) → h ≡ d → named w → Names t h w
+  names_new : (h : Digest) (w : Wanted) → h ≡ d → named w → ReferencesParent t h w
   names_new h w same (above, among) = (b, ap (get (insert s.blocks d b)) same ∙ at_insert s.blocks d b, above, among)
 
   -- the parents that each block lacks now

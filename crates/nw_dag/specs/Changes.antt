@@ -9,7 +9,7 @@ use Rattle.nw_waiting.specs.Pairs.{Pairs, Lacks, without_wanted}
 use Rattle.nw_model.specs.declared.wanted.Wanted.{Wanted}
 use Rattle.nw_digest.specs.Order.{digest_cmp}
 use Rattle.nw_model.specs.State.{State}
-use Rattle.nw_held.specs.Standing.{named_as}
+use Rattle.nw_state.specs.Standing.{name_of}
 use Rattle.nw_dag.specs.Lacking.{IsReady}
 
 -- the sets have the same pairs, except those of the holder
@@ -26,7 +26,7 @@ pub record LacksAlso (Q named : Wanted → Type 0) (holder : Digest) (old new : 
   pub still : (h : Digest) (w : Wanted) → Lacks old h w → Lacks new h w
 
 -- new is old, followed by those of the digests that have P
-pub record Adds (P : Digest → Type 0) (digests old new : List Digest) : Type 0 where
+pub record AppendsThose (P : Digest → Type 0) (digests old new : List Digest) : Type 0 where
   -- the added digests
   pub added : List Digest
   -- they follow the old ones
@@ -43,7 +43,7 @@ pub record Promotes (s : State) (e : Digest) (old new : Pairs) (fresh more : Lis
   -- it is held
   pub held : get s.blocks e ≡ Some block
   -- the pairs of e's block are removed
-  pub lost : new ≡ without_wanted old (named_as e block)
+  pub lost : new ≡ without_wanted old (name_of e block)
   -- the added digests
   pub added : List Digest
   -- they follow the listed ones
@@ -51,4 +51,4 @@ pub record Promotes (s : State) (e : Digest) (old new : Pairs) (fresh more : Lis
   -- none is added twice
   pub once : IsDistinct (eq_by_cmp digest_cmp) added
   -- they are exactly those that lacked e's block and are ready now
-  pub exactly : (x : Digest) → Contains added x ↔ (Lacks old x (named_as e block) × IsReady s new x)
+  pub exactly : (x : Digest) → Contains added x ↔ (Lacks old x (name_of e block) × IsReady s new x)

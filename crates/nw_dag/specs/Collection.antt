@@ -8,10 +8,10 @@ use Rattle.nw_model.specs.declared.wanted.Wanted.{Wanted}
 use Rattle.nw_model.specs.State.{State}
 use Rattle.nw_model.specs.Step.{raised}
 use Rattle.nw_model.specs.Sound.{IsSound}
-use Rattle.nw_held.specs.Standing.{Stands}
-use Rattle.nw_held.specs.Collection.{AreUpTo}
+use Rattle.nw_state.specs.Standing.{Stands}
+use Rattle.nw_state.specs.Collection.{AreDigestsUpTo}
 use Rattle.nw_dag.specs.Lacking.{LacksSomething, IsReady}
-use Rattle.nw_dag.specs.Changes.{Adds}
+use Rattle.nw_dag.specs.Changes.{AppendsThose}
 use Rattle.nw_dag.specs.Settled.{IsSettled}
 
 -- the holders are released: they no longer lack anything, and nothing else changes
@@ -28,7 +28,7 @@ IsCompleteBelow s lacking round d = IsReady s lacking d × ((b : Block) × (get 
 
 -- `count` of the digests are ready with blocks of rounds below this one
 abbrev pub HasCompleteBelow : State → Pairs → ℕ → List Digest → ℕ → Type 0
-HasCompleteBelow s lacking round digests count = (lost : List Digest) × Adds (IsCompleteBelow s lacking round) digests [] lost × (length lost ≡ count)
+HasCompleteBelow s lacking round digests count = (lost : List Digest) × AppendsThose (IsCompleteBelow s lacking round) digests [] lost × (length lost ≡ count)
 
 -- the garbage round was raised, but the sets and the count of pending blocks are still those of the state before
 pub record IsCollecting (s : State) (unmet lacking : Pairs) (pending : ℕ) (holders : List Digest) (dropped : ℕ) : Type 0 where
@@ -43,7 +43,7 @@ pub record IsCollecting (s : State) (unmet lacking : Pairs) (pending : ℕ) (hol
   -- the state is the one before, raised to the new garbage round
   pub raised : s ≡ raised before s.floor
   -- the holders are the digests of rounds up to the new garbage round
-  pub up_to : AreUpTo before s.floor holders
+  pub digests_up_to : AreDigestsUpTo before s.floor holders
   -- the number of dropped blocks that were complete
   pub lost : ℕ
   -- these are the complete blocks of the holders below the new garbage round

@@ -6,7 +6,7 @@ ghost use Rattle.nw_model.specs.Sound.{IsSound};
 ghost use Rattle.nw_dag.specs.Lacking.{IsReady, LacksNothing, LacksSomething};
 
 use nw_digest::{Digest, NoMemory};
-use nw_held::Held;
+use nw_state::StateTables;
 use nw_waiting::Waiting;
 use std::alloc::Global;
 
@@ -59,7 +59,11 @@ impl Completions {
     /// Before that, if more blocks are listed or pending than are held, collected blocks are removed from the list.
     ///
     /// `NoMemory` if allocation fails. Then only collected blocks may have been removed.
-    pub(crate) fn reserve(&mut self, held: &Held, lacking: &Waiting<Global>) -> Result<(), NoMemory>
+    pub(crate) fn reserve(
+        &mut self,
+        held: &StateTables,
+        lacking: &Waiting<Global>,
+    ) -> Result<(), NoMemory>
         ensures kept { (d : Digest) → Contains self.old.fresh.items d
             → IsReady held.now.state lacking.now d → Contains self.new.fresh.items d }
         ensures pending { self.new.pending ≡ self.old.pending }
@@ -108,7 +112,7 @@ impl Completions {
     }
 
     /// Removes the blocks from the list that are not complete (any longer).
-    pub(crate) fn drop_stale(&mut self, held: &Held, lacking: &Waiting<Global>)
+    pub(crate) fn drop_stale(&mut self, held: &StateTables, lacking: &Waiting<Global>)
         ensures fresh { (d : Digest) → Contains self.new.fresh.items d
             ↔ (Contains self.old.fresh.items d × IsReady held.now.state lacking.now d) }
         ensures pending { self.new.pending ≡ self.old.pending }
@@ -126,7 +130,7 @@ impl Completions {
 }
 
 /// Whether the digest stands and lacks no parent. Its block is looked up only if it lacks no parent.
-pub(crate) fn is_ready(held: &Held, lacking: &Waiting<Global>, digest: Digest) -> bool
+pub(crate) fn is_ready(held: &StateTables, lacking: &Waiting<Global>, digest: Digest) -> bool
     ensures ready { IsTrue result ↔ IsReady held.now.state lacking.now digest }
     ensures sound { IsTrue result → IsSound held.now.state }
 {

@@ -14,8 +14,8 @@ use crate::waits::Waits;
 use nw_codec::{Block, Certificate};
 use nw_digest::{Digest, NoMemory, Sequence, Shared};
 use nw_generation::Generations;
-use nw_held::Held;
 use nw_model::{Counts, Wanted};
+use nw_state::StateTables;
 use std::alloc::Global;
 use std::marker::Model;
 
@@ -31,19 +31,19 @@ pub struct DagLimits {
 /// The tables of a store. Contracts see its state and its bounds.
 #[derive(Drop)]
 pub struct Dag {
-    held: Held,
+    held: StateTables,
     waits: Waits,
     /// The frozen blocks: those that were complete at the last view.
     generations: Generations,
 }
 
 impl Model for Dag {
-    ghost use Rattle.nw_model.specs.Step.{Tables, coded_tables};
+    ghost use Rattle.nw_model.specs.Step.{BoundedState, coded_bounded_state};
     ghost use Rattle.nw_dag.specs.Frozen.{AreTables};
 
-    ghost Value = { Tables };
+    ghost Value = { BoundedState };
 
-    ghost coded = { coded_tables };
+    ghost coded = { coded_bounded_state };
 
     ghost view = { λ d. d.held };
 
@@ -60,7 +60,7 @@ impl Dag {
         } }
     {
         Dag {
-            held: Held::new(alloc, limits.blocks, limits.window),
+            held: StateTables::new(alloc, limits.blocks, limits.window),
             waits: Waits::new(alloc),
             generations: Generations::new(alloc),
         }

@@ -7,19 +7,19 @@ ghost use Rattle.nw_dag.specs.Frozen.{AreFrozen, AreFrozenExcept, AreAllOrFrom, 
 use crate::waits::Waits;
 use nw_codec::Block;
 use nw_digest::{Digest, NoMemory, Round, Shared};
-use nw_generation::{Generation, Generations, MOST_PARTS};
-use nw_held::Held;
+use nw_generation::{Generation, Generations, MAX_GENERATIONS};
+use nw_state::StateTables;
 use nw_trie::Trie;
 use std::alloc::Global;
 
 /// Freezes the blocks that became complete since the last view as one more generation, and empties their list. If there are no such
-/// blocks, no generation is added. If there are [`MOST_PARTS`] generations already, some of them become one first.
+/// blocks, no generation is added. If there are [`MAX_GENERATIONS`] generations already, some of them become one first.
 ///
 /// `NoMemory` if allocation fails. Then only collected blocks may have been removed from the list.
 pub(crate) fn freeze(
     generations: &mut Generations,
     alloc: Global,
-    held: &Held,
+    held: &StateTables,
     waits: &mut Waits,
 ) -> Result<(), NoMemory>
     requires { AreFrozenExcept held.now.state waits.old.lacking waits.old.completions.fresh.items
@@ -38,7 +38,7 @@ pub(crate) fn freeze(
         return Ok(());
     }
     let fresh = freeze_held(alloc, held, waits.completions.fresh.as_slice())?;
-    if generations.parts() == MOST_PARTS {
+    if generations.parts() == MAX_GENERATIONS {
         let mut all = fewer(generations, alloc, held.floor())?;
         all.push(fresh)?;
         *generations = all;
@@ -56,7 +56,7 @@ fn fewer(generations: &Generations, alloc: Global, round: Round) -> Result<Gener
         (λ fewer. AreAllOrFrom round generations.now.blocks fewer.blocks) }
     ensures parts { IfOk result (λ fewer. fewer.parts < generations.now.parts) }
 {
-    match generations.first_small() {
+    match generations.join_start() {
         0 => as_one(generations, alloc, round),
         first => generations.joined_from(alloc, first),
     }
@@ -78,7 +78,11 @@ pub(crate) fn as_one(
 }
 
 /// A generation of the blocks held under these digests.
-fn freeze_held(alloc: Global, held: &Held, digests: &[Digest]) -> Result<Generation, NoMemory>
+fn freeze_held(
+    alloc: Global,
+    held: &StateTables,
+    digests: &[Digest],
+) -> Result<Generation, NoMemory>
     ensures { IfOk result (AreHeldUnder held.now.state digests.now) }
 {
     match nw_generation::freeze(alloc, held_blocks(alloc, held, digests)?) {
@@ -90,7 +94,7 @@ fn freeze_held(alloc: Global, held: &Held, digests: &[Digest]) -> Result<Generat
 /// The blocks held under these digests.
 fn held_blocks(
     alloc: Global,
-    held: &Held,
+    held: &StateTables,
     digests: &[Digest],
 ) -> Result<Trie<Shared<Block>, Global>, NoMemory>
     ensures { IfOk result

@@ -2,7 +2,7 @@
 ghost use Rattle.std.specs.Prelude.{◌≡◌, ◌<◌, ◌+◌, [], OnOk, OnErr};
 ghost use Rattle.std.specs.FinSet as set;
 ghost use Rattle.nw_waiting.specs.Pairs.{without_holder};
-ghost use Rattle.nw_held.specs.Standing.{Stands, IsMet};
+ghost use Rattle.nw_state.specs.Standing.{Stands, IsMet};
 ghost use Rattle.nw_dag.specs.Lacking.{IsReady, IsNamedAmong, LacksNothing};
 ghost use Rattle.nw_model.specs.Missing.{IsNamedBy};
 ghost use Rattle.nw_dag.specs.Changes.{AreSameExcept, LacksAlso};
@@ -13,8 +13,8 @@ mod collection;
 use crate::completions::{Completions, lacks_nothing};
 use nw_codec::{Block, Ref};
 use nw_digest::{Digest, NoMemory, Round};
-use nw_held::Held;
 use nw_model::Wanted;
+use nw_state::StateTables;
 use nw_waiting::Waiting;
 use std::alloc::Global;
 
@@ -47,7 +47,7 @@ impl Waits {
     /// Records that the holder lacks the parent, if the parent does not stand or is not complete.
     ///
     /// `NoMemory` if allocation fails. Then the holder may lack it in one set only.
-    fn want(&mut self, held: &Held, wanted: Wanted, holder: Digest) -> Result<(), NoMemory>
+    fn want(&mut self, held: &StateTables, wanted: Wanted, holder: Digest) -> Result<(), NoMemory>
         ensures unmet { OnOk result
             (LacksAlso (IsMet held.now.state) (λ w. w ≡ wanted) holder
             self.old.unmet self.new.unmet) }
@@ -74,7 +74,7 @@ impl Waits {
     /// `NoMemory` if allocation fails. Then only some of them may be recorded.
     fn want_each(
         &mut self,
-        held: &Held,
+        held: &StateTables,
         round: Round,
         references: &[Ref],
         holder: Digest,
@@ -102,7 +102,7 @@ impl Waits {
     /// `NoMemory` if allocation fails. Then nothing changes.
     pub(crate) fn want_parents(
         &mut self,
-        held: &Held,
+        held: &StateTables,
         block: &Block,
         holder: Digest,
     ) -> Result<(), NoMemory>

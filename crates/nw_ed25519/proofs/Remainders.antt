@@ -3,7 +3,7 @@ use Rattle.std.proofs.Common.{◌≡◌, ℕ, suc, ◌+◌, ◌-◌, ◌*◌, �
 use Rattle.std.proofs.Math.Nat.{mod-eq_of_lt, mod-add-mod, add-mul-mod_self_right, add-mod_right, mod-lt}
 use Rattle.std.proofs.lemmas.Nat.{mul-mod_second}
 use Rattle.std.proofs.lemmas.List.{drop_all}
-use Rattle.nw_field.specs.Bytes.{number_of}
+use Rattle.nw_field.specs.Bytes.{number_from_bytes}
 use Rattle.nw_ed25519.specs.Accepts.{order}
 
 -- the order is above 2^252
@@ -20,20 +20,20 @@ pub is_remainder_after_adding_back : (n r q : ℕ) → r < order → r + q * ord
 is_remainder_after_adding_back n r q h e = is_remainder (n + order) r q h e ∙ add-mod_right n order
 
 -- the remainder before the first byte is 0
-pub first_remainder : (bytes : List ℕ) → length bytes ≡ 64 → 0 ≡ number_of (drop 64 bytes) % order
+pub first_remainder : (bytes : List ℕ) → length bytes ≡ 64 → 0 ≡ number_from_bytes (drop 64 bytes) % order
 first_remainder bytes size =
     let none = drop_all 64 bytes (omega arith) in
     rw none (sym (mod-eq_of_lt (omega (arith, order_large))))
 
 -- the remainder after one more byte
-pub next_remainder : (bytes : List ℕ) (d rest r : ℕ) → d < 64 → length bytes ≡ 64 → rest ≡ number_of (drop (64 - d) bytes) % order
-    → r ≡ (256 * rest + get_or bytes (63 - d) 0) % order → r ≡ number_of (drop (64 - (d + 1)) bytes) % order
+pub next_remainder : (bytes : List ℕ) (d rest r : ℕ) → d < 64 → length bytes ≡ 64 → rest ≡ number_from_bytes (drop (64 - d) bytes) % order
+    → r ≡ (256 * rest + get_or bytes (63 - d) 0) % order → r ≡ number_from_bytes (drop (64 - (d + 1)) bytes) % order
 next_remainder bytes d rest r h size er e =
     let i : 64 - (d + 1) ≡ 63 - d = omega arith in
     let j : 64 - d ≡ suc (63 - d) = omega arith in
     let within : 63 - d < length bytes = omega arith in
     let b = get_or bytes (63 - d) 0 in
-    let n = number_of (drop (suc (63 - d)) bytes) in
+    let n = number_from_bytes (drop (suc (63 - d)) bytes) in
     let k = rw j at er in
     rw (i, drop-cons bytes (63 - d) 0 within, e, k) (sym (mod-add-mod (256 * (n % order)) order b) ∙ (ap (λ (m : ℕ). (m + b) % order) (mul-mod_second 256 n order) ∙ (mod-add-mod (256 * n) order b ∙ ap (λ (m : ℕ). m % order) (omega arith))))
 

@@ -1,6 +1,6 @@
 //! Numbers modulo the order of the base point.
 ghost use Rattle.std.specs.Prelude.{◌≡◌, ◌+◌, ◌*◌, ◌%◌, ◌<◌, ◌^◌};
-ghost use Rattle.nw_field.specs.Bytes.{number_of};
+ghost use Rattle.nw_field.specs.Bytes.{number_from_bytes};
 ghost use Rattle.nw_ed25519.specs.Accepts.{order};
 
 use nw_field::Whole;
@@ -15,7 +15,7 @@ pub fn the_order() -> Whole
 
 /// The number that 64 bytes encode, lowest first, modulo the order.
 pub fn modulo_order(bytes: &[u8; 64]) -> Whole
-    ensures { result ≡ number_of bytes.now % order }
+    ensures { result ≡ number_from_bytes bytes.now % order }
 {
     let mut remainder = Whole::new(0, 0);
     for done in 0..64 {

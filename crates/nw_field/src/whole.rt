@@ -3,7 +3,7 @@ ghost use Rattle.std.specs.Prelude.{◌≡◌, ◌==◌, ◌+◌, ◌-◌, ◌*�
 ghost use Rattle.std.specs.Prelude.{nat_lt, length, if◌then◌else◌};
 ghost use Rattle.std.specs.Hash.{le_bytes};
 ghost use Rattle.std.specs.Int.{bit_at};
-ghost use Rattle.nw_field.specs.Bytes.{number_of};
+ghost use Rattle.nw_field.specs.Bytes.{number_from_bytes};
 
 use std::marker::Model;
 
@@ -38,7 +38,7 @@ impl Whole {
     /// The number that 32 bytes encode, lowest first.
     pub fn from_bytes(bytes: &[u8]) -> Whole
         requires { length bytes.now ≡ 32 }
-        ensures number { result ≡ number_of bytes.now }
+        ensures number { result ≡ number_from_bytes bytes.now }
         ensures bound { result < 2 ^ 256 }
     {
         Whole {
@@ -105,7 +105,7 @@ impl Whole {
     }
 
     /// The number of the lower 255 bits.
-    pub fn without_top(&self) -> Whole
+    pub fn without_top_bit(&self) -> Whole
         ensures { result ≡ self.now % 2 ^ 255 }
     {
         Whole {
@@ -115,7 +115,7 @@ impl Whole {
     }
 
     /// The number with `top` as its bit 255, which must be clear.
-    pub fn with_top(&self, top: bool) -> Whole
+    pub fn with_top_bit(&self, top: bool) -> Whole
         requires { self.now < 2 ^ 255 }
         ensures { result ≡ self.now + (if top then 2 ^ 255 else 0) }
     {
@@ -147,7 +147,7 @@ impl Whole {
 /// The number that 16 bytes encode, lowest first.
 fn half_of(bytes: &[u8]) -> u128
     requires { length bytes.now ≡ 16 }
-    ensures { result ≡ number_of bytes.now }
+    ensures { result ≡ number_from_bytes bytes.now }
 {
     let mut half = [0; 16];
     half.copy_from_slice(bytes);

@@ -13,10 +13,10 @@ use Rattle.nw_codec.specs.declared.block.Block.{Block}
 use Rattle.nw_digest.specs.Order.{digest_cmp}
 use Rattle.nw_model.proofs.Kept.{same_digest}
 use Rattle.nw_model.proofs.Maps.{digests_apart, digests_total, get_lookup}
-use Rattle.nw_generation.specs.Entries.{Ascend, IsBelow, IsNext, under}
-use Rattle.nw_generation.specs.Seen.{IsOver, union}
+use Rattle.nw_generation.specs.Entries.{Ascend, ComesBeforeAll, IsNext, under}
+use Rattle.nw_generation.specs.Seen.{IsOverlay, union}
 use Rattle.nw_generation.proofs.Searches.{Entries, below_each, head_below, none_below, tail_ascends}
-use Rattle.nw_generation.proofs.Unions.{get_latest, get_nowhere}
+use Rattle.nw_generation.proofs.Unions.{get_latest, get_from_none}
 
 or_either : {X : Type 0} (a b c : Option X) → option_or (option_or a b) c ≡ option_or a (option_or b c)
 or_either None b c = refl
@@ -33,7 +33,7 @@ one_first true b left others = refl
 one_first false b left others = refl
 
 -- only the newer list has it
-newer_first : (e : Digest × Block) (newer older : Entries) → Ascend (e ∷ newer) → Ascend older → IsBelow e.0 older → IsNext (e ∷ newer) older e newer older
+newer_first : (e : Digest × Block) (newer older : Entries) → Ascend (e ∷ newer) → Ascend older → ComesBeforeAll e.0 older → IsNext (e ∷ newer) older e newer older
 newer_first e newer older one other below = record {
   same = λ d. one_first (is_at (digest_cmp d) e.0) e.1 (under newer d) (under older d);
   before_newer = head_below e newer one;
@@ -45,7 +45,7 @@ newer_first e newer older one other below = record {
 }
 
 -- only the older list has it
-older_first : (e : Digest × Block) (newer older : Entries) → Ascend newer → Ascend (e ∷ older) → IsBelow e.0 newer → IsNext newer (e ∷ older) e newer older
+older_first : (e : Digest × Block) (newer older : Entries) → Ascend newer → Ascend (e ∷ older) → ComesBeforeAll e.0 newer → IsNext newer (e ∷ older) e newer older
 older_first e newer older one other below = record {
   same = λ d. by d (is_at (digest_cmp d) e.0) refl;
   before_newer = below;
@@ -75,7 +75,7 @@ both_first e f newer older one other tie = record {
     alike : (d : Digest) → digest_cmp d f.0 ≡ digest_cmp d e.0
     alike d = digests_total.antisymm d f.0 ∙ ap ordering_reverse (sym (digests_total.congr e.0 f.0 d tie)) ∙ sym (digests_total.antisymm d e.0)
 
-    below_same : (es : Entries) → IsBelow f.0 es → IsBelow e.0 es
+    below_same : (es : Entries) → ComesBeforeAll f.0 es → ComesBeforeAll e.0 es
     below_same [] below = tt
     below_same (x ∷ es) below = (digests_total.congr e.0 f.0 x.0 tie ∙ below.0, below_same es below.1)
 
@@ -84,10 +84,10 @@ both_first e f newer older one other tie = record {
     by d true is = refl
     by d false is = ap (λ b. option_or (under newer d) (cond b (Some f.1) (under older d))) is
 
-pub newer_next : (all : Entries) (e : Digest × Block) (newer older : Entries) → all ≡ e ∷ newer → Ascend all → Ascend older → IsBelow e.0 older → IsNext all older e (drop 1 all) older
+pub newer_next : (all : Entries) (e : Digest × Block) (newer older : Entries) → all ≡ e ∷ newer → Ascend all → Ascend older → ComesBeforeAll e.0 older → IsNext all older e (drop 1 all) older
 newer_next all e newer older is one other below = subst (λ es. IsNext es older e (drop 1 es) older) (sym is) (newer_first e newer older (subst Ascend is one) other below)
 
-pub older_next : (all : Entries) (e : Digest × Block) (newer older : Entries) → all ≡ e ∷ older → Ascend newer → Ascend all → IsBelow e.0 newer → IsNext newer all e newer (drop 1 all)
+pub older_next : (all : Entries) (e : Digest × Block) (newer older : Entries) → all ≡ e ∷ older → Ascend newer → Ascend all → ComesBeforeAll e.0 newer → IsNext newer all e newer (drop 1 all)
 older_next all e newer older is one other below = subst (λ es. IsNext newer es e newer (drop 1 es)) (sym is) (older_first e newer older one (subst Ascend is other) below)
 
 pub both_next : (one other : Entries) (e f : Digest × Block) (newer older : Entries) → one ≡ e ∷ newer → other ≡ f ∷ older → Ascend one → Ascend other → digest_cmp e.0 f.0 ≡ Equal → IsNext one other e (drop 1 one) (drop 1 other)
@@ -100,8 +100,8 @@ rest_next newer older e m n next =
     subst (λ es. IsNext newer older e es (take (length older - n) (drop n older))) (sym (take_rest newer m)) (subst (IsNext newer older e (drop m newer)) (sym (take_rest older n)) next)
 
 -- a digest comes before all ascending entries if it comes before the first one
-pub first_below : (d : Digest) (all : Entries) (f : Digest × Block) (older : Entries) → all ≡ f ∷ older → Ascend all → digest_cmp d f.0 ≡ Less → IsBelow d all
-first_below d all f older is ascend less = subst (IsBelow d) (sym is) (below_each d f.0 f.1 older less (subst Ascend is ascend))
+pub first_below : (d : Digest) (all : Entries) (f : Digest × Block) (older : Entries) → all ≡ f ∷ older → Ascend all → digest_cmp d f.0 ≡ Less → ComesBeforeAll d all
+first_below d all f older is ascend less = subst (ComesBeforeAll d) (sym is) (below_each d f.0 f.1 older less (subst Ascend is ascend))
 
 -- ---- both lists, entry by entry
 
@@ -111,8 +111,8 @@ pub record IsMerging (newer older both newer_left older_left : Entries) : Type 0
   pub ascend : Ascend both
   pub newer_ascend : Ascend newer_left
   pub older_ascend : Ascend older_left
-  pub below_newer : AllByRecursion (λ k. IsBelow k newer_left) (keys_of both)
-  pub below_older : AllByRecursion (λ k. IsBelow k older_left) (keys_of both)
+  pub below_newer : AllByRecursion (λ k. ComesBeforeAll k newer_left) (keys_of both)
+  pub below_older : AllByRecursion (λ k. ComesBeforeAll k older_left) (keys_of both)
 
 under_more : (es : Entries) (e : Digest × Block) (d : Digest) → under (es ++ e ∷ []) d ≡ option_or (under es d) (under (e ∷ []) d)
 under_more [] e d = refl
@@ -122,11 +122,11 @@ under_more (x ∷ es) e d = ap (cond (is_at (digest_cmp d) x.0) (Some x.1)) (und
     by true = refl
     by false = refl
 
-more_below : (d : Digest) (es : Entries) (e : Digest × Block) → IsBelow d es → IsBelow d (e ∷ []) → IsBelow d (es ++ e ∷ [])
+more_below : (d : Digest) (es : Entries) (e : Digest × Block) → ComesBeforeAll d es → ComesBeforeAll d (e ∷ []) → ComesBeforeAll d (es ++ e ∷ [])
 more_below d [] e below less = less
 more_below d (x ∷ es) e below less = (below.0, more_below d es e below.1 less)
 
-more_ascend : (es : Entries) (e : Digest × Block) → Ascend es → AllByRecursion (λ k. IsBelow k (e ∷ [])) (keys_of es) → Ascend (es ++ e ∷ [])
+more_ascend : (es : Entries) (e : Digest × Block) → Ascend es → AllByRecursion (λ k. ComesBeforeAll k (e ∷ [])) (keys_of es) → Ascend (es ++ e ∷ [])
 unfolding Rattle.std.specs.List.Sorted.IsStrictlySortedBy
 more_ascend [] e s below = (tt, tt)
 more_ascend (x ∷ es) e s below = (more_below x.0 es e s.0 below.0, more_ascend es e s.1 below.1)
@@ -158,15 +158,15 @@ one_merged newer older both newer_left older_left newer_rest older_rest e was ne
   each = λ d.
       was.each d ∙ ap (option_or (under both d)) (next.same d) ∙ sym (or_either (under both d) (under (e ∷ []) d) (option_or (under newer_rest d) (under older_rest d)))
       ∙ ap (λ found. option_or found (option_or (under newer_rest d) (under older_rest d))) (sym (under_more both e d));
-  ascend = more_ascend both e was.ascend (both_below (λ k. IsBelow k newer_left) (λ k. IsBelow k older_left) (λ k. IsBelow k (e ∷ [])) both (λ k p q. (next.above k p q).0) was.below_newer was.below_older);
+  ascend = more_ascend both e was.ascend (both_below (λ k. ComesBeforeAll k newer_left) (λ k. ComesBeforeAll k older_left) (λ k. ComesBeforeAll k (e ∷ [])) both (λ k p q. (next.above k p q).0) was.below_newer was.below_older);
   newer_ascend = next.newer_ascend;
   older_ascend = next.older_ascend;
-  below_newer = more_each (λ k. IsBelow k newer_rest) both e (both_below (λ k. IsBelow k newer_left) (λ k. IsBelow k older_left) (λ k. IsBelow k newer_rest) both (λ k p q. (next.above k p q).1) was.below_newer was.below_older) next.before_newer;
-  below_older = more_each (λ k. IsBelow k older_rest) both e (both_below (λ k. IsBelow k newer_left) (λ k. IsBelow k older_left) (λ k. IsBelow k older_rest) both (λ k p q. (next.above k p q).2) was.below_newer was.below_older) next.before_older;
+  below_newer = more_each (λ k. ComesBeforeAll k newer_rest) both e (both_below (λ k. ComesBeforeAll k newer_left) (λ k. ComesBeforeAll k older_left) (λ k. ComesBeforeAll k newer_rest) both (λ k p q. (next.above k p q).1) was.below_newer was.below_older) next.before_newer;
+  below_older = more_each (λ k. ComesBeforeAll k older_rest) both e (both_below (λ k. ComesBeforeAll k newer_left) (λ k. ComesBeforeAll k older_left) (λ k. ComesBeforeAll k older_rest) both (λ k p q. (next.above k p q).2) was.below_newer was.below_older) next.before_older;
 }
 
 -- at the end no entry is left
-pub all_merged : (newer older both newer_left older_left : Entries) → IsMerging newer older both newer_left older_left → newer_left ≡ [] → older_left ≡ [] → IsOver (from_entries newer) (from_entries older) (from_entries both)
+pub all_merged : (newer older both newer_left older_left : Entries) → IsMerging newer older both newer_left older_left → newer_left ≡ [] → older_left ≡ [] → IsOverlay (from_entries newer) (from_entries older) (from_entries both)
 all_merged newer older both newer_left older_left merging no_newer no_older d =
     get_lookup digests_total both d ∙ sym (or_none (under both d))
     ∙ ap (option_or (under both d)) (sym (ap (λ es. option_or (under es d) (under older_left d)) no_newer ∙ ap (λ es. under es d) no_older))
@@ -175,7 +175,7 @@ all_merged newer older both newer_left older_left merging no_newer no_older d =
 
 -- the entries of one more generation are merged, as older ones
 pub joined_more : (old new entries : Entries) (left older : List (FinMap digest_cmp Block)) (latest : FinMap digest_cmp Block) (d : Digest) → left ≡ older ++ latest ∷ [] → from_entries entries ≡ latest
-    → IsOver (from_entries old) (from_entries entries) (from_entries new) → option_or (under new d) (get (union older) d) ≡ option_or (under old d) (get (union left) d)
+    → IsOverlay (from_entries old) (from_entries entries) (from_entries new) → option_or (under new d) (get (union older) d) ≡ option_or (under old d) (get (union left) d)
 joined_more old new entries left older latest d is are over =
     ap (λ found. option_or found (get (union older) d)) (sym (get_lookup digests_total new d) ∙ over d ∙ ap (λ found. option_or found (get (from_entries {R = digest_cmp} entries) d)) (get_lookup digests_total old d) ∙ ap (λ (m : FinMap digest_cmp Block). option_or (under old d) (get m d)) are)
     ∙ or_either (under old d) (get latest d) (get (union older) d)
@@ -184,4 +184,4 @@ joined_more old new entries left older latest d is are over =
 -- no generation is left
 pub joined_all : (entries : Entries) (left generations : List (FinMap digest_cmp Block)) → length left ≡ 0 → ((d : Digest) → option_or (under entries d) (get (union left) d) ≡ get (union generations) d) → from_entries entries ≡ union generations
 joined_all entries left generations none each = same_map digests_total digests_apart (from_entries entries) (union generations) (λ d.
-    get_lookup digests_total entries d ∙ sym (or_none (under entries d)) ∙ ap (option_or (under entries d)) (sym (get_nowhere left d none)) ∙ each d)
+    get_lookup digests_total entries d ∙ sym (or_none (under entries d)) ∙ ap (option_or (under entries d)) (sym (get_from_none left d none)) ∙ each d)

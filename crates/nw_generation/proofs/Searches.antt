@@ -15,7 +15,7 @@ use Rattle.nw_digest.specs.Order.{digest_cmp}
 use Rattle.nw_trie.proofs.Inserts.{above_all, below_all as each_above}
 use Rattle.nw_trie.proofs.Keys.{each_filter}
 use Rattle.nw_model.proofs.Maps.{digests_total, find_below, find_lookup}
-use Rattle.nw_generation.specs.Entries.{AreHeads, Ascend, IsBelow, IsHead, under, bytes_of}
+use Rattle.nw_generation.specs.Entries.{AreHeads, Ascend, ComesBeforeAll, IsHead, under, bytes_of}
 
 abbrev pub Entries : Type 0
 Entries = List (Digest × Block)
@@ -24,26 +24,26 @@ pub none_ascend : Ascend []
 unfolding Rattle.std.specs.List.Sorted.IsStrictlySortedBy
 none_ascend = tt
 
-pub empty_below : (d : Digest) (es : Entries) → length es ≡ 0 → IsBelow d es
+pub empty_below : (d : Digest) (es : Entries) → length es ≡ 0 → ComesBeforeAll d es
 empty_below d [] none = tt
 empty_below d (e ∷ es) none = absurd (omega (arith, none))
 
-pub head_below : (e : Digest × Block) (es : Entries) → Ascend (e ∷ es) → IsBelow e.0 es
+pub head_below : (e : Digest × Block) (es : Entries) → Ascend (e ∷ es) → ComesBeforeAll e.0 es
 head_below e es s = sorted_head digest_cmp e.0 (keys_of es) s
 
 pub tail_ascends : (e : Digest × Block) (es : Entries) → Ascend (e ∷ es) → Ascend es
 tail_ascends e es s = sorted_tail digest_cmp e.0 (keys_of es) s
 
 -- a digest before another one comes before all entries after that one
-pub below_all : (d k : Digest) (es : Entries) → digest_cmp d k ≡ Less → IsBelow k es → IsBelow d es
+pub below_all : (d k : Digest) (es : Entries) → digest_cmp d k ≡ Less → ComesBeforeAll k es → ComesBeforeAll d es
 below_all d k [] less below = tt
 below_all d k (e ∷ es) less below = (digests_total.trans d k e.0 less below.0, below_all d k es less below.1)
 
-pub below_each : (d k : Digest) (b : Block) (es : Entries) → digest_cmp d k ≡ Less → Ascend ((k, b) ∷ es) → IsBelow d ((k, b) ∷ es)
+pub below_each : (d k : Digest) (b : Block) (es : Entries) → digest_cmp d k ≡ Less → Ascend ((k, b) ∷ es) → ComesBeforeAll d ((k, b) ∷ es)
 below_each d k b es less s = (less, below_all d k es less (head_below (k, b) es s))
 
 -- there is no block under a digest that comes before all entries
-pub none_below : (d : Digest) (es : Entries) → IsBelow d es → under es d ≡ None
+pub none_below : (d : Digest) (es : Entries) → ComesBeforeAll d es → under es d ≡ None
 none_below d es below = sym (find_lookup digest_cmp es d) ∙ find_below digest_cmp d es below
 
 turned : (o r : Ordering) → o ≡ ordering_reverse r → r ≡ Less → is_eq o ≡ false
@@ -60,7 +60,7 @@ module _ (d k : Digest) (b : Block) (after : Entries) where
   found_at (e ∷ before) s same =
       ap (λ t. cond t (Some e.1) (under (before ++ (k, b) ∷ after) d)) (past d e.0 (ends before (head_below e (before ++ (k, b) ∷ after) s))) ∙ found_at before (tail_ascends e (before ++ (k, b) ∷ after) s) same
     where
-      ends : (es : Entries) → IsBelow e.0 (es ++ (k, b) ∷ after) → digest_cmp e.0 d ≡ Less
+      ends : (es : Entries) → ComesBeforeAll e.0 (es ++ (k, b) ∷ after) → digest_cmp e.0 d ≡ Less
       ends [] below = before_same below.0
         where
           before_same : digest_cmp e.0 k ≡ Less → digest_cmp e.0 d ≡ Less
@@ -74,7 +74,7 @@ module _ (d k : Digest) (b : Block) (after : Entries) where
       let rest = found_after before (tail_ascends e (before ++ (k, b) ∷ after) s) less in
       (ap (λ t. cond t (Some e.1) (under (before ++ (k, b) ∷ after) d)) (past d e.0 (ends before (head_below e (before ++ (k, b) ∷ after) s))) ∙ rest.0, rest.1)
     where
-      ends : (es : Entries) → IsBelow e.0 (es ++ (k, b) ∷ after) → digest_cmp e.0 d ≡ Less
+      ends : (es : Entries) → ComesBeforeAll e.0 (es ++ (k, b) ∷ after) → digest_cmp e.0 d ≡ Less
       ends [] below = digests_total.trans e.0 k d below.0 less
       ends (x ∷ es) below = ends es below.1
 
@@ -86,7 +86,7 @@ module _ (d k : Digest) (b : Block) (after : Entries) where
       let rest = found_before before (tail_ascends e (before ++ (k, b) ∷ after) s) less in
       (ap (cond (is_eq (digest_cmp d e.0)) (Some e.1)) rest.0, (front before (head_below e (before ++ (k, b) ∷ after) s), rest.1))
     where
-      front : (es : Entries) → IsBelow e.0 (es ++ (k, b) ∷ after) → IsBelow e.0 es
+      front : (es : Entries) → ComesBeforeAll e.0 (es ++ (k, b) ∷ after) → ComesBeforeAll e.0 es
       front [] below = tt
       front (x ∷ es) below = (below.0, front es below.1)
 

@@ -10,11 +10,11 @@ use Rattle.nw_digest.specs.Order.{digest_cmp}
 use Rattle.nw_trie.proofs.Inserts.{digest_equal}
 use Rattle.nw_model.proofs.Kept.{same_digest}
 use Rattle.nw_generation.specs.declared.slots.Slot.{Slot}
-use Rattle.nw_generation.specs.Entries.{Ascend, IsBelow, under}
+use Rattle.nw_generation.specs.Entries.{Ascend, ComesBeforeAll, under}
 use Rattle.nw_generation.specs.Slots.{AreSlotsOf}
 use Rattle.nw_generation.proofs.Searches.{Entries, head_below, is_tie, past, tail_ascends}
 
-below_at : (d : Digest) (es : Entries) (i : ℕ) (e : Digest × Block) → IsBelow d es → i < length es → digest_cmp d (get_or es i e).0 ≡ Less
+below_at : (d : Digest) (es : Entries) (i : ℕ) (e : Digest × Block) → ComesBeforeAll d es → i < length es → digest_cmp d (get_or es i e).0 ≡ Less
 below_at d [] i e below within = absurd (omega (arith, within))
 below_at d (x ∷ es) zero e below within = below.0
 below_at d (x ∷ es) (suc i) e below within = below_at d es i e below.1 (omega (arith, within))

@@ -12,7 +12,7 @@ use Rattle.nw_codec.specs.declared.block.Block.{Block}
 use Rattle.nw_digest.specs.Order.{digest_cmp}
 use Rattle.nw_model.proofs.Maps.{digests_apart, digests_total}
 use Rattle.nw_generation.specs.Entries.{under}
-use Rattle.nw_generation.specs.Seen.{IsOf, IsWithin, latest_first, union}
+use Rattle.nw_generation.specs.Seen.{IsOfRound, IsWithin, latest_first, union}
 
 or_later : {X : Type 0} (b : Bool) (v : X) (first later : Option X) → cond b (Some v) (option_or first later) ≡ option_or (cond b (Some v) first) later
 or_later true v first later = refl
@@ -56,7 +56,7 @@ pub get_older : (left older : List (FinMap digest_cmp Block)) (latest : FinMap d
 get_older left older latest d is lacks = ap (λ found. option_or found (get (union older) d)) lacks ∙ sym (get_latest older latest d) ∙ ap (λ gs. get (union gs) d) (sym is)
 
 -- if the block of all generations is of the slot's round, so is that of the latest generation
-pub of_latest : (left older : List (FinMap digest_cmp Block)) (latest : FinMap digest_cmp Block) (slot : Option (ℕ × ℕ)) (d : Digest) → left ≡ older ++ latest ∷ [] → IsOf slot (get (union left) d) → IsOf slot (get latest d)
+pub of_latest : (left older : List (FinMap digest_cmp Block)) (latest : FinMap digest_cmp Block) (slot : Option (ℕ × ℕ)) (d : Digest) → left ≡ older ++ latest ∷ [] → IsOfRound slot (get (union left) d) → IsOfRound slot (get latest d)
 of_latest left older latest None d is of = tt
 of_latest left older latest (Some (round, author)) d is of = by (get latest d) (subst (λ o. IfSome o (λ (b : Block). b.round ≡ round)) (ap (λ gs. get (union gs) d) is ∙ get_latest older latest d) of)
   where
@@ -65,7 +65,7 @@ of_latest left older latest (Some (round, author)) d is of = by (get latest d) (
     by (Some b) h = h
 
 -- entries of other rounds only have no block of this round
-pub none_of : (es : List (Digest × Block)) (rounds : Option (ℕ × ℕ)) (round author : ℕ) (d : Digest) → All (λ (e : Digest × Block). IsWithin rounds e.1.round) es → (IsWithin rounds round → ⊥) → IsOf (Some (round, author)) (under es d) → None ≡ under es d
+pub none_of : (es : List (Digest × Block)) (rounds : Option (ℕ × ℕ)) (round author : ℕ) (d : Digest) → All (λ (e : Digest × Block). IsWithin rounds e.1.round) es → (IsWithin rounds round → ⊥) → IsOfRound (Some (round, author)) (under es d) → None ≡ under es d
 none_of es rounds round author d within out of = by (under es d) (look es (recursion_from_All (λ (e : Digest × Block). IsWithin rounds e.1.round) es within)) of
   where
     pick : (t : Bool) (b : Block) (o : Option Block) → IsWithin rounds b.round → IfSome o (λ (x : Block). IsWithin rounds x.round) → IfSome (cond t (Some b) o) (λ (x : Block). IsWithin rounds x.round)
@@ -81,9 +81,9 @@ none_of es rounds round author d within out of = by (under es d) (look es (recur
     by (Some b) w is = absurd (out (subst (IsWithin rounds) is w))
 
 -- no generation is left
-pub get_nowhere : (left : List (FinMap digest_cmp Block)) (d : Digest) → length left ≡ 0 → get (union left) d ≡ None
-get_nowhere [] d none = get-empty digest_cmp d
-get_nowhere (g ∷ left) d none = absurd (omega arith)
+pub get_from_none : (left : List (FinMap digest_cmp Block)) (d : Digest) → length left ≡ 0 → get (union left) d ≡ None
+get_from_none [] d none = get-empty digest_cmp d
+get_from_none (g ∷ left) d none = absurd (omega arith)
 
 -- joining the later generations to one keeps the union
 pub union_joined : (older later : List (FinMap digest_cmp Block)) (joined : FinMap digest_cmp Block) → joined ≡ union later → union (older ++ joined ∷ []) ≡ union (older ++ later)

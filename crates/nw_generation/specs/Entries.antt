@@ -27,8 +27,8 @@ abbrev pub AreHeads : List ℕ → List (Digest × Block) → Type 0
 AreHeads heads entries = map bytes_of heads ≡ map (λ e. take 2 e.0.0) entries
 
 -- the digest comes before those of all entries
-abbrev pub IsBelow : Digest → List (Digest × Block) → Type 0
-IsBelow d entries = AllByRecursion (λ k. digest_cmp d k ≡ Less) (keys_of entries)
+abbrev pub ComesBeforeAll : Digest → List (Digest × Block) → Type 0
+ComesBeforeAll d entries = AllByRecursion (λ k. digest_cmp d k ≡ Less) (keys_of entries)
 
 -- the block under the digest, if the entries have one
 abbrev pub under : List (Digest × Block) → Digest → Option Block
@@ -39,14 +39,14 @@ pub record IsNext (newer older : List (Digest × Block)) (first : Digest × Bloc
   -- the entry and the remaining ones have the same blocks under each digest as both lists
   pub same : (d : Digest) → option_or (under newer d) (under older d) ≡ option_or (under (first ∷ []) d) (option_or (under newer_left d) (under older_left d))
   -- the entry comes before the remaining ones of the newer list
-  pub before_newer : IsBelow first.0 newer_left
+  pub before_newer : ComesBeforeAll first.0 newer_left
   -- and before those of the older list
-  pub before_older : IsBelow first.0 older_left
+  pub before_older : ComesBeforeAll first.0 older_left
   -- the remaining entries of the newer list ascend
   pub newer_ascend : Ascend newer_left
   -- and so do those of the older list
   pub older_ascend : Ascend older_left
   -- a digest before both lists comes before the entry and the remaining ones
-  pub above : (d : Digest) → IsBelow d newer → IsBelow d older → IsBelow d (first ∷ []) × IsBelow d newer_left × IsBelow d older_left
+  pub above : (d : Digest) → ComesBeforeAll d newer → ComesBeforeAll d older → ComesBeforeAll d (first ∷ []) × ComesBeforeAll d newer_left × ComesBeforeAll d older_left
   -- there are fewer entries left
   pub fewer : length newer_left + length older_left < length newer + length older

@@ -9,7 +9,7 @@ use Rattle.nw_codec.specs.declared.block.Block.{Block}
 use Rattle.nw_digest.specs.Order.{digest_cmp}
 use Rattle.nw_model.specs.State.{coded_digest, coded_block}
 use Rattle.nw_model.specs.View.{Frozen, IsClosed, coded_frozen}
-use Rattle.nw_generation.specs.declared.generations.TheConstants.{MOST_PARTS}
+use Rattle.nw_generation.specs.declared.generations.TheConstants.{MAX_GENERATIONS}
 
 -- the entries of all generations: the generations are given from the oldest on, and the latest one's entries come first
 abbrev pub latest_first : List (FinMap digest_cmp Block) → List (Digest × Block)
@@ -36,12 +36,12 @@ abbrev pub joined : List (FinMap digest_cmp Block) → Joined
 joined generations = record { blocks = union generations; parts = length generations }
 
 -- each digest has the newer block if there is one, and otherwise the older one if there is one
-abbrev pub IsOver : FinMap digest_cmp Block → FinMap digest_cmp Block → FinMap digest_cmp Block → Type 0
-IsOver newer older both = (d : Digest) → get both d ≡ option_or (get newer d) (get older d)
+abbrev pub IsOverlay : FinMap digest_cmp Block → FinMap digest_cmp Block → FinMap digest_cmp Block → Type 0
+IsOverlay newer older both = (d : Digest) → get both d ≡ option_or (get newer d) (get older d)
 
 -- if a slot is given and a block was found, the block is of the slot's round
-abbrev pub IsOf : Option (ℕ × ℕ) → Option Block → Type 0
-IsOf slot found = IfSome slot (λ s. IfSome found (λ b. b.round ≡ s.0))
+abbrev pub IsOfRound : Option (ℕ × ℕ) → Option Block → Type 0
+IsOfRound slot found = IfSome slot (λ s. IfSome found (λ b. b.round ≡ s.0))
 
 -- a view
 pub record Seen : Type 0 where
@@ -63,7 +63,7 @@ pub record IsView (s : Seen) : Type 0 where
   -- it is closed
   pub closed : IsClosed s.frozen
   -- it has at most the maximum number of generations
-  pub few : s.parts ≤ MOST_PARTS
+  pub few : s.parts ≤ MAX_GENERATIONS
 
 -- there is a range, and it includes the round
 abbrev pub IsWithin : Option (ℕ × ℕ) → ℕ → Type 0

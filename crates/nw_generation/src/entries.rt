@@ -3,7 +3,7 @@ ghost use Rattle.std.specs.Prelude.{◌≡◌, ◌≤◌, IfOk, IfSome, [], drop
 ghost use Rattle.std.specs.Option.{MatchOption};
 ghost use Rattle.std.specs.FinMap as map;
 ghost use Rattle.nw_generation.specs.Entries.{Ascend, IsNext};
-ghost use Rattle.nw_generation.specs.Seen.{IsOver};
+ghost use Rattle.nw_generation.specs.Seen.{IsOverlay};
 
 use nw_codec::Block;
 use nw_digest::{Digest, InRound, NoMemory, Round, Shared};
@@ -52,7 +52,7 @@ pub(crate) fn merged<'a>(
 ) -> Result<Vec<EntryRef<'a>>, NoMemory>
     requires newer { Ascend newer.now }
     requires older { Ascend older.now }
-    ensures { IfOk result (λ both. Ascend both.items × IsOver (map.from_entries newer.now)
+    ensures { IfOk result (λ both. Ascend both.items × IsOverlay (map.from_entries newer.now)
         (map.from_entries older.now) (map.from_entries both.items)) }
 {
     let most = newer.len().saturating_add(older.len());

@@ -3,7 +3,7 @@ ghost use Rattle.std.specs.Prelude.{◌≡◌, IfOk, IfErr, IsTrue, None};
 ghost use Rattle.std.specs.Option.{option_copied};
 ghost use Rattle.std.specs.FinMap as map;
 ghost use Rattle.nw_generation.specs.Entries.{Ascend};
-ghost use Rattle.nw_generation.specs.Seen.{IsOf};
+ghost use Rattle.nw_generation.specs.Seen.{IsOfRound};
 
 use crate::entries::{Entry, of_trie};
 use crate::index::Index;
@@ -109,7 +109,7 @@ impl Generation {
     /// `slot` makes the search fast. Its round must be that of the block, if the generation has the block. Its author is only a
     /// guess. If the generation has no block of the round, nothing is searched.
     pub fn get(&self, slot: Option<(Round, u16)>, digest: &Digest) -> Option<&Shared<Block>>
-        requires { IsOf slot (map.get self.now digest.now) }
+        requires { IsOfRound slot (map.get self.now digest.now) }
         ensures { option_copied result ≡ map.get self.now digest.now }
     {
         let named = &slot;
@@ -121,7 +121,7 @@ impl Generation {
 
     /// Whether a round is given, and the generation has no block of it.
     fn excludes(&self, slot: &Option<(Round, u16)>) -> bool
-        ensures { IsTrue result → (d : Digest) → IsOf slot.now (map.get self.now d)
+        ensures { IsTrue result → (d : Digest) → IsOfRound slot.now (map.get self.now d)
             → map.get self.now d ≡ None }
     {
         match slot {

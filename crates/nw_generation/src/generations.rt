@@ -4,7 +4,7 @@ ghost use Rattle.std.specs.FinMap as map;
 ghost use Rattle.nw_model.specs.Step.{from_round};
 ghost use Rattle.nw_model.specs.View.{IsClosed};
 ghost use Rattle.nw_generation.specs.Entries.{Ascend};
-ghost use Rattle.nw_generation.specs.Seen.{IsOver, union};
+ghost use Rattle.nw_generation.specs.Seen.{IsOverlay, union};
 
 use crate::entries::{EntryRef, merged, owned};
 use crate::{Generation, View};
@@ -13,9 +13,9 @@ use std::alloc::Global;
 use std::marker::Model;
 
 /// The maximum number of generations.
-pub const MOST_PARTS: usize = 16;
+pub const MAX_GENERATIONS: usize = 16;
 
-/// At most `MOST_PARTS` generations. Freezing blocks adds one. Contracts see the number of generations and the union of their blocks.
+/// At most `MAX_GENERATIONS` generations. Freezing blocks adds one. Contracts see the number of generations and the union of their blocks.
 /// If generations have different blocks under one digest, the latest one counts.
 #[derive(Drop)]
 pub struct Generations {
@@ -26,7 +26,7 @@ pub struct Generations {
 impl Model for Generations {
     ghost use Rattle.std.specs.Prelude.{◌≤◌, length};
     ghost use Rattle.nw_generation.specs.Seen.{Joined, coded_joined, joined};
-    ghost use Rattle.nw_generation.specs.declared.generations.TheConstants.{MOST_PARTS};
+    ghost use Rattle.nw_generation.specs.declared.generations.TheConstants.{MAX_GENERATIONS};
 
     ghost Value = { Joined };
 
@@ -34,7 +34,7 @@ impl Model for Generations {
 
     ghost view = { λ g. joined g.list.items };
 
-    ghost invariant = { λ g. length g.list.items ≤ MOST_PARTS };
+    ghost invariant = { λ g. length g.list.items ≤ MAX_GENERATIONS };
 }
 
 impl Generations {
@@ -50,7 +50,7 @@ impl Generations {
     /// The number of generations.
     pub fn parts(&self) -> usize
         ensures parts { result ≡ self.now.parts }
-        ensures few { result ≤ MOST_PARTS }
+        ensures few { result ≤ MAX_GENERATIONS }
     {
         self.list.len()
     }
@@ -59,8 +59,8 @@ impl Generations {
     ///
     /// `NoMemory`: an allocation failed. Nothing changed.
     pub fn push(&mut self, generation: Generation) -> Result<(), NoMemory>
-        requires room { self.old.parts < MOST_PARTS }
-        ensures blocks { OnOk result (IsOver generation self.old.blocks self.new.blocks) }
+        requires room { self.old.parts < MAX_GENERATIONS }
+        ensures blocks { OnOk result (IsOverlay generation self.old.blocks self.new.blocks) }
         ensures parts { OnOk result (self.new.parts ≡ self.old.parts + 1) }
         ensures unchanged { OnErr result (self.new ≡ self.old) }
     {
@@ -83,7 +83,7 @@ impl Generations {
     /// The index of the first generation to join with all later ones, so that each block is joined seldom.
     ///
     /// This is the oldest generation with at most as many blocks as all later ones together. At least the last two are joined.
-    pub fn first_small(&self) -> usize
+    pub fn join_start(&self) -> usize
         requires several { 2 ≤ self.now.parts }
         ensures { result + 2 ≤ self.now.parts }
     {

@@ -1,7 +1,7 @@
 //! Keeps frozen blocks in generations that never change, and makes views of a few generations.
 //!
 //! A [`Generation`] is a finite map from digests to blocks, with shared ownership. It is made from a trie, or from other generations,
-//! whose entries it shares. [`Generations`] are at most [`MOST_PARTS`] of them. A [`View`] has the blocks of some generations, and is
+//! whose entries it shares. [`Generations`] are at most [`MAX_GENERATIONS`] of them. A [`View`] has the blocks of some generations, and is
 //! closed above its floor. If generations have different blocks under one digest, the latest one counts.
 //!
 //! The crate uses `nw_trie` for tries. `nw_model` defines closed views.
@@ -16,5 +16,5 @@ mod span;
 mod view;
 
 pub use generation::{Generation, freeze};
-pub use generations::{Generations, MOST_PARTS};
+pub use generations::{Generations, MAX_GENERATIONS};
 pub use view::View;

@@ -3,15 +3,15 @@ ghost use Rattle.std.specs.Prelude.{◌≡◌, ◌≤◌, length};
 ghost use Rattle.std.specs.Option.{option_copied};
 ghost use Rattle.std.specs.FinMap as map;
 ghost use Rattle.nw_model.specs.View.{IsClosed};
-ghost use Rattle.nw_generation.specs.Seen.{IsOf, seen_of};
-ghost use Rattle.nw_generation.specs.declared.generations.TheConstants.{MOST_PARTS};
+ghost use Rattle.nw_generation.specs.Seen.{IsOfRound, seen_of};
+ghost use Rattle.nw_generation.specs.declared.generations.TheConstants.{MAX_GENERATIONS};
 
 use crate::Generation;
 use nw_codec::Block;
 use nw_digest::{Digest, Round, Shared};
 use std::marker::Model;
 
-/// The blocks of at most `MOST_PARTS` generations, and a floor. If generations have different blocks under one digest, the latest
+/// The blocks of at most `MAX_GENERATIONS` generations, and a floor. If generations have different blocks under one digest, the latest
 /// one counts.
 ///
 /// A view is closed. Each parent of a block above the floor is in the view, with the named author and the preceding round. No two
@@ -39,7 +39,7 @@ impl View {
     /// The view of these generations, from the oldest to the latest. Allocates no memory.
     pub fn new(generations: Vec<Generation>, floor: Round) -> View
         requires closed { IsClosed (seen_of generations.items floor).frozen }
-        requires few { length generations.items ≤ MOST_PARTS }
+        requires few { length generations.items ≤ MAX_GENERATIONS }
         ensures { result ≡ seen_of generations.items floor }
     {
         View { generations, floor }
@@ -50,15 +50,15 @@ impl View {
         ensures block { option_copied result ≡ map.get self.now.frozen.blocks digest.now }
         ensures closed { IsClosed self.now.frozen }
     {
-        self.get_of(None, digest)
+        self.get_in_slot(None, digest)
     }
 
     /// The block under the digest, or `None` if there is no such block.
     ///
     /// `slot` makes the search fast. Its round must be that of the block, if the view has the block. Its author is only a guess.
     /// Only generations with blocks of the round are searched.
-    pub fn get_of(&self, slot: Option<(Round, u16)>, digest: &Digest) -> Option<&Shared<Block>>
-        requires { IsOf slot (map.get self.now.frozen.blocks digest.now) }
+    pub fn get_in_slot(&self, slot: Option<(Round, u16)>, digest: &Digest) -> Option<&Shared<Block>>
+        requires { IsOfRound slot (map.get self.now.frozen.blocks digest.now) }
         ensures block { option_copied result ≡ map.get self.now.frozen.blocks digest.now }
         ensures closed { IsClosed self.now.frozen }
     {
@@ -85,7 +85,7 @@ impl View {
     /// The number of generations.
     pub fn parts(&self) -> usize
         ensures parts { result ≡ self.now.parts }
-        ensures few { result ≤ MOST_PARTS }
+        ensures few { result ≤ MAX_GENERATIONS }
     {
         self.generations.len()
     }

@@ -1,3 +1,3 @@
 pub mod Prefixes
 pub mod Reopened
-pub mod Sent
+pub mod Send

@@ -4,7 +4,7 @@ use Rattle.std.specs.Prelude.{◌==◌, slice_get}
 use Rattle.std.proofs.lemmas.Bool.{eqb-true, eqb-false}
 use mathlib.Core.List.{IsPrefix}
 use Rattle.nw_model.specs.State.{State}
-use Rattle.nw_model.specs.Step.{Bounds, AreOneReply, IsReply, IsShort, after, shortened}
+use Rattle.nw_model.specs.Step.{Bounds, AreSameReply, IsReply, HasNoList, after, recorded}
 use Rattle.nw_model.specs.History.{AreReplies}
 use Rattle.nw_model.specs.declared.event.Event.{Event}
 use Rattle.nw_model.specs.declared.reply.Reply.{Reply}
@@ -20,14 +20,14 @@ AlikeAt es fs k = AreAlike (slice_get es k) (slice_get fs k)
 abbrev pub AlikeBelow : List Event → List Event → ℕ → Type 0
 AlikeBelow es fs n = (k : ℕ) → k < n → AlikeAt es fs k
 
-short_stays : (r : Reply) → IsShort r → shortened r ≡ r
+short_stays : (r : Reply) → HasNoList r → recorded r ≡ r
 short_stays (reply.List blocks) h = absurd h
 short_stays other h = refl
 
-same_short : (one other : Reply) → IsShort one → IsShort other → AreOneReply one other → one ≡ other
+same_short : (one other : Reply) → HasNoList one → HasNoList other → AreSameReply one other → one ≡ other
 same_short one other short brief are = sym (short_stays one short) ∙ are.short ∙ short_stays other brief
 
-same_event : (b : Bounds) (s : State) (e f : Event) → IsReply b s e.call e.reply → IsShort e.reply → IsReply b s f.call f.reply → IsShort f.reply → AreAlike (Some e) (Some f) → e ≡ f
+same_event : (b : Bounds) (s : State) (e f : Event) → IsReply b s e.call e.reply → HasNoList e.reply → IsReply b s f.call f.reply → HasNoList f.reply → AreAlike (Some e) (Some f) → e ≡ f
 same_event b s e f is short was brief alike =
     let at : IsReply b s e.call f.reply = subst (λ c. IsReply b s c f.reply) (sym alike.2) was in
     let replies : e.reply ≡ f.reply = same_short e.reply f.reply short brief (one_reply b s e.call e.reply f.reply is at) in

@@ -3,7 +3,7 @@ use Rattle.std.specs.Prelude.{List, [], ◌∷◌, ◌++◌}
 use Rattle.nw_committee.specs.declared.member.Member.{Member}
 use Rattle.nw_sig.specs.Signed.{Meaning}
 use Rattle.nw_model.specs.State.{State, opening}
-use Rattle.nw_model.specs.Step.{Bounds, Tables}
+use Rattle.nw_model.specs.Step.{Bounds, BoundedState}
 use Rattle.nw_model.specs.History.{Terms, IsLegal, replay}
 use Rattle.nw_model.specs.declared.event.Event.{Event}
 use Rattle.nw_history.specs.declared.limits.Limits.{Limits}
@@ -57,7 +57,7 @@ abbrev pub reopened : Story → Story
 reopened s = record { committee = s.committee; limits = s.limits; base = state_of s; events = [] }
 
 -- the tables after the history
-abbrev pub tables_of : Story → Tables
+abbrev pub tables_of : Story → BoundedState
 tables_of s = record { bounds = bounds_of s.limits; state = state_of s }
 
 -- the history with one more event

@@ -3,8 +3,8 @@ ghost use Rattle.std.specs.Prelude.{◌≡◌, ◌↔◌, ◌==◌, ◌+◌, ◌
 ghost use Rattle.std.specs.Prelude.{IfOk, OnOk, IfSome, IsNone, IsTrue, length, slice_get};
 ghost use Rattle.std.specs.Option.{option_copied};
 ghost use mathlib.Core.List.{IsPrefix};
-ghost use Rattle.nw_chunks.specs.Chunks.{items_of};
-ghost use Rattle.nw_chunks.specs.declared.chunk.TheConstants.{CHUNK};
+ghost use Rattle.nw_shared_list.specs.SharedList.{items_of};
+ghost use Rattle.nw_shared_list.specs.declared.chunk.TheConstants.{CHUNK};
 ghost use Rattle.nw_model.specs.State.{opening};
 ghost use Rattle.nw_model.specs.Step.{after};
 ghost use Rattle.nw_history.specs.Story.{IsLegalStory, bounds_of, first_origin, reopened, story_of};
@@ -13,11 +13,11 @@ ghost use Rattle.nw_history.specs.Prefix.{IsPrefixOf, AreAlike};
 
 use crate::Limits;
 use crate::start::Start;
-use nw_chunks::Chunks;
 use nw_committee::Committee;
 use nw_digest::{NoMemory, Shared};
 use nw_model::{Call, Event};
 use nw_plain::{Base, Plain};
+use nw_shared_list::SharedList;
 use nw_sig::Scheme;
 use std::alloc::Global;
 use std::marker::{Model, PhantomData};
@@ -27,7 +27,7 @@ use std::marker::{Model, PhantomData};
 /// Each answer has a front, whose last event is the answered call. All fronts of one history share their events, in chunks of 256.
 #[derive(Drop)]
 pub struct Front<S: Scheme> {
-    events: Chunks<Start, Event>,
+    events: SharedList<Start, Event>,
     scheme: PhantomData<S>,
 }
 
@@ -36,7 +36,7 @@ pub type History<S> = Front<S>;
 
 impl<S: Scheme> Model for Front<S> {
     ghost use Rattle.std.specs.Coded.{codes};
-    ghost use Rattle.nw_chunks.specs.Chunks.{items_of};
+    ghost use Rattle.nw_shared_list.specs.SharedList.{items_of};
     ghost use Rattle.nw_model.specs.State.{coded_state};
     ghost use Rattle.nw_history.specs.Story.{Story, IsLegalStory, story_of};
 
@@ -83,11 +83,11 @@ impl<S: Scheme> Front<S> {
         requires { IsLegalStory S.accepts (story_of start []) }
         ensures { IfOk result (λ front. front ≡ story_of start []) }
     {
-        Ok(Front::of(Chunks::new(alloc, Shared::new(alloc, start)?)?))
+        Ok(Front::of(SharedList::new(alloc, Shared::new(alloc, start)?)?))
     }
 
     /// The history with these events. Their head is its start.
-    fn of(events: Chunks<Start, Event>) -> Front<S>
+    fn of(events: SharedList<Start, Event>) -> Front<S>
         requires { IsLegalStory S.accepts (story_of events.head (items_of events)) }
         ensures { result ≡ story_of events.head (items_of events) }
     {
@@ -235,9 +235,9 @@ impl<S: Scheme> Front<S> {
         ensures { IfOk result (λ tables. tables ≡ tables_of self.now) }
     {
         let mut tables = self.events.head().tables(alloc)?;
-        let behind = self.events.behind(alloc)?;
+        let links = self.events.tail_links(alloc)?;
         for index in 0..self.len() {
-            if let Some(event) = self.events.get_by(&behind, index) {
+            if let Some(event) = self.events.get_with_links(&links, index) {
                 replay_call(&mut tables, &event.call)?;
             }
         }

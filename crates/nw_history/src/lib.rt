@@ -3,7 +3,7 @@
 //! A [`Front`] is legal under its committee and limits, from its base on. One more event makes another front, which shares all
 //! earlier events. [`Front::is_prefix_of`] tells exactly whether a front is a prefix of another one.
 //!
-//! `nw_model` defines legal histories. The crate uses `nw_plain` for bases, and `nw_chunks` for lists that share their items.
+//! `nw_model` defines legal histories. The crate uses `nw_plain` for bases, and `nw_shared_list` for lists that share their items.
 #![tactic(auto)]
 
 mod front;
@@ -11,7 +11,7 @@ mod limits;
 mod start;
 
 pub use front::{Front, History};
-pub use limits::{Limits, MOST_BLOCKS, MOST_EVENTS, MOST_ROUNDS, MOST_SESSIONS};
+pub use limits::{Limits, MAX_BLOCKS, MAX_EVENTS, MAX_SESSIONS, MAX_WINDOW};
 pub use nw_committee::Committee;
 pub use nw_digest::{NoMemory, Shared};
 pub use nw_model::Event;

@@ -3,24 +3,24 @@ ghost use Rattle.std.specs.Prelude.{◌≡◌, ◌↔◌, IsTrue};
 ghost use Rattle.nw_history.specs.Limits.{AreInRange};
 
 /// The maximum of `Limits::blocks`.
-pub const MOST_BLOCKS: u32 = 65_536;
+pub const MAX_BLOCKS: u32 = 65_536;
 /// The maximum of `Limits::events`.
-pub const MOST_EVENTS: u32 = 65_536;
+pub const MAX_EVENTS: u32 = 65_536;
 /// The maximum of `Limits::window`.
-pub const MOST_ROUNDS: u32 = 4_096;
+pub const MAX_WINDOW: u32 = 4_096;
 /// The maximum of `Limits::sessions`.
-pub const MOST_SESSIONS: u32 = 256;
+pub const MAX_SESSIONS: u32 = 256;
 
 /// The limits of a book.
 #[derive(Clone, Copy, Debug, PartialEq, Eq)]
 pub struct Limits {
-    /// The maximum number of held blocks, and also that of certificates: 1 to `MOST_BLOCKS`.
+    /// The maximum number of held blocks, and also that of certificates: 1 to `MAX_BLOCKS`.
     pub blocks: u32,
-    /// The maximum number of events of the history: 1 to `MOST_EVENTS`.
+    /// The maximum number of events of the history: 1 to `MAX_EVENTS`.
     pub events: u32,
-    /// The number of rounds, from the garbage round on, whose blocks and certificates are accepted: 1 to `MOST_ROUNDS`.
+    /// The number of rounds, from the garbage round on, whose blocks and certificates are accepted: 1 to `MAX_WINDOW`.
     pub window: u32,
-    /// The maximum number of sessions: 1 to `MOST_SESSIONS`.
+    /// The maximum number of sessions: 1 to `MAX_SESSIONS`.
     pub sessions: u32,
 }
 
@@ -29,10 +29,10 @@ impl Limits {
     pub fn are_in_range(&self) -> bool
         ensures { IsTrue result ↔ AreInRange self.now }
     {
-        (1..=MOST_BLOCKS).contains(&self.blocks)
-            && (1..=MOST_EVENTS).contains(&self.events)
-            && (1..=MOST_ROUNDS).contains(&self.window)
-            && (1..=MOST_SESSIONS).contains(&self.sessions)
+        (1..=MAX_BLOCKS).contains(&self.blocks)
+            && (1..=MAX_EVENTS).contains(&self.events)
+            && (1..=MAX_WINDOW).contains(&self.window)
+            && (1..=MAX_SESSIONS).contains(&self.sessions)
     }
 
     /// Whether all limits are equal.

@@ -6,7 +6,7 @@ use Rattle.std.specs.declared.collections.VecDeque.{VecDeque}
 use Rattle.nw_committee.specs.declared.member.Member.{Member}
 use Rattle.nw_sig.specs.Signed.{Meaning}
 use Rattle.nw_check.specs.declared.message.Checked.{Checked}
-use Rattle.nw_intake.specs.Answers.{IsAnswer, IsDealt, turns_of}
+use Rattle.nw_intake.specs.Answers.{AnswersText, IsDealt, turns_of}
 use Rattle.nw_intake.specs.Faults.{IsCrew}
 use Rattle.nw_intake.specs.Shares.{AreShareResults, IsIntakeFault, IsJointFault, IsShareResult}
 use Rattle.nw_intake.specs.declared.point.Point.{Point}
@@ -19,9 +19,9 @@ use Rattle.nw_intake.proofs.Joint.{all_ok, each_share}
 module _ {S A B : Type 0} (accepts : Meaning) (members : List Member) (texts : List (Vec ℕ A)) (says : Point → Bool → Type 0) (workers : ℕ) where
   -- after the shares are put in order, they answer all texts
   pub whole_answers : (shares : List (VecDeque (Checked S) B)) (all : List (Checked S)) → 0 < workers → length shares ≡ workers → AreShareResults accepts members texts says workers (all_ok shares)
-      → ((whole : List (Checked S)) → IsDealt whole (length texts) shares → all ≡ whole) → AllZip (IsAnswer accepts members) texts all
+      → ((whole : List (Checked S)) → IsDealt whole (length texts) shares → all ≡ whole) → AllZip (AnswersText accepts members) texts all
   whole_answers shares all some count results order =
-      let R : Vec ℕ A → Checked S → Type 0 = IsAnswer accepts members in
+      let R : Vec ℕ A → Checked S → Type 0 = AnswersText accepts members in
       let each : (k : ℕ) → k < length shares → AllZip R (turns_of k workers 0 texts) (items_at shares k) =
       each_share (λ k r. IsShareResult accepts members texts says k workers r) (λ k ys. AllZip R (turns_of k workers 0 texts) ys) (λ k s h. h) shares results.1 in
       let w : Whole R workers 0 texts (items_at shares) = dealt_back R workers some texts 0 (items_at shares) (λ k low. each k (subst (λ n. k < n) (sym count) low)) in

@@ -7,8 +7,8 @@ use Rattle.nw_check.specs.Message.{IsChecked}
 use Rattle.nw_check.specs.declared.message.Checked.{Checked}
 
 -- the check of this text may give this answer
-abbrev pub IsAnswer : {S A : Type 0} → Meaning → List Member → Vec ℕ A → Checked S → Type 0
-IsAnswer accepts members text answer = IsChecked accepts members text.items answer
+abbrev pub AnswersText : {S A : Type 0} → Meaning → List Member → Vec ℕ A → Checked S → Type 0
+AnswersText accepts members text answer = IsChecked accepts members text.items answer
 
 -- the items of this worker's turns: item i belongs to worker i % workers, and the first item of the list has the given number
 abbrev pub turns_of : {X : Type 0} → ℕ → ℕ → ℕ → List X → List X

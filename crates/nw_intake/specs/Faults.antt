@@ -2,13 +2,13 @@
 use Rattle.std.specs.Prelude.{ℕ, ◌<◌, ◌≤◌, Bool, false}
 use Rattle.nw_intake.specs.declared.point.Point.{Point}
 use Rattle.nw_intake.specs.declared.point.Point.TheVariants as point
-use Rattle.nw_intake.specs.declared.threads.TheConstants.{MOST_WORKERS}
+use Rattle.nw_intake.specs.declared.threads.TheConstants.{MAX_WORKERS}
 use Rattle.nw_intake.specs.declared.fault.ShareFault.{ShareFault}
 use Rattle.nw_intake.specs.declared.fault.ShareFault.TheVariants as share
 
 -- the number of workers is in its range
 abbrev pub IsCrew : ℕ → Type 0
-IsCrew workers = (1 ≤ workers) × (workers ≤ MOST_WORKERS)
+IsCrew workers = (1 ≤ workers) × (workers ≤ MAX_WORKERS)
 
 -- the gate may refuse the start of one of the checks at places below the count
 abbrev pub MayRefuseStart : (Point → Bool → Type 0) → ℕ → Type 0

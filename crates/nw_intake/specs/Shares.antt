@@ -6,7 +6,7 @@ use Rattle.std.specs.declared.collections.VecDeque.{VecDeque}
 use Rattle.nw_committee.specs.declared.member.Member.{Member}
 use Rattle.nw_sig.specs.Signed.{Meaning}
 use Rattle.nw_check.specs.declared.message.Checked.{Checked}
-use Rattle.nw_intake.specs.Answers.{IsAnswer, turns_of}
+use Rattle.nw_intake.specs.Answers.{AnswersText, turns_of}
 use Rattle.nw_intake.specs.Faults.{IsCrew, IsShareFault}
 use Rattle.nw_intake.specs.declared.point.Point.{Point}
 use Rattle.nw_intake.specs.declared.fault.ShareFault.{ShareFault}
@@ -16,7 +16,7 @@ use Rattle.nw_intake.specs.declared.fault.IntakeFault.TheVariants as fault
 
 -- the worker may have this result: the answers to the texts of its turns, or a fault that may stop it
 abbrev pub IsShareResult : {S A B : Type 0} → Meaning → List Member → List (Vec ℕ A) → (Point → Bool → Type 0) → ℕ → ℕ → Result (VecDeque (Checked S) B) ShareFault → Type 0
-IsShareResult accepts members texts says worker workers (Ok answers) = AllZip (IsAnswer accepts members) (turns_of worker workers 0 texts) answers.items
+IsShareResult accepts members texts says worker workers (Ok answers) = AllZip (AnswersText accepts members) (turns_of worker workers 0 texts) answers.items
 IsShareResult accepts members texts says worker workers (Err fault) = IsShareFault says (length texts) fault
 
 -- the workers may have these results, in the order of their numbers; workers whose threads were not started have none

@@ -1,7 +1,7 @@
 //! Runs each worker in its own thread.
 ghost use Rattle.std.specs.Prelude.{◌≡◌, ◌^◌, ◌<◌, ◌≤◌, length, map, Ok, IfOk, IfErr, vec_len};
 ghost use Rattle.std.specs.List.{AllZip};
-ghost use Rattle.nw_intake.specs.Answers.{IsAnswer};
+ghost use Rattle.nw_intake.specs.Answers.{AnswersText};
 ghost use Rattle.nw_intake.specs.Faults.{IsCrew};
 ghost use Rattle.nw_intake.specs.Promised.{ArePromised};
 ghost use Rattle.nw_intake.specs.Shares.{AreShareResults, IsIntakeFault, IsJointFault};
@@ -23,7 +23,7 @@ use std::thread;
 use std::thread::{PromisedHandle, Scope, Threads, join_promised};
 
 /// The maximum number of workers.
-const MOST_WORKERS: usize = 16;
+const MAX_WORKERS: usize = 16;
 
 /// Checks the texts in as many threads as there are workers. Returns one answer for each text, in order.
 ///
@@ -47,11 +47,11 @@ pub fn check_all<S: Scheme + Send, G: Gate + Sync, R: Threads + Wait + Sync>(
     requires { vec_len texts < 2 ^ 32 }
     ensures workers { IfOk result (λ _. IsCrew workers) }
     ensures checked { IfOk result
-        (λ answers. AllZip (IsAnswer S.accepts committee.now) texts.items answers.items) }
+        (λ answers. AllZip (AnswersText S.accepts committee.now) texts.items answers.items) }
     ensures fault { IfErr result (IsIntakeFault S S.accepts committee.now texts.items
         (G.says gate.now) workers) }
 {
-    if workers == 0 || workers > MOST_WORKERS {
+    if workers == 0 || workers > MAX_WORKERS {
         return Err(IntakeFault::BadWorkers);
     }
     let results = run_all(rt, alloc, committee, texts.as_slice(), workers, gate)?;

@@ -1,8 +1,8 @@
 //! Faults of a load and of its threads.
 use nw_codec::EncodeError;
-use nw_desk::LineFault;
 use nw_digest::NoMemory;
 use nw_intake::GateShut;
+use nw_interpreter::LineFault;
 use std::alloc::{AllocError, AllocFailed};
 use thiserror::Error;
 

@@ -4,7 +4,7 @@
 //! threads wait for one another, and no contract says that they end. The type of a thread shows what it may do: a link writes,
 //! certifies and sends (`Link`), and a client opens and walks (`Client`).
 //!
-//! The stores are from `nw_store`, the checks from `nw_check`, the committee and the messages from `nw_desk`, the gates from
+//! The stores are from `nw_store`, the checks from `nw_check`, the committee and the messages from `nw_interpreter`, the gates from
 //! `nw_intake`.
 #![tactic(auto)]
 

@@ -11,9 +11,9 @@ use nw_check::{
 };
 use nw_codec::{Block, Ref, Transactions, Vote};
 use nw_committee::Committee;
-use nw_desk::vote_message;
 use nw_digest::{Round, Sequence, Shared};
 use nw_intake::{Gate, Point, pass_start};
+use nw_interpreter::vote_message;
 use nw_sig::DemoScheme;
 use nw_store::Home;
 use std::alloc::Global;

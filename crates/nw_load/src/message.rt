@@ -1,8 +1,8 @@
 //! The encoded messages of blocks and certificates.
 use crate::fault::End;
 use nw_codec::{Block, Certificate, Message, block_digest, encode_message};
-use nw_desk::block_message;
 use nw_digest::Sequence;
+use nw_interpreter::block_message;
 use std::alloc::Global;
 
 /// The encoded message of the block, signed by its author. A block of a load is always within the limits.

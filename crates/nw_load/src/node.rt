@@ -1,7 +1,7 @@
 //! A node of a load: its store, its two threads and its report.
 ghost use Rattle.std.specs.Prelude.{◌≡◌};
 ghost use Rattle.nw_history.specs.Story.{first_origin};
-ghost use Rattle.nw_store.specs.Kept.{parts_of_a_ledger};
+ghost use Rattle.nw_store.specs.Lock.{parts_of_a_ledger};
 
 use crate::client::Client;
 use crate::fault::End;
@@ -15,7 +15,7 @@ use nw_digest::{Digest, Shared};
 use nw_intake::Gate;
 use nw_sig::DemoScheme;
 use nw_store::{
-    BookError, Home, Limits, MOST_BLOCKS, MOST_EVENTS, MOST_ROUNDS, Opening, Session, Store, settle,
+    BookError, Home, Limits, MAX_BLOCKS, MAX_EVENTS, MAX_WINDOW, Opening, Session, Store, settle,
 };
 use std::alloc::Global;
 use std::marker::Brand;
@@ -26,9 +26,9 @@ use std::thread::{JoinHandle, Scope, Threads};
 
 /// The limits of a node's store.
 const LIMITS: Limits = Limits {
-    blocks: MOST_BLOCKS,
-    events: MOST_EVENTS,
-    window: MOST_ROUNDS,
+    blocks: MAX_BLOCKS,
+    events: MAX_EVENTS,
+    window: MAX_WINDOW,
     sessions: 2,
 };
 

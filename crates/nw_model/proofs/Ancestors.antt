@@ -7,8 +7,8 @@ use Rattle.nw_digest.specs.declared.digest.Digest.{Digest}
 use Rattle.nw_codec.specs.declared.block.Block.{Block}
 use Rattle.nw_digest.specs.Order.{Slot, slot_cmp}
 use Rattle.nw_model.specs.State.{block_slot}
-use Rattle.nw_model.specs.View.{Frozen, HasParent, IsClosed, IsThere, IsParentIn, IsPathIn, IsAncestorIn}
-use Rattle.nw_model.specs.Search.{IsUnder, AreUnder, AreAbove, IsFound, IsParentOfAny, Finds, Reaches}
+use Rattle.nw_model.specs.View.{Frozen, HasParent, IsClosed, HasBlock, IsParentIn, IsPathIn, IsAncestorIn}
+use Rattle.nw_model.specs.Search.{IsUnderSlot, AreUnderSlots, AreAbove, IsFoundAt, IsParentOfAny, Finds, FindsAncestors}
 use Rattle.nw_model.proofs.Complete.{one_block}
 use Rattle.nw_model.proofs.Kept.{after_slot, at_slot}
 use Rattle.nw_model.proofs.Finding.{under_more, none_some}
@@ -19,15 +19,15 @@ IsAt v counter end e = (b : Block) × (get v.blocks e ≡ Some b) × (b.round + 
 
 -- only ancestors of d are found, and each of them is in the frontier, or its parents are found
 pub record Explores (v : Frozen) (d : Digest) (found : FinMap slot_cmp Digest) (frontier : List Digest) (counter end : ℕ) : Type 0 where
-  pub under : AreUnder v found
+  pub under : AreUnderSlots v found
   pub only : (slot : Slot) (e : Digest) → get found slot ≡ Some e → IsAncestorIn v d e
-  pub first : IsFound v found d
+  pub first : IsFoundAt v found d
   pub level : (e : Digest) → Contains frontier e → IsAt v counter end e
   pub reached : (e : Digest) → Contains frontier e → IsAncestorIn v d e
-  pub whole : (slot : Slot) (e : Digest) → get found slot ≡ Some e → Contains frontier e ⊎ ((f : Digest) → IsParentIn v e f → IsFound v found f)
+  pub whole : (slot : Slot) (e : Digest) → get found slot ≡ Some e → Contains frontier e ⊎ ((f : Digest) → IsParentIn v e f → IsFoundAt v found f)
 
 -- a path to a digest continues to its parents
-path_on : (v : Frozen) (d e f : Digest) (path : List Digest) → IsPathIn v d path e → IsParentIn v e f → (b : Block) × IsThere v f b → IsPathIn v d (path ++ f ∷ []) f
+path_on : (v : Frozen) (d e f : Digest) (path : List Digest) → IsPathIn v d path e → IsParentIn v e f → (b : Block) × HasBlock v f b → IsPathIn v d (path ++ f ∷ []) f
 path_on v d e f [] (there, same) parent last = (subst (λ q. IsParentIn v q f) (sym same) parent, (last, refl))
 path_on v d e f (next ∷ path) (step, on) parent last = (step, path_on v next e f path on parent last)
 
@@ -47,11 +47,11 @@ ancestor_on v d e f b closed at (path, on) parent =
     (path ++ f ∷ [], path_on v d e f path on parent (p.0, (p.1, omega (arith, before, above))))
 
 -- at the start only the block itself is found
-pub explores_first : (v : Frozen) (d : Digest) (b : Block) (empty : FinMap slot_cmp Digest) → IsThere v d b → ((slot : Slot) → get empty slot ≡ None)
+pub explores_first : (v : Frozen) (d : Digest) (b : Block) (empty : FinMap slot_cmp Digest) → HasBlock v d b → ((slot : Slot) → get empty slot ≡ None)
     → Explores v d (insert empty (block_slot b) d) (d ∷ []) v.floor b.round
 explores_first v d b empty there none = record {
   under = λ slot e at. elim (after_slot empty (block_slot b) d slot e at) [
-    | inl new ↦ subst (λ q. IsUnder v slot q) new.1 (b, there, sym new.0)
+    | inl new ↦ subst (λ q. IsUnderSlot v slot q) new.1 (b, there, sym new.0)
     | inr old ↦ absurd (none_some e (sym (none slot) ∙ old))
   ];
   only = λ slot e at. elim (after_slot empty (block_slot b) d slot e at) [
@@ -101,7 +101,7 @@ explores_on v d found new frontier parents counter end closed now finds = record
   ];
 }
   where
-    still : (e : Digest) → IsFound v found e → IsFound v new e
+    still : (e : Digest) → IsFoundAt v found e → IsFoundAt v new e
     still e (b, at, here) = (b, at, finds.keeps (block_slot b) e here)
 
     listed : (e : Digest) → Contains parents e → IsParentOfAny v frontier e
@@ -123,22 +123,22 @@ explores_on v d found new frontier parents counter end closed now finds = record
 
 -- if no block of the frontier is above the floor, all ancestors are found
 all_found : (v : Frozen) (d : Digest) (found : FinMap slot_cmp Digest) (frontier : List Digest) (counter end : ℕ) → Explores v d found frontier counter end
-    → ((e f : Digest) → Contains frontier e → IsParentIn v e f → ⊥) → Reaches v d found
+    → ((e f : Digest) → Contains frontier e → IsParentIn v e f → ⊥) → FindsAncestors v d found
 all_found v d found frontier counter end now last = record {
   under = now.under;
   only = now.only;
   each = λ e (path, on). along d path e now.first on;
 }
   where
-    along : (from : Digest) (path : List Digest) (to : Digest) → IsFound v found from → IsPathIn v from path to → IsFound v found to
-    along from [] to here (there, same) = subst (λ q. IsFound v found q) same here
+    along : (from : Digest) (path : List Digest) (to : Digest) → IsFoundAt v found from → IsPathIn v from path to → IsFoundAt v found to
+    along from [] to here (there, same) = subst (λ q. IsFoundAt v found q) same here
     along from (next ∷ path) to (b, at, here) (parent, on) = along next path to (elim (now.whole (block_slot b) from here) [
       | inl among ↦ absurd (last from next among parent)
       | inr all ↦ all next parent
     ]) on
 
 -- all ancestors are found when the counter is at its end
-pub reaches_floor : (v : Frozen) (d : Digest) (found : FinMap slot_cmp Digest) (frontier : List Digest) (counter end : ℕ) → Explores v d found frontier counter end → end ≤ counter → Reaches v d found
+pub reaches_floor : (v : Frozen) (d : Digest) (found : FinMap slot_cmp Digest) (frontier : List Digest) (counter end : ℕ) → Explores v d found frontier counter end → end ≤ counter → FindsAncestors v d found
 reaches_floor v d found frontier counter end now done = all_found v d found frontier counter end now (λ e f among parent.
     let at = now.level e among in
     let round : at.0.round + counter ≡ end + v.floor = at.2 in
@@ -147,7 +147,7 @@ reaches_floor v d found frontier counter end now done = all_found v d found fron
     omega (arith, done, round, above, ap (λ (x : Block). x.round) one))
 
 -- and when the frontier is empty
-pub reaches_early : (v : Frozen) (d : Digest) (found : FinMap slot_cmp Digest) (frontier : List Digest) (counter end : ℕ) → Explores v d found frontier counter end → length frontier ≡ 0 → Reaches v d found
+pub reaches_early : (v : Frozen) (d : Digest) (found : FinMap slot_cmp Digest) (frontier : List Digest) (counter end : ℕ) → Explores v d found frontier counter end → length frontier ≡ 0 → FindsAncestors v d found
 reaches_early v d found frontier counter end now empty = all_found v d found frontier counter end now (λ e f (k, lt, at) parent. omega (arith, lt, empty))
 
 -- a test for 0 decides whether the number is 0

@@ -9,8 +9,8 @@ use Rattle.nw_codec.specs.declared.block.Ref.{Ref}
 use Rattle.nw_codec.specs.declared.block.Block.{Block}
 use Rattle.nw_digest.specs.Order.{slot_cmp}
 use Rattle.nw_model.specs.State.{block_slot}
-use Rattle.nw_model.specs.View.{Frozen, IsClosed, IsThere, IsParentIn}
-use Rattle.nw_model.specs.Search.{IsUnder, AreUnder, IsFound, IsNamed, IsParentOfAny, Finds}
+use Rattle.nw_model.specs.View.{Frozen, IsClosed, HasBlock, IsParentIn}
+use Rattle.nw_model.specs.Search.{IsUnderSlot, AreUnderSlots, IsFoundAt, IsNamed, IsParentOfAny, Finds}
 use Rattle.nw_model.proofs.Complete.{one_block}
 use Rattle.nw_model.proofs.Kept.{after_slot, at_slot, still_slot}
 
@@ -56,7 +56,7 @@ finds_on v P Q R a b c xs ys zs one two both = record {
 }
 
 -- found digests are under the slots of their blocks
-pub under_more : (v : Frozen) (P : Digest → Type 0) (a b : FinMap slot_cmp Digest) (xs ys : List Digest) → Finds v P a b xs ys → AreUnder v a → AreUnder v b
+pub under_more : (v : Frozen) (P : Digest → Type 0) (a b : FinMap slot_cmp Digest) (xs ys : List Digest) → Finds v P a b xs ys → AreUnderSlots v a → AreUnderSlots v b
 under_more v P a b xs ys one under slot e at = elim (one.adds slot e at) [
   | inl before ↦ under slot e before
   | inr new ↦ new.2
@@ -72,10 +72,10 @@ is_none_then (Some x) e = absurd cc
 
 -- if the slot is taken, the digest was found before
 pub finds_again : (v : Frozen) (found : FinMap slot_cmp Digest) (listed : List Digest) (d : Digest) (b : Block)
-    → IsClosed v → AreUnder v found → get v.blocks d ≡ Some b → is_some (get found (block_slot b)) ≡ true → Finds v (λ e. d ≡ e) found found listed listed
+    → IsClosed v → AreUnderSlots v found → get v.blocks d ≡ Some b → is_some (get found (block_slot b)) ≡ true → Finds v (λ e. d ≡ e) found found listed listed
 finds_again v found listed d b closed under at taken = record {
   keeps = λ slot e h. h;
-  finds = λ e same. subst (λ q. IsFound v found q) same (b, at, here);
+  finds = λ e same. subst (λ q. IsFoundAt v found q) same (b, at, here);
   adds = λ slot e h. inl h;
   stays = λ e among. among;
   lists = λ e among. inl among;
@@ -89,12 +89,12 @@ finds_again v found listed d b closed under at taken = record {
 
 -- if the slot is free, the digest is found now
 pub finds_one : (v : Frozen) (found : FinMap slot_cmp Digest) (listed : List Digest) (d : Digest) (b : Block)
-    → IsThere v d b → is_some (get found (block_slot b)) ≡ false → Finds v (λ e. d ≡ e) found (insert found (block_slot b) d) listed (listed ++ d ∷ [])
+    → HasBlock v d b → is_some (get found (block_slot b)) ≡ false → Finds v (λ e. d ≡ e) found (insert found (block_slot b) d) listed (listed ++ d ∷ [])
 finds_one v found listed d b there free = record {
   keeps = λ slot e h. still_slot found (block_slot b) d slot e (is_none_then (get found (block_slot b)) free) h;
-  finds = λ e same. subst (λ q. IsFound v (insert found (block_slot b) d) q) same (b, there.0, at_slot found (block_slot b) d);
+  finds = λ e same. subst (λ q. IsFoundAt v (insert found (block_slot b) d) q) same (b, there.0, at_slot found (block_slot b) d);
   adds = λ slot e h. elim (after_slot found (block_slot b) d slot e h) [
-    | inl new ↦ inr (subst (λ q. Contains (listed ++ d ∷ []) q) new.1 (Contains-push listed d), new.1, subst (λ q. IsUnder v slot q) new.1 (b, there, sym new.0))
+    | inl new ↦ inr (subst (λ q. Contains (listed ++ d ∷ []) q) new.1 (Contains-push listed d), new.1, subst (λ q. IsUnderSlot v slot q) new.1 (b, there, sym new.0))
     | inr before ↦ inl before
   ];
   stays = λ e among. Contains-append_left listed (d ∷ []) e among;
@@ -154,11 +154,11 @@ parents_on v digests i d x a b c xs ys zs lt at above one two =
     finds_on v (IsParentOfAny v (take i digests)) (IsNamed x.parents) (IsParentOfAny v (take (i + 1) digests)) a b c xs ys zs one two (parents_more v digests i d x lt at above)
 
 -- the view has the block of each of its digests
-pub there_is : (v : Frozen) (d : Digest) (b : Block) → (x : Block) × IsThere v d x → get v.blocks d ≡ Some b → IsThere v d b
+pub there_is : (v : Frozen) (d : Digest) (b : Block) → (x : Block) × HasBlock v d x → get v.blocks d ≡ Some b → HasBlock v d b
 there_is v d b (x, there) at = (at, subst (λ (y : Block). v.floor ≤ y.round) (one_block x b there.0 at) there.1)
 
 -- the view has the parents of a block above the floor
-pub parents_there : (v : Frozen) (d : Digest) (b : Block) → IsClosed v → get v.blocks d ≡ Some b → v.floor < b.round → All (λ r. (p : Block) × IsThere v r.digest p) b.parents
+pub parents_there : (v : Frozen) (d : Digest) (b : Block) → IsClosed v → get v.blocks d ≡ Some b → v.floor < b.round → All (λ r. (p : Block) × HasBlock v r.digest p) b.parents
 parents_there v d b closed at above k r lt =
     let held = closed.parents d b at above k r lt in
     let before : held.0.round + 1 ≡ b.round = held.3 in

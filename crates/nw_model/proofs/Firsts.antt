@@ -9,7 +9,7 @@ use Rattle.nw_digest.specs.Order.{Slot, slot_cmp}
 use Rattle.nw_model.specs.State.{State, block_slot}
 use Rattle.nw_model.specs.Step.{Bounds, IsReply, after, after_write, after_certify, after_collect, raised, write_reply, certify_reply, collect_reply, rival}
 use Rattle.nw_model.specs.History.{AreReplies}
-use Rattle.nw_model.specs.Laws.{IsVote, LegalHistoriesVoteOnce, FirstsOfABaseGetNoVote}
+use Rattle.nw_model.specs.Laws.{IsVotingEvent, LegalHistoriesVoteOnce, FirstsOfABaseGetNoVote}
 use Rattle.nw_model.specs.declared.call.Call.{Call}
 use Rattle.nw_model.specs.declared.call.Call.TheVariants as call
 use Rattle.nw_model.specs.declared.event.Event.{Event}
@@ -92,7 +92,7 @@ voted bounds s d b is =
     negated false e = refl
 
 -- a spent slot gets no vote
-unvoted : (bounds : Bounds) (s : State) (slot : Slot) (e : Event) → IsReply bounds s e.call e.reply → IsSpent s slot → IsVote slot e → ⊥
+unvoted : (bounds : Bounds) (s : State) (slot : Slot) (e : Event) → IsReply bounds s e.call e.reply → IsSpent s slot → IsVotingEvent slot e → ⊥
 unvoted bounds s slot e is spent (d, b, is_call, is_reply, here) =
     let at : IsReply bounds s (call.Write d b) (reply.Write (write.Stored true)) = subst (λ c. IsReply bounds s c (reply.Write (write.Stored true))) is_call (subst (λ r. IsReply bounds s e.call r) is_reply is) in
     let free = voted bounds s d b (sym at) in
@@ -102,7 +102,7 @@ unvoted bounds s slot e is spent (d, b, is_call, is_reply, here) =
     ]
 
 -- a vote spends its slot
-spends : (bounds : Bounds) (s : State) (slot : Slot) (e : Event) → IsReply bounds s e.call e.reply → IsVote slot e → IsSpent (after bounds s e.call) slot
+spends : (bounds : Bounds) (s : State) (slot : Slot) (e : Event) → IsReply bounds s e.call e.reply → IsVotingEvent slot e → IsSpent (after bounds s e.call) slot
 spends bounds s slot e is (d, b, is_call, is_reply, here) =
     let at : IsReply bounds s (call.Write d b) (reply.Write (write.Stored true)) = subst (λ c. IsReply bounds s c (reply.Write (write.Stored true))) is_call (subst (λ r. IsReply bounds s e.call r) is_reply is) in
     let stored : write_reply bounds s d b ≡ write.Stored true = sym (the_reply at) in
@@ -118,21 +118,21 @@ spends bounds s slot e is (d, b, is_call, is_reply, here) =
     some_is (Some y) x e = refl
 
 -- no later event votes for it
-none_votes : (bounds : Bounds) (s : State) (es : List Event) (slot : Slot) → AreReplies bounds s es → IsSpent s slot → (j : ℕ) (e : Event) → slice_get es j ≡ Some e → IsVote slot e → ⊥
+none_votes : (bounds : Bounds) (s : State) (es : List Event) (slot : Slot) → AreReplies bounds s es → IsSpent s slot → (j : ℕ) (e : Event) → slice_get es j ≡ Some e → IsVotingEvent slot e → ⊥
 none_votes bounds s [] slot are spent j e at vote = absurd cc
-none_votes bounds s (x ∷ es) slot are spent zero e at vote = let same : x ≡ e = cc in unvoted bounds s slot x are.0 spent (subst (λ y. IsVote slot y) (sym same) vote)
+none_votes bounds s (x ∷ es) slot are spent zero e at vote = let same : x ≡ e = cc in unvoted bounds s slot x are.0 spent (subst (λ y. IsVotingEvent slot y) (sym same) vote)
 none_votes bounds s (x ∷ es) slot are spent (suc j) e at vote = none_votes bounds (after bounds s x.call) es slot are.2 (stays bounds s x.call slot spent) j e at vote
 
 -- two events that vote for the same slot are the same event
-one_votes : (bounds : Bounds) (s : State) (es : List Event) (slot : Slot) → AreReplies bounds s es → (i j : ℕ) (e f : Event) → slice_get es i ≡ Some e → slice_get es j ≡ Some f → IsVote slot e → IsVote slot f → i ≡ j
+one_votes : (bounds : Bounds) (s : State) (es : List Event) (slot : Slot) → AreReplies bounds s es → (i j : ℕ) (e f : Event) → slice_get es i ≡ Some e → slice_get es j ≡ Some f → IsVotingEvent slot e → IsVotingEvent slot f → i ≡ j
 one_votes bounds s [] slot are i j e f at_i at_j vote_e vote_f = absurd cc
 one_votes bounds s (x ∷ es) slot are zero zero e f at_i at_j vote_e vote_f = refl
 one_votes bounds s (x ∷ es) slot are zero (suc j) e f at_i at_j vote_e vote_f =
     let same : x ≡ e = cc in
-    absurd (none_votes bounds (after bounds s x.call) es slot are.2 (spends bounds s slot x are.0 (subst (λ y. IsVote slot y) (sym same) vote_e)) j f at_j vote_f)
+    absurd (none_votes bounds (after bounds s x.call) es slot are.2 (spends bounds s slot x are.0 (subst (λ y. IsVotingEvent slot y) (sym same) vote_e)) j f at_j vote_f)
 one_votes bounds s (x ∷ es) slot are (suc i) zero e f at_i at_j vote_e vote_f =
     let same : x ≡ f = cc in
-    absurd (none_votes bounds (after bounds s x.call) es slot are.2 (spends bounds s slot x are.0 (subst (λ y. IsVote slot y) (sym same) vote_f)) i e at_i vote_e)
+    absurd (none_votes bounds (after bounds s x.call) es slot are.2 (spends bounds s slot x are.0 (subst (λ y. IsVotingEvent slot y) (sym same) vote_f)) i e at_i vote_e)
 one_votes bounds s (x ∷ es) slot are (suc i) (suc j) e f at_i at_j vote_e vote_f = ap suc (one_votes bounds (after bounds s x.call) es slot are.2 i j e f at_i at_j vote_e vote_f)
 
 pub one_vote_for_a_slot : LegalHistoriesVoteOnce

@@ -1,4 +1,4 @@
--- The invariant of a store with an index (IsKept), step by step.
+-- The invariant of a store with an index (IsSoundWithIndex), step by step.
 use Rattle.std.proofs.Common.{◌≡◌, ℕ, ◌≤◌, Bool, true, false, not, List, [], ◌∷◌, Option, Some, None, cond, is_some, refl, ap, sym, ◌∙◌, subst, arith, inl, inr, ◌⊎◌}
 use Rattle.std.specs.Prelude.{Result, Ok, Err, OnOk, OnErr, ◌==◌, ◌&&◌, ◌||◌, find}
 use Rattle.std.specs.List.{list_any}
@@ -14,7 +14,7 @@ use Rattle.nw_codec.specs.declared.certificate.Certificate.{Certificate}
 use Rattle.nw_digest.specs.Order.{digest_cmp, Slot, slot_cmp}
 use Rattle.nw_model.specs.State.{State, block_slot, certificate_slot}
 use Rattle.nw_model.specs.Step.{is_slot, is_elsewhere, is_certified_for, certified_digest, with_block, with_certificate}
-use Rattle.nw_model.specs.Sound.{IsSound, IsIndex, IsKept}
+use Rattle.nw_model.specs.Sound.{IsSound, IsIndex, IsSoundWithIndex}
 use Rattle.nw_model.proofs.Maps.{digests_total, digests_apart, slots_total, slots_apart}
 
 -- ---- tests
@@ -224,7 +224,7 @@ index_with_certificate s index c indexed absent first slot d = (
 nothing : {X : Type 0} (q : Digest) (x : X) → get (empty {R = digest_cmp}) q ≡ Some x → ⊥
 nothing q x e = some_none x (sym e ∙ get-empty digest_cmp q)
 
-pub kept_opening : {firsts : FinMap slot_cmp Digest} → IsKept (record { blocks = empty; certificates = empty; firsts = firsts; floor = 0 }) empty
+pub kept_opening : {firsts : FinMap slot_cmp Digest} → IsSoundWithIndex (record { blocks = empty; certificates = empty; firsts = firsts; floor = 0 }) empty
 kept_opening = record {
   sound = record {
     own_digest = λ d c at. absurd (nothing d c at);
@@ -241,7 +241,7 @@ kept_opening = record {
 
 -- after a write
 pub kept_written : (s : State) (index : FinMap slot_cmp Digest) (d : Digest) (b : Block) (blocks : FinMap digest_cmp Block) (firsts : FinMap slot_cmp Digest)
-    → IsKept s index → is_elsewhere certificate_slot (get s.certificates d) (block_slot b) ≡ false → s.floor ≤ b.round → blocks ≡ insert s.blocks d b → IsKept (record s { blocks = blocks; firsts = firsts }) index
+    → IsSoundWithIndex s index → is_elsewhere certificate_slot (get s.certificates d) (block_slot b) ≡ false → s.floor ≤ b.round → blocks ≡ insert s.blocks d b → IsSoundWithIndex (record s { blocks = blocks; firsts = firsts }) index
 kept_written s index d b blocks firsts kept fits above is =
     let new = sound_with_block s d b false kept.sound fits above in
     rw is (record {
@@ -251,8 +251,8 @@ kept_written s index d b blocks firsts kept fits above is =
 
 -- after a write, or a failed allocation
 pub kept_after_write : {E : Type 0} (r : Result (Unit {0}) E) (s : State) (index : FinMap slot_cmp Digest) (d : Digest) (b : Block) (blocks : FinMap digest_cmp Block) (firsts : FinMap slot_cmp Digest)
-    → IsKept s index → is_elsewhere certificate_slot (get s.certificates d) (block_slot b) ≡ false → s.floor ≤ b.round
-    → OnOk r (blocks ≡ insert s.blocks d b) → OnErr r (blocks ≡ s.blocks) → IsKept (record s { blocks = blocks; firsts = firsts }) index
+    → IsSoundWithIndex s index → is_elsewhere certificate_slot (get s.certificates d) (block_slot b) ≡ false → s.floor ≤ b.round
+    → OnOk r (blocks ≡ insert s.blocks d b) → OnErr r (blocks ≡ s.blocks) → IsSoundWithIndex (record s { blocks = blocks; firsts = firsts }) index
 kept_after_write (Ok x) s index d b blocks firsts kept fits above ok err = kept_written s index d b blocks firsts kept fits above ok
 kept_after_write (Err e) s index d b blocks firsts kept fits above ok err =
     let old = kept.sound in
@@ -263,8 +263,8 @@ kept_after_write (Err e) s index d b blocks firsts kept fits above ok err =
 
 -- after a certificate was kept, or a failed allocation
 pub kept_after_certify : {E : Type 0} (r : Result (Unit {0}) E) (s : State) (index : FinMap slot_cmp Digest) (c : Certificate) (certificates : FinMap digest_cmp Certificate) (after : FinMap slot_cmp Digest)
-    → IsKept s index → get s.certificates c.digest ≡ None → certified_digest s (certificate_slot c) ≡ None → is_elsewhere block_slot (get s.blocks c.digest) (certificate_slot c) ≡ false → s.floor ≤ c.round
-    → OnOk r ((certificates ≡ insert s.certificates c.digest c) × (after ≡ insert index (certificate_slot c) c.digest)) → OnErr r ((certificates ≡ s.certificates) × (after ≡ index)) → IsKept (record s { certificates = certificates }) after
+    → IsSoundWithIndex s index → get s.certificates c.digest ≡ None → certified_digest s (certificate_slot c) ≡ None → is_elsewhere block_slot (get s.blocks c.digest) (certificate_slot c) ≡ false → s.floor ≤ c.round
+    → OnOk r ((certificates ≡ insert s.certificates c.digest c) × (after ≡ insert index (certificate_slot c) c.digest)) → OnErr r ((certificates ≡ s.certificates) × (after ≡ index)) → IsSoundWithIndex (record s { certificates = certificates }) after
 kept_after_certify (Ok x) s index c certificates after kept absent first fits above ok err =
     let new = sound_with_certificate s c kept.sound first fits above in
     rw (ok.0, ok.1) (record {

@@ -6,14 +6,14 @@ use Rattle.std.specs.declared.cmp.Ordering.{Ordering}
 use Rattle.std.specs.FinMap.{get}
 use Rattle.nw_model.proofs.Wanted.{wanted_total}
 use Rattle.nw_model.specs.declared.wanted.Wanted.{Wanted}
-use Rattle.nw_model.specs.Missing.{IsWanted, AreExactly, HasCount, AreFirstWanted, AreCounts}
+use Rattle.nw_model.specs.Missing.{IsWanted, ListsExactly, HasCount, AreFirstWanted, AreCounts}
 use Rattle.nw_model.specs.declared.reply.Counts.{Counts}
 use Rattle.nw_digest.specs.declared.digest.Digest.{Digest}
 use Rattle.nw_codec.specs.declared.block.Block.{Block}
 use Rattle.nw_codec.specs.declared.certificate.Certificate.{Certificate}
 use Rattle.nw_model.specs.State.{State}
 use Rattle.nw_model.specs.Paths.{IsAncestor, IsComplete, IsCausalList}
-use Rattle.nw_model.specs.Step.{Bounds, IsReply, IsCausalReply, AreOneReply, StepIsAFunction, shortened, write_reply, certify_reply, collect_reply}
+use Rattle.nw_model.specs.Step.{Bounds, IsReply, IsCausalReply, AreSameReply, StepIsAFunction, recorded, write_reply, certify_reply, collect_reply}
 use Rattle.nw_model.specs.declared.call.Call.TheVariants as call
 use Rattle.nw_model.specs.declared.reply.CausalReply.{CausalReply}
 use Rattle.nw_model.specs.declared.reply.CausalReply.TheVariants as causal
@@ -23,9 +23,9 @@ use Rattle.nw_model.proofs.Maps.{digests_total}
 use Rattle.nw_model.proofs.Listed.{same_lists, same_in_order}
 
 -- equal replies are one reply
-equal_replies : (one other : Reply) → one ≡ other → AreOneReply one other
+equal_replies : (one other : Reply) → one ≡ other → AreSameReply one other
 equal_replies one other same = record {
-  short = ap shortened same;
+  short = ap recorded same;
   list = λ blocks others is was. same_blocks blocks others (sym is ∙ same ∙ was);
 }
   where
@@ -81,20 +81,20 @@ one_reason s d causal.Incomplete causal.Uncertified is was = absurd (none_some (
 one_reason s d causal.Incomplete causal.Incomplete is was = refl
 
 -- the reply to a causal read is a reason, or the list of a complete digest
-reason_or_list : (s : State) (d : Digest) (r : Reply) → IsCausalReply s d r → ((why : CausalReply) × (r ≡ reply.Causal why)) ⊎ (IsComplete s d × (shortened r ≡ reply.Ready))
+reason_or_list : (s : State) (d : Digest) (r : Reply) → IsCausalReply s d r → ((why : CausalReply) × (r ≡ reply.Causal why)) ⊎ (IsComplete s d × (recorded r ≡ reply.Ready))
 reason_or_list s d (reply.Causal why) is = inl (why, refl)
 reason_or_list s d reply.Ready is = inr (is, refl)
 reason_or_list s d (reply.List blocks) is = inr (is.0, refl)
 reason_or_list s d other is = absurd is
 
 -- two replies to a causal read are one
-to_causal : (s : State) (d : Digest) (one other : Reply) → IsCausalReply s d one → IsCausalReply s d other → AreOneReply one other
+to_causal : (s : State) (d : Digest) (one other : Reply) → IsCausalReply s d one → IsCausalReply s d other → AreSameReply one other
 to_causal s d one other is was = record {
   short = elim (reason_or_list s d one is) [
     | inl here ↦ elim (reason_or_list s d other was) [
       | inl there ↦
           let same = one_reason s d here.0 there.0 (subst (λ r. IsCausalReply s d r) here.1 is) (subst (λ r. IsCausalReply s d r) there.1 was) in
-          ap shortened (here.1 ∙ ap reply.Causal same ∙ sym there.1)
+          ap recorded (here.1 ∙ ap reply.Causal same ∙ sym there.1)
       | inr there ↦ absurd (complete_listed s d here.0 there.0 (subst (λ r. IsCausalReply s d r) here.1 is))
     ]
     | inr here ↦ elim (reason_or_list s d other was) [
@@ -111,7 +111,7 @@ to_causal s d one other is was = record {
 -- ---- wanted parents and counts
 
 -- there is only one list of exactly the values with P
-pub one_list : {A : Type 0} {cmp : A → A → Ordering} (o : IsTotalOrder cmp) (P : A → Type 0) (xs ys : List A) → AreExactly cmp P xs → AreExactly cmp P ys → xs ≡ ys
+pub one_list : {A : Type 0} {cmp : A → A → Ordering} (o : IsTotalOrder cmp) (P : A → Type 0) (xs ys : List A) → ListsExactly cmp P xs → ListsExactly cmp P ys → xs ≡ ys
 one_list o P xs ys one other = same_in_order o xs ys one.ascending other.ascending (λ x. (λ here. (other.exactly x).1 ((one.exactly x).0 here), λ there. (one.exactly x).1 ((other.exactly x).0 there)))
 
 -- and only one count

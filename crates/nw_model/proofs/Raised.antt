@@ -15,7 +15,7 @@ use Rattle.nw_codec.specs.declared.certificate.Certificate.{Certificate}
 use Rattle.nw_digest.specs.Order.{digest_cmp, Slot, slot_cmp}
 use Rattle.nw_model.specs.State.{State}
 use Rattle.nw_model.specs.Step.{from_round, raised}
-use Rattle.nw_model.specs.Sound.{IsSound, IsKept}
+use Rattle.nw_model.specs.Sound.{IsSound, IsSoundWithIndex}
 use Rattle.nw_model.proofs.Maps.{digests_total, digests_apart, slots_total, slots_apart, get_lookup}
 use Rattle.nw_model.proofs.Kept.{tie}
 
@@ -92,7 +92,7 @@ sound_raised s round sound = record {
     certificate d c at = was_there (λ (x : Certificate). x.round) round s.certificates d c at
 
 -- and the index without the slots below the round is the index of the new state
-pub kept_raised : (s : State) (index : FinMap slot_cmp Digest) (round : ℕ) → IsKept s index → IsKept (raised s round) (slots_from round index)
+pub kept_raised : (s : State) (index : FinMap slot_cmp Digest) (round : ℕ) → IsSoundWithIndex s index → IsSoundWithIndex (raised s round) (slots_from round index)
 kept_raised s index round kept = record {
   sound = sound_raised s round kept.sound;
   indexed = λ slot d. (

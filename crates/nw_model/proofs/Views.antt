@@ -7,23 +7,23 @@ use Rattle.nw_digest.specs.declared.digest.Digest.{Digest}
 use Rattle.nw_codec.specs.declared.block.Block.{Block}
 use Rattle.nw_model.specs.State.{State}
 use Rattle.nw_model.specs.Paths.{IsStanding, IsSatisfied, IsParent, IsPath, IsComplete, IsCausalList}
-use Rattle.nw_model.specs.Sound.{HasNoneBelow}
-use Rattle.nw_model.specs.View.{Frozen, IsThere, IsParentIn, IsPathIn, IsAncestorIn, IsWalk, Shows}
+use Rattle.nw_model.specs.Sound.{HasNoBlocksBelowFloor}
+use Rattle.nw_model.specs.View.{Frozen, HasBlock, IsParentIn, IsPathIn, IsAncestorIn, IsWalk, Shows}
 use Rattle.nw_model.specs.Laws.{ViewsShowTheAncestors}
 use Rattle.nw_model.proofs.Complete.{parent_complete, parents_complete}
 use Rattle.nw_model.proofs.Listed.{contains_first, contains_later}
 
 -- each block of the view is held in the state
-pub there_held : (v : Frozen) (s : State) (d : Digest) (b : Block) → Shows v s → IsThere v d b → get s.blocks d ≡ Some b
+pub there_held : (v : Frozen) (s : State) (d : Digest) (b : Block) → Shows v s → HasBlock v d b → get s.blocks d ≡ Some b
 there_held v s d b shows there = ((shows.complete d b).0 there).0
 
 -- a complete block that stands is in the view
-pub complete_there : (v : Frozen) (s : State) (d : Digest) (b : Block) → HasNoneBelow s → Shows v s → IsComplete s d → IsStanding s d b → IsThere v d b
+pub complete_there : (v : Frozen) (s : State) (d : Digest) (b : Block) → HasNoBlocksBelowFloor s → Shows v s → IsComplete s d → IsStanding s d b → HasBlock v d b
 complete_there v s d b kept shows whole stands = (shows.complete d b).1 (stands.0, kept d b stands.0, whole)
 
 -- the last digest of a path is in the view
-pub last_there : (v : Frozen) (d : Digest) (path : List Digest) (a : Digest) → IsPathIn v d path a → (b : Block) × IsThere v a b
-last_there v d [] a on = (on.0.0, subst (λ q. IsThere v q on.0.0) on.1 on.0.1)
+pub last_there : (v : Frozen) (d : Digest) (path : List Digest) (a : Digest) → IsPathIn v d path a → (b : Block) × HasBlock v a b
+last_there v d [] a on = (on.0.0, subst (λ q. HasBlock v q on.0.0) on.1 on.0.1)
 last_there v d (e ∷ path) a on = last_there v e path a on.1
 
 -- a path in the view is a path in the state
@@ -42,7 +42,7 @@ path_to_state v s d (e ∷ path) a shows whole on =
     ((b, r, stands, parent.4, named.0, parent.5), path_to_state v s e path a shows below on.1)
 
 -- a path in the state is a path in the view
-path_to_view : (v : Frozen) (s : State) (d : Digest) (path : List Digest) (a : Digest) → HasNoneBelow s → Shows v s → IsComplete s d → IsPath s d path a → IsPathIn v d path a
+path_to_view : (v : Frozen) (s : State) (d : Digest) (path : List Digest) (a : Digest) → HasNoBlocksBelowFloor s → Shows v s → IsComplete s d → IsPath s d path a → IsPathIn v d path a
 path_to_view v s d [] a kept shows whole on = ((on.0.0, complete_there v s d on.0.0 kept shows whole on.0.1), on.1)
 path_to_view v s d (e ∷ path) a kept shows whole on =
     let parent : IsParent s d e = on.0 in
@@ -70,7 +70,7 @@ same_map f g (x ∷ xs) agree =
     cc
 
 -- a walk of a complete block in a view that shows the state is its causal list
-pub walk_is_causal : (v : Frozen) (s : State) (d : Digest) (blocks : List Block) → HasNoneBelow s → Shows v s → IsComplete s d → IsWalk v d blocks → IsCausalList s d blocks
+pub walk_is_causal : (v : Frozen) (s : State) (d : Digest) (blocks : List Block) → HasNoBlocksBelowFloor s → Shows v s → IsComplete s d → IsWalk v d blocks → IsCausalList s d blocks
 walk_is_causal v s d blocks kept shows whole walk = record {
   digests = walk.digests;
   found = same_map (get s.blocks) (get v.blocks) walk.digests (λ a among.

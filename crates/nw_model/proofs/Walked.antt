@@ -20,7 +20,7 @@ use Rattle.nw_digest.specs.Order.{Slot, slot_cmp}
 use Rattle.nw_model.specs.State.{block_slot}
 use Rattle.nw_model.specs.Paths.{block_cmp}
 use Rattle.nw_model.specs.View.{Frozen, IsWalk}
-use Rattle.nw_model.specs.Search.{IsUnder, Reaches}
+use Rattle.nw_model.specs.Search.{IsUnderSlot, FindsAncestors}
 use Rattle.nw_model.proofs.Maps.{get_lookup, slots_total}
 
 -- ---- entries in order
@@ -63,7 +63,7 @@ some_same : (b c : Block) → Some b ≡ Some c → b ≡ c
 some_same b c e = cc
 
 -- the blocks under the values have the keys as their slots
-same_slots : (v : Frozen) (es : List (Slot × Digest)) (blocks : List Block) → AllByRecursion (λ e. IsUnder v e.0 e.1) es → map (get v.blocks) (values_of es) ≡ map Some blocks → map block_slot blocks ≡ keys_of es
+same_slots : (v : Frozen) (es : List (Slot × Digest)) (blocks : List Block) → AllByRecursion (λ e. IsUnderSlot v e.0 e.1) es → map (get v.blocks) (values_of es) ≡ map Some blocks → map block_slot blocks ≡ keys_of es
 same_slots v [] [] under is = refl
 same_slots v [] (b ∷ bs) under is = absurd cc
 same_slots v (e ∷ es) [] under is = absurd cc
@@ -87,14 +87,14 @@ ascending_by_slot [] h = tt
 ascending_by_slot (b ∷ bs) h = (below_all b bs h.0, ascending_by_slot bs h.1)
 
 -- the view has the block of each found digest
-pub values_there : (v : Frozen) (d : Digest) (es : List (Slot × Digest)) → IsStrictlySortedBy slot_cmp (keys_of es) → Reaches v d (from_entries es) → (a : Digest) → Contains (values_of es) a → (b : Block) × (get v.blocks a ≡ Some b)
+pub values_there : (v : Frozen) (d : Digest) (es : List (Slot × Digest)) → IsStrictlySortedBy slot_cmp (keys_of es) → FindsAncestors v d (from_entries es) → (a : Digest) → Contains (values_of es) a → (b : Block) × (get v.blocks a ≡ Some b)
 values_there v d es sorted reaches a among =
     let found = among_found es a sorted among in
     let under = reaches.under found.0 a found.1 in
     (under.0, under.1.0)
 
 -- the blocks under the values are the walk
-pub walked : (v : Frozen) (d : Digest) (es : List (Slot × Digest)) (blocks : List Block) → IsStrictlySortedBy slot_cmp (keys_of es) → Reaches v d (from_entries es) → map (get v.blocks) (values_of es) ≡ map Some blocks
+pub walked : (v : Frozen) (d : Digest) (es : List (Slot × Digest)) (blocks : List Block) → IsStrictlySortedBy slot_cmp (keys_of es) → FindsAncestors v d (from_entries es) → map (get v.blocks) (values_of es) ≡ map Some blocks
     → IsWalk v d blocks
 walked v d es blocks sorted reaches is = record {
   digests = values_of es;
@@ -106,8 +106,8 @@ walked v d es blocks sorted reaches is = record {
   ascending = ascending_by_slot blocks (subst (λ ks. IsStrictlySortedBy slot_cmp ks) (sym (same_slots v es blocks under is)) sorted);
 }
   where
-    under : AllByRecursion (λ e. IsUnder v e.0 e.1) es
-    under = recursion_from_All (λ e. IsUnder v e.0 e.1) es (λ k e lt. reaches.under (get_or es k e).0 (get_or es k e).1 (each_found es sorted k e lt))
+    under : AllByRecursion (λ e. IsUnderSlot v e.0 e.1) es
+    under = recursion_from_All (λ e. IsUnderSlot v e.0 e.1) es (λ k e lt. reaches.under (get_or es k e).0 (get_or es k e).1 (each_found es sorted k e lt))
 
 -- ---- one block after the other
 

@@ -11,7 +11,7 @@ use Rattle.nw_codec.specs.declared.certificate.Seal.{Seal}
 use Rattle.nw_codec.specs.declared.certificate.Certificate.{Certificate}
 use Rattle.nw_committee.specs.Committee.{ReachesQuorum}
 use Rattle.nw_committee.specs.declared.member.Member.{Member}
-use Rattle.nw_sig.specs.Signed.{Meaning, block_text, vote_text}
+use Rattle.nw_sig.specs.Signed.{Meaning, text_of_block, text_of_vote}
 
 -- the digest of a block: SHA-256 of its encoded body
 abbrev pub digest_of : Block → Digest
@@ -38,7 +38,7 @@ pub record IsWellFormedWith (accepts : Meaning) (members : List Member) (b : Blo
   -- the authors of the parents of a later block reach the quorum
   pub parents : 0 < b.round → ReachesQuorum members (authors b.parents)
   -- its author signed its digest
-  pub signed : IsSignedBy accepts members b.author (block_text (digest_of b)) signature
+  pub signed : IsSignedBy accepts members b.author (text_of_block (digest_of b)) signature
 
 -- the block is well formed with some signature
 abbrev pub IsWellFormed : Meaning → List Member → Block → Type 0
@@ -46,7 +46,7 @@ IsWellFormed accepts members b = (signature : Signature) × IsWellFormedWith acc
 
 -- the seal is its signer's vote for the certificate's digest, round and author
 abbrev pub IsSealOf : Meaning → List Member → Certificate → Seal → Type 0
-IsSealOf accepts members c seal = IsSignedBy accepts members seal.signer (vote_text c.digest c.round c.author) seal.signature
+IsSealOf accepts members c seal = IsSignedBy accepts members seal.signer (text_of_vote c.digest c.round c.author) seal.signature
 
 -- the certificate is valid
 pub record IsValid (accepts : Meaning) (members : List Member) (c : Certificate) : Type 0 where

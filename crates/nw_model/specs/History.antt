@@ -4,7 +4,7 @@ use Rattle.nw_committee.specs.declared.member.Member.{Member}
 use Rattle.nw_sig.specs.Signed.{Meaning}
 use Rattle.nw_model.specs.State.{State, opening}
 use Rattle.nw_model.specs.Checks.{digest_of, IsWellFormed, IsValid}
-use Rattle.nw_model.specs.Step.{Bounds, after, IsReply, IsShort}
+use Rattle.nw_model.specs.Step.{Bounds, after, IsReply, HasNoList}
 use Rattle.nw_model.specs.declared.call.Call.{Call}
 use Rattle.nw_model.specs.declared.call.Call.TheVariants as call
 use Rattle.nw_model.specs.declared.event.Event.{Event}
@@ -17,7 +17,7 @@ replay bounds s (e ∷ es) = replay bounds (after bounds s e.call) es
 -- each event has the reply of its call at its place (IsReply), and no reply is a list
 abbrev pub AreReplies : Bounds → State → List Event → Type 0
 AreReplies bounds s [] = Unit {0}
-AreReplies bounds s (e ∷ es) = IsReply bounds s e.call e.reply × IsShort e.reply × AreReplies bounds (after bounds s e.call) es
+AreReplies bounds s (e ∷ es) = IsReply bounds s e.call e.reply × HasNoList e.reply × AreReplies bounds (after bounds s e.call) es
 
 -- the events of one session, in order
 abbrev pub events_of : ℕ → List Event → List Event

@@ -10,7 +10,7 @@ use Rattle.nw_model.specs.State.{State, block_slot}
 use Rattle.nw_model.specs.Checks.{digest_of}
 use Rattle.nw_model.specs.Paths.{IsAncestor, IsComplete, IsCausalList}
 use Rattle.nw_model.specs.View.{Frozen, IsAncestorIn, Shows}
-use Rattle.nw_model.specs.Sound.{IsSound, HasNoneBelow}
+use Rattle.nw_model.specs.Sound.{IsSound, HasNoBlocksBelowFloor}
 use Rattle.nw_model.specs.History.{Terms, IsLegal, replay}
 use Rattle.nw_model.specs.declared.call.Call.TheVariants as call
 use Rattle.nw_model.specs.declared.event.Event.{Event}
@@ -30,7 +30,7 @@ BeginningsOfLegalHistoriesAreLegal =
 
 -- if a view shows a state that has no blocks below its garbage round, a complete digest has the same ancestors in both
 abbrev pub ViewsShowTheAncestors : Type 0
-ViewsShowTheAncestors = (v : Frozen) (s : State) (d : Digest) → HasNoneBelow s → Shows v s → IsComplete s d → (a : Digest) → IsAncestorIn v d a ↔ IsAncestor s d a
+ViewsShowTheAncestors = (v : Frozen) (s : State) (d : Digest) → HasNoBlocksBelowFloor s → Shows v s → IsComplete s d → (a : Digest) → IsAncestorIn v d a ↔ IsAncestor s d a
 
 -- in a sound state, a complete digest has a causal list, and every causal list of it is equal to that one
 abbrev pub CompleteDigestsHaveOneCausalList : Type 0
@@ -44,20 +44,20 @@ CausalListsContainThoseOfTheirBlocks =
     → IsComplete s e × (few : List Block) × IsCausalList s e few × All (Contains blocks) few
 
 -- the event is a write of a block of this slot, and its reply is Stored with a vote
-abbrev pub IsVote : Slot → Event → Type 0
-IsVote slot e = (d : Digest) × (b : Block) × (e.call ≡ call.Write d b) × (e.reply ≡ reply.Write (write.Stored true)) × (block_slot b ≡ slot)
+abbrev pub IsVotingEvent : Slot → Event → Type 0
+IsVotingEvent slot e = (d : Digest) × (b : Block) × (e.call ≡ call.Write d b) × (e.reply ≡ reply.Write (write.Stored true)) × (block_slot b ≡ slot)
 
 -- at most one event of a legal history votes for a slot
 abbrev pub LegalHistoriesVoteOnce : Type 0
 LegalHistoriesVoteOnce =
     (accepts : Meaning) (terms : Terms) (base : State) (es : List Event) → IsLegal accepts terms base es
-    → (slot : Slot) (i j : ℕ) (e f : Event) → slice_get es i ≡ Some e → slice_get es j ≡ Some f → IsVote slot e → IsVote slot f → i ≡ j
+    → (slot : Slot) (i j : ℕ) (e f : Event) → slice_get es i ≡ Some e → slice_get es j ≡ Some f → IsVotingEvent slot e → IsVotingEvent slot f → i ≡ j
 
 -- if a slot has a first digest in the base of a legal history, no event of the history votes for it
 abbrev pub FirstsOfABaseGetNoVote : Type 0
 FirstsOfABaseGetNoVote =
     (accepts : Meaning) (terms : Terms) (base : State) (es : List Event) → IsLegal accepts terms base es
-    → (slot : Slot) → IsSome (get base.firsts slot) → (i : ℕ) (e : Event) → slice_get es i ≡ Some e → IsVote slot e → ⊥
+    → (slot : Slot) → IsSome (get base.firsts slot) → (i : ℕ) (e : Event) → slice_get es i ≡ Some e → IsVotingEvent slot e → ⊥
 
 -- s and t are states of one legal history, s not later than t
 pub record LeadsOn (accepts : Meaning) (terms : Terms) (s t : State) : Type 0 where

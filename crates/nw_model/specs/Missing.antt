@@ -30,7 +30,7 @@ abbrev pub IsWanted : State → Wanted → Type 0
 IsWanted s w = (d : Digest) × (b : Block) × (get s.blocks d ≡ Some b) × Wants s b w
 
 -- the list has exactly the values with P, in order
-pub record AreExactly {A : Type 0} (cmp : A → A → Ordering) (P : A → Type 0) (xs : List A) : Type 0 where
+pub record ListsExactly {A : Type 0} (cmp : A → A → Ordering) (P : A → Type 0) (xs : List A) : Type 0 where
   -- a value is in the list exactly if it has P
   pub exactly : (x : A) → Contains xs x ↔ P x
   -- the values ascend strictly
@@ -38,11 +38,11 @@ pub record AreExactly {A : Type 0} (cmp : A → A → Ordering) (P : A → Type 
 
 -- exactly n values have P
 abbrev pub HasCount : {A : Type 0} → (A → A → Ordering) → (A → Type 0) → ℕ → Type 0
-HasCount {A} cmp P n = (xs : List A) × AreExactly cmp P xs × (length xs ≡ n)
+HasCount {A} cmp P n = (xs : List A) × ListsExactly cmp P xs × (length xs ≡ n)
 
 -- the list has the first `most` wanted parents by round, author and digest, or all of them if there are fewer
 abbrev pub AreFirstWanted : State → ℕ → List Wanted → Type 0
-AreFirstWanted s most first = (all : List Wanted) × AreExactly wanted_cmp (IsWanted s) all × (first ≡ take most all)
+AreFirstWanted s most first = (all : List Wanted) × ListsExactly wanted_cmp (IsWanted s) all × (first ≡ take most all)
 
 -- the counts are those of the state
 pub record AreCounts (s : State) (counts : Counts) : Type 0 where

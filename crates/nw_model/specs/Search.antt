@@ -6,19 +6,19 @@ use Rattle.nw_codec.specs.declared.block.Ref.{Ref}
 use Rattle.nw_codec.specs.declared.block.Block.{Block}
 use Rattle.nw_digest.specs.Order.{Slot, slot_cmp}
 use Rattle.nw_model.specs.State.{block_slot}
-use Rattle.nw_model.specs.View.{Frozen, IsThere, IsParentIn, IsAncestorIn}
+use Rattle.nw_model.specs.View.{Frozen, HasBlock, IsParentIn, IsAncestorIn}
 
 -- the view has a block of this slot under e, not below its floor
-abbrev pub IsUnder : Frozen → Slot → Digest → Type 0
-IsUnder v slot e = (b : Block) × IsThere v e b × (block_slot b ≡ slot)
+abbrev pub IsUnderSlot : Frozen → Slot → Digest → Type 0
+IsUnderSlot v slot e = (b : Block) × HasBlock v e b × (block_slot b ≡ slot)
 
 -- each found digest is found under the slot of its block
-abbrev pub AreUnder : Frozen → FinMap slot_cmp Digest → Type 0
-AreUnder v found = (slot : Slot) (e : Digest) → get found slot ≡ Some e → IsUnder v slot e
+abbrev pub AreUnderSlots : Frozen → FinMap slot_cmp Digest → Type 0
+AreUnderSlots v found = (slot : Slot) (e : Digest) → get found slot ≡ Some e → IsUnderSlot v slot e
 
 -- e is found, under the slot of its block
-abbrev pub IsFound : Frozen → FinMap slot_cmp Digest → Digest → Type 0
-IsFound v found e = (b : Block) × (get v.blocks e ≡ Some b) × (get found (block_slot b) ≡ Some e)
+abbrev pub IsFoundAt : Frozen → FinMap slot_cmp Digest → Digest → Type 0
+IsFoundAt v found e = (b : Block) × (get v.blocks e ≡ Some b) × (get found (block_slot b) ≡ Some e)
 
 -- one of the references names e
 abbrev pub IsNamed : List Ref → Digest → Type 0
@@ -37,19 +37,19 @@ pub record Finds (v : Frozen) (P : Digest → Type 0) (old new : FinMap slot_cmp
   -- each digest found before is still found
   pub keeps : (slot : Slot) (e : Digest) → get old slot ≡ Some e → get new slot ≡ Some e
   -- each digest with P is found now
-  pub finds : (e : Digest) → P e → IsFound v new e
+  pub finds : (e : Digest) → P e → IsFoundAt v new e
   -- a digest found only now has P and is listed, and its block has the slot that it is found under
-  pub adds : (slot : Slot) (e : Digest) → get new slot ≡ Some e → (get old slot ≡ Some e) ⊎ (Contains more e × P e × IsUnder v slot e)
+  pub adds : (slot : Slot) (e : Digest) → get new slot ≡ Some e → (get old slot ≡ Some e) ⊎ (Contains more e × P e × IsUnderSlot v slot e)
   -- each digest listed before is still listed
   pub stays : (e : Digest) → Contains listed e → Contains more e
   -- a digest listed only now has P
   pub lists : (e : Digest) → Contains more e → Contains listed e ⊎ P e
 
 -- the search from d is finished: exactly the ancestors of d are found
-pub record Reaches (v : Frozen) (d : Digest) (found : FinMap slot_cmp Digest) : Type 0 where
+pub record FindsAncestors (v : Frozen) (d : Digest) (found : FinMap slot_cmp Digest) : Type 0 where
   -- each found digest is found under the slot of its block
-  pub under : AreUnder v found
+  pub under : AreUnderSlots v found
   -- each found digest is an ancestor of d
   pub only : (slot : Slot) (e : Digest) → get found slot ≡ Some e → IsAncestorIn v d e
   -- each ancestor of d is found
-  pub each : (e : Digest) → IsAncestorIn v d e → IsFound v found e
+  pub each : (e : Digest) → IsAncestorIn v d e → IsFoundAt v found e

@@ -31,15 +31,15 @@ pub record Bounds : Type 0 where
   pub window : ℕ
 
 -- the tables of a store
-pub record Tables : Type 0 where
+pub record BoundedState : Type 0 where
   -- the bounds under which the store takes its steps
   pub bounds : Bounds
   -- its state
   pub state : State
 
 -- the code of tables
-abbrev pub coded_tables : Coded Tables
-coded_tables =
+abbrev pub coded_bounded_state : Coded BoundedState
+coded_bounded_state =
     code_by (ℕ × (ℕ × State)) (coded× coded_ℕ (coded× coded_ℕ coded_state))
     (λ t. (t.bounds.blocks, (t.bounds.window, t.state)))
     (λ p. record { bounds = record { blocks = p.0; window = p.1.0 }; state = p.1.1 }) (λ _. refl)
@@ -200,22 +200,22 @@ IsReply bounds s call.Status (reply.Status counts) = AreCounts s counts
 IsReply bounds s asked other = ⊥
 
 -- the reply is one that a history may record: no list
-abbrev pub IsShort : Reply → Type 0
-IsShort (reply.List blocks) = ⊥
-IsShort other = Unit {0}
+abbrev pub HasNoList : Reply → Type 0
+HasNoList (reply.List blocks) = ⊥
+HasNoList other = Unit {0}
 
 -- the reply as a history records it: Ready in place of a list
-abbrev pub shortened : Reply → Reply
-shortened (reply.List blocks) = reply.Ready
-shortened other = other
+abbrev pub recorded : Reply → Reply
+recorded (reply.List blocks) = reply.Ready
+recorded other = other
 
 -- the two replies are equal, except that one may have Ready in place of the list
-pub record AreOneReply (one other : Reply) : Type 0 where
+pub record AreSameReply (one other : Reply) : Type 0 where
   -- a history records both in the same way
-  pub short : shortened one ≡ shortened other
+  pub short : recorded one ≡ recorded other
   -- if both are lists, the lists are equal
   pub list : (blocks others : List Block) → one ≡ reply.List blocks → other ≡ reply.List others → blocks ≡ others
 
 -- two replies to the same call in the same state are equal, except that one may have Ready in place of the list
 abbrev pub StepIsAFunction : Type 0
-StepIsAFunction = (bounds : Bounds) (s : State) (asked : Call) (one other : Reply) → IsReply bounds s asked one → IsReply bounds s asked other → AreOneReply one other
+StepIsAFunction = (bounds : Bounds) (s : State) (asked : Call) (one other : Reply) → IsReply bounds s asked one → IsReply bounds s asked other → AreSameReply one other

@@ -33,8 +33,8 @@ pub record IsClosed (v : Frozen) : Type 0 where
   pub apart : (d e : Digest) (b c : Block) → get v.blocks d ≡ Some b → get v.blocks e ≡ Some c → v.floor ≤ b.round → block_slot b ≡ block_slot c → d ≡ e
 
 -- the view has the block b under d, at or above its floor
-abbrev pub IsThere : Frozen → Digest → Block → Type 0
-IsThere v d b = (get v.blocks d ≡ Some b) × (v.floor ≤ b.round)
+abbrev pub HasBlock : Frozen → Digest → Block → Type 0
+HasBlock v d b = (get v.blocks d ≡ Some b) × (v.floor ≤ b.round)
 
 -- e is a parent of d in the view: d's block is above the floor and has a reference to e
 abbrev pub IsParentIn : Frozen → Digest → Digest → Type 0
@@ -43,7 +43,7 @@ IsParentIn v d e = (b : Block) × (r : Ref) × (get v.blocks d ≡ Some b) × (v
 -- a path in the view leads by these digests from one digest to another: each step leads to a parent, and the last block is not below
 -- the floor
 abbrev pub IsPathIn : Frozen → Digest → List Digest → Digest → Type 0
-IsPathIn v from [] to = ((b : Block) × IsThere v from b) × (from ≡ to)
+IsPathIn v from [] to = ((b : Block) × HasBlock v from b) × (from ≡ to)
 IsPathIn v from (next ∷ path) to = IsParentIn v from next × IsPathIn v next path to
 
 -- a is an ancestor of d in the view: some path in it leads from d to a
@@ -59,7 +59,7 @@ pub record Shows (v : Frozen) (s : State) : Type 0 where
   -- its floor is the garbage round
   pub floor : v.floor ≡ s.floor
   -- from that round on, its blocks are exactly the complete ones
-  pub complete : (d : Digest) (b : Block) → IsThere v d b ↔ ((get s.blocks d ≡ Some b) × (s.floor ≤ b.round) × IsComplete s d)
+  pub complete : (d : Digest) (b : Block) → HasBlock v d b ↔ ((get s.blocks d ≡ Some b) × (s.floor ≤ b.round) × IsComplete s d)
 
 -- these are exactly the complete blocks of the state
 abbrev pub AreComplete : State → FinMap digest_cmp Block → Type 0

@@ -13,11 +13,10 @@ mod wanted;
 pub use call::Call;
 pub use event::Event;
 pub use laws::{
-    a_beginning_of_a_legal_history_is_legal, a_causal_list_contains_those_of_its_blocks,
-    a_causal_list_reaches_a_quorum_in_each_round, a_causal_list_stays,
-    a_complete_digest_has_one_causal_list, a_first_of_the_base_gets_no_vote,
-    a_legal_history_leaves_a_sound_state, a_legal_history_votes_once_for_a_slot,
-    ancestors_in_a_view_are_the_states, reads_of_a_digest_agree, step_is_a_function,
+    beginnings_of_legal_histories_are_legal, causal_lists_contain_those_of_their_blocks,
+    causal_lists_reach_quorums, causal_lists_stay, complete_digests_have_one_causal_list,
+    firsts_of_a_base_get_no_vote, legal_histories_leave_sound_states, legal_histories_vote_once,
+    reads_agree, step_is_a_function, views_show_the_ancestors,
 };
 pub use reply::{CausalReply, CertifyReply, CollectReply, Counts, Reply, WriteReply};
 pub use wanted::Wanted;

@@ -10,7 +10,7 @@ use Rattle.nw_codec.specs.declared.certificate.Certificate.{Certificate}
 use Rattle.nw_digest.specs.Order.{digest_cmp, Slot, slot_cmp}
 use Rattle.nw_model.specs.State.{State}
 use Rattle.nw_model.specs.Step.{raised}
-use Rattle.nw_model.specs.Sound.{IsKept}
+use Rattle.nw_model.specs.Sound.{IsSoundWithIndex}
 use Rattle.nw_model.proofs.Raised.{filtered_round, filtered_slots, kept_raised, slots_from}
 
 -- the state of these entries
@@ -29,8 +29,8 @@ module _ (bs blocks : List (Digest × Block)) (cs certificates : List (Digest ×
         let of_firsts = ap (from_entries {R = slot_cmp}) firsts_stay ∙ filtered_slots round fs in
         λ i. record { blocks = of_blocks i; certificates = of_certificates i; firsts = of_firsts i; floor = round }
 
-    pub kept_collected : (is index : List (Slot × Digest)) → index ≡ filter (λ e. nat_le round e.0.0) is → IsKept (state_of bs cs fs floor) (from_entries is) → IsKept (state_of blocks certificates firsts round) (from_entries index)
+    pub kept_collected : (is index : List (Slot × Digest)) → index ≡ filter (λ e. nat_le round e.0.0) is → IsSoundWithIndex (state_of bs cs fs floor) (from_entries is) → IsSoundWithIndex (state_of blocks certificates firsts round) (from_entries index)
     kept_collected is index index_stays kept =
         let of_index : from_entries {R = slot_cmp} index ≡ slots_from round (from_entries is) = ap (from_entries {R = slot_cmp}) index_stays ∙ filtered_slots round is in
-        subst (λ s. IsKept s (from_entries index)) (sym collected)
-        (subst (λ m. IsKept (raised (state_of bs cs fs floor) round) m) (sym of_index) (kept_raised (state_of bs cs fs floor) (from_entries is) round kept))
+        subst (λ s. IsSoundWithIndex s (from_entries index)) (sym collected)
+        (subst (λ m. IsSoundWithIndex (raised (state_of bs cs fs floor) round) m) (sym of_index) (kept_raised (state_of bs cs fs floor) (from_entries is) round kept))

@@ -23,11 +23,11 @@ use Rattle.nw_model.proofs.Wanted.{one_wanted}
 use Rattle.nw_digest.specs.Order.{digest_cmp}
 use Rattle.nw_model.specs.State.{State}
 use Rattle.nw_model.specs.Paths.{IsSatisfied}
-use Rattle.nw_model.specs.Missing.{AreExactly, IsNamedBy, IsWanted, Wants, wanted_cmp}
+use Rattle.nw_model.specs.Missing.{ListsExactly, IsNamedBy, IsWanted, Wants, wanted_cmp}
 use Rattle.nw_model.proofs.Maps.{digests_total, get_lookup}
 use Rattle.nw_model.proofs.Kept.{same_digest}
 use Rattle.nw_model.proofs.Listed.{contains_first, contains_later, contains_cases, contains_none}
-use Rattle.nw_plain.specs.Added.{Adds, NamesMissing}
+use Rattle.nw_plain.specs.Added.{IsUnionWith, NamesMissing}
 
 -- ---- one more key
 
@@ -64,11 +64,11 @@ abbrev pub Of : {A X : Type 0} → (A → X → Type 0) → List A → X → Typ
 Of {A} Q xs x = (a : A) × Contains xs a × Q a x
 
 module _ {A X : Type 0} (Q : A → X → Type 0) where
-  pub adds_nothing : (old : List X) → Adds (Of Q []) old old
+  pub adds_nothing : (old : List X) → IsUnionWith (Of Q []) old old
   adds_nothing old x = (inl, λ h. elim h [ inl here ↦ here | inr there ↦ absurd (contains_none there.0 there.1) ])
 
   -- the same with one more element
-  pub adds_one_more : (xs : List A) (a : A) (old mid new : List X) → Adds (Of Q xs) old mid → Adds (Q a) mid new → Adds (Of Q (xs ++ a ∷ [])) old new
+  pub adds_one_more : (xs : List A) (a : A) (old mid new : List X) → IsUnionWith (Of Q xs) old mid → IsUnionWith (Q a) mid new → IsUnionWith (Of Q (xs ++ a ∷ [])) old new
   adds_one_more xs a old mid new one two x = (
     λ among. elim ((two x).0 among) [
       | inl before ↦ elim ((one x).0 before) [ inl here ↦ inl here | inr there ↦ inr (there.0, Contains-append_left xs (a ∷ []) there.0 there.1, there.2) ]
@@ -87,13 +87,13 @@ module _ {A X : Type 0} (Q : A → X → Type 0) where
   )
 
   -- the same for the first elements of a list
-  pub adds_next : (xs : List A) (i : ℕ) (d : A) (old mid new : List X) → i < length xs → Adds (Of Q (take i xs)) old mid → Adds (Q (get_or xs i d)) mid new → Adds (Of Q (take (i + 1) xs)) old new
-  adds_next xs i d old mid new lt one two = subst (λ ys. Adds (Of Q ys) old new) (sym (take_more xs i d lt)) (adds_one_more (take i xs) (get_or xs i d) old mid new one two)
+  pub adds_next : (xs : List A) (i : ℕ) (d : A) (old mid new : List X) → i < length xs → IsUnionWith (Of Q (take i xs)) old mid → IsUnionWith (Q (get_or xs i d)) mid new → IsUnionWith (Of Q (take (i + 1) xs)) old new
+  adds_next xs i d old mid new lt one two = subst (λ ys. IsUnionWith (Of Q ys) old new) (sym (take_more xs i d lt)) (adds_one_more (take i xs) (get_or xs i d) old mid new one two)
 
 -- ---- a reference
 
 -- a block above the garbage round wants the parents that its unsatisfied references name
-pub of_references : (s : State) (b : Block) (old new : List Wanted) → s.floor < b.round → Adds (Of (NamesMissing s b.round) b.parents) old new → Adds (Wants s b) old new
+pub of_references : (s : State) (b : Block) (old new : List Wanted) → s.floor < b.round → IsUnionWith (Of (NamesMissing s b.round) b.parents) old new → IsUnionWith (Wants s b) old new
 of_references s b old new above adds w = (
   λ among. elim ((adds w).0 among) [ inl here ↦ inl here | inr (r, in_parents, lacks) ↦ inr (above, r, in_parents, lacks.0, lacks.1) ],
   λ h. (adds w).1 (elim h [ inl here ↦ inl here | inr (high, r, in_parents, lacks, named) ↦ inr (r, in_parents, (lacks, named)) ]),
@@ -104,7 +104,7 @@ wanted_apart v w e = one_wanted v w (ap is_eq e)
 
 -- an unsatisfied reference names one missing parent
 pub lacks_one : (s : State) (round : ℕ) (r : Ref) (before : ℕ) → before + 1 ≡ round → (IsSatisfied s round r → ⊥) → (old : List Wanted)
-    → Adds (NamesMissing s round r) old (insert_key wanted_cmp old (record { round = before; author = r.author; digest = r.digest }))
+    → IsUnionWith (NamesMissing s round r) old (insert_key wanted_cmp old (record { round = before; author = r.author; digest = r.digest }))
 lacks_one s round r before is lacks old x = (
   λ among. elim ((with_key wanted_cmp wanted_apart old name x).0 among) [
     | inl here ↦ inl here
@@ -128,16 +128,16 @@ pub record SoFar (s : State) (left : List (Digest × Block)) (wanted : List Want
   pub done : List (Digest × Block)
   pub held : s.blocks ≡ from_entries (done ++ left)
   pub sorted : IsStrictlySortedBy digest_cmp (keys_of (done ++ left))
-  pub added : Adds (Of (Wants s) (values_of done)) [] wanted
+  pub added : IsUnionWith (Of (Wants s) (values_of done)) [] wanted
   pub ordered : IsStrictlySortedBy wanted_cmp wanted
 
 pub one_done : (s : State) (left : List (Digest × Block)) (d : Digest) (b : Block) (wanted more : List Wanted) → SoFar s ((d, b) ∷ left) wanted
-    → Adds (Wants s b) wanted more → (IsStrictlySortedBy wanted_cmp wanted → IsStrictlySortedBy wanted_cmp more) → SoFar s left more
+    → IsUnionWith (Wants s b) wanted more → (IsStrictlySortedBy wanted_cmp wanted → IsStrictlySortedBy wanted_cmp more) → SoFar s left more
 one_done s left d b wanted more so adds ordered = record {
   done = so.done ++ (d, b) ∷ [];
   held = so.held ∙ ap from_entries (sym same);
   sorted = subst (λ es. IsStrictlySortedBy digest_cmp (keys_of es)) (sym same) so.sorted;
-  added = subst (λ bs. Adds (Of (Wants s) bs) [] more) (sym (map-append (λ (e : Digest × Block). e.1) so.done ((d, b) ∷ []))) (adds_one_more (Wants s) (values_of so.done) b [] wanted more so.added adds);
+  added = subst (λ bs. IsUnionWith (Of (Wants s) bs) [] more) (sym (map-append (λ (e : Digest × Block). e.1) so.done ((d, b) ∷ []))) (adds_one_more (Wants s) (values_of so.done) b [] wanted more so.added adds);
   ordered = ordered so.ordered;
 }
   where
@@ -145,7 +145,7 @@ one_done s left d b wanted more so adds ordered = record {
     same = append_assoc so.done ((d, b) ∷ []) left
 
 -- if no block is left, exactly the wanted parents are found
-pub all_done : (s : State) (wanted : List Wanted) → SoFar s [] wanted → AreExactly wanted_cmp (IsWanted s) wanted
+pub all_done : (s : State) (wanted : List Wanted) → SoFar s [] wanted → ListsExactly wanted_cmp (IsWanted s) wanted
 all_done s wanted so = record {
   exactly = λ w. (
     λ among. elim ((so.added w).0 among) [ inl here ↦ absurd (contains_none w here) | inr (b, in_values, wants) ↦ let at = value_held b in_values in (at.0, b, at.1, wants) ],

@@ -7,8 +7,8 @@ use Rattle.nw_model.specs.Paths.{IsSatisfied}
 use Rattle.nw_model.specs.Missing.{IsNamedBy}
 
 -- new has exactly the values of old and the values with P
-abbrev pub Adds : {A : Type 0} → (A → Type 0) → List A → List A → Type 0
-Adds {A} P old new = (x : A) → Contains new x ↔ (Contains old x ⊎ P x)
+abbrev pub IsUnionWith : {A : Type 0} → (A → Type 0) → List A → List A → Type 0
+IsUnionWith {A} P old new = (x : A) → Contains new x ↔ (Contains old x ⊎ P x)
 
 -- the reference r of a block of this round is not satisfied, and names the parent w
 abbrev pub NamesMissing : State → ℕ → Ref → Wanted → Type 0

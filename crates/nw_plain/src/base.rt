@@ -16,11 +16,11 @@ pub struct Base {
 }
 
 impl Model for Base {
-    ghost use Rattle.nw_model.specs.Step.{Tables, coded_tables};
+    ghost use Rattle.nw_model.specs.Step.{BoundedState, coded_bounded_state};
 
-    ghost Value = { Tables };
+    ghost Value = { BoundedState };
 
-    ghost coded = { coded_tables };
+    ghost coded = { coded_bounded_state };
 
     ghost view = { λ b. b.plain };
 }

@@ -41,12 +41,12 @@ pub struct Plain {
 
 impl Model for Plain {
     ghost use Rattle.std.specs.FinMap as map;
-    ghost use Rattle.nw_model.specs.Sound.{IsKept};
-    ghost use Rattle.nw_model.specs.Step.{Tables, coded_tables};
+    ghost use Rattle.nw_model.specs.Sound.{IsSoundWithIndex};
+    ghost use Rattle.nw_model.specs.Step.{BoundedState, coded_bounded_state};
 
-    ghost Value = { Tables };
+    ghost Value = { BoundedState };
 
-    ghost coded = { coded_tables };
+    ghost coded = { coded_bounded_state };
 
     ghost view = { λ p. record {
       bounds = record { blocks = p.limit; window = p.window };
@@ -58,7 +58,7 @@ impl Model for Plain {
       };
     } };
 
-    ghost invariant = { λ p. IsKept
+    ghost invariant = { λ p. IsSoundWithIndex
         (record {
           blocks = map.from_entries p.blocks.entries;
           certificates = map.from_entries p.certificates.entries;

@@ -1,8 +1,8 @@
 //! Walks: the ancestors of a block in a view.
 ghost use Rattle.std.specs.Prelude.{IfOk, All, []};
 ghost use Rattle.std.specs.FinMap as map;
-ghost use Rattle.nw_model.specs.View.{IsThere, IsWalk};
-ghost use Rattle.nw_model.specs.Search.{AreUnder, AreAbove, IsNamed, IsParentOfAny, Finds, Reaches};
+ghost use Rattle.nw_model.specs.View.{HasBlock, IsWalk};
+ghost use Rattle.nw_model.specs.Search.{AreUnderSlots, AreAbove, IsNamed, IsParentOfAny, Finds, FindsAncestors};
 
 use crate::view::View;
 use nw_codec::Block;
@@ -18,7 +18,7 @@ pub(crate) fn walk(
     view: &View,
     digest: Digest,
 ) -> Result<Vec<Shared<Block>>, NoMemory>
-    requires { (b : Block) × IsThere view.now digest b }
+    requires { (b : Block) × HasBlock view.now digest b }
     ensures { IfOk result (λ blocks. IsWalk view.now digest blocks.items) }
 {
     let found = ancestors(alloc, view, digest)?;
@@ -37,8 +37,8 @@ fn ancestors(
     view: &View,
     digest: Digest,
 ) -> Result<BTreeMap<(Round, u16), Digest>, NoMemory>
-    requires { (b : Block) × IsThere view.now digest b }
-    ensures { IfOk result (λ found. Reaches view.now digest (map.from_entries found.entries)) }
+    requires { (b : Block) × HasBlock view.now digest b }
+    ensures { IfOk result (λ found. FindsAncestors view.now digest (map.from_entries found.entries)) }
 {
     let mut found = BTreeMap::new(alloc);
     let mut frontier = Vec::new(alloc);
@@ -64,7 +64,7 @@ fn parents_of_all(
     found: &mut BTreeMap<(Round, u16), Digest>,
 ) -> Result<Vec<Digest>, NoMemory>
     requires above { AreAbove view.now frontier.now }
-    requires under { AreUnder view.now (map.from_entries found.old.entries) }
+    requires under { AreUnderSlots view.now (map.from_entries found.old.entries) }
     ensures { IfOk result (λ parents. Finds view.now (IsParentOfAny view.now frontier.now)
         (map.from_entries found.old.entries) (map.from_entries found.new.entries)
         [] parents.items) }
@@ -85,8 +85,8 @@ fn find_parents(
     found: &mut BTreeMap<(Round, u16), Digest>,
     parents: &mut Vec<Digest>,
 ) -> Result<(), NoMemory>
-    requires there { All (λ r. (b : Block) × IsThere view.now r.digest b) block.now.parents }
-    requires under { AreUnder view.now (map.from_entries found.old.entries) }
+    requires there { All (λ r. (b : Block) × HasBlock view.now r.digest b) block.now.parents }
+    requires under { AreUnderSlots view.now (map.from_entries found.old.entries) }
     ensures { IfOk result (λ _. Finds view.now (IsNamed block.now.parents)
         (map.from_entries found.old.entries) (map.from_entries found.new.entries)
         parents.old.items parents.new.items) }

@@ -2,8 +2,8 @@
 use crate::fault::PlayFault;
 use crate::lines::Lines;
 use nw_committee::Committee;
-use nw_desk::{LineFault, committee};
 use nw_digest::Shared;
+use nw_interpreter::{LineFault, committee};
 use nw_script::{CommitteeLine, LimitsLine, Line};
 use nw_sig::DemoScheme;
 use nw_store::{Book, Limits};

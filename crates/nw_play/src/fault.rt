@@ -1,8 +1,8 @@
 //! Faults of a play.
 ghost use Rattle.std.specs.Prelude.{◌≡◌};
 
-use nw_desk::{Answer, LineFault};
 use nw_digest::NoMemory;
+use nw_interpreter::{Answer, LineFault};
 use nw_store::SettleFault;
 use std::alloc::{AllocError, AllocFailed};
 use std::io::{self, Write};

@@ -1,7 +1,7 @@
 //! Plays a script: makes the calls of its lines, one after another, on a store with its sessions, and prints the answers.
 //!
 //! It is proved that each call returns, whatever the reader gives and however the writer fails. The only wait is for the lock of its
-//! own store, which no other thread holds. Tests and scripts show what is printed. `nw_script` reads the lines, `nw_desk` does the
+//! own store, which no other thread holds. Tests and scripts show what is printed. `nw_script` reads the lines, `nw_interpreter` does the
 //! part that needs no store, and `nw_store` takes the calls. Members sign with the demonstration scheme.
 #![tactic(auto)]
 

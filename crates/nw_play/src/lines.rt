@@ -3,7 +3,7 @@ ghost use Rattle.std.specs.Iterator.{at_most};
 ghost use Rattle.nw_play.specs.Lines.{lines_left};
 
 use crate::fault::PlayFault;
-use nw_desk::LineFault;
+use nw_interpreter::LineFault;
 use nw_script::{Line, parse_line};
 use std::alloc::Global;
 

@@ -1,11 +1,11 @@
 //! A store and its sessions, which make the calls of a script.
 ghost use Rattle.std.specs.Prelude.{◌≡◌};
 ghost use Rattle.nw_store.specs.Journal.{origin_of};
-ghost use Rattle.nw_store.specs.Kept.{parts_of_a_ledger};
+ghost use Rattle.nw_store.specs.Lock.{parts_of_a_ledger};
 
 use crate::books::Start;
-use nw_desk::{Action, Answer, Interpreter, LineFault};
 use nw_digest::Digest;
+use nw_interpreter::{Action, Answer, Interpreter, LineFault};
 use nw_script::{Name, Request};
 use nw_sig::DemoScheme;
 use nw_store::{Command, Done, Home, NoStep, Opening, Session, Store, Ticket};

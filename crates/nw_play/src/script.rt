@@ -8,7 +8,7 @@ use crate::fault::{PlayFault, write_outcome};
 use crate::input::read_script;
 use crate::lines::Lines;
 use crate::stores::play_store;
-use nw_desk::Interpreter;
+use nw_interpreter::Interpreter;
 use nw_store::Opening;
 use std::alloc::Global;
 use std::io::{BufWriter, Read, Write};

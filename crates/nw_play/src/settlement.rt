@@ -3,7 +3,7 @@ use crate::books::Start;
 use crate::fault::{PlayFault, print};
 use crate::lines::Lines;
 use crate::player::Player;
-use nw_desk::Answer;
+use nw_interpreter::Answer;
 use nw_script::Line;
 use nw_sig::DemoScheme;
 use nw_store::{Home, Settled, settle};

@@ -1,14 +1,14 @@
 //! The stores of a script, one after another.
 ghost use Rattle.std.specs.Prelude.{◌≡◌};
 ghost use Rattle.nw_store.specs.Journal.{origin_of};
-ghost use Rattle.nw_store.specs.Kept.{parts_of_a_ledger};
+ghost use Rattle.nw_store.specs.Lock.{parts_of_a_ledger};
 
 use crate::books::{Start, start_with_limits};
 use crate::fault::{PlayFault, print};
 use crate::lines::{Lines, read_line};
 use crate::player::Player;
 use crate::settlement::settle_store;
-use nw_desk::Interpreter;
+use nw_interpreter::Interpreter;
 use nw_script::{LimitsLine, Line, Request};
 use nw_sig::DemoScheme;
 use nw_store::{Home, Opening};

@@ -122,7 +122,7 @@ impl<A: Allocator> Rounds<A> {
     }
 
     /// The digests of all lower rounds, with their places, in the order of the places. It takes no memory.
-    pub fn below(&self, round: Round) -> Range<'_, Place, Digest>
+    pub fn places_below(&self, round: Round) -> Range<'_, Place, Digest>
         ensures places { ArePlacesBetween self.now 0 round result }
         ensures fits { length result < 2 ^ 63 }
     {

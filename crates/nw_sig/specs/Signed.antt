@@ -11,9 +11,9 @@ abbrev pub Meaning : Type 0
 Meaning = Key → List ℕ → Signature → Bool
 
 -- the text that the author of a block signs: the letters NWBK and the digest
-unfoldable pub block_text : Digest → List ℕ
-block_text digest = codes "NWBK" ++ digest.0
+unfoldable pub text_of_block : Digest → List ℕ
+text_of_block digest = codes "NWBK" ++ digest.0
 
 -- the text that a vote signs: the letters NWVT, and the block's digest, round and author
-unfoldable pub vote_text : Digest → ℕ → ℕ → List ℕ
-vote_text digest round author = codes "NWVT" ++ digest.0 ++ round_bytes round ++ to_be_bytes w16 author
+unfoldable pub text_of_vote : Digest → ℕ → ℕ → List ℕ
+text_of_vote digest round author = codes "NWVT" ++ digest.0 ++ round_bytes round ++ to_be_bytes w16 author

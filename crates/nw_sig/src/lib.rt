@@ -10,4 +10,4 @@ mod signed;
 
 pub use demo::{DemoScheme, DemoSigner};
 pub use scheme::{Scheme, Signer};
-pub use signed::{block_text, vote_text};
+pub use signed::{text_of_block, text_of_vote};

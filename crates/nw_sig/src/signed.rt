@@ -2,13 +2,13 @@
 ghost use Rattle.std.specs.Prelude.{◌≡◌, ◌++◌};
 ghost use Rattle.std.specs.Int.{to_be_bytes, w16};
 ghost use Rattle.nw_codec.specs.Grammar.{round_bytes};
-ghost use Rattle.nw_sig.specs.Signed.{block_text, vote_text};
+ghost use Rattle.nw_sig.specs.Signed.{text_of_block, text_of_vote};
 
 use nw_digest::{Digest, Round};
 
 /// The 36 bytes that the author of a block signs: `NWBK` and the block's digest (docs/FORMATS.md).
-pub fn block_text(digest: &Digest) -> [u8; 36]
-    ensures { result ≡ block_text digest.now }
+pub fn text_of_block(digest: &Digest) -> [u8; 36]
+    ensures { result ≡ text_of_block digest.now }
 {
     let mut text = [0; 36];
     text[..4].copy_from_slice(b"NWBK");
@@ -18,8 +18,8 @@ pub fn block_text(digest: &Digest) -> [u8; 36]
 
 /// The 44 bytes that a vote for a block signs (docs/FORMATS.md): `NWVT`, the block's digest, its round in six bytes, and its
 /// author in two. Both numbers are big-endian.
-pub fn vote_text(digest: &Digest, round: Round, author: u16) -> [u8; 44]
-    ensures { result ≡ vote_text digest.now round author }
+pub fn text_of_vote(digest: &Digest, round: Round, author: u16) -> [u8; 44]
+    ensures { result ≡ text_of_vote digest.now round author }
 {
     let mut text = [0; 44];
     text[..4].copy_from_slice(b"NWVT");

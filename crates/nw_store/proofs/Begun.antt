@@ -8,8 +8,8 @@ use mathlib.Core.Logic.{◌⊎◌}
 use Rattle.nw_model.specs.declared.event.Event.{Event}
 use Rattle.nw_history.specs.Story.{Story, with_event}
 use Rattle.nw_history.specs.Prefix.{IsPrefixOf}
-use Rattle.nw_book.specs.Answer.{Told}
-use Rattle.nw_store.specs.Journal.{AreBegun, AreAmong, AreComparable, IsAnswer, AreAnswers}
+use Rattle.nw_book.specs.Answer.{DoneView}
+use Rattle.nw_store.specs.Journal.{AreBegun, AreAmong, AreComparable, AnswersCall, AreAnswers}
 
 begins_itself : (xs : List Event) → IsPrefix xs xs
 begins_itself [] = ([], refl)
@@ -32,15 +32,15 @@ prefix_trans s t u p q = record {
 pub prefix_next : (s t : Story) (e : Event) → t ≡ with_event s e → IsPrefixOf s t
 prefix_next s t e is = subst (λ u. IsPrefixOf s u) (sym is) (record { committee = refl; limits = refl; base = refl; events = (e ∷ [], refl) })
 
-pub among_longer : (claim log : List Story) (answers : List Told) → IsPrefix claim log → AreAmong claim answers → AreAmong log answers
+pub among_longer : (claim log : List Story) (answers : List DoneView) → IsPrefix claim log → AreAmong claim answers → AreAmong log answers
 among_longer claim log answers p among =
-    All-weaker (λ (a : Told). Contains claim a.front) (λ (a : Told). Contains log a.front)
+    All-weaker (λ (a : DoneView). Contains claim a.front) (λ (a : DoneView). Contains log a.front)
     (λ a c. subst (λ l. Contains l a.front) p.1 (Contains-append_left claim p.0 a.front c)) answers among
 
 -- if each front in the log is a prefix of the history, so is the front of each answer, since a claim of the log has it
-pub begun_claimed : (h : Story) (log claim : List Story) (answers : List Told) → All (λ f. IsPrefixOf f h) log → IsPrefix claim log → AreAmong claim answers → AreBegun h answers
+pub begun_claimed : (h : Story) (log claim : List Story) (answers : List DoneView) → All (λ f. IsPrefixOf f h) log → IsPrefix claim log → AreAmong claim answers → AreBegun h answers
 begun_claimed h log claim answers begun p among =
-    All-weaker (λ (a : Told). Contains log a.front) (λ (a : Told). IsPrefixOf a.front h)
+    All-weaker (λ (a : DoneView). Contains log a.front) (λ (a : DoneView). IsPrefixOf a.front h)
     (λ a c. All-contains (λ (f : Story). IsPrefixOf f h) log a.front begun c) answers (among_longer claim log answers p among)
 
 -- each front in a claim is in the log
@@ -58,9 +58,9 @@ log_more h next e log is begun =
     (All-weaker (λ (f : Story). IsPrefixOf f h) (λ (f : Story). IsPrefixOf f next) (λ f p. prefix_trans f h next p (prefix_next h next e is)) log begun)
     (prefix_itself next)
 
-pub answers_last : (id n : ℕ) (answers : List Told) (a : Told) → AreAnswers id n answers → IsAnswer id (n + length answers) a → AreAnswers id n (answers ++ a ∷ [])
-answers_last id n [] a h is = (subst (λ k. IsAnswer id k a) (omega arith) is, tt)
-answers_last id n (x ∷ others) a h is = (h.0, answers_last id (n + 1) others a h.1 (subst (λ k. IsAnswer id k a) (omega arith) is))
+pub answers_last : (id n : ℕ) (answers : List DoneView) (a : DoneView) → AreAnswers id n answers → AnswersCall id (n + length answers) a → AreAnswers id n (answers ++ a ∷ [])
+answers_last id n [] a h is = (subst (λ k. AnswersCall id k a) (omega arith) is, tt)
+answers_last id n (x ∷ others) a h is = (h.0, answers_last id (n + 1) others a h.1 (subst (λ k. AnswersCall id k a) (omega arith) is))
 
 either_begins : (xs ys zs : List Event) → IsPrefix xs zs → IsPrefix ys zs → IsPrefix xs ys ⊎ IsPrefix ys xs
 either_begins [] ys zs p q = inl (ys, refl)
@@ -82,5 +82,5 @@ either_prefix s t u p q =
     (λ (e : IsPrefix t.events s.events). inr (record { committee = q.committee ∙ sym p.committee; limits = q.limits ∙ sym p.limits; base = q.base ∙ sym p.base; events = e }))
     (either_begins s.events t.events u.events p.events q.events)
 
-pub comparable : (h : Story) (answers others : List Told) → AreBegun h answers → AreBegun h others → AreComparable answers others
+pub comparable : (h : Story) (answers others : List DoneView) → AreBegun h answers → AreBegun h others → AreComparable answers others
 comparable h answers others begun also = λ k a l m b n. either_prefix _ _ h (begun k a l) (also m b n)

@@ -1,6 +1,6 @@
 -- A closure's captures, or a tuple, may be sent to another thread if each part may be sent, and shared between threads if each part may
 -- be shared.
--- `taken_send` and `taken_sync` find the parts by unification; `along_send` and `along_sync` take a proof for each part, in order.
+-- `captures_send` and `taken_sync` find the parts by unification; `along_send` and `along_sync` take a proof for each part, in order.
 use mathlib.Core.List.{List, [], ◌∷◌}
 use Prim.Native.Nat.{ℕ}
 use mir.Syntax.{Sym, Ty}
@@ -22,8 +22,8 @@ parts_sync [] s = tt
 parts_sync (T ∷ Ts) s = (as_row_sync (row_field T) s.0, parts_sync Ts s.1)
 
 module _ (i : ℕ) (δ : Ty) (ν : Sym) (Ts : List RattleType) where
-  pub taken_send : AllSend Ts → IsSend (param i (arg δ no (TupleAt ν Ts)))
-  taken_send s = param_send i (arg δ no (TupleAt ν Ts)) (arg_send δ no (TupleAt ν Ts) (declared_send (type_at ν Ts) (parts_send Ts s)))
+  pub captures_send : AllSend Ts → IsSend (param i (arg δ no (TupleAt ν Ts)))
+  captures_send s = param_send i (arg δ no (TupleAt ν Ts)) (arg_send δ no (TupleAt ν Ts) (declared_send (type_at ν Ts) (parts_send Ts s)))
 
   pub taken_sync : AllSync Ts → IsSync (param i (arg δ no (TupleAt ν Ts)))
   taken_sync s = param_sync i (arg δ no (TupleAt ν Ts)) (arg_sync δ no (TupleAt ν Ts) (declared_sync (type_at ν Ts) (parts_sync Ts s)))
@@ -46,7 +46,7 @@ all_sync [] none = tt
 all_sync (T ∷ Ts) (also _ _ s ss) = (s, all_sync Ts ss)
 
 pub along_send : (i : ℕ) (δ : Ty) (ν : Sym) (Ts : List RattleType) → Sends Ts → IsSend (param i (arg δ no (TupleAt ν Ts)))
-along_send i δ ν Ts s = taken_send i δ ν Ts (all_send Ts s)
+along_send i δ ν Ts s = captures_send i δ ν Ts (all_send Ts s)
 
 pub along_sync : (i : ℕ) (δ : Ty) (ν : Sym) (Ts : List RattleType) → Syncs Ts → IsSync (param i (arg δ no (TupleAt ν Ts)))
 along_sync i δ ν Ts s = taken_sync i δ ν Ts (all_sync Ts s)

@@ -10,13 +10,13 @@ use mathlib.Core.List.{IsPrefix}
 use Rattle.nw_model.specs.declared.event.Event.{Event}
 use Rattle.nw_model.specs.History.{events_of, AreNumbered}
 use Rattle.nw_history.specs.Story.{Story}
-use Rattle.nw_book.specs.Answer.{Told}
-use Rattle.nw_store.specs.Journal.{Kept, Journal, AreBegun, AreAnswers}
+use Rattle.nw_book.specs.Answer.{DoneView}
+use Rattle.nw_store.specs.Journal.{Guarded, Journal, AreBegun, AreAnswers}
 use Rattle.nw_store.specs.Settled.{events_in, AreInOrder, AreSettled, AreAllComparable}
 use Rattle.nw_store.proofs.Begun.{comparable}
 
 -- the events of each front are a prefix of these events
-abbrev AreBegunBy : List Event → List Told → Type 0
+abbrev AreBegunBy : List Event → List DoneView → Type 0
 AreBegunBy h answers = All (λ a. IsPrefix a.front.events h) answers
 
 -- the sum of f over the numbers below n
@@ -30,7 +30,7 @@ AreBelow made [] = Unit {0}
 AreBelow made (e ∷ es) = (e.session < made) × AreBelow made es
 
 -- the answers of the journal at this place
-abbrev answers_at : List Journal → ℕ → List Told
+abbrev answers_at : List Journal → ℕ → List DoneView
 answers_at [] s = []
 answers_at (j ∷ js) zero = j.answers
 answers_at (j ∷ js) (suc s) = answers_at js s
@@ -60,7 +60,7 @@ numbered_at n (x ∷ es) zero e h at = let same : x ≡ e = cc (at) in omega (ar
 numbered_at n (x ∷ es) (suc j) e h at = let r = numbered_at (n + 1) es j e h.1 at in omega (arith, r)
 
 -- each answer's event is among the session's events, at the place that its number says
-places : (s m : ℕ) (answers : List Told) (h : List Event) → AreNumbered 1 (events_of s h) → AreAnswers s (m + 1) answers → AreBegunBy h answers
+places : (s m : ℕ) (answers : List DoneView) (h : List Event) → AreNumbered 1 (events_of s h) → AreAnswers s (m + 1) answers → AreBegunBy h answers
     → (k : ℕ) (x : Event) → slice_get (events_in answers) k ≡ Some x → slice_get (events_of s h) (m + k) ≡ Some x
 places s m [] h numbered are begun k x at = absurd (cc (at))
 places s m (e ∷ es) h numbered are begun zero x at =
@@ -187,14 +187,14 @@ all_below : (made : ℕ) (h : List Event) → all_outside h made ≡ 0 → AreBe
 all_below made [] z = tt
 all_below made (e ∷ es) z = (is_below e.session made (omega (arith, z)), all_below made es (omega (arith, z)))
 
-length_events_in : (es : List Told) → length (events_in es) ≡ length es
+length_events_in : (es : List DoneView) → length (events_in es) ≡ length es
 length_events_in [] = refl
 length_events_in (e ∷ es) = let r = length_events_in es in omega (arith, r)
 
 zero_plus : (k : ℕ) → 0 + k ≡ k
 zero_plus k = omega arith
 
-settled : (made : ℕ) (h : List Event) (journal : ℕ → List Told) → ((s : ℕ) → AreNumbered 1 (events_of s h))
+settled : (made : ℕ) (h : List Event) (journal : ℕ → List DoneView) → ((s : ℕ) → AreNumbered 1 (events_of s h))
     → ((s : ℕ) → s < made → AreAnswers s 1 (journal s) × AreBegunBy h (journal s)) → sum_upto (λ s. length (journal s)) made ≡ length h
     → ((s : ℕ) → s < made → events_of s h ≡ events_in (journal s)) × AreBelow made h
 settled made h journal numbered each sum =
@@ -261,8 +261,8 @@ joined h js numbered order all sum =
     }
 
 -- settled journals stay settled if nothing changes
-pub settled_still : (old new : Kept) (js after : List Journal) → new ≡ old → after ≡ js → AreSettled old.history js → AreSettled new.history after
-settled_still old new js after same items is = subst (λ (h : Kept). AreSettled h.history after) (sym same) (subst (λ (l : List Journal). AreSettled old.history l) (sym items) is)
+pub settled_still : (old new : Guarded) (js after : List Journal) → new ≡ old → after ≡ js → AreSettled old.history js → AreSettled new.history after
+settled_still old new js after same items is = subst (λ (h : Guarded). AreSettled h.history after) (sym same) (subst (λ (l : List Journal). AreSettled old.history l) (sym items) is)
 
 -- the answers of settled journals are comparable, since each front is a prefix of the one history
 pub all_comparable : (h : Story) (js : List Journal) → AreSettled h js → AreAllComparable js

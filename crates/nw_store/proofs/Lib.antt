@@ -5,4 +5,4 @@ pub mod Answered
 pub mod Interleaved
 pub mod Lent
 pub mod Ordered
-pub mod Sent
+pub mod Send

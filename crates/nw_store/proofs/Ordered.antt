@@ -7,7 +7,7 @@ use Rattle.std.specs.List.Sorted.{IsPermutation, IsNonDecreasingBy}
 use Rattle.std.proofs.lemmas.Bool.Decides.{eqb_tells, leb_tells}
 use Rattle.std.proofs.lemmas.List.Sums.{sum_by-cons}
 use Rattle.std.proofs.lemmas.List.Sorted.{IsPermutation-map, IsPermutation-refl, length_permutation, sum_by-IsPermutation}
-use Rattle.nw_store.specs.Journal.{Kept, Journal}
+use Rattle.nw_store.specs.Journal.{Guarded, Journal}
 use Rattle.nw_store.specs.Settled.{AreInOrder, AreAll, IsStray, times, ids_of}
 
 abbrev one : ℕ → ℕ → ℕ
@@ -192,8 +192,8 @@ all_in_order made js sorted all p rising =
     let order = order_from_none made js sorted p rising (omega (arith, whole)) (none_of_all made js all) in
     all_from_order made sorted sorted (IsPermutation-refl sorted) order.0 order.1
 
-pub all_still : (old new : Kept) (js after : List Journal) → new ≡ old → after ≡ js → AreAll old.made js → AreAll new.made after
-all_still old new js after same items all = subst (λ (h : Kept). AreAll h.made after) (sym same) (subst (λ (l : List Journal). AreAll old.made l) (sym items) all)
+pub all_still : (old new : Guarded) (js after : List Journal) → new ≡ old → after ≡ js → AreAll old.made js → AreAll new.made after
+all_still old new js after same items all = subst (λ (h : Guarded). AreAll h.made after) (sym same) (subst (λ (l : List Journal). AreAll old.made l) (sym items) all)
 
 -- no id below n is stray
 abbrev pub NoneBelow : ℕ → List Journal → ℕ → Type 0

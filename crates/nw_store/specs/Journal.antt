@@ -2,16 +2,16 @@
 use Rattle.std.specs.Prelude.{◌≡◌, ℕ, ◌+◌, List, [], ◌∷◌, ◌++◌, length, All}
 use Rattle.std.specs.List.{Contains}
 use mathlib.Core.Logic.{◌⊎◌}
-use Rattle.nw_log.specs.Claims.{Name}
+use Rattle.nw_claims.specs.Claims.{LogId}
 use Rattle.nw_sig.specs.Signed.{Meaning}
 use Rattle.nw_model.specs.declared.event.Event.{Event}
 use Rattle.nw_history.specs.Story.{Story, Origin, IsLegalStory, first_origin}
 use Rattle.nw_history.specs.Prefix.{IsPrefixOf}
-use Rattle.nw_book.specs.Answer.{Told}
+use Rattle.nw_book.specs.Answer.{DoneView}
 
 -- the log and the ledger of an opening
-pub record Names : Type 0 where
-  pub log : Name
+pub record StoreNames : Type 0 where
+  pub log : LogId
   pub ledger : ℕ
 
 -- the origin of a history: its committee, its limits and its base
@@ -19,8 +19,8 @@ abbrev pub origin_of : Story → Origin
 origin_of s = record { committee = s.committee; limits = s.limits; base = s.base }
 
 -- an origin that no history has, since its limits are out of range
-abbrev pub no_origin : Origin
-no_origin = first_origin [] (record { blocks = 0; events = 0; window = 0; sessions = 0 })
+abbrev pub placeholder_origin : Origin
+placeholder_origin = first_origin [] (record { blocks = 0; events = 0; window = 0; sessions = 0 })
 
 -- the history is legal and has this origin
 pub record IsHistoryOf (accepts : Meaning) (origin : Origin) (s : Story) : Type 0 where
@@ -30,7 +30,7 @@ pub record IsHistoryOf (accepts : Meaning) (origin : Origin) (s : Story) : Type 
   pub legal : IsLegalStory accepts s
 
 -- the value under a store's lock
-pub record Kept : Type 0 where
+pub record Guarded : Type 0 where
   pub history : Story
   -- the number of sessions made so far
   pub made : ℕ
@@ -40,20 +40,20 @@ pub record Journal : Type 0 where
   -- the session's number
   pub id : ℕ
   -- the session's answers, in order
-  pub answers : List Told
+  pub answers : List DoneView
   -- the histories that the session knows of
   pub known : List Story
 
 -- each front is a prefix of the history
-abbrev pub AreBegun : Story → List Told → Type 0
+abbrev pub AreBegun : Story → List DoneView → Type 0
 AreBegun history answers = All (λ a. IsPrefixOf a.front history) answers
 
 -- of an answer from each list, one's front is a prefix of the other's
-abbrev pub AreComparable : List Told → List Told → Type 0
+abbrev pub AreComparable : List DoneView → List DoneView → Type 0
 AreComparable answers others = All (λ a. All (λ b. IsPrefixOf a.front b.front ⊎ IsPrefixOf b.front a.front) others) answers
 
 -- the front of each answer is one of these fronts
-abbrev pub AreAmong : List Story → List Told → Type 0
+abbrev pub AreAmong : List Story → List DoneView → Type 0
 AreAmong fronts answers = All (λ a. Contains fronts a.front) answers
 
 -- the known histories include all of the others
@@ -61,7 +61,7 @@ abbrev pub KnowsAll : List Story → List Story → Type 0
 KnowsAll known others = (s : Story) → Contains others s → Contains known s
 
 -- the answer is to this session's call with this number
-pub record IsAnswer (id number : ℕ) (a : Told) : Type 0 where
+pub record AnswersCall (id number : ℕ) (a : DoneView) : Type 0 where
   -- the event has the session's number
   pub session : a.event.session ≡ id
   -- the event has the call's number
@@ -70,9 +70,9 @@ pub record IsAnswer (id number : ℕ) (a : Told) : Type 0 where
   pub last : (earlier : List Event) × (a.front.events ≡ earlier ++ a.event ∷ [])
 
 -- the answers are to this session's calls, numbered from n on
-abbrev pub AreAnswers : ℕ → ℕ → List Told → Type 0
+abbrev pub AreAnswers : ℕ → ℕ → List DoneView → Type 0
 AreAnswers id n [] = Unit {0}
-AreAnswers id n (a ∷ others) = IsAnswer id n a × AreAnswers id (n + 1) others
+AreAnswers id n (a ∷ others) = AnswersCall id n a × AreAnswers id (n + 1) others
 
 -- the number of the session's next call
 abbrev pub next_number : Journal → ℕ

@@ -1,5 +1,5 @@
 pub mod Journal
-pub mod Kept
+pub mod Lock
 pub mod Answered
 pub mod Laws
 pub mod Settled

@@ -6,13 +6,13 @@ use mathlib.Core.Logic.{◌⊎◌}
 use Rattle.nw_model.specs.History.{events_of}
 use Rattle.nw_model.specs.declared.event.Event.{Event}
 use Rattle.nw_history.specs.Story.{Story}
-use Rattle.nw_book.specs.Answer.{Told}
-use Rattle.nw_store.specs.Journal.{Kept, Journal, AreBegun, AreComparable}
+use Rattle.nw_book.specs.Answer.{DoneView}
+use Rattle.nw_store.specs.Journal.{Guarded, Journal, AreBegun, AreComparable}
 use Rattle.nw_store.specs.declared.error.SettleFault.{SettleFault}
 use Rattle.nw_store.specs.declared.error.SettleFault.TheVariants as faults
 
 -- the events of these answers, in order
-abbrev pub events_in : List Told → List Event
+abbrev pub events_in : List DoneView → List Event
 events_in answers = map (λ a. a.event) answers
 
 -- the journals are those of sessions n, n + 1, .. in order
@@ -70,7 +70,7 @@ pub record Settlement : Type 0 where
 
 -- why sessions do not settle: fewer are given than the store made; else as many are given, their answers are as many as the history's
 -- events, and the fault names the least stray id, with 0 in place of a call's number
-abbrev pub IsFault : Kept → List Journal → SettleFault → Type 0
+abbrev pub IsFault : Guarded → List Journal → SettleFault → Type 0
 IsFault held js (faults.Unfinished m given) = (m ≡ held.made) × (given ≡ length js) × (given < m)
 IsFault held js (faults.Differs session number) =
     (length js ≡ held.made) × (sum_by (λ j. length j.answers) js ≡ length held.history.events) × IsFirstStray held.made (ids_of js) session × (number ≡ 0)

@@ -4,7 +4,7 @@ ghost use Rattle.std.specs.Option.{option_copied};
 ghost use Rattle.nw_model.specs.Checks.{digest_of};
 ghost use Rattle.nw_model.specs.History.{IsAdmitted};
 ghost use Rattle.nw_history.specs.Story.{IsLegalStory};
-ghost use Rattle.nw_book.specs.Answer.{IsFor, front_of, reply_of};
+ghost use Rattle.nw_book.specs.Answer.{IsTicketFor, front_of, reply_of};
 ghost use Rattle.nw_book.specs.Command.{IsNoCausalRead, call_of, committee_of};
 ghost use Rattle.nw_book.specs.Turn.{HasRoom, IsInTurn, IsRefusal, MayStep};
 ghost use Rattle.nw_store.specs.Journal.{next_number, origin_of};
@@ -68,7 +68,7 @@ pub fn open_locked<S: Scheme, L: Home>(
 ) -> Result<Result<Ticket<S>, Done<S>>, NoStep>
     ensures answered { IfOk result (λ answer. IsAnswered S.accepts locked.old.history session.old
         session.new (Call.Causal digest) (reply_of answer) (front_of answer)) }
-    ensures told { IfOk result (IsFor digest) }
+    ensures told { IfOk result (IsTicketFor digest) }
     ensures starts { origin_of locked.old.history ≡ L.origin }
     ensures legal { IsLegalStory S.accepts locked.old.history }
     ensures history { IfOk result (λ answer.
@@ -201,7 +201,7 @@ fn take_open<S: Scheme, L: Home>(
     requires room { HasRoom locked.old.history }
     ensures answered { IfOk result (λ answer. IsAnswered S.accepts locked.old.history session.old
         session.new (Call.Causal digest) (reply_of answer) (front_of answer)) }
-    ensures told { IfOk result (IsFor digest) }
+    ensures told { IfOk result (IsTicketFor digest) }
     ensures history { IfOk result (λ answer.
         locked.new ≡ record { history = front_of answer; made = locked.old.made }) }
     ensures unchanged { OnErr result (locked.new ≡ locked.old) }

@@ -1,12 +1,12 @@
 //! Names of stores.
-use nw_log::Place;
+use nw_claims::LogName;
 use std::marker::Brand;
 
 /// The name of one store: its log, its ledger and the origin of its history. It keeps values of two stores apart.
 ///
 /// Write a function that is generic in a home, and call it with `Brand`. The proof of that call picks the log and ledger of the
 /// opening, and the origin.
-pub trait Home: Place {
+pub trait Home: LogName {
     ghost use Rattle.nw_history.specs.Story.{Origin};
 
     // the origin of each of the store's histories
@@ -14,7 +14,7 @@ pub trait Home: Place {
 }
 
 impl Home for Brand {
-    ghost use Rattle.nw_store.specs.Journal.{no_origin};
+    ghost use Rattle.nw_store.specs.Journal.{placeholder_origin};
 
-    ghost origin = { no_origin };
+    ghost origin = { placeholder_origin };
 }

@@ -6,7 +6,7 @@
 //! The methods of [`Store`] wait for the lock. The functions that work under the lock do not wait, but no clause bounds their
 //! running time. After all sessions are given back, the history is an interleaving of their journals; this is proved.
 //!
-//! The crate uses `nw_book` for steps, `nw_log` for knowledge that threads share, and std's ledger for counts.
+//! The crate uses `nw_book` for steps, `nw_claims` for knowledge that threads share, and std's ledger for counts.
 #![tactic(auto)]
 
 mod calls;
@@ -22,12 +22,14 @@ mod store;
 pub use calls::{call_locked, open_locked};
 pub use error::{SettleFault, TooMany};
 pub use home::Home;
-pub use locked::{Locked, compact_locked, compare_locked, renew_locked, session_locked};
-pub use notes::{Note, hear_locked, note_locked, what_was_heard_of_begins_an_answer};
+pub use locked::{
+    Locked, check_journal_locked, check_journals_locked, compact_locked, session_locked,
+};
+pub use notes::{Note, hear_locked, note_locked, notes_carry_order};
 pub use nw_book::{
     Agreement, Base, Block, Book, BookError, Call, CheckedBlock, CheckedCert, Command, Committee,
-    Digest, Done, Entry, Event, Front, History, Limits, MOST_BLOCKS, MOST_EVENTS, MOST_ROUNDS,
-    MOST_SESSIONS, NoMemory, NoStep, Reply, Round, Scheme, Sequence, Shared, Ticket, View,
+    Digest, Done, Entry, Event, Front, History, Limits, MAX_BLOCKS, MAX_EVENTS, MAX_SESSIONS,
+    MAX_WINDOW, NoMemory, NoStep, Reply, Round, Scheme, Sequence, Shared, Ticket, View,
 };
 pub use opening::Opening;
 pub use session::Session;

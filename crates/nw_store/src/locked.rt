@@ -3,17 +3,17 @@ ghost use Rattle.std.specs.Prelude.{◌≡◌, ◌↔◌, ◌+◌, ◌<◌, ◌�
 ghost use Rattle.std.specs.Prelude.{IsErr, IfOk, IfErr, OnOk, OnErr};
 ghost use mathlib.Core.List.{IsPrefix};
 ghost use Rattle.nw_history.specs.Limits.{AreInRange};
-ghost use Rattle.nw_history.specs.declared.limits.TheConstants.{MOST_EVENTS, MOST_SESSIONS};
+ghost use Rattle.nw_history.specs.declared.limits.TheConstants.{MAX_EVENTS, MAX_SESSIONS};
 ghost use Rattle.nw_history.specs.Story.{IsLegalStory, reopened};
 ghost use Rattle.nw_store.specs.Journal.{AreBegun, AreComparable, AreAnswers, origin_of};
-ghost use Rattle.nw_store.specs.Kept.{parts_of_a_ledger};
+ghost use Rattle.nw_store.specs.Guarded.{parts_of_a_ledger};
 
 use crate::opening::Opening;
 use crate::session::Session;
 use crate::{Home, TooMany};
 use nw_book::{Book, Front, History};
+use nw_claims::{Claim, Keeper};
 use nw_digest::NoMemory;
-use nw_log::{Claim, Keeper};
 use nw_sig::Scheme;
 use std::alloc::Global;
 use std::marker::Model;
@@ -54,7 +54,7 @@ impl<S: Scheme, L: Home> Tally<S, L> {
     /// The number of the session's next call. It fits, since a session has at most as many calls as the history has events.
     pub(crate) fn next_number(&mut self, pass: &mut Pass<S, L>, calls: usize) -> u32
         requires counted { pass.old.share.amount ≡ calls }
-        requires few { self.old.calls.total ≤ MOST_EVENTS }
+        requires few { self.old.calls.total ≤ MAX_EVENTS }
         ensures number { result ≡ calls + 1 }
         ensures total { self.new.calls.total ≡ self.old.calls.total }
         ensures keeper { self.new.keeper ≡ self.old.keeper }
@@ -80,10 +80,10 @@ impl<S: Scheme, L: Home> Model for Locked<S, L> {
     ghost use Rattle.std.specs.Prelude.{◌≡◌};
     ghost use Rattle.std.specs.Coded.{codes};
     ghost use Rattle.nw_model.specs.State.{coded_state};
-    ghost use Rattle.nw_store.specs.Journal.{Kept, origin_of};
-    ghost use Rattle.nw_store.specs.Kept.{IsKept, parts_of_a_ledger};
+    ghost use Rattle.nw_store.specs.Journal.{Guarded, origin_of};
+    ghost use Rattle.nw_store.specs.Guarded.{IsKept, parts_of_a_ledger};
 
-    ghost Value = { Kept };
+    ghost Value = { Guarded };
 
     ghost coded = { Prim.hlevel (codes, coded_state) };
 
@@ -178,21 +178,24 @@ pub fn compact_locked<S: Scheme, L: Home>(
 
 /// Proves that each front of the session is a prefix of the history, however much other sessions added to it. It changes nothing
 /// and compares no events.
-pub fn renew_locked<S: Scheme, L: Home>(locked: &mut Locked<S, L>, session: &mut Session<S, L>)
+pub fn check_journal_locked<S: Scheme, L: Home>(
+    locked: &mut Locked<S, L>,
+    session: &mut Session<S, L>,
+)
     ensures begun { AreBegun locked.old.history session.old.answers }
     ensures starts { origin_of locked.old.history ≡ L.origin }
     ensures legal { IsLegalStory S.accepts locked.old.history }
     ensures numbered { AreAnswers session.old.id 1 session.old.answers }
-    ensures below { session.old.id < MOST_SESSIONS }
+    ensures below { session.old.id < MAX_SESSIONS }
     ensures same { locked.new ≡ locked.old }
     ensures session { session.new ≡ session.old }
 {
-    locked.tally.keeper.compare(&mut session.pass.claim);
+    locked.tally.keeper.check_in_place(&mut session.pass.claim);
 }
 
 /// Proves that of any two answers of the two sessions, one's front is a prefix of the other's. It changes nothing and compares no
 /// events.
-pub fn compare_locked<S: Scheme, L: Home>(
+pub fn check_journals_locked<S: Scheme, L: Home>(
     locked: &mut Locked<S, L>,
     one: &mut Session<S, L>,
     two: &mut Session<S, L>,
@@ -202,6 +205,6 @@ pub fn compare_locked<S: Scheme, L: Home>(
     ensures one { one.new ≡ one.old }
     ensures two { two.new ≡ two.old }
 {
-    renew_locked(locked, one);
-    renew_locked(locked, two);
+    check_journal_locked(locked, one);
+    check_journal_locked(locked, two);
 }

@@ -5,7 +5,7 @@ ghost use Rattle.nw_store.specs.Laws.{NotesCarryOrder};
 
 use crate::{Home, Locked, Session};
 use nw_book::Front;
-use nw_log::Claim;
+use nw_claims::Claim;
 use nw_sig::Scheme;
 use std::marker::Model;
 
@@ -40,7 +40,7 @@ pub fn note_locked<S: Scheme, L: Home>(
     ensures same { locked.new ≡ locked.old }
     ensures session { session.new ≡ session.old }
 {
-    locked.tally.keeper.compare(&mut session.pass.claim);
+    locked.tally.keeper.check_in_place(&mut session.pass.claim);
     Note {
         claim: locked.tally.keeper.claim(),
     }
@@ -65,6 +65,6 @@ pub fn hear_locked<S: Scheme, L: Home>(
 
 /// The law of notes. Suppose that a session got an answer, a note was then taken of what it knew, and another session heard the
 /// note. Then the front of the first answer is a prefix of the front of each later answer of the other session.
-pub fn what_was_heard_of_begins_an_answer()
+pub fn notes_carry_order()
     ensures { NotesCarryOrder }
 {}

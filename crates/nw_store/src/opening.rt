@@ -1,8 +1,8 @@
 //! The log and the ledger that a store is opened with.
 
-use nw_book::{Front, MOST_SESSIONS};
+use nw_book::{Front, MAX_SESSIONS};
+use nw_claims::NewLog;
 use nw_digest::NoMemory;
-use nw_log::Opened;
 use nw_sig::Scheme;
 use std::alloc::Global;
 use std::marker::Model;
@@ -11,16 +11,16 @@ use std::sync::ledger::Blank;
 /// An empty log and an empty ledger for a new store, which no home names yet. Contracts see which log and ledger they are.
 #[derive(Drop)]
 pub struct Opening<S: Scheme> {
-    pub(crate) log: Opened<Front<S>>,
+    pub(crate) log: NewLog<Front<S>>,
     pub(crate) blank: Blank,
 }
 
 impl<S: Scheme> Model for Opening<S> {
     ghost use Rattle.std.specs.Prelude.{◌≡◌};
-    ghost use Rattle.nw_store.specs.Journal.{Names};
-    ghost use Rattle.nw_store.specs.Kept.{parts_of_a_ledger};
+    ghost use Rattle.nw_store.specs.Journal.{StoreNames};
+    ghost use Rattle.nw_store.specs.Lock.{parts_of_a_ledger};
 
-    ghost Value = { Names };
+    ghost Value = { StoreNames };
 
     ghost view = { λ o. record { log = o.log; ledger = o.blank.name } };
 
@@ -31,8 +31,8 @@ impl<S: Scheme> Opening<S> {
     /// An empty log and an empty ledger. It makes two allocations of a few bytes each. `NoMemory` if one fails.
     pub fn new(alloc: Global) -> Result<Opening<S>, NoMemory> {
         Ok(Opening {
-            log: Opened::new(alloc)?,
-            blank: Blank::new(u64::from(MOST_SESSIONS) + 1),
+            log: NewLog::new(alloc)?,
+            blank: Blank::new(u64::from(MAX_SESSIONS) + 1),
         })
     }
 }

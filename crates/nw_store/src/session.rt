@@ -1,6 +1,6 @@
 //! Sessions and their journals.
 ghost use Rattle.std.specs.Prelude.{◌≡◌, ◌<◌, length};
-ghost use Rattle.nw_history.specs.declared.limits.TheConstants.{MOST_SESSIONS};
+ghost use Rattle.nw_history.specs.declared.limits.TheConstants.{MAX_SESSIONS};
 
 use crate::Home;
 use crate::locked::Pass;
@@ -25,7 +25,7 @@ impl<S: Scheme, L: Home> Model for Session<S, L> {
     ghost use Rattle.std.specs.Coded.{codes};
     ghost use Rattle.nw_model.specs.State.{coded_state};
     ghost use Rattle.nw_store.specs.Journal.{Journal};
-    ghost use Rattle.nw_store.specs.Kept.{IsSession};
+    ghost use Rattle.nw_store.specs.Lock.{IsSession};
 
     ghost Value = { Journal };
 
@@ -42,7 +42,7 @@ impl<S: Scheme, L: Home> Session<S, L> {
     /// The session's id. A store numbers its sessions from 0, in the order in which it makes them.
     pub fn id(&self) -> u16
         ensures id { result ≡ self.now.id }
-        ensures below { result < MOST_SESSIONS }
+        ensures below { result < MAX_SESSIONS }
     {
         self.id
     }

@@ -4,14 +4,14 @@ ghost use Rattle.std.specs.Prelude.{IsOk, IsNone, IsTrue, OnOk, OnErr, IfOk, IfE
 ghost use Rattle.std.specs.Prelude.{All, Some, length, slice_get, sum_by};
 ghost use Rattle.std.specs.List.Sorted.{IsPermutation, IsNonDecreasingBy};
 ghost use Rattle.nw_history.specs.Story.{IsLegalStory, reopened};
-ghost use Rattle.nw_history.specs.declared.limits.TheConstants.{MOST_SESSIONS};
+ghost use Rattle.nw_history.specs.declared.limits.TheConstants.{MAX_SESSIONS};
 ghost use Rattle.nw_store.specs.Journal.{Journal, AreBegun, AreAnswers, origin_of};
 ghost use Rattle.nw_store.specs.Settled.{AreAll, AreAllComparable, AreSettled, IsFault};
 ghost use Rattle.nw_store.specs.Settled.{IsFirstStray, IsStray, ids_of};
 
-use crate::locked::renew_locked;
+use crate::locked::check_journal_locked;
 use crate::{Home, Locked, Session, SettleFault, Store};
-use nw_book::{Book, Entry, History, MOST_SESSIONS};
+use nw_book::{Book, Entry, History, MAX_SESSIONS};
 use nw_digest::NoMemory;
 use nw_sig::Scheme;
 use std::alloc::Global;
@@ -141,11 +141,11 @@ fn sort<S: Scheme, L: Home>(sessions: &mut [Session<S, L>])
 
 /// The least stray id of the sessions, of which the store made `made`.
 fn first_stray<S: Scheme, L: Home>(sessions: &[Session<S, L>], made: u16) -> Option<u16>
-    requires below { All (λ s. s.id < MOST_SESSIONS) sessions.now }
+    requires below { All (λ s. s.id < MAX_SESSIONS) sessions.now }
     ensures stray { IfSome result (λ id. IsFirstStray made (ids_of sessions.now) id) }
     ensures none { IfNone result ((id : ℕ) → IsStray made (ids_of sessions.now) id → ⊥) }
 {
-    for id in 0..MOST_SESSIONS as u16 {
+    for id in 0..MAX_SESSIONS as u16 {
         if is_stray(sessions, id, made) {
             return Some(id);
         }
@@ -161,16 +161,16 @@ fn is_stray<S: Scheme, L: Home>(sessions: &[Session<S, L>], id: u16, made: u16) 
     times > 1 || times > 0 && id >= made
 }
 
-/// Does what `renew_locked` does for each session.
+/// Does what `check_journal_locked` does for each session.
 fn renew_all<S: Scheme, L: Home>(locked: &mut Locked<S, L>, sessions: &mut [Session<S, L>])
     ensures begun { All
         (λ s. AreBegun locked.old.history s.answers × AreAnswers s.id 1 s.answers) sessions.old }
-    ensures below { All (λ s. s.id < MOST_SESSIONS) sessions.old }
+    ensures below { All (λ s. s.id < MAX_SESSIONS) sessions.old }
     ensures same { locked.new ≡ locked.old }
     ensures sessions { sessions.new ≡ sessions.old }
 {
     if let Some((first, rest)) = sessions.split_first_mut() {
-        renew_locked(locked, first);
+        check_journal_locked(locked, first);
         renew_all(locked, rest);
     }
 }

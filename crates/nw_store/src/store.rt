@@ -16,13 +16,13 @@ ghost use Rattle.std.specs.Result.{IsErrOf};
 ghost use Rattle.nw_model.specs.Checks.{digest_of};
 ghost use Rattle.nw_history.specs.Limits.{AreInRange};
 ghost use Rattle.nw_history.specs.Story.{first_origin};
-ghost use Rattle.nw_history.specs.declared.limits.TheConstants.{MOST_SESSIONS};
-ghost use Rattle.nw_book.specs.Answer.{IsFor, front_of, reply_of};
+ghost use Rattle.nw_history.specs.declared.limits.TheConstants.{MAX_SESSIONS};
+ghost use Rattle.nw_book.specs.Answer.{IsTicketFor, front_of, reply_of};
 ghost use Rattle.nw_book.specs.Command.{call_of, committee_of};
-ghost use Rattle.nw_book.specs.Turn.{IsOf};
+ghost use Rattle.nw_book.specs.Turn.{MatchesCommittee};
 ghost use Rattle.nw_model.specs.declared.call.Call.TheVariants as Call;
 ghost use Rattle.nw_store.specs.Journal.{KnowsAll, origin_of};
-ghost use Rattle.nw_store.specs.Kept.{parts_of_a_ledger};
+ghost use Rattle.nw_store.specs.Lock.{parts_of_a_ledger};
 ghost use Rattle.nw_store.specs.Answered.{IsExplained, TakesNoStep};
 
 use crate::calls::{call_locked, certify_locked, open_locked, write_locked};
@@ -91,7 +91,7 @@ impl<S: Scheme, L: Home> Store<S, L> {
 
     /// Makes a new session. `TooMany` if the store has made as many sessions as its limit allows.
     pub fn session<R: Wait>(&self, rt: &R, alloc: Global) -> Result<Session<S, L>, TooMany>
-        ensures { IfOk result (λ session. (session.answers ≡ []) × (session.id < MOST_SESSIONS)) }
+        ensures { IfOk result (λ session. (session.answers ≡ []) × (session.id < MAX_SESSIONS)) }
     {
         session_locked(&mut *self.locked.lock(rt), alloc)
     }
@@ -127,7 +127,7 @@ impl<S: Scheme, L: Home> Store<S, L> {
         ensures answered { IfOk result
             (λ done. IsExplained S.accepts L.origin session.old session.new
             (call_of command.now) done.event.reply done.front) }
-        ensures own_committee { OnOk result (IsOf L.origin.committee (committee_of command.now)) }
+        ensures own_committee { OnOk result (MatchesCommittee L.origin.committee (committee_of command.now)) }
         ensures no_step { IfErr result
             (TakesNoStep S.accepts L.origin session.old (committee_of command.now)) }
         ensures unchanged { OnErr result (session.new ≡ session.old) }
@@ -277,7 +277,7 @@ impl<S: Scheme, L: Home> Store<S, L> {
         ensures answered { IfOk result
             (λ answer. IsExplained S.accepts L.origin session.old session.new
             (Call.Causal digest) (reply_of answer) (front_of answer)) }
-        ensures told { IfOk result (IsFor digest) }
+        ensures told { IfOk result (IsTicketFor digest) }
         ensures no_step { IfErr result (TakesNoStep S.accepts L.origin session.old None) }
         ensures unchanged { OnErr result (session.new ≡ session.old) }
     {

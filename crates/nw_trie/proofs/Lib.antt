@@ -7,5 +7,5 @@ pub mod Splits
 pub mod Grafts
 pub mod Removals
 pub mod After
-pub mod Sent
+pub mod Send
 pub mod Descents

@@ -11,7 +11,7 @@ use Rattle.nw_model.specs.View.{HasParent, IsClosed}
 use Rattle.nw_generation.specs.Seen.{union, seen_of}
 use Rattle.sample_blocks.specs.Sample.{name_of, AreNamed, AreBases, AreNext}
 use Rattle.sample_blocks.proofs.Bases.{names_apart}
-use Rattle.nw_generation.proofs.Unions.{get_latest, get_nowhere}
+use Rattle.nw_generation.proofs.Unions.{get_latest, get_from_none}
 
 -- a found block is of the later generation or of the older one
 of_either : {X : Type 0} (first later : Option X) (x : X) → option_or first later ≡ Some x → (first ≡ Some x) ⊎ (later ≡ Some x)
@@ -27,7 +27,7 @@ alone : (blocks : FinMap digest_cmp Block) (d : Digest) → get (union (blocks �
 alone blocks d = get_latest [] blocks d ∙ whole (get blocks d)
   where
     whole : (found : Option Block) → option_or found (get (union []) d) ≡ found
-    whole None = get_nowhere [] d refl
+    whole None = get_from_none [] d refl
     whole (Some b) = refl
 
 -- a lookup in a view of two generations

@@ -3,7 +3,7 @@ use std::alloc::Global;
 
 /// The result of the call. If it is the given error, an allocation failure, the call is repeated once, and its second result counts.
 #[macro_export]
-macro_rules! again {
+macro_rules! retry {
     ($refused:pat, $ask:expr) => {
         match $ask {
             Err($refused) => $ask,
@@ -20,11 +20,11 @@ const REFUSE_ALL: usize = 1_000_003;
 const REFUSE_NONE: usize = 1_000_033;
 
 /// Makes all allocations fail from now on, if the library of `.ci/refusals` is loaded.
-pub fn refuse_all(alloc: Global) {
+pub fn fail_allocations(alloc: Global) {
     drop(Vec::<u8>::with_capacity(alloc, REFUSE_ALL));
 }
 
 /// Makes allocations succeed again.
-pub fn refuse_none(alloc: Global) {
+pub fn allow_allocations(alloc: Global) {
     drop(Vec::<u8>::with_capacity(alloc, REFUSE_NONE));
 }

@@ -3,7 +3,7 @@
 //! Members sign with the demonstration scheme.
 //! The values of [`committee`], [`block`], [`block_with`] and [`certificate`] are as their arguments say, under the given committee.
 //! The builders in [`refused`] report an allocation failure by their error, so that a test can recognize it and repeat the call with
-//! [`again`]. No program uses this crate.
+//! [`retry`]. No program uses this crate.
 #![tactic(auto)]
 
 mod asking;
@@ -11,5 +11,5 @@ pub mod refused;
 mod signing;
 mod values;
 
-pub use asking::{refuse_all, refuse_none};
+pub use asking::{allow_allocations, fail_allocations};
 pub use values::{block, block_with, certificate, committee, key};

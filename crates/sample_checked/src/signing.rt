@@ -5,7 +5,7 @@ ghost use Rattle.nw_codec.specs.Fits.{Fits};
 use nw_codec::{Block, Seal, Signature, block_digest};
 use nw_committee::{Committee, Key};
 use nw_digest::{Digest, Round};
-use nw_sig::{DemoSigner, Signer, block_text, vote_text};
+use nw_sig::{DemoSigner, Signer, text_of_block, text_of_vote};
 
 /// The member's signature of the text. If there is no such member, it is that of a key of 32 bytes 0.
 fn sign(committee: &Committee, member: u16, text: &[u8]) -> Signature {
@@ -20,11 +20,11 @@ pub fn signature(committee: &Committee, block: &Block, signer: u16) -> Option<Si
     if !block.fits() {
         return None;
     }
-    Some(sign(committee, signer, &block_text(&block_digest(block))))
+    Some(sign(committee, signer, &text_of_block(&block_digest(block))))
 }
 
 /// The signer's vote for the digest, round and author, as a certificate contains it.
 pub fn seal(committee: &Committee, digest: Digest, round: Round, author: u16, signer: u16) -> Seal {
-    let signature = sign(committee, signer, &vote_text(&digest, round, author));
+    let signature = sign(committee, signer, &text_of_vote(&digest, round, author));
     Seal { signer, signature }
 }

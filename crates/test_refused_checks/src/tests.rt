@@ -2,7 +2,7 @@ use nw_codec::Message;
 use nw_committee::Committee;
 use nw_digest::{NoMemory, Round, Shared};
 use sample_checked::refused::{Slot, VOTED, certificate, committee, signature, unsigned};
-use sample_checked::{again, refuse_all, refuse_none};
+use sample_checked::{allow_allocations, fail_allocations, retry};
 use std::alloc::Global;
 use std::test::Fail;
 
@@ -18,12 +18,12 @@ const SLOT: Slot = (Round::ZERO, 0);
 
 /// A committee of four members.
 fn four(alloc: Global) -> Result<Shared<Committee>, NoMemory> {
-    again!(NoMemory, committee(alloc, &[0, 1, 2, 3]))
+    retry!(NoMemory, committee(alloc, &[0, 1, 2, 3]))
 }
 
 /// The message of a block of round 0 of member 0, signed by this signer.
 fn block_message(alloc: Global, four: &Committee, signer: u16) -> Result<Message, Fail> {
-    let block = again!(NoMemory, unsigned(alloc, SLOT, &[], b"x"))?;
+    let block = retry!(NoMemory, unsigned(alloc, SLOT, &[], b"x"))?;
     match signature(four, &block, signer) {
         Some(signature) => Ok(Message::Block { block, signature }),
         None => {
@@ -39,6 +39,6 @@ fn certificate_message(
     four: &Committee,
     signers: &[u16],
 ) -> Result<Message, NoMemory> {
-    let certificate = again!(NoMemory, certificate(alloc, four, VOTED, SLOT, signers))?;
+    let certificate = retry!(NoMemory, certificate(alloc, four, VOTED, SLOT, signers))?;
     Ok(Message::Certificate(certificate))
 }

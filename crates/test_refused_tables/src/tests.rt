@@ -1,7 +1,7 @@
 use nw_codec::Block;
 use nw_digest::{Digest, NoMemory, Round, Shared};
 use sample_blocks::{name, round};
-use sample_checked::{again, refuse_all, refuse_none};
+use sample_checked::{allow_allocations, fail_allocations, retry};
 use std::alloc::Global;
 
 mod dags;

@@ -2,10 +2,10 @@
 ghost use Rattle.std.specs.Prelude.{◌≡◌, IfOk, OnOk, OnErr};
 ghost use Rattle.std.specs.Result.{MatchResult};
 ghost use Rattle.nw_model.specs.History.{IsAdmitted};
-ghost use Rattle.nw_model.specs.Step.{IsReply, IsShort};
+ghost use Rattle.nw_model.specs.Step.{IsReply, HasNoList};
 ghost use Rattle.nw_model.specs.View.{Shows};
 ghost use Rattle.nw_history.specs.Story.{IsLegalStory, bounds_of, state_of, with_event};
-ghost use Rattle.nw_book.specs.Answer.{IsFor, Takes, front_of, reply_of};
+ghost use Rattle.nw_book.specs.Answer.{IsTicketFor, Takes, front_of, reply_of};
 ghost use Rattle.nw_book.specs.Command.{IsNoCausalRead};
 ghost use Rattle.nw_book.specs.Turn.{HasRoom, IsInTurn, event};
 
@@ -67,7 +67,7 @@ impl<S: Scheme> Book<S> {
         requires room { HasRoom self.old }
         ensures taken { IfOk result (λ taken. Takes S.accepts self.old self.new session number
             (Call.Causal digest) (reply_of taken.0) (front_of taken.0)) }
-        ensures told { IfOk result (λ taken. IsFor digest taken.0) }
+        ensures told { IfOk result (λ taken. IsTicketFor digest taken.0) }
         ensures kept { IfOk result (λ taken. taken.1 ≡ record {
           event = event session number (Call.Causal digest) (reply_of taken.0);
           front = self.new;
@@ -93,7 +93,7 @@ impl<S: Scheme> Book<S> {
     fn reply(&self, alloc: Global, call: &Call) -> Result<Reply, NoMemory>
         ensures reply { IfOk result
             (IsReply (bounds_of self.now.limits) (state_of self.now) call.now) }
-        ensures short { IfOk result IsShort }
+        ensures short { IfOk result HasNoList }
     {
         self.tables.reply(alloc, call)
     }
@@ -122,7 +122,7 @@ impl<S: Scheme> Book<S> {
         requires admitted { IsAdmitted S.accepts self.old.committee event.call }
         requires reply { IsReply (bounds_of self.old.limits) (state_of self.old)
             event.call event.reply }
-        requires short { IsShort event.reply }
+        requires short { HasNoList event.reply }
         ensures history { OnOk result (self.new ≡ with_event self.old event) }
         ensures legal { OnOk result (IsLegalStory S.accepts self.new) }
         ensures front { IfOk result (λ fronts. fronts.0 ≡ self.new) }

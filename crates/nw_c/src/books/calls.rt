@@ -6,7 +6,7 @@ ghost use Rattle.nw_book.specs.declared.error.NoStep.{NoStep as Refusal};
 ghost use Rattle.nw_c.specs.Books.{IsOpened, IsRefusedBy, IsTaken};
 ghost use Rattle.nw_c.specs.Codes.{step_code};
 ghost use Rattle.nw_c.specs.Plain.{digest_in};
-ghost use Rattle.nw_c.specs.Kinds.{IsAsBefore, IsBook, IsRoom};
+ghost use Rattle.nw_c.specs.Kinds.{IsAsBefore, HoldsBook, HoldsRoom};
 ghost use Rattle.nw_c.specs.declared.codes.TheConstants.{BAD_ROUND, CLOSED, OTHER_KIND};
 
 use super::{is_room, take};
@@ -37,7 +37,7 @@ pub extern "C" fn nw_book_certificate(
     ensures stays { book.new.held ≡ book.old.held }
     ensures answer_stays { answer.new.held ≡ answer.old.held }
     ensures closed { result ≡ CLOSED → book.old.held ≡ true → answer.old.held ≡ true → ⊥ }
-    ensures other_kind { result ≡ OTHER_KIND → IsBook book.old.value → IsRoom answer.old.value → ⊥ }
+    ensures other_kind { result ≡ OTHER_KIND → HoldsBook book.old.value → HoldsRoom answer.old.value → ⊥ }
 {
     let command = Command::Certificate(digest.get());
     take(alloc, book, answer, session, number, &command)
@@ -62,7 +62,7 @@ pub extern "C" fn nw_book_read(
     ensures stays { book.new.held ≡ book.old.held }
     ensures answer_stays { answer.new.held ≡ answer.old.held }
     ensures closed { result ≡ CLOSED → book.old.held ≡ true → answer.old.held ≡ true → ⊥ }
-    ensures other_kind { result ≡ OTHER_KIND → IsBook book.old.value → IsRoom answer.old.value → ⊥ }
+    ensures other_kind { result ≡ OTHER_KIND → HoldsBook book.old.value → HoldsRoom answer.old.value → ⊥ }
 {
     let command = Command::Read(digest.get());
     take(alloc, book, answer, session, number, &command)
@@ -88,7 +88,7 @@ pub extern "C" fn nw_book_collect(
     ensures stays { book.new.held ≡ book.old.held }
     ensures answer_stays { answer.new.held ≡ answer.old.held }
     ensures closed { result ≡ CLOSED → book.old.held ≡ true → answer.old.held ≡ true → ⊥ }
-    ensures other_kind { result ≡ OTHER_KIND → IsBook book.old.value → IsRoom answer.old.value → ⊥ }
+    ensures other_kind { result ≡ OTHER_KIND → HoldsBook book.old.value → HoldsRoom answer.old.value → ⊥ }
     ensures bad_round { result ≡ BAD_ROUND → 2 ^ 48 ≤ round }
 {
     let Some(round) = Round::new(round) else {
@@ -117,7 +117,7 @@ pub extern "C" fn nw_book_missing(
     ensures stays { book.new.held ≡ book.old.held }
     ensures answer_stays { answer.new.held ≡ answer.old.held }
     ensures closed { result ≡ CLOSED → book.old.held ≡ true → answer.old.held ≡ true → ⊥ }
-    ensures other_kind { result ≡ OTHER_KIND → IsBook book.old.value → IsRoom answer.old.value → ⊥ }
+    ensures other_kind { result ≡ OTHER_KIND → HoldsBook book.old.value → HoldsRoom answer.old.value → ⊥ }
 {
     let command = Command::Missing(most);
     take(alloc, book, answer, session, number, &command)
@@ -141,7 +141,7 @@ pub extern "C" fn nw_book_status(
     ensures stays { book.new.held ≡ book.old.held }
     ensures answer_stays { answer.new.held ≡ answer.old.held }
     ensures closed { result ≡ CLOSED → book.old.held ≡ true → answer.old.held ≡ true → ⊥ }
-    ensures other_kind { result ≡ OTHER_KIND → IsBook book.old.value → IsRoom answer.old.value → ⊥ }
+    ensures other_kind { result ≡ OTHER_KIND → HoldsBook book.old.value → HoldsRoom answer.old.value → ⊥ }
 {
     take(alloc, book, answer, session, number, &Command::Status)
 }
@@ -166,7 +166,7 @@ pub extern "C" fn nw_book_open(
     ensures stays { book.new.held ≡ book.old.held }
     ensures answer_stays { answer.new.held ≡ answer.old.held }
     ensures closed { result ≡ CLOSED → book.old.held ≡ true → answer.old.held ≡ true → ⊥ }
-    ensures other_kind { result ≡ OTHER_KIND → IsBook book.old.value → IsRoom answer.old.value → ⊥ }
+    ensures other_kind { result ≡ OTHER_KIND → HoldsBook book.old.value → HoldsRoom answer.old.value → ⊥ }
 {
     if !book.is_open() || !answer.is_open() {
         return CLOSED;

@@ -1,6 +1,6 @@
 //! The calls of the step table.
 ghost use Rattle.std.specs.Prelude.{◌≡◌, IfOk, OnOk, OnErr};
-ghost use Rattle.nw_model.specs.Step.{IsReply, IsShort, after};
+ghost use Rattle.nw_model.specs.Step.{IsReply, HasNoList, after};
 ghost use Rattle.nw_model.specs.Step.{write_reply, certify_reply, collect_reply};
 
 use super::Dag;
@@ -37,7 +37,7 @@ impl Dag {
     /// `NoMemory` if allocation fails, or if the block or certificate of the reply has too many owners.
     pub fn reply(&self, alloc: Global, call: &Call) -> Result<Reply, NoMemory>
         ensures reply { IfOk result (IsReply self.now.bounds self.now.state call.now) }
-        ensures short { IfOk result IsShort }
+        ensures short { IfOk result HasNoList }
     {
         match call {
             Call::Write(digest, block) => {

@@ -4,7 +4,7 @@ ghost use Rattle.std.specs.Option.{MatchOption};
 ghost use Rattle.std.specs.Result.{MatchResult};
 ghost use Rattle.nw_model.specs.Paths.{IsComplete};
 ghost use Rattle.nw_model.specs.Sound.{IsSound};
-ghost use Rattle.nw_model.specs.Step.{IsCausalReply, IsShort};
+ghost use Rattle.nw_model.specs.Step.{IsCausalReply, HasNoList};
 ghost use Rattle.nw_model.specs.View.{Shows};
 
 use super::Dag;
@@ -69,7 +69,7 @@ impl Dag {
     /// The reply that a causal read would get now, with `Ready` in place of a list.
     pub(super) fn causal_reply(&self, digest: &Digest) -> Reply
         ensures reply { IsCausalReply self.now.state digest.now result }
-        ensures short { IsShort result }
+        ensures short { HasNoList result }
     {
         match self.refusal(digest) {
             Some(refusal) => Reply::Causal(refusal),

@@ -74,7 +74,7 @@ impl Dag {
         let CollectReply::Raised { dropped: _ } = reply else {
             return Ok(());
         };
-        let holders = self.held.up_to(round)?;
+        let holders = self.held.digests_up_to(round)?;
         let complete = self.waits.complete_below(&self.held, &holders, round);
         let blocks = self.held.blocks();
         self.held.raise(round, &holders);

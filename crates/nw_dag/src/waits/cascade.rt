@@ -3,25 +3,25 @@ ghost use Rattle.std.specs.Prelude.{◌≡◌, ◌+◌, ◌<◌, [], ◌∷◌, 
 ghost use Rattle.std.specs.List.{IsDistinct};
 ghost use Rattle.std.specs.Ordering.{eq_by_cmp};
 ghost use Rattle.nw_digest.specs.Order.{digest_cmp};
-ghost use Rattle.nw_held.specs.Standing.{Stands};
+ghost use Rattle.nw_state.specs.Standing.{Stands};
 ghost use Rattle.nw_dag.specs.Lacking.{IsReady};
-ghost use Rattle.nw_dag.specs.Changes.{Adds, Promotes};
+ghost use Rattle.nw_dag.specs.Changes.{AppendsThose, Promotes};
 ghost use Rattle.nw_dag.specs.Frozen.{Grows};
 ghost use Rattle.nw_dag.specs.Settled.{IsTally, IsCascading, IsSettled, IsSettledWithout};
 
 use super::Waits;
 use crate::completions::{is_ready, lacks_nothing};
 use nw_digest::Digest;
-use nw_held::Held;
+use nw_state::StateTables;
 
 impl Waits {
     /// Lists the digest if it is ready.
-    pub(super) fn add_if_ready(&mut self, held: &Held, digest: Digest)
+    pub(super) fn add_if_ready(&mut self, held: &StateTables, digest: Digest)
         requires pending { IsReady held.now.state self.old.lacking digest
             → 0 < self.old.completions.pending }
         ensures unmet { self.new.unmet ≡ self.old.unmet }
         ensures lacking { self.new.lacking ≡ self.old.lacking }
-        ensures added { Adds (IsReady held.now.state self.old.lacking)
+        ensures added { AppendsThose (IsReady held.now.state self.old.lacking)
             (digest ∷ []) self.old.completions.fresh.items self.new.completions.fresh.items }
         ensures most { length self.new.completions.fresh.items + self.new.completions.pending
             ≡ length self.old.completions.fresh.items + self.old.completions.pending }
@@ -32,13 +32,13 @@ impl Waits {
     }
 
     /// Lists the digests that are ready.
-    fn add_ready(&mut self, held: &Held, digests: &[Digest])
+    fn add_ready(&mut self, held: &StateTables, digests: &[Digest])
         requires tally { IsTally held.now.state self.old.lacking digests.now
             self.old.completions.pending }
         requires once { IsDistinct (eq_by_cmp digest_cmp) digests.now }
         ensures unmet { self.new.unmet ≡ self.old.unmet }
         ensures lacking { self.new.lacking ≡ self.old.lacking }
-        ensures added { Adds (IsReady held.now.state self.old.lacking) digests.now
+        ensures added { AppendsThose (IsReady held.now.state self.old.lacking) digests.now
             self.old.completions.fresh.items self.new.completions.fresh.items }
         ensures most { length self.new.completions.fresh.items + self.new.completions.pending
             ≡ length self.old.completions.fresh.items + self.old.completions.pending }
@@ -49,7 +49,7 @@ impl Waits {
     }
 
     /// Promotes the digest: no block lacks its block any longer, and the blocks that became ready by this are listed.
-    fn promote(&mut self, held: &Held, digest: Digest)
+    fn promote(&mut self, held: &StateTables, digest: Digest)
         requires tally { IsTally held.now.state self.old.lacking [] self.old.completions.pending }
         requires stands { Stands held.now.state digest }
         ensures unmet { self.new.unmet ≡ self.old.unmet }
@@ -65,7 +65,7 @@ impl Waits {
     }
 
     /// Promotes the listed digests from this place on, and those that become ready by this. Allocates nothing.
-    pub(super) fn cascade(&mut self, held: &Held, first: usize)
+    pub(super) fn cascade(&mut self, held: &StateTables, first: usize)
         requires due { IsCascading held.now.state self.old.unmet self.old.lacking
             (drop first self.old.completions.fresh.items) self.old.completions.pending }
         ensures settled { IsSettled held.now.state self.new.unmet self.new.lacking
@@ -84,7 +84,7 @@ impl Waits {
 
     /// Updates the sets after the block or the certificate of the digest was added. If the digest stands now, it is no longer unmet. If it
     /// is complete, it is listed and promoted, with all blocks that become complete by this. Allocates nothing.
-    pub(crate) fn arrive(&mut self, held: &Held, digest: Digest)
+    pub(crate) fn arrive(&mut self, held: &StateTables, digest: Digest)
         requires { IsSettledWithout held.now.state digest self.old.unmet self.old.lacking
             self.old.completions.pending }
         ensures settled { IsSettled held.now.state self.new.unmet self.new.lacking

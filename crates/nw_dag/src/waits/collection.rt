@@ -5,7 +5,7 @@ ghost use Rattle.std.specs.Ordering.{eq_by_cmp};
 ghost use Rattle.nw_waiting.specs.Pairs.{without_holder};
 ghost use Rattle.nw_digest.specs.Order.{digest_cmp};
 ghost use Rattle.nw_dag.specs.Lacking.{IsReady};
-ghost use Rattle.nw_dag.specs.Changes.{Adds};
+ghost use Rattle.nw_dag.specs.Changes.{AppendsThose};
 ghost use Rattle.nw_dag.specs.Frozen.{Grows};
 ghost use Rattle.nw_dag.specs.Settled.{IsTally, IsSettled};
 ghost use Rattle.nw_dag.specs.Collection.{AreReleased, StandsButLacks};
@@ -14,11 +14,11 @@ ghost use Rattle.nw_dag.specs.Collection.{IsCompleteBelow, HasCompleteBelow, IsC
 use super::Waits;
 use crate::completions::{is_ready, lacks_nothing};
 use nw_digest::{Digest, Round};
-use nw_held::Held;
+use nw_state::StateTables;
 
 impl Waits {
     /// Whether the digest is complete, and its block is of a round below this one.
-    fn is_complete_below(&self, held: &Held, digest: Digest, round: Round) -> bool
+    fn is_complete_below(&self, held: &StateTables, digest: Digest, round: Round) -> bool
         ensures { IsTrue result ↔ IsCompleteBelow held.now.state self.now.lacking round digest }
     {
         match held.block(&digest) {
@@ -28,7 +28,12 @@ impl Waits {
     }
 
     /// How many of the digests are complete, with blocks of rounds below this one.
-    pub(crate) fn complete_below(&self, held: &Held, digests: &[Digest], round: Round) -> usize
+    pub(crate) fn complete_below(
+        &self,
+        held: &StateTables,
+        digests: &[Digest],
+        round: Round,
+    ) -> usize
         requires { IsDistinct (eq_by_cmp digest_cmp) digests.now }
         ensures { HasCompleteBelow held.now.state self.now.lacking round digests.now result }
     {
@@ -42,11 +47,11 @@ impl Waits {
     }
 
     /// Releases the holder: it lacks nothing from now on, and is listed if it became ready by this.
-    fn release(&mut self, held: &Held, holder: Digest)
+    fn release(&mut self, held: &StateTables, holder: Digest)
         requires tally { IsTally held.now.state self.old.lacking [] self.old.completions.pending }
         ensures unmet { self.new.unmet ≡ without_holder self.old.unmet holder }
         ensures lacking { self.new.lacking ≡ without_holder self.old.lacking holder }
-        ensures added { Adds (StandsButLacks held.now.state self.old.lacking)
+        ensures added { AppendsThose (StandsButLacks held.now.state self.old.lacking)
             (holder ∷ []) self.old.completions.fresh.items self.new.completions.fresh.items }
         ensures most { length self.new.completions.fresh.items + self.new.completions.pending
             ≡ length self.old.completions.fresh.items + self.old.completions.pending }
@@ -59,12 +64,12 @@ impl Waits {
     }
 
     /// Releases the holders: they lack nothing from now on, and those that became ready by this are listed.
-    fn release_each(&mut self, held: &Held, holders: &[Digest])
+    fn release_each(&mut self, held: &StateTables, holders: &[Digest])
         requires tally { IsTally held.now.state self.old.lacking [] self.old.completions.pending }
         requires once { IsDistinct (eq_by_cmp digest_cmp) holders.now }
         ensures unmet { AreReleased holders.now self.old.unmet self.new.unmet }
         ensures lacking { AreReleased holders.now self.old.lacking self.new.lacking }
-        ensures added { Adds (StandsButLacks held.now.state self.old.lacking) holders.now
+        ensures added { AppendsThose (StandsButLacks held.now.state self.old.lacking) holders.now
             self.old.completions.fresh.items self.new.completions.fresh.items }
         ensures most { length self.new.completions.fresh.items + self.new.completions.pending
             ≡ length self.old.completions.fresh.items + self.old.completions.pending }
@@ -76,7 +81,7 @@ impl Waits {
 
     /// Updates the sets after the garbage round was raised. The holders are the digests of rounds up to it, and `dropped` is the number of
     /// dropped blocks that were not complete. Blocks that become complete by this are listed and promoted. Allocates nothing.
-    pub(crate) fn collect(&mut self, held: &Held, holders: &[Digest], dropped: usize)
+    pub(crate) fn collect(&mut self, held: &StateTables, holders: &[Digest], dropped: usize)
         requires { IsCollecting held.now.state self.old.unmet self.old.lacking
             self.old.completions.pending holders.now dropped }
         ensures settled { IsSettled held.now.state self.new.unmet self.new.lacking

@@ -2,8 +2,8 @@
 ghost use Rattle.std.specs.Prelude.{◌≡◌, ◌↔◌, ◌<◌, ◌+◌, IfOk, OnOk, IsTrue, take};
 ghost use Rattle.std.specs.List.Sorted.{IsStrictlySortedBy};
 ghost use Rattle.nw_model.specs.Paths.{IsSatisfied};
-ghost use Rattle.nw_model.specs.Missing.{AreCounts, AreExactly, AreFirstWanted, IsWanted, Wants, wanted_cmp};
-ghost use Rattle.nw_plain.specs.Added.{Adds, NamesMissing};
+ghost use Rattle.nw_model.specs.Missing.{AreCounts, ListsExactly, AreFirstWanted, IsWanted, Wants, wanted_cmp};
+ghost use Rattle.nw_plain.specs.Added.{IsUnionWith, NamesMissing};
 
 use super::Plain;
 use nw_codec::{Block, Ref};
@@ -38,7 +38,7 @@ impl Plain {
     /// The wanted parents.
     fn wanted(&self) -> Result<BTreeSet<Wanted>, NoMemory>
         ensures { IfOk result
-            (λ wanted. AreExactly wanted_cmp (IsWanted self.now.state) wanted.keys) }
+            (λ wanted. ListsExactly wanted_cmp (IsWanted self.now.state) wanted.keys) }
     {
         let mut wanted = BTreeSet::new(self.alloc);
         for (_digest, block) in self.blocks.iter() {
@@ -47,10 +47,10 @@ impl Plain {
         Ok(wanted)
     }
 
-    /// Adds the parents that the block wants.
+    /// IsUnionWith the parents that the block wants.
     fn add_wanted(&self, wanted: &mut BTreeSet<Wanted>, block: &Block) -> Result<(), NoMemory>
         ensures added { OnOk result
-            (Adds (Wants self.now.state block.now) wanted.old.keys wanted.new.keys) }
+            (IsUnionWith (Wants self.now.state block.now) wanted.old.keys wanted.new.keys) }
         ensures ordered { IsStrictlySortedBy wanted_cmp wanted.old.keys
             → IsStrictlySortedBy wanted_cmp wanted.new.keys }
     {
@@ -62,7 +62,7 @@ impl Plain {
         }
     }
 
-    /// Adds the parents that the block's unsatisfied references name. `before` is the round before the block's.
+    /// IsUnionWith the parents that the block's unsatisfied references name. `before` is the round before the block's.
     fn add_unsatisfied(
         &self,
         wanted: &mut BTreeSet<Wanted>,
@@ -72,7 +72,7 @@ impl Plain {
         requires before { before + 1 ≡ block.now.round }
         requires above { self.now.state.floor < block.now.round }
         ensures added { OnOk result
-            (Adds (Wants self.now.state block.now) wanted.old.keys wanted.new.keys) }
+            (IsUnionWith (Wants self.now.state block.now) wanted.old.keys wanted.new.keys) }
         ensures ordered { IsStrictlySortedBy wanted_cmp wanted.old.keys
             → IsStrictlySortedBy wanted_cmp wanted.new.keys }
     {
@@ -82,7 +82,7 @@ impl Plain {
         Ok(())
     }
 
-    /// Adds the parent that the reference of a block of this round names, if the reference is not satisfied. `before` is the preceding
+    /// IsUnionWith the parent that the reference of a block of this round names, if the reference is not satisfied. `before` is the preceding
     /// round.
     fn add_if_unsatisfied(
         &self,
@@ -93,7 +93,7 @@ impl Plain {
     ) -> Result<(), NoMemory>
         requires { before + 1 ≡ round }
         ensures added { OnOk result
-            (Adds (NamesMissing self.now.state round reference.now)
+            (IsUnionWith (NamesMissing self.now.state round reference.now)
             wanted.old.keys wanted.new.keys) }
         ensures ordered { IsStrictlySortedBy wanted_cmp wanted.old.keys
             → IsStrictlySortedBy wanted_cmp wanted.new.keys }

@@ -1,11 +1,11 @@
 //! Lists that share their earlier items.
 use super::*;
-use nw_chunks::Chunks;
 use nw_digest::Shared;
+use nw_shared_list::SharedList;
 
 /// The list of the numbers below `count`, added one by one, with `count` as its head.
-fn numbers(alloc: Global, count: u32) -> Result<Chunks<u32, u32>, NoMemory> {
-    let mut list = Chunks::new(alloc, Shared::new(alloc, count)?)?;
+fn numbers(alloc: Global, count: u32) -> Result<SharedList<u32, u32>, NoMemory> {
+    let mut list = SharedList::new(alloc, Shared::new(alloc, count)?)?;
     for number in 0..count {
         if list.len() >= 1 << 32 {
             return Err(NoMemory);
@@ -16,12 +16,12 @@ fn numbers(alloc: Global, count: u32) -> Result<Chunks<u32, u32>, NoMemory> {
 }
 
 /// Whether the list has exactly the numbers below `count`, and `count` as its head.
-fn has_numbers(alloc: Global, list: &Chunks<u32, u32>, count: u32) -> Result<bool, NoMemory> {
-    let behind = list.behind(alloc)?;
+fn has_numbers(alloc: Global, list: &SharedList<u32, u32>, count: u32) -> Result<bool, NoMemory> {
+    let links = list.tail_links(alloc)?;
     for index in [0, 1, 254, 255, 256, 257, 511, 512, 513] {
         let expected = if index < count { Some(index) } else { None };
         let index = index as usize;
-        for found in [list.get(index), list.get_by(&behind, index)] {
+        for found in [list.get(index), list.get_with_links(&links, index)] {
             if found.copied() != expected {
                 return Ok(false);
             }

@@ -1,6 +1,6 @@
 //! Claims of a log.
 use super::*;
-use nw_log::Claim;
+use nw_claims::Claim;
 use std::marker::Brand;
 use std::mem::size_of;
 

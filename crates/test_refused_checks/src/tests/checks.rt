@@ -5,7 +5,7 @@ use sample_checked::refused::{checked_block, checked_certificate};
 
 /// The author of a checked block, or `None` if it has another committee.
 fn author_of(alloc: Global, four: &Shared<Committee>) -> Result<Option<u16>, BlockFault> {
-    let block = again!(
+    let block = retry!(
         BlockFault::NoMemory,
         checked_block(alloc, four, (Round::ZERO, 2), &[], b"x", 2)
     )?;
@@ -17,7 +17,7 @@ fn author_of(alloc: Global, four: &Shared<Committee>) -> Result<Option<u16>, Blo
 
 /// The number of votes of a checked certificate, or `None` if it has another committee.
 fn votes_of(alloc: Global, four: &Shared<Committee>) -> Result<Option<usize>, CertFault> {
-    let three = again!(
+    let three = retry!(
         CertFault::NoMemory,
         checked_certificate(alloc, four, VOTED, SLOT, &[0, 1, 2])
     )?;

@@ -17,16 +17,16 @@ fn quorum(alloc: Global, numbers: &[u8]) -> Result<u32, CommitteeFault> {
 
 /// The fault of such a committee, made while all allocations fail.
 fn fault_of(alloc: Global, numbers: &[u8]) -> Result<Option<CommitteeFault>, NoMemory> {
-    let keys = again!(NoMemory, keys(alloc, numbers))?;
-    refuse_all(alloc);
+    let keys = retry!(NoMemory, keys(alloc, numbers))?;
+    fail_allocations(alloc);
     let fault = Committee::new(alloc, keys).err();
-    refuse_none(alloc);
+    allow_allocations(alloc);
     Ok(fault)
 }
 
 #[test]
 fn bad_committees(rt: HostRuntime) -> Result<(), Fail> {
-    let four = again!(CommitteeFault::NoMemory, quorum(rt.alloc(), &[0, 1, 2, 3]))?;
+    let four = retry!(CommitteeFault::NoMemory, quorum(rt.alloc(), &[0, 1, 2, 3]))?;
     let size = fault_of(rt.alloc(), &[0, 1, 2])?;
     let repeated = fault_of(rt.alloc(), &[0, 1, 2, 1])?;
     let wanted = [CommitteeFault::BadSize, CommitteeFault::RepeatedKey];
@@ -48,10 +48,10 @@ pub(super) fn members(alloc: Global, weights: &[u32]) -> Result<Vec<Member>, NoM
 
 /// The quorum of a committee of members with these weights, made while all allocations fail.
 fn weighted(alloc: Global, weights: &[u32]) -> Result<Result<u32, CommitteeFault>, NoMemory> {
-    let members = again!(NoMemory, members(alloc, weights))?;
-    refuse_all(alloc);
+    let members = retry!(NoMemory, members(alloc, weights))?;
+    fail_allocations(alloc);
     let quorum = Committee::weighted(members).map(|made| made.quorum());
-    refuse_none(alloc);
+    allow_allocations(alloc);
     Ok(quorum)
 }
 

@@ -14,12 +14,12 @@ fn add(
     signer: u16,
 ) -> Result<Counted, GatherFault> {
     let vote = vote(four, VOTED, SLOT, signer);
-    again!(GatherFault::NoMemory, gather.add(&vote))
+    retry!(GatherFault::NoMemory, gather.add(&vote))
 }
 
 /// Finishes the certificate. Returns whether its signers are 0, 1 and 2.
 fn finished(alloc: Global, gather: &Gather<DemoScheme>) -> Result<bool, FinishFault> {
-    let checked = again!(FinishFault::NoMemory, gather.finish(alloc))?;
+    let checked = retry!(FinishFault::NoMemory, gather.finish(alloc))?;
     let has_three = are_first_three(checked.certificate().get().votes.as_slice());
     drop(checked);
     Ok(has_three)
@@ -42,7 +42,7 @@ fn gathered(
     four: &Shared<Committee>,
     signers: [u16; 5],
 ) -> Result<Gathered, StartFault> {
-    let mut gather = again!(
+    let mut gather = retry!(
         StartFault::NoMemory,
         Gather::new(alloc, four, VOTED, Round::ZERO, 0)
     )?;
@@ -74,7 +74,7 @@ fn votes_are_gathered_to_a_quorum(rt: HostRuntime) -> Result<(), Fail> {
     for is_weighted in [false, true] {
         let four = match is_weighted {
             false => four(rt.alloc())?,
-            true => again!(NoMemory, weighted_four(rt.alloc()))?,
+            true => retry!(NoMemory, weighted_four(rt.alloc()))?,
         };
         let answers = gathered(rt.alloc(), &four, [0, 1, 1, 2, 9]);
         drop(four);
@@ -101,7 +101,7 @@ fn uncounted(four: &Committee) -> [Vote; 6] {
 
 /// A gatherer that counted the vote of member 0.
 fn gatherer(alloc: Global, four: &Shared<Committee>) -> Result<Gather<DemoScheme>, Fail> {
-    let mut gather = again!(
+    let mut gather = retry!(
         StartFault::NoMemory,
         Gather::new(alloc, four, VOTED, Round::ZERO, 0)
     )?;
@@ -129,11 +129,11 @@ fn refused_votes(
 > {
     let mut gather = gatherer(alloc, four)?;
     let votes = uncounted(four.get());
-    refuse_all(alloc);
+    fail_allocations(alloc);
     let faults = votes.map(|vote| gather.add(&vote).err());
     let unfinished = gather.finish(alloc).err();
     let unstarted = Gather::<DemoScheme>::new(alloc, four, VOTED, Round::ZERO, 4).err();
-    refuse_none(alloc);
+    allow_allocations(alloc);
     drop(gather);
     Ok((faults, unfinished, unstarted))
 }

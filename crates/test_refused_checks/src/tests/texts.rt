@@ -7,13 +7,13 @@ use sample_checked::refused::vote;
 
 /// The text of the message.
 pub(super) fn text_of(alloc: Global, message: &Message) -> Result<Vec<u8>, EncodeError> {
-    again!(EncodeError::NoMemory, encode_message(alloc, message))
+    retry!(EncodeError::NoMemory, encode_message(alloc, message))
 }
 
 /// The length of the encoded message. It must decode to the same message.
 fn encoded_length(alloc: Global, message: &Message) -> Result<usize, Fail> {
     let text = text_of(alloc, message)?;
-    let read = again!(DecodeError::NoMemory, decode_message(alloc, &text));
+    let read = retry!(DecodeError::NoMemory, decode_message(alloc, &text));
     let length = text.len();
     drop(text);
     let read = read?;
@@ -53,8 +53,8 @@ fn length_of(alloc: Global, message: Message) -> Result<usize, Fail> {
 
 /// The length of a block's encoded body.
 fn length_of_body(alloc: Global) -> Result<usize, Fail> {
-    let unsigned = again!(NoMemory, unsigned(alloc, SLOT, &[], b"x"))?;
-    let body = again!(EncodeError::NoMemory, encode_body(alloc, &unsigned));
+    let unsigned = retry!(NoMemory, unsigned(alloc, SLOT, &[], b"x"))?;
+    let body = retry!(EncodeError::NoMemory, encode_body(alloc, &unsigned));
     drop(unsigned);
     Ok(body?.len())
 }
@@ -78,7 +78,7 @@ fn found(alloc: Global, four: &Shared<Committee>, message: Message) -> Result<&'
     let text = text_of(alloc, &message);
     drop(message);
     let text = text?;
-    let checked = again!(NoMemory, check_message(alloc, four, &text));
+    let checked = retry!(NoMemory, check_message(alloc, four, &text));
     drop(text);
     let checked = checked?;
     let word = word(&checked);

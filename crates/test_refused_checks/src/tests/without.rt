@@ -6,7 +6,7 @@ use nw_codec::{
     decode_message, encode_block, encode_body, encode_message,
 };
 use nw_digest::digest_of;
-use nw_sig::{DemoScheme, DemoSigner, Scheme, Signer, block_text, vote_text};
+use nw_sig::{DemoScheme, DemoSigner, Scheme, Signer, text_of_block, text_of_vote};
 use sample_checked::refused::{checked_block, checked_certificate, vote};
 
 /// A text as a list of bytes, each with the number of its repetitions, and the fault of the text.
@@ -53,10 +53,10 @@ fn long_text(alloc: Global) -> Result<Vec<u8>, NoMemory> {
 
 /// The fault that decoding and checking the text both report, or `None` if they do not agree on one.
 fn fault_in(alloc: Global, four: &Shared<Committee>, text: &[u8]) -> Option<DecodeError> {
-    refuse_all(alloc);
+    fail_allocations(alloc);
     let decoded = decode_message(alloc, text).err();
     let checked = check_message::<DemoScheme>(alloc, four, text);
-    refuse_none(alloc);
+    allow_allocations(alloc);
     match checked {
         Ok(Checked::BadText(fault)) if decoded == Some(fault) => Some(fault),
         _ => None,
@@ -66,20 +66,20 @@ fn fault_in(alloc: Global, four: &Shared<Committee>, text: &[u8]) -> Option<Deco
 /// Whether each of [`TEXTS`] has its fault, and a body that is too long has `BodyTooLong`.
 fn have_faults(alloc: Global, four: &Shared<Committee>) -> Result<bool, NoMemory> {
     for (bytes, fault) in TEXTS {
-        let text = again!(NoMemory, text_of(alloc, bytes))?;
+        let text = retry!(NoMemory, text_of(alloc, bytes))?;
         if fault_in(alloc, four, &text) != Some(fault) {
             return Ok(false);
         }
     }
-    let long = again!(NoMemory, long_text(alloc))?;
+    let long = retry!(NoMemory, long_text(alloc))?;
     Ok(fault_in(alloc, four, &long) == Some(DecodeError::BodyTooLong))
 }
 
 /// The vote of the text, checked while all allocations fail.
 fn vote_in(alloc: Global, four: &Shared<Committee>, text: &[u8]) -> Option<Vote> {
-    refuse_all(alloc);
+    fail_allocations(alloc);
     let checked = check_message::<DemoScheme>(alloc, four, text);
-    refuse_none(alloc);
+    allow_allocations(alloc);
     match &checked {
         Ok(Checked::Vote(found)) => Some(*found),
         _ => None,
@@ -108,11 +108,11 @@ fn block_over(alloc: Global, slot: Slot, authors: &[u16]) -> Result<Block, NoMem
 
 /// Whether a block and a certificate that do not fit are not encoded, and a transaction that is too long is not added.
 fn are_over_limit(alloc: Global, four: &Committee) -> Result<bool, Fail> {
-    let block = again!(NoMemory, block_over(alloc, SLOT, &[1, 0]))?;
+    let block = retry!(NoMemory, block_over(alloc, SLOT, &[1, 0]))?;
     let certificate = certificate_message(alloc, four, &[1, 0])?;
     let signature = Signature([0; 64]);
-    let long = again!(NoMemory, text_of(alloc, &[(b'x', 65_537)]))?;
-    refuse_all(alloc);
+    let long = retry!(NoMemory, text_of(alloc, &[(b'x', 65_537)]))?;
+    fail_allocations(alloc);
     let fits = block.fits() || matches!(&certificate, Message::Certificate(it) if it.fits());
     let refused = [
         Transactions::new(alloc).push(&long).err(),
@@ -121,37 +121,37 @@ fn are_over_limit(alloc: Global, four: &Committee) -> Result<bool, Fail> {
         encode_message(alloc, &certificate).err(),
         encode_message(alloc, &Message::Block { block, signature }).err(),
     ];
-    refuse_none(alloc);
+    allow_allocations(alloc);
     Ok(!fits && refused == [Some(EncodeError::OverLimit); 5])
 }
 
 /// Whether digests and signed texts are made, and signatures are made and verified.
 fn is_signed(alloc: Global, four: &Committee) -> Result<bool, Fail> {
-    let block = again!(NoMemory, block_over(alloc, SLOT, &[]))?;
-    let body = again!(EncodeError::NoMemory, encode_body(alloc, &block))?;
+    let block = retry!(NoMemory, block_over(alloc, SLOT, &[]))?;
+    let body = retry!(EncodeError::NoMemory, encode_body(alloc, &block))?;
     let key = *four.key(1).ok_or("there are four members")?;
-    refuse_all(alloc);
+    fail_allocations(alloc);
     let (fits, digest) = (block.fits(), digest_of(&body));
     let is_its_digest = fits && block_digest(&block) == digest;
-    let (signer, text) = (DemoSigner::new(key), block_text(&digest));
-    let other = vote_text(&digest, Round::ZERO, 0);
+    let (signer, text) = (DemoSigner::new(key), text_of_block(&digest));
+    let other = text_of_vote(&digest, Round::ZERO, 0);
     let signature = signer.sign(&text);
     let is_verified = DemoScheme::verify(&signer.key(), &text, &signature)
         && !DemoScheme::verify(&key, &other, &signature);
-    refuse_none(alloc);
+    allow_allocations(alloc);
     Ok(is_its_digest && is_verified)
 }
 
 /// Whether committees give information on their members, and are compared.
 fn committees_answer(alloc: Global, four: &Committee) -> Result<bool, Fail> {
-    let same = again!(NoMemory, committee(alloc, &[0, 1, 2, 3]))?;
-    let other = again!(NoMemory, committee(alloc, &[0, 1, 2, 4]))?;
-    refuse_all(alloc);
+    let same = retry!(NoMemory, committee(alloc, &[0, 1, 2, 3]))?;
+    let other = retry!(NoMemory, committee(alloc, &[0, 1, 2, 4]))?;
+    fail_allocations(alloc);
     let sizes = (four.size(), four.total(), four.quorum(), four.weight(3));
     let members = four.key(3).is_some() && four.key(4).is_none() && four.weight(4).is_none();
     let reached = four.reaches_quorum(&[0, 1, 2]) && !four.reaches_quorum(&[0, 1]);
     let compared = four == same.get() && four != other.get();
-    refuse_none(alloc);
+    allow_allocations(alloc);
     Ok(sizes == (4, 4, 3, Some(1)) && members && reached && compared)
 }
 
@@ -175,9 +175,9 @@ fn block_fault(
         drop(block);
         return None;
     };
-    refuse_all(alloc);
+    fail_allocations(alloc);
     let fault = check_block::<DemoScheme>(alloc, four, block, signature).err();
-    refuse_none(alloc);
+    allow_allocations(alloc);
     fault
 }
 
@@ -185,7 +185,7 @@ fn block_fault(
 fn blocks_have_faults(alloc: Global, four: &Shared<Committee>) -> Result<bool, NoMemory> {
     for (number, author, authors, signer, fault) in BLOCKS {
         let slot = (Round::new(number).unwrap_or(Round::ZERO), author);
-        let block = again!(NoMemory, block_over(alloc, slot, authors))?;
+        let block = retry!(NoMemory, block_over(alloc, slot, authors))?;
         if block_fault(alloc, four, block, signer) != Some(fault) {
             return Ok(false);
         }
@@ -209,12 +209,12 @@ fn certificate_fault(
     signers: &[u16],
 ) -> Result<Option<CertFault>, NoMemory> {
     let slot = (Round::ZERO, 1);
-    let mut certificate = again!(
+    let mut certificate = retry!(
         NoMemory,
         certificate(alloc, four.get(), VOTED, slot, signers)
     )?;
     certificate.author = author;
-    refuse_all(alloc);
+    fail_allocations(alloc);
     let fits = certificate.fits();
     let is_valid = valid::<DemoScheme>(four.get(), VOTED, &certificate);
     let fault = if fits {
@@ -222,7 +222,7 @@ fn certificate_fault(
     } else {
         None
     };
-    refuse_none(alloc);
+    allow_allocations(alloc);
     Ok(if is_valid { None } else { fault })
 }
 
@@ -238,15 +238,15 @@ fn certificates_have_faults(alloc: Global, four: &Shared<Committee>) -> Result<b
 
 /// Whether checked values give access to their parts, and a certificate is valid only for its own digest.
 fn checked_values_answer(alloc: Global, four: &Shared<Committee>) -> Result<bool, Fail> {
-    let block = again!(
+    let block = retry!(
         BlockFault::NoMemory,
         checked_block(alloc, four, SLOT, &[], b"x", 0)
     )?;
-    let three = again!(
+    let three = retry!(
         CertFault::NoMemory,
         checked_certificate(alloc, four, VOTED, SLOT, &[0, 1, 2])
     )?;
-    refuse_all(alloc);
+    fail_allocations(alloc);
     let is_block = block.block().get().fits()
         && block.digest() == block_digest(block.block().get())
         && block.committee().get() == four.get();
@@ -256,7 +256,7 @@ fn checked_values_answer(alloc: Global, four: &Shared<Committee>) -> Result<bool
     let certificate = three.certificate().get();
     let is_valid = valid::<DemoScheme>(four.get(), VOTED, certificate)
         && !valid::<DemoScheme>(four.get(), block.digest(), certificate);
-    refuse_none(alloc);
+    allow_allocations(alloc);
     Ok(is_block && is_certificate && is_valid)
 }
 
@@ -275,7 +275,7 @@ fn all_results(alloc: Global, four: &Shared<Committee>) -> Result<[bool; 8], Fai
 }
 
 #[test]
-fn calls_that_take_no_memory(rt: HostRuntime) -> Result<(), Fail> {
+fn calls_without_allocation(rt: HostRuntime) -> Result<(), Fail> {
     let four = four(rt.alloc())?;
     let right = all_results(rt.alloc(), &four);
     let no_workers_refused = workers::refuses_no_workers(&rt, rt.alloc(), &four);

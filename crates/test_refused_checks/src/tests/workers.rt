@@ -11,7 +11,7 @@ use std::thread::Threads;
 
 /// The messages of a good block and of a vote.
 fn two_texts(alloc: Global, four: &Committee) -> Result<Vec<Vec<u8>>, Fail> {
-    let mut texts = again!(AllocError, Vec::with_capacity(alloc, 2))?;
+    let mut texts = retry!(AllocError, Vec::with_capacity(alloc, 2))?;
     texts.push(text_of(alloc, &block_message(alloc, four, 0)?)?)?;
     texts.push(text_of(alloc, &Message::Vote(vote(four, VOTED, SLOT, 1)))?)?;
     Ok(texts)
@@ -55,11 +55,11 @@ pub(super) fn refuses_no_workers<R: Threads + Wait + Sync>(
     four: &Shared<Committee>,
 ) -> bool {
     let texts = Vec::new(alloc);
-    refuse_all(alloc);
+    fail_allocations(alloc);
     FreeGate.reach(Point::CheckStart(0));
     let passes = FreeGate.may_pass(Point::CheckStart(0));
     let refused = check_all::<DemoScheme, FreeGate, R>(rt, alloc, four, texts, 0, &FreeGate);
-    refuse_none(alloc);
+    allow_allocations(alloc);
     passes && refused.err() == Some(IntakeFault::BadWorkers)
 }
 

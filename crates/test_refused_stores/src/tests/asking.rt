@@ -95,7 +95,7 @@ fn reply_to<L: Home, R: Wait>(
         },
         _ => {
             let done = call(rt, alloc, store, session, link, asked)?;
-            let reply = again!(NoMemory, done.reply().try_clone(alloc));
+            let reply = retry!(NoMemory, done.reply().try_clone(alloc));
             drop(done);
             Ok(reply?)
         }
@@ -113,7 +113,7 @@ fn has_text(
     match (reply, last) {
         (Reply::Ready, Some(ticket)) => {
             let parts = ticket.view().parts();
-            Ok(again!(AllocError, format!(in alloc; "Ready({parts})"))?.as_str() == expected)
+            Ok(retry!(AllocError, format!(in alloc; "Ready({parts})"))?.as_str() == expected)
         }
         _ => desk.has_text(alloc, reply, expected),
     }
@@ -133,7 +133,7 @@ fn answers<L: Home, R: Wait>(
     let Some(link) = desk.links.get(*place) else {
         return Ok(false);
     };
-    let reply = again!(
+    let reply = retry!(
         NoStep::NoMemory,
         reply_to(rt, alloc, store, session, link, tickets, asked)
     )?;

@@ -54,8 +54,8 @@ fn made(
 ) -> Result<CheckedBlock<DemoScheme>, Fail> {
     let Sketch(round, author, bytes, places) = sketch;
     let slot = (Round::new(*round).unwrap_or(Round::ZERO), *author);
-    let parents = again!(NoMemory, references(alloc, links, places))?;
-    Ok(again!(
+    let parents = retry!(NoMemory, references(alloc, links, places))?;
+    Ok(retry!(
         BlockFault::NoMemory,
         checked_block(alloc, committee, slot, &parents, bytes, *author)
     )?)
@@ -85,8 +85,8 @@ pub(super) struct Desk {
 impl Desk {
     /// The blocks of the sketches, for a committee of members with these numbers.
     pub(super) fn new(alloc: Global, members: &[u8], sketches: &[Sketch]) -> Result<Desk, Fail> {
-        let committee = again!(NoMemory, committee(alloc, members))?;
-        let links = again!(AllocError, Vec::with_capacity(alloc, sketches.len()))?;
+        let committee = retry!(NoMemory, committee(alloc, members))?;
+        let links = retry!(AllocError, Vec::with_capacity(alloc, sketches.len()))?;
         let mut desk = Desk { committee, links };
         for sketch in sketches {
             desk.add(alloc, sketch)?;
@@ -97,7 +97,7 @@ impl Desk {
     /// Adds the block of the sketch.
     fn add(&mut self, alloc: Global, sketch: &Sketch) -> Result<(), Fail> {
         let block = made(alloc, &self.committee, &self.links, sketch)?;
-        let certificate = again!(
+        let certificate = retry!(
             CertFault::NoMemory,
             certified(alloc, &self.committee, &block)
         )?;
@@ -182,6 +182,6 @@ impl Desk {
         reply: &Reply,
         expected: &str,
     ) -> Result<bool, AllocError> {
-        Ok(again!(AllocError, self.text_of(alloc, reply))?.as_str() == expected)
+        Ok(retry!(AllocError, self.text_of(alloc, reply))?.as_str() == expected)
     }
 }

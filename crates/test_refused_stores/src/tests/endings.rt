@@ -12,11 +12,11 @@ fn calls<L: Home>(settled: &Settled<DemoScheme, L>, session: u16) -> Option<usiz
 
 /// The number of events if the first of two sessions made them all, else 0. It allocates nothing.
 fn events<L: Home>(alloc: Global, settled: &Settled<DemoScheme, L>) -> usize {
-    refuse_all(alloc);
+    fail_allocations(alloc);
     let events = settled.history().len();
     let is_first = calls(settled, 0) == Some(events) && calls(settled, 1) == Some(0);
     let are_two = calls(settled, 2).is_none();
-    refuse_none(alloc);
+    allow_allocations(alloc);
     if is_first && are_two { events } else { 0 }
 }
 
@@ -52,9 +52,9 @@ pub(super) fn ended<L: Home>(
     store: Store<DemoScheme, L>,
     sessions: Vec<Session<DemoScheme, L>>,
 ) -> Result<(usize, Book<DemoScheme>), Fail> {
-    refuse_all(alloc);
+    fail_allocations(alloc);
     let settled = settle(store, sessions);
-    refuse_none(alloc);
+    allow_allocations(alloc);
     match settled {
         Ok(settled) => events_and_book(alloc, settled),
         Err(refused) => {

@@ -33,7 +33,7 @@ fn wrong_text<T: Display>(
     table: &[(T, &'static str)],
 ) -> Result<Option<&'static str>, AllocError> {
     for (error, text) in table {
-        if again!(AllocError, text_of(alloc, error))?.as_str() != *text {
+        if retry!(AllocError, text_of(alloc, error))?.as_str() != *text {
             return Ok(Some(*text));
         }
     }

@@ -69,7 +69,7 @@ pub(super) fn seen<R: Wait>(
     rows: &[Row],
 ) -> Result<(usize, usize), Fail> {
     let desk = Desk::new(alloc, members, sketches)?;
-    let mut tickets = again!(AllocError, Vec::with_capacity(alloc, 18))?;
+    let mut tickets = retry!(AllocError, Vec::with_capacity(alloc, 18))?;
     let outcome = played_anew(rt, alloc, &desk, rows, &mut tickets)?;
     let seen = (outcome.answered, outcome.events);
     drop(outcome);
@@ -141,8 +141,8 @@ fn reopened_after<R: Wait>(
 fn a_reopened_store_votes_once(rt: HostRuntime) -> Result<(), Fail> {
     let alloc = rt.alloc();
     let desk = Desk::new(alloc, &[0], &TWO)?;
-    let mut tickets = again!(AllocError, Vec::with_capacity(alloc, 2))?;
-    let first = again!(BookError::NoMemory, new_book(alloc, &desk))?;
+    let mut tickets = retry!(AllocError, Vec::with_capacity(alloc, 2))?;
+    let first = retry!(BookError::NoMemory, new_book(alloc, &desk))?;
     let second = reopened_after(&rt, alloc, first, &desk, &FIRST, 3, &mut tickets)?;
     let third = reopened_after(&rt, alloc, second, &desk, &SECOND, 4, &mut tickets)?;
     reopened_after(&rt, alloc, third, &desk, &THIRD, 1, &mut tickets)?;
@@ -158,7 +158,7 @@ fn agree(
     if one.digest() != other.digest() || one.view().floor() != other.view().floor() {
         return Ok(false);
     }
-    Ok(matches!(again!(NoMemory, one.agree(alloc, other))?, Agreement::Same))
+    Ok(matches!(retry!(NoMemory, one.agree(alloc, other))?, Agreement::Same))
 }
 
 /// The tickets of two new stores, each for the last block of the example.
@@ -167,7 +167,7 @@ fn two_tickets<R: Wait>(
     alloc: Global,
     desk: &Desk,
 ) -> Result<Vec<Ticket<DemoScheme>>, Fail> {
-    let mut tickets = again!(AllocError, Vec::with_capacity(alloc, 2))?;
+    let mut tickets = retry!(AllocError, Vec::with_capacity(alloc, 2))?;
     for _ in 0..2 {
         let outcome = played_anew(rt, alloc, desk, &COLLECTED[..9], &mut tickets)?;
         if (outcome.answered, outcome.events) != (9, 9) {

@@ -1,7 +1,7 @@
 //! Limits out of their ranges.
 ghost use Rattle.std.specs.Prelude.{◌≡◌};
 ghost use Rattle.nw_history.specs.Story.{first_origin};
-ghost use Rattle.nw_store.specs.Kept.{parts_of_a_ledger};
+ghost use Rattle.nw_store.specs.Lock.{parts_of_a_ledger};
 
 use super::*;
 use nw_store::{Home, Opening, Store};
@@ -40,19 +40,19 @@ fn faults_of(
     committee: &Shared<Committee>,
     limits: Limits,
 ) -> Result<[Option<BookError>; 2], NoMemory> {
-    let one = again!(NoMemory, committee.try_clone())?;
-    let committee = again!(NoMemory, committee.try_clone())?;
-    let opening = again!(NoMemory, Opening::new(alloc))?;
-    refuse_all(alloc);
+    let one = retry!(NoMemory, committee.try_clone())?;
+    let committee = retry!(NoMemory, committee.try_clone())?;
+    let opening = retry!(NoMemory, Opening::new(alloc))?;
+    fail_allocations(alloc);
     let book = Book::<DemoScheme>::new(alloc, one, limits).err();
     let store = fault_of::<Brand>(alloc, opening, committee, limits);
-    refuse_none(alloc);
+    allow_allocations(alloc);
     Ok([book, store])
 }
 
 #[test]
 fn bad_limits(rt: HostRuntime) -> Result<(), Fail> {
-    let committee = again!(NoMemory, committee(rt.alloc(), &[0]))?;
+    let committee = retry!(NoMemory, committee(rt.alloc(), &[0]))?;
     for (blocks, events, window, sessions) in BAD {
         let limits = Limits {
             blocks,

@@ -68,7 +68,7 @@ fn are_answers(
     events: usize,
 ) -> Result<bool, AllocError> {
     for (answer, expected) in answers.iter().zip(&ANSWERS) {
-        if again!(AllocError, text_of(alloc, answer))?.as_str() != *expected {
+        if retry!(AllocError, text_of(alloc, answer))?.as_str() != *expected {
             return Ok(false);
         }
     }
@@ -97,7 +97,7 @@ fn stop_anew(
     committee: &Shared<Committee>,
     moves: &[Move<DemoScheme>],
 ) -> Result<Option<Stop>, Fail> {
-    let mut book = again!(BookError::NoMemory, new_book(alloc, committee))?;
+    let mut book = retry!(BookError::NoMemory, new_book(alloc, committee))?;
     let stop = stop_of(&mut book, alloc, moves);
     drop(book);
     stop

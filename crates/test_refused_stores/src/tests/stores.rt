@@ -2,7 +2,7 @@
 ghost use Rattle.std.specs.Prelude.{◌≡◌};
 ghost use Rattle.nw_history.specs.Story.{first_origin};
 ghost use Rattle.nw_store.specs.Journal.{origin_of};
-ghost use Rattle.nw_store.specs.Kept.{parts_of_a_ledger};
+ghost use Rattle.nw_store.specs.Lock.{parts_of_a_ledger};
 
 use super::asking::{Row, answered};
 use super::desk::Desk;
@@ -41,7 +41,7 @@ fn asked<L: Home, R: Wait>(
     rows: &[Row],
     tickets: &mut Vec<Ticket<DemoScheme>>,
 ) -> Result<usize, Fail> {
-    again!(AllocError, sessions.reserve(2))?;
+    retry!(AllocError, sessions.reserve(2))?;
     sessions.push(store.session(rt, alloc)?)?;
     sessions.push(store.session(rt, alloc)?)?;
     let first = sessions.first_mut().ok_or("there are two sessions")?;
@@ -127,8 +127,8 @@ fn play_anew<R: Wait>(
     rows: &[Row],
     tickets: &mut Vec<Ticket<DemoScheme>>,
 ) -> Result<Result<Outcome, BookError>, Fail> {
-    let opening = again!(NoMemory, Opening::new(alloc))?;
-    match again!(NoMemory, desk.committee.try_clone()) {
+    let opening = retry!(NoMemory, Opening::new(alloc))?;
+    match retry!(NoMemory, desk.committee.try_clone()) {
         Ok(committee) => play_new::<Brand, R>(
             rt, alloc, opening, committee, LIMITS, desk, rows, tickets,
         ),
@@ -162,7 +162,7 @@ pub(super) fn played<R: Wait>(
     rows: &[Row],
     tickets: &mut Vec<Ticket<DemoScheme>>,
 ) -> Result<Outcome, Fail> {
-    match again!(NoMemory, Opening::new(alloc)) {
+    match retry!(NoMemory, Opening::new(alloc)) {
         Ok(opening) => play_over::<Brand, R>(rt, alloc, opening, book, desk, rows, tickets),
         Err(refused) => {
             drop(book);

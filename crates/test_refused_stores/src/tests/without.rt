@@ -1,7 +1,7 @@
 //! Calls that allocate nothing, made while all allocations fail.
 ghost use Rattle.std.specs.Prelude.{◌≡◌};
 ghost use Rattle.nw_store.specs.Journal.{origin_of};
-ghost use Rattle.nw_store.specs.Kept.{parts_of_a_ledger};
+ghost use Rattle.nw_store.specs.Lock.{parts_of_a_ledger};
 
 use super::desk::{Desk, FOUR, TWO};
 use super::examples::{COLLECTED, new_book};
@@ -28,8 +28,8 @@ fn narrow_book(alloc: Global, desk: &Desk) -> Result<Book<DemoScheme>, BookError
 
 /// Fills the history of the book, and returns its first answer.
 fn fill(alloc: Global, book: &mut Book<DemoScheme>) -> Result<Done<DemoScheme>, NoStep> {
-    let first = again!(NoStep::NoMemory, book.step(alloc, 0, 1, &Command::Status))?;
-    match again!(NoStep::NoMemory, book.step(alloc, 0, 2, &Command::Status)) {
+    let first = retry!(NoStep::NoMemory, book.step(alloc, 0, 1, &Command::Status))?;
+    match retry!(NoStep::NoMemory, book.step(alloc, 0, 2, &Command::Status)) {
         Ok(second) => {
             drop(second);
             Ok(first)
@@ -97,29 +97,29 @@ fn of_books(alloc: Global) -> Result<bool, Fail> {
     let (desk, own) = write_under(alloc, &[0])?;
     let (other, foreign) = write_under(alloc, &[1])?;
     drop(other);
-    let mut book = again!(BookError::NoMemory, narrow_book(alloc, &desk))?;
+    let mut book = retry!(BookError::NoMemory, narrow_book(alloc, &desk))?;
     let first = fill(alloc, &mut book)?;
-    refuse_all(alloc);
+    fail_allocations(alloc);
     let refusals = refusals_of(alloc, &mut book, &own, &foreign);
     let are_read = are_read(&book, &desk, &first);
-    refuse_none(alloc);
+    allow_allocations(alloc);
     Ok(refusals == REFUSALS.map(Some) && are_read)
 }
 
 /// The place of the ticket's block, the number of events of its front and the number of parts of its view, read while all
 /// allocations fail.
 fn read_of(alloc: Global, desk: &Desk, ticket: &Ticket<DemoScheme>) -> (usize, usize, usize) {
-    refuse_all(alloc);
+    fail_allocations(alloc);
     let (front, view) = (ticket.front().len(), ticket.view().parts());
     let place = desk.place_under(&ticket.digest());
-    refuse_none(alloc);
+    allow_allocations(alloc);
     (place, front, view)
 }
 
 /// Whether tickets can be read without an allocation.
 fn of_tickets<R: Wait>(rt: &R, alloc: Global) -> Result<bool, Fail> {
     let desk = Desk::new(alloc, &[0, 1, 2, 3], &FOUR)?;
-    let mut tickets = again!(AllocError, Vec::with_capacity(alloc, 1))?;
+    let mut tickets = retry!(AllocError, Vec::with_capacity(alloc, 1))?;
     drop(played_anew(rt, alloc, &desk, &COLLECTED[..9], &mut tickets)?);
     match tickets.first() {
         Some(ticket) => Ok(read_of(alloc, &desk, ticket) == (3, 9, 1)),
@@ -162,19 +162,19 @@ fn of_sessions<L: Home, R: Wait>(
     alloc: Global,
     store: Store<DemoScheme, L>,
 ) -> Result<bool, Fail> {
-    let mut given = again!(AllocError, Vec::with_capacity(alloc, 3))?;
-    refuse_all(alloc);
+    let mut given = retry!(AllocError, Vec::with_capacity(alloc, 3))?;
+    fail_allocations(alloc);
     let made = (store.session(rt, alloc), store.session(rt, alloc));
-    refuse_none(alloc);
+    allow_allocations(alloc);
     let (mut first, second) = (made.0?, made.1?);
-    let done = again!(NoStep::NoMemory, store.status(rt, alloc, &mut first))?;
+    let done = retry!(NoStep::NoMemory, store.status(rt, alloc, &mut first))?;
     drop(done);
-    refuse_all(alloc);
+    fail_allocations(alloc);
     let are_counted = (first.id(), first.calls(), second.id(), second.calls()) == (0, 1, 1, 0);
     let is_given = given.push(second).is_ok();
     let settled = settled_later(alloc, store, first, given);
     let has_all = settled.is_some_and(|settled| has_all(&settled));
-    refuse_none(alloc);
+    allow_allocations(alloc);
     Ok(are_counted && is_given && has_all)
 }
 
@@ -201,13 +201,13 @@ fn of_a_store<L: Home, R: Wait>(
 /// Whether sessions are made, read and settled without an allocation.
 fn of_stores<R: Wait>(rt: &R, alloc: Global) -> Result<bool, Fail> {
     let desk = Desk::new(alloc, &[0], &[])?;
-    let opening = again!(NoMemory, Opening::new(alloc))?;
-    let book = again!(BookError::NoMemory, new_book(alloc, &desk))?;
+    let opening = retry!(NoMemory, Opening::new(alloc))?;
+    let book = retry!(BookError::NoMemory, new_book(alloc, &desk))?;
     of_a_store::<Brand, R>(rt, alloc, opening, book)
 }
 
 #[test]
-fn calls_that_take_no_memory(rt: HostRuntime) -> Result<(), Fail> {
+fn calls_without_allocation(rt: HostRuntime) -> Result<(), Fail> {
     let alloc = rt.alloc();
     assert!(rt; of_books(alloc)?, "books");
     assert!(rt; of_tickets(&rt, alloc)?, "tickets");

@@ -40,10 +40,10 @@ fn extend(
     round: Round,
     parents: &[Ref],
 ) -> Result<bool, NoMemory> {
-    let block = again!(NoMemory, block_of(alloc, round, parents))?;
-    let certificate = again!(NoMemory, certificate_of(alloc, digest, (round, 0)))?;
-    let written = again!(NoMemory, dag.write(digest, &block))?;
-    let certified = again!(NoMemory, dag.certify(&certificate))?;
+    let block = retry!(NoMemory, block_of(alloc, round, parents))?;
+    let certificate = retry!(NoMemory, certificate_of(alloc, digest, (round, 0)))?;
+    let written = retry!(NoMemory, dag.write(digest, &block))?;
+    let certified = retry!(NoMemory, dag.certify(&certificate))?;
     Ok(written == WriteReply::Stored { vote: true } && certified == CertifyReply::Certified)
 }
 
@@ -53,7 +53,7 @@ fn parts_of(
     alloc: Global,
     digest: Digest,
 ) -> Result<Result<usize, CausalReply>, NoMemory> {
-    match again!(NoMemory, dag.freeze_for(alloc, digest))? {
+    match retry!(NoMemory, dag.freeze_for(alloc, digest))? {
         Ok(view) => Ok(Ok(view.parts())),
         Err(refusal) => Ok(Err(refusal)),
     }
@@ -61,8 +61,8 @@ fn parts_of(
 
 /// Whether `wanted` is the first missing parent, and a collection to round 1 then drops one block.
 fn is_collected(dag: &mut Dag, alloc: Global, wanted: Wanted) -> Result<bool, NoMemory> {
-    let missing = again!(NoMemory, dag.missing(alloc, 1))?;
-    let collected = again!(NoMemory, dag.collect(round(1)))?;
+    let missing = retry!(NoMemory, dag.missing(alloc, 1))?;
+    let collected = retry!(NoMemory, dag.collect(round(1)))?;
     Ok(
         missing.as_slice() == [wanted].as_slice()
             && collected == CollectReply::Raised { dropped: 1 },
@@ -87,8 +87,8 @@ fn needs_no_parents(dag: &mut Dag, alloc: Global) -> Result<bool, NoMemory> {
             && parts_of(dag, alloc, q)? == Err(CausalReply::Incomplete)
             && is_collected(dag, alloc, wanted)?
             && parts_of(dag, alloc, q)? == Ok(1)
-            && again!(NoMemory, dag.read(&q))?.is_some()
-            && again!(NoMemory, dag.certificate(&q))?.is_some(),
+            && retry!(NoMemory, dag.read(&q))?.is_some()
+            && retry!(NoMemory, dag.certificate(&q))?.is_some(),
     )
 }
 
@@ -132,7 +132,7 @@ fn are_shared(dag: &mut Dag, alloc: Global) -> Result<bool, NoMemory> {
             return Ok(false);
         }
     }
-    again!(NoMemory, dag.compact(alloc))?;
+    retry!(NoMemory, dag.compact(alloc))?;
     Ok(parts_of(dag, alloc, digest(16, 0))? == Ok(1))
 }
 

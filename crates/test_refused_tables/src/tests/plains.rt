@@ -60,10 +60,10 @@ fn reply_to(
     alloc: Global,
     call: &ExampleCall,
 ) -> Result<&'static str, NoMemory> {
-    let call = again!(NoMemory, call_of(alloc, call))?;
-    let copy = again!(NoMemory, call.try_clone())?;
-    let reply = again!(NoMemory, plain.call(&copy))?;
-    Ok(words(&again!(NoMemory, reply.try_clone(alloc))?))
+    let call = retry!(NoMemory, call_of(alloc, call))?;
+    let copy = retry!(NoMemory, call.try_clone())?;
+    let reply = retry!(NoMemory, plain.call(&copy))?;
+    Ok(words(&retry!(NoMemory, reply.try_clone(alloc))?))
 }
 
 const EXAMPLE: [(ExampleCall, &str); 12] = [
@@ -97,7 +97,7 @@ fn count_expected(
 
 /// The number of expected replies of the example's last part that a store over the base gives.
 fn count_over(alloc: Global, base: &Base) -> Result<usize, NoMemory> {
-    let mut plain = again!(NoMemory, Plain::over(alloc, base))?;
+    let mut plain = retry!(NoMemory, Plain::over(alloc, base))?;
     count_expected(&mut plain, alloc, &EXAMPLE[8..])
 }
 

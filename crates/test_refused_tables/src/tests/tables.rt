@@ -48,7 +48,7 @@ pub(super) fn put_first(
     if rounds.first(round(3), author).is_some() {
         return Ok(false);
     }
-    again!(NoMemory, rounds.put_first(round(3), author, digest))?;
+    retry!(NoMemory, rounds.put_first(round(3), author, digest))?;
     Ok(true)
 }
 
@@ -61,14 +61,14 @@ pub(super) fn put_certified(
     if rounds.certified(round(3), author).is_some() {
         return Ok(false);
     }
-    again!(NoMemory, rounds.put_certified(round(3), author, digest))?;
+    retry!(NoMemory, rounds.put_certified(round(3), author, digest))?;
     Ok(true)
 }
 
 /// Whether round 3 has exactly these digests, and so have all rounds up to it.
 fn is_listed(rounds: &Rounds<Global>, alloc: Global, digests: &[Digest]) -> Result<bool, NoMemory> {
-    let own = again!(NoMemory, rounds.digests(alloc, round(3)))?;
-    let lower = again!(NoMemory, rounds.digests_up_to(alloc, round(3)))?;
+    let own = retry!(NoMemory, rounds.digests(alloc, round(3)))?;
+    let lower = retry!(NoMemory, rounds.digests_up_to(alloc, round(3)))?;
     Ok(own.as_slice() == digests && lower.as_slice() == digests)
 }
 
@@ -114,10 +114,10 @@ pub(super) fn want_thrice(
     alloc: Global,
 ) -> Result<Vec<Wanted>, NoMemory> {
     let (u, v, h1, h2) = (wanted(0, 1), wanted(1, 2), digest(8, 0), digest(9, 0));
-    again!(NoMemory, waiting.want(u, h1))?;
-    again!(NoMemory, waiting.want(v, h1))?;
-    again!(NoMemory, waiting.want(u, h2))?;
-    again!(NoMemory, waiting.first_wanted(alloc, 1))
+    retry!(NoMemory, waiting.want(u, h1))?;
+    retry!(NoMemory, waiting.want(v, h1))?;
+    retry!(NoMemory, waiting.want(u, h2))?;
+    retry!(NoMemory, waiting.first_wanted(alloc, 1))
 }
 
 /// The number of wanted parents, and how many each holder is missing.
@@ -140,6 +140,6 @@ fn holders_of_a_wanted_parent(rt: HostRuntime) {
     assert_eq!(rt; missing_counts(&waiting), [1, 1, 0]);
     waiting.unwant(digest(8, 0));
     assert_eq!(rt; missing_counts(&waiting), [0, 0, 0]);
-    let last = again!(NoMemory, waiting.first_wanted(rt.alloc(), 5));
+    let last = retry!(NoMemory, waiting.first_wanted(rt.alloc(), 5));
     assert!(rt; last.is_ok_and(|wanted| wanted.is_empty()));
 }

@@ -13,12 +13,12 @@ fn frozen(alloc: Global, trie: Blocks) -> Result<Generation, NoMemory> {
             Err((refused, _trie)) => return Err(refused),
         },
     };
-    again!(NoMemory, generation.try_clone())
+    retry!(NoMemory, generation.try_clone())
 }
 
 #[test]
 fn a_refused_freeze_hands_its_blocks_back(rt: HostRuntime) {
-    let trie = again!(NoMemory, older(rt.alloc(), 3, b"x")).expect(&rt, "there is memory");
+    let trie = retry!(NoMemory, older(rt.alloc(), 3, b"x")).expect(&rt, "there is memory");
     let generation = frozen(rt.alloc(), trie).expect(&rt, "there is memory");
     let found = [name(0, 2), name(1, 0)].map(|digest: Digest| generation
         .get(None, &digest)
@@ -37,13 +37,13 @@ fn walks(
     if start.round.get() < view.floor().get() {
         return Err(NoMemory);
     }
-    let blocks = again!(NoMemory, walk(alloc, view, digest))?;
+    let blocks = retry!(NoMemory, walk(alloc, view, digest))?;
     Ok(have_slots(&blocks, slots))
 }
 
 /// Whether a walk from the later generation's block lists blocks with these slots, in a view of two generations with this floor.
 fn lists(alloc: Global, floor: u8, slots: &[(u64, u16)]) -> Result<bool, NoMemory> {
-    let view = again!(NoMemory, view_of_both(alloc, b"x", round(floor)))?;
+    let view = retry!(NoMemory, view_of_both(alloc, b"x", round(floor)))?;
     let listed = walks(alloc, &view, name(1, 0), slots)?;
     Ok(listed && view.parts() == 2)
 }
@@ -68,7 +68,7 @@ fn compared(
     if other.floor().get() != floor || first.round.get() < floor || second.round.get() < floor {
         return Err(NoMemory);
     }
-    again!(NoMemory, agree(alloc, one, other, digest))
+    retry!(NoMemory, agree(alloc, one, other, digest))
 }
 
 /// The block's first transaction, or an empty text if it has none.
@@ -97,8 +97,8 @@ fn is_same(
 /// Whether the walks agree in two views of two generations with this floor. The first blocks of one view have "x", and of the other
 /// `text`.
 fn agree_in_both(alloc: Global, floor: u8, digest: Digest, text: &[u8]) -> Result<bool, NoMemory> {
-    let one = again!(NoMemory, view_of_both(alloc, b"x", round(floor)))?;
-    let other = again!(NoMemory, view_of_both(alloc, text, round(floor)))?;
+    let one = retry!(NoMemory, view_of_both(alloc, b"x", round(floor)))?;
+    let other = retry!(NoMemory, view_of_both(alloc, text, round(floor)))?;
     is_same(alloc, &one, &other, digest, text)
 }
 
@@ -117,8 +117,8 @@ fn walks_agree_or_two_blocks_collide(rt: HostRuntime) {
 
 /// Whether the walks agree in two views of one generation with one block. It has "x" in one view, and `text` in the other.
 fn agree_in_one(alloc: Global, text: &[u8]) -> Result<bool, NoMemory> {
-    let one = again!(NoMemory, view_of_one(alloc, b"x", Round::ZERO))?;
-    let other = again!(NoMemory, view_of_one(alloc, text, Round::ZERO))?;
+    let one = retry!(NoMemory, view_of_one(alloc, b"x", Round::ZERO))?;
+    let other = retry!(NoMemory, view_of_one(alloc, text, Round::ZERO))?;
     is_same(alloc, &one, &other, name(0, 0), text)
 }
 

@@ -53,14 +53,14 @@ fn is_thinned(trie: &mut Blocks) -> bool {
 
 /// Whether a trie's calls allocate nothing, except the insertion of a new key.
 fn tries_pass(alloc: Global) -> Result<bool, NoMemory> {
-    let mut trie = again!(NoMemory, older(alloc, 3, b"x"))?;
-    let newer = again!(NoMemory, of_round_one(alloc))?;
-    refuse_all(alloc);
+    let mut trie = retry!(NoMemory, older(alloc, 3, b"x"))?;
+    let newer = retry!(NoMemory, of_round_one(alloc))?;
+    fail_allocations(alloc);
     let are_right = is_replaced(&mut trie, newer)
         && is_read(&trie)
         && is_thinned(&mut trie)
         && Trie::<u64, Global>::new_in(alloc).is_empty();
-    refuse_none(alloc);
+    allow_allocations(alloc);
     Ok(are_right)
 }
 
@@ -74,12 +74,12 @@ fn slots_pass(alloc: Global) -> Result<bool, NoMemory> {
     let mut rounds = Rounds::new_in(alloc);
     let are_new = put_first(&mut rounds, 1, digest(1, 0))?
         && put_certified(&mut rounds, 1, digest(2, 0))?;
-    refuse_all(alloc);
+    fail_allocations(alloc);
     let before = slots_of(&rounds);
     rounds.drop_below(round(4));
     let after = slots_of(&rounds);
     let none = slots_of(&Rounds::new_in(alloc));
-    refuse_none(alloc);
+    allow_allocations(alloc);
     let is_right = before == [Some(digest(1, 0)), Some(digest(2, 0))] && after == [None, None];
     Ok(are_new && is_right && none == after)
 }
@@ -88,12 +88,12 @@ fn slots_pass(alloc: Global) -> Result<bool, NoMemory> {
 fn holders_pass(alloc: Global) -> Result<bool, NoMemory> {
     let mut waiting = Waiting::new_in(alloc);
     want_thrice(&mut waiting, alloc)?;
-    refuse_all(alloc);
+    fail_allocations(alloc);
     let before = missing_counts(&waiting);
     let satisfied = waiting.satisfy(&wanted(0, 1)).len();
     waiting.unwant(digest(8, 0));
     let left = (waiting.count(), Waiting::new_in(alloc).count());
-    refuse_none(alloc);
+    allow_allocations(alloc);
     Ok(before == [2, 2, 1] && satisfied == 2 && left == (0, 0))
 }
 
@@ -115,18 +115,18 @@ fn view_of_none(alloc: Global, floor: Round) -> View {
 
 /// Whether views are made and read without an allocation.
 fn views_pass(alloc: Global) -> Result<bool, NoMemory> {
-    let view = again!(NoMemory, view_of_both(alloc, b"x", round(1)))?;
-    let generations = again!(NoMemory, generations(alloc))?;
-    refuse_all(alloc);
+    let view = retry!(NoMemory, view_of_both(alloc, b"x", round(1)))?;
+    let generations = retry!(NoMemory, generations(alloc))?;
+    fail_allocations(alloc);
     let is_read = view.get(&name(1, 0)).is_some()
-        && view.get_of(None, &name(1, 0)).is_some()
+        && view.get_in_slot(None, &name(1, 0)).is_some()
         && (view.floor(), view.parts()) == (round(1), 2);
     let are_found = generations
         .iter()
         .all(|it| it.get(None, &name(0, 2)).is_some());
     let none = view_of_none(alloc, Round::ZERO);
     let is_empty = none.get(&name(1, 0)).is_none() && none.parts() == 0;
-    refuse_none(alloc);
+    allow_allocations(alloc);
     Ok(is_read && are_found && is_empty)
 }
 
@@ -145,21 +145,21 @@ fn store_of_one(alloc: Global) -> Result<Dag, NoMemory> {
 
 /// Whether a `Dag` is made and gives its status without an allocation.
 fn dags_pass(alloc: Global) -> Result<bool, NoMemory> {
-    let dag = again!(NoMemory, store_of_one(alloc))?;
+    let dag = retry!(NoMemory, store_of_one(alloc))?;
     let limits = DagLimits {
         blocks: 1,
         window: 1,
     };
-    refuse_all(alloc);
+    fail_allocations(alloc);
     let (status, none) = (dag.status(), Dag::new(alloc, limits).status());
     let is_complete = dag.is_complete(&digest(1, 0)) && !dag.is_complete(&digest(2, 0));
-    refuse_none(alloc);
+    allow_allocations(alloc);
     Ok((status.blocks, status.complete, none.blocks) == (1, 1, 0) && is_complete)
 }
 
 /// Whether plain stores and bases are made, and bases read, without an allocation.
 fn bases_pass(alloc: Global) -> bool {
-    refuse_all(alloc);
+    fail_allocations(alloc);
     let base = Base::of(Plain::new(alloc, 64, 64));
     let is_read = base.is_opening()
         && base.floor() == Round::ZERO
@@ -167,12 +167,12 @@ fn bases_pass(alloc: Global) -> bool {
         && base.certificate(&name(0, 0)).is_none()
         && base.first(Round::ZERO, 0).is_none()
         && base.is_same(&base);
-    refuse_none(alloc);
+    allow_allocations(alloc);
     is_read
 }
 
 #[test]
-fn calls_that_take_no_memory(rt: HostRuntime) {
+fn calls_without_allocation(rt: HostRuntime) {
     let alloc = rt.alloc();
     assert_eq!(rt; tries_pass(alloc), Ok(true));
     assert_eq!(rt; slots_pass(alloc), Ok(true));

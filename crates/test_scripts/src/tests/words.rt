@@ -1,7 +1,7 @@
 //! Words that no script prints. They need two blocks with one digest, a vote signed with another member's key, or a settlement with
 //! sessions of another store.
 use nw_check::CertFault;
-use nw_desk::{Answer, Interpreter, committee};
+use nw_interpreter::{Answer, Interpreter, committee};
 use nw_digest::Shared;
 use nw_model::{CertifyReply, Reply, WriteReply};
 use nw_play::PlayFault;

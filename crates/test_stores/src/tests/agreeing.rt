@@ -1,9 +1,9 @@
 //! Two stores that take the same calls: their tickets and views agree.
 ghost use Rattle.std.specs.Prelude.{◌≡◌, IsTrue};
 ghost use Rattle.nw_codec.specs.declared.block.Block.{Block};
-ghost use Rattle.nw_model.specs.View.{IsThere};
+ghost use Rattle.nw_model.specs.View.{HasBlock};
 ghost use Rattle.nw_store.specs.Journal.{origin_of};
-ghost use Rattle.nw_store.specs.Kept.{parts_of_a_ledger};
+ghost use Rattle.nw_store.specs.Lock.{parts_of_a_ledger};
 
 use super::asking::Ask;
 use super::chains::Link;
@@ -16,7 +16,7 @@ use nw_check::check_cert;
 use nw_codec::{Certificate, Seal};
 use nw_committee::Member;
 use nw_digest::{Round, Sequence};
-use nw_sig::{DemoSigner, Signer, vote_text};
+use nw_sig::{DemoSigner, Signer, text_of_vote};
 use nw_store::{Agreement, NoMemory, Opening, View};
 use std::marker::Brand;
 
@@ -55,7 +55,7 @@ fn certificate_of(
     round: Round,
     author: u16,
 ) -> Result<CheckedCert<DemoScheme>, Fail> {
-    let text = vote_text(&digest, round, author);
+    let text = text_of_vote(&digest, round, author);
     let mut votes = Vec::new(alloc);
     for signer in 0..3 {
         let key = *under.get().key(signer).ok_or("there are four members")?;
@@ -155,7 +155,7 @@ fn opened<R: Wait>(
 
 /// Whether the view has a block under the digest, at or above the view's floor.
 fn is_there(view: &View, digest: Digest) -> bool
-    ensures { IsTrue result → (b : Block) × IsThere view.now.frozen digest b }
+    ensures { IsTrue result → (b : Block) × HasBlock view.now.frozen digest b }
 {
     match view.get(&digest) {
         Some(block) => view.floor() <= block.get().round,

@@ -1,7 +1,7 @@
 //! Scenes, which tests play on stores. Only this module makes the stores that settle.
 ghost use Rattle.std.specs.Prelude.{◌≡◌};
 ghost use Rattle.nw_store.specs.Journal.{origin_of};
-ghost use Rattle.nw_store.specs.Kept.{parts_of_a_ledger};
+ghost use Rattle.nw_store.specs.Lock.{parts_of_a_ledger};
 
 use super::chains::Link;
 use super::crowds::in_threads;

@@ -3,7 +3,7 @@ use denote.Param.Send.{sendable, shr_sync}
 use Rattle.std.proofs.Crossing.{sync}
 use Rattle.nw_sig.specs.contracts.demo.DemoScheme as demo
 use Rattle.nw_sig.specs.contracts.demo.DemoSchemeScheme.TheImpl as demo_is
-use Rattle.nw_store.proofs.Sent.{session_send, store_sync}
+use Rattle.nw_store.proofs.Send.{session_send, store_sync}
 use Rattle.nw_store.proofs.Crossing.{along_sync}
 use Rattle.nw_store.proofs.Crossing.Syncs.{none, also}
 use Rattle.nw_bench.proofs.crew.Crew.TheSendSync as crew

@@ -1,5 +1,5 @@
 use Rattle.nw_store.specs.Journal.{origin_of}
-use Rattle.nw_store.specs.Kept.{parts_of_a_ledger}
+use Rattle.nw_store.specs.Lock.{parts_of_a_ledger}
 use Rattle.nw_bench.proofs.node.take_with_book.Given as goal
 
 -- the opening's ledger

@@ -4,7 +4,7 @@ use Rattle.std.specs.Prelude.{Contains}
 use Rattle.nw_digest.specs.declared.digest.Digest.{Digest}
 use Rattle.nw_dag.specs.Lacking.{IsReady}
 use Rattle.nw_dag.proofs.frozen.freeze.Goals as goal
-use Rattle.nw_dag.proofs.frozen.freeze.Goals.{then-parts-eq-MOST_PARTS+in_ok-all+in_ok-push, else-parts-eq-MOST_PARTS+in_ok-push-2}
+use Rattle.nw_dag.proofs.frozen.freeze.Goals.{then-parts-eq-MAX_GENERATIONS+in_ok-all+in_ok-push, else-parts-eq-MAX_GENERATIONS+in_ok-push-2}
 
 pub returns-then-listed-eq0-clause-all : goal.returns-then-listed-eq0-clause-all
 returns-then-listed-eq0-clause-all c =
@@ -33,12 +33,12 @@ returns-clause-all c =
     let fewer = frozen_fewer s lacking c.args.waits.now.completions.fresh.items fresh c.args.generations.now.blocks c.requires (λ x among ready. (c.drop_stale.ensures.fresh x).1 (among, ready)) in
     let ready : (d : Digest) → Contains fresh d → IsReady s lacking d = λ d among. ((c.drop_stale.ensures.fresh d).0 among).1 in
     let of = rw c.as_slice.ensures.value at c.in_ok-fresh.ensures in
-    elim c.if-parts-eq-MOST_PARTS.branch [
-      | then-parts-eq-MOST_PARTS+in_ok-all+in_ok-push w ↦
+    elim c.if-parts-eq-MAX_GENERATIONS.branch [
+      | then-parts-eq-MAX_GENERATIONS+in_ok-all+in_ok-push w ↦
           rw w.generations-is (frozen_over s lacking fresh w.in_ok-all.all.blocks c.in_ok-fresh.fresh w.push.new.self.blocks
           (frozen_kept s lacking fresh c.args.generations.now.blocks w.in_ok-all.all.blocks fewer (rw w.floor.ensures at w.in_ok-all.ensures.blocks)) ready of w.in_ok-push.ensures.blocks)
-      | else-parts-eq-MOST_PARTS+in_ok-push-2 w ↦
-          rw w.generations-is (frozen_over s lacking fresh c.args.generations.now.blocks c.in_ok-fresh.fresh w.push-else-parts-eq-MOST_PARTS.new.self.blocks fewer ready of w.in_ok-push-2.ensures.blocks)
+      | else-parts-eq-MAX_GENERATIONS+in_ok-push-2 w ↦
+          rw w.generations-is (frozen_over s lacking fresh c.args.generations.now.blocks c.in_ok-fresh.fresh w.push-else-parts-eq-MAX_GENERATIONS.new.self.blocks fewer ready of w.in_ok-push-2.ensures.blocks)
     ]
 
 pub returns-clause-frozen : goal.returns-clause-frozen

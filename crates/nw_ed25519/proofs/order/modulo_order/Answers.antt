@@ -1,5 +1,5 @@
 use Rattle.std.proofs.Common.{◌-◌, drop, ◌∙◌, arith}
-use Rattle.nw_field.specs.Bytes.{number_of}
+use Rattle.nw_field.specs.Bytes.{number_from_bytes}
 use Rattle.nw_ed25519.proofs.Remainders.{first_remainder, next_remainder, remainder_below}
 use Rattle.nw_ed25519.proofs.order.modulo_order.Goals as goal
 
@@ -7,7 +7,7 @@ pub loop-done-init : goal.loop-done-init
 loop-done-init c = c.new-remainder.ensures ∙ first_remainder c.args.bytes.now c.told-bytes
 
 pub append_byte-remainder-requires : goal.append_byte-remainder-requires
-append_byte-remainder-requires c = remainder_below (number_of (drop (64 - c.loop-done.done) c.args.bytes.now)) c.loop-done.remainder c.loop-done.invariant
+append_byte-remainder-requires c = remainder_below (number_from_bytes (drop (64 - c.loop-done.done) c.args.bytes.now)) c.loop-done.remainder c.loop-done.invariant
 
 pub loop-done-preserved : goal.loop-done-preserved
 loop-done-preserved c =

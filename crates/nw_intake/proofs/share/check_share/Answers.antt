@@ -1,18 +1,18 @@
 use Rattle.std.proofs.Common.{◌++◌, ◌+◌, subst, sym, ap, ◌∙◌}
 use Rattle.std.specs.List.{AllZip}
 use Rattle.nw_check.specs.Message.{IsChecked}
-use Rattle.nw_intake.specs.Answers.{IsAnswer, turns_of}
+use Rattle.nw_intake.specs.Answers.{AnswersText, turns_of}
 use Rattle.nw_intake.proofs.Turns.{IsAnsweredSoFar, took_turn, skipped_turn, all_turns}
 use Rattle.nw_intake.proofs.share.check_share.Goals as goal
 use Rattle.nw_intake.proofs.share.check_share.Goals.{then-place-workers+in_ok-check_one+in_ok-push_back, else-place-workers}
 
 pub loop-place-init : goal.loop-place-init
 loop-place-init g c rest fits =
-    subst (λ answers. AllZip (IsAnswer g.S.Scheme.accepts c.args.committee.now) (turns_of c.args.worker c.args.workers 0 c.args.texts.now) (answers ++ rest)) (sym c.new-answers.ensures.items) fits
+    subst (λ answers. AllZip (AnswersText g.S.Scheme.accepts c.args.committee.now) (turns_of c.args.worker c.args.workers 0 c.args.texts.now) (answers ++ rest)) (sym c.new-answers.ensures.items) fits
 
 pub loop-place-preserved : goal.loop-place-preserved
 loop-place-preserved g c =
-    let R = IsAnswer g.S.Scheme.accepts c.args.committee.now in
+    let R = AnswersText g.S.Scheme.accepts c.args.committee.now in
     let texts = c.args.texts.now in
     let place = c.loop-place.place in
     let text = c.index-texts-place in
@@ -29,4 +29,4 @@ loop-place-preserved g c =
     ]
 
 pub returns : goal.returns
-returns g c = all_turns (IsAnswer g.S.Scheme.accepts c.args.committee.now) c.args.worker c.args.workers c.args.texts.now c.loop-place.place c.loop-place.answers.items c.loop-place-test.false c.loop-place.invariant
+returns g c = all_turns (AnswersText g.S.Scheme.accepts c.args.committee.now) c.args.worker c.args.workers c.args.texts.now c.loop-place.place c.loop-place.answers.items c.loop-place-test.false c.loop-place.invariant

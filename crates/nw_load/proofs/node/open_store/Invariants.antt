@@ -1,5 +1,5 @@
 use Rattle.nw_history.specs.Story.{first_origin}
-use Rattle.nw_store.specs.Kept.{parts_of_a_ledger}
+use Rattle.nw_store.specs.Lock.{parts_of_a_ledger}
 use Rattle.nw_load.proofs.node.open_store.Given as goal
 
 -- the ledger that was opened

@@ -11,7 +11,7 @@ use Rattle.nw_digest.specs.contracts.digest.Digest as digests
 use Rattle.nw_digest.proofs.digest.Digest.TheSendSync as digest
 use Rattle.nw_sig.specs.contracts.demo.DemoScheme as demo
 use Rattle.nw_sig.specs.contracts.demo.DemoSchemeScheme.TheImpl as demo_is
-use Rattle.nw_store.proofs.Sent.{session_send, store_sync}
+use Rattle.nw_store.proofs.Send.{session_send, store_sync}
 use Rattle.nw_store.proofs.Crossing.{along_send}
 use Rattle.nw_store.proofs.Crossing.Sends.{none, also}
 use Rattle.nw_load.proofs.node.LoadContext.TheSendSync as context

@@ -8,7 +8,7 @@ use Rattle.nw_codec.specs.declared.block.Ref.{Ref}
 use Rattle.nw_codec.specs.declared.block.Block.{Block}
 use Rattle.nw_digest.specs.Order.{slot_cmp}
 use Rattle.nw_model.specs.State.{block_slot}
-use Rattle.nw_model.specs.View.{IsThere}
+use Rattle.nw_model.specs.View.{HasBlock}
 use Rattle.nw_model.proofs.Maps.{get_lookup, slots_total, slots_apart, put_entries}
 use Rattle.nw_model.proofs.Finding.{finds_nothing, finds_again, finds_one, under_more, names_nothing, names_on, none_some, there_is}
 use Rattle.nw_plain.proofs.walks.find_parents.Goals as goal
@@ -24,9 +24,9 @@ loop-reference-preserved c =
     let r : Ref = get_or refs c.loop-reference.reference-index none in
     let found : FinMap slot_cmp Digest = from_entries c.loop-reference.found.entries in
     let under = under_more _ _ _ _ _ _ c.loop-reference.invariant c.requires.under in
-    let there : (b : Block) × IsThere c.args.view.now r.digest b =
-    All-get_or (λ (x : Ref). (b : Block) × IsThere c.args.view.now x.digest b) refs c.loop-reference.reference-index none c.loop-reference-test.true
-    (All-same (λ (x : Ref). (b : Block) × IsThere c.args.view.now x.digest b) refs c.args.block.now.parents c.as_slice-reference-items.ensures c.requires.there) in
+    let there : (b : Block) × HasBlock c.args.view.now r.digest b =
+    All-get_or (λ (x : Ref). (b : Block) × HasBlock c.args.view.now x.digest b) refs c.loop-reference.reference-index none c.loop-reference-test.true
+    (All-same (λ (x : Ref). (b : Block) × HasBlock c.args.view.now x.digest b) refs c.args.block.now.parents c.as_slice-reference-items.ensures c.requires.there) in
     elim c.match-get.branch [
       | in-Some+then-not-contains_key+in_ok-insert+in_ok-push w ↦
           let parent : Block = w.get-parent.result.now in

@@ -1,5 +1,5 @@
 use Rattle.nw_store.specs.Journal.{origin_of}
-use Rattle.nw_store.specs.Kept.{parts_of_a_ledger}
+use Rattle.nw_store.specs.Lock.{parts_of_a_ledger}
 use Rattle.nw_play.proofs.script.play_next.Given as goal
 
 -- the ledger that was opened

@@ -3,18 +3,18 @@ use mathlib.Core.List.{IsPrefix}
 use Rattle.nw_model.specs.declared.event.Event.{Event}
 use Rattle.nw_history.specs.Story.{with_event}
 use Rattle.nw_book.specs.Turn.{event}
-use Rattle.nw_book.specs.Answer.{Told}
-use Rattle.nw_store.specs.Journal.{Kept, Journal, next_number}
+use Rattle.nw_book.specs.Answer.{DoneView}
+use Rattle.nw_store.specs.Journal.{Guarded, Journal, next_number}
 use Rattle.nw_store.specs.Answered.{IsAnswered}
 use Rattle.nw_store.proofs.Begun.{begun_claimed, begun_known, claimed_logged}
-use Rattle.nw_store.proofs.Kept.{kept_more, starts_so, session_more, answer_is, logged_last}
+use Rattle.nw_store.proofs.Guarded.{kept_more, starts_so, session_more, answer_is, logged_last}
 use Rattle.nw_store.proofs.Answered.{answered}
 use Rattle.nw_store.proofs.calls.take_call.Goals as goal
 
 pub invariant_of-locked-2 : goal.invariant_of-locked-2
 invariant_of-locked-2 g c =
     let t = c.in_ok-done.ensures.taken in
-    let front_is : c.front.result.now ≡ c.take_step.new.self = c.front.ensures ∙ ap (λ (a : Told). a.front) c.in_ok-done.ensures.kept in (
+    let front_is : c.front.result.now ≡ c.take_step.new.self = c.front.ensures ∙ ap (λ (a : DoneView). a.front) c.in_ok-done.ensures.kept in (
       c.locked.invariant.0,
       kept_more g.S.Scheme.accepts _ _ _ _ _ _ _ _ _ _ _ c.locked.invariant.1 t.history t.legal front_is c.add_call.ensures.counted c.add_call.ensures.logged,
       starts_so _ _ _ _ t.history c.locked.invariant.2,
@@ -27,11 +27,11 @@ invariant_of-session-2 g c =
     let e : Event = event c.session.inside.id c.args.number c.args.call c.in_ok-done.done.event.reply in
     let begins : IsPrefix c.session.inside.pass.claim c.add_call.new.pass.claim =
     subst (λ l. IsPrefix c.session.inside.pass.claim l) (sym c.add_call.ensures.claim) c.add_call.ensures.begins in
-    let items : c.push_reserved.new.self.items ≡ c.session.inside.journal.items ++ kept ∷ [] = c.push_reserved.ensures.items ∙ ap (λ (l : List Told). l ++ kept ∷ []) c.reserve.ensures.items in
+    let items : c.push_reserved.new.self.items ≡ c.session.inside.journal.items ++ kept ∷ [] = c.push_reserved.ensures.items ∙ ap (λ (l : List DoneView). l ++ kept ∷ []) c.reserve.ensures.items in
     let is : c.args.number ≡ length c.session.inside.journal.items + 1 = c.requires.number ∙ sym (ap next_number c.session.view_is) in
     let number : c.args.number ≡ 1 + length c.session.inside.journal.items = omega (arith, is) in
-    let front : kept.front ≡ with_event c.locked.inside.book e = ap (λ (a : Told). a.front) c.in_ok-done.ensures.kept ∙ t.history in
-    let event_is : kept.event ≡ e = ap (λ (a : Told). a.event) c.in_ok-done.ensures.kept in
+    let front : kept.front ≡ with_event c.locked.inside.book e = ap (λ (a : DoneView). a.front) c.in_ok-done.ensures.kept ∙ t.history in
+    let event_is : kept.event ≡ e = ap (λ (a : DoneView). a.event) c.in_ok-done.ensures.kept in
     session_more c.session.inside.id _ _ _ _ _ _ _ _ _ c.session.invariant c.add_call.ensures.parts c.add_call.ensures.amount begins
     (logged_last _ _ _ _ _ c.add_call.ensures.logged c.add_call.ensures.claim (sym c.front.ensures)) items
     (answer_is c.session.inside.id _ c.locked.inside.book kept.front e kept front refl number refl event_is)
@@ -42,10 +42,10 @@ returns-clause-answered g c =
     let kept = c.in_ok-done.kept in
     let e : Event = event c.session.inside.id c.args.number c.args.call c.in_ok-done.done.event.reply in
     let after : Journal = record { id = c.session.inside.id; answers = c.push_reserved.new.self.items; known = c.add_call.new.pass.claim } in
-    let items : c.push_reserved.new.self.items ≡ c.session.inside.journal.items ++ kept ∷ [] = c.push_reserved.ensures.items ∙ ap (λ (l : List Told). l ++ kept ∷ []) c.reserve.ensures.items in
+    let items : c.push_reserved.new.self.items ≡ c.session.inside.journal.items ++ kept ∷ [] = c.push_reserved.ensures.items ∙ ap (λ (l : List DoneView). l ++ kept ∷ []) c.reserve.ensures.items in
     let number : c.args.number ≡ length c.session.inside.journal.items + 1 = c.requires.number ∙ sym (ap next_number c.session.view_is) in
-    let front : kept.front ≡ c.take_step.new.self = ap (λ (a : Told). a.front) c.in_ok-done.ensures.kept in
-    let event_is : kept.event ≡ e = ap (λ (a : Told). a.event) c.in_ok-done.ensures.kept in
+    let front : kept.front ≡ c.take_step.new.self = ap (λ (a : DoneView). a.front) c.in_ok-done.ensures.kept in
+    let event_is : kept.event ≡ e = ap (λ (a : DoneView). a.event) c.in_ok-done.ensures.kept in
     let logged : c.front.result.now ≡ c.take_step.new.self = c.front.ensures ∙ front in
     let held = kept_more g.S.Scheme.accepts _ _ _ _ _ _ _ _ _ _ _ c.locked.invariant.1 t.history t.legal logged c.add_call.ensures.counted c.add_call.ensures.logged in
     let begins : IsPrefix c.session.inside.pass.claim c.add_call.new.self.keeper = c.add_call.ensures.begins in
@@ -53,5 +53,5 @@ returns-clause-answered g c =
     let whole = answered g.S.Scheme.accepts c.locked.inside.book c.take_step.new.self c.session.inside.id c.args.number c.args.call c.in_ok-done.done.event.reply c.in_ok-done.done.front c.session.inside.journal.items
     c.push_reserved.new.self.items c.session.inside.pass.claim c.add_call.new.pass.claim kept t number begun items (front ∙ sym t.front_is) event_is
     (begun_known c.take_step.new.self c.add_call.new.self.keeper c.session.inside.pass.claim held.begun begins) (logged_last _ _ _ _ _ c.add_call.ensures.logged c.add_call.ensures.claim (t.front_is ∙ sym logged)) (claimed_logged c.session.inside.pass.claim c.add_call.new.pass.claim (subst (λ l. IsPrefix c.session.inside.pass.claim l) (sym c.add_call.ensures.claim) begins)) in
-    subst (λ (h : Kept). IsAnswered g.S.Scheme.accepts h.history c.args.session.now after c.args.call c.in_ok-done.done.event.reply c.in_ok-done.done.front) c.locked.view_is
+    subst (λ (h : Guarded). IsAnswered g.S.Scheme.accepts h.history c.args.session.now after c.args.call c.in_ok-done.done.event.reply c.in_ok-done.done.front) c.locked.view_is
     (subst (λ (j : Journal). IsAnswered g.S.Scheme.accepts c.locked.inside.book j after c.args.call c.in_ok-done.done.event.reply c.in_ok-done.done.front) c.session.view_is whole)

@@ -3,7 +3,7 @@ use Rattle.std.specs.Prelude.{All}
 use Rattle.std.proofs.lemmas.List.Sorted.{All-permutation, sum_by-IsPermutation}
 use Rattle.std.specs.List.Sorted.{IsPermutation}
 use Rattle.nw_model.specs.History.{events_of, AreNumbered}
-use Rattle.nw_store.specs.Journal.{Kept, Journal, AreBegun, AreAnswers}
+use Rattle.nw_store.specs.Journal.{Guarded, Journal, AreBegun, AreAnswers}
 use Rattle.nw_store.specs.Settled.{ids_of, AreAll, IsFirstStray, IsStray}
 use Rattle.nw_store.proofs.Interleaved.{joined}
 use Rattle.nw_store.proofs.Ordered.{all_length, all_from_order, all_in_order, none_of_all, order_from_none}
@@ -16,14 +16,14 @@ returns-then-given-from-clause-exactly g c = (
       let whole = all_length c.args.locked.now.made c.args.sessions.now all in
       let few = c.if-given-from.true in
       let made : c.from.result ≡ c.locked.inside.made = c.from.ensures in
-      let same : c.locked.inside.made ≡ c.args.locked.now.made = ap (λ (h : Kept). h.made) c.locked.view_is in
+      let same : c.locked.inside.made ≡ c.args.locked.now.made = ap (λ (h : Guarded). h.made) c.locked.view_is in
       absurd (omega (arith, whole, few, made, same))),
 )
 
 pub returns-in-Some-clause-refused : goal.returns-in-Some-clause-refused
 returns-in-Some-clause-refused g c =
-    let made : c.locked.inside.made ≡ c.args.locked.now.made = ap (λ (h : Kept). h.made) c.locked.view_is in
-    let len = ap (λ (h : Kept). length h.history.events) c.locked.view_is in
+    let made : c.locked.inside.made ≡ c.args.locked.now.made = ap (λ (h : Guarded). h.made) c.locked.view_is in
+    let len = ap (λ (h : Guarded). length h.history.events) c.locked.view_is in
     let parts = c.locked.invariant.0 in
     let shared = c.locked.invariant.1.shared in
     let none = c.locked.invariant.1.unused in
@@ -42,7 +42,7 @@ returns-in-Some-clause-exactly g c = (
 
 pub returns-clause-exactly : goal.returns-clause-exactly
 returns-clause-exactly g c =
-    let made : c.locked.inside.made ≡ c.args.locked.now.made = ap (λ (h : Kept). h.made) c.locked.view_is in
+    let made : c.locked.inside.made ≡ c.args.locked.now.made = ap (λ (h : Guarded). h.made) c.locked.view_is in
     let from : c.from.result ≡ c.locked.inside.made = c.from.ensures in
     let given = c.if-given-from.false in
     let same : c.renew_all.new.sessions ≡ c.args.sessions.now = c.renew_all.ensures.sessions ∙ c.add_up.ensures.sessions in
@@ -64,12 +64,12 @@ returns-clause-settled g c =
     let p : IsPermutation c.args.sessions.now c.sort.new.sessions = subst (λ (js : List Journal). IsPermutation js c.sort.new.sessions) same c.sort.ensures.permutation in
     let whole = all_length c.args.locked.now.made c.args.sessions.now all in
     let order = order_from_none c.args.locked.now.made c.args.sessions.now c.sort.new.sessions p c.sort.ensures.sorted (omega (arith, whole)) (none_of_all c.args.locked.now.made c.args.sessions.now all) in
-    let numbered : (s : ℕ) → AreNumbered 1 (events_of s c.args.locked.now.history.events) = subst (λ (h : Kept). (s : ℕ) → AreNumbered 1 (events_of s h.history.events)) c.locked.view_is c.locked.invariant.1.legal.numbered in
+    let numbered : (s : ℕ) → AreNumbered 1 (events_of s c.args.locked.now.history.events) = subst (λ (h : Guarded). (s : ℕ) → AreNumbered 1 (events_of s h.history.events)) c.locked.view_is c.locked.invariant.1.legal.numbered in
     let P : Journal → Type 0 = λ j. AreBegun c.args.locked.now.history j.answers × AreAnswers j.id 1 j.answers in
-    let begun : All P c.args.sessions.now = subst (λ (js : List Journal). All P js) c.add_up.ensures.sessions (subst (λ (h : Kept). All (λ j. AreBegun h.history j.answers × AreAnswers j.id 1 j.answers) c.add_up.new.sessions) c.locked.view_is c.renew_all.ensures.begun) in
+    let begun : All P c.args.sessions.now = subst (λ (js : List Journal). All P js) c.add_up.ensures.sessions (subst (λ (h : Guarded). All (λ j. AreBegun h.history j.answers × AreAnswers j.id 1 j.answers) c.add_up.new.sessions) c.locked.view_is c.renew_all.ensures.begun) in
     let none = c.locked.invariant.1.unused in
     let counted = c.locked.invariant.1.counted in
-    let len = ap (λ (h : Kept). length h.history.events) c.locked.view_is in
+    let len = ap (λ (h : Guarded). length h.history.events) c.locked.view_is in
     let total = c.add_up.ensures.total in
     let moved = sum_by-IsPermutation (λ (j : Journal). length j.answers) c.args.sessions.now c.sort.new.sessions p in
     joined c.args.locked.now.history c.sort.new.sessions numbered order.1 (All-permutation P c.args.sessions.now c.sort.new.sessions p begun) (omega (arith, total, none, counted, len, moved))

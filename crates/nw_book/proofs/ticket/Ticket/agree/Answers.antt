@@ -1,12 +1,12 @@
 use Rattle.std.proofs.Common.{◌≡◌, ap, sym, ◌∙◌}
-use Rattle.nw_book.specs.Ticket.{Given}
+use Rattle.nw_book.specs.Ticket.{TicketView}
 use Rattle.nw_book.proofs.Agreed.{other_there, tickets_agree}
 use Rattle.nw_book.proofs.Opened.{ticket_there}
 use Rattle.nw_book.proofs.ticket.Ticket.agree.Goals as goal
 
 -- two tickets have one digest if contracts see one digest of both
-one_digest : (t u x y : Given) → x ≡ t → y ≡ u → t.digest ≡ u.digest → x.digest ≡ y.digest
-one_digest t u x y first second same = ap (λ (z : Given). z.digest) first ∙ same ∙ sym (ap (λ (z : Given). z.digest) second)
+one_digest : (t u x y : TicketView) → x ≡ t → y ≡ u → t.digest ≡ u.digest → x.digest ≡ y.digest
+one_digest t u x y first second same = ap (λ (z : TicketView). z.digest) first ∙ same ∙ sym (ap (λ (z : TicketView). z.digest) second)
 
 pub agree-requires-clause-in_one : goal.agree-requires-clause-in_one
 agree-requires-clause-in_one g c = ticket_there g.S.Scheme.accepts _ _ c.self.invariant

@@ -1,6 +1,6 @@
 use Rattle.std.proofs.Common.{sym, subst}
 use Rattle.nw_codec.specs.Fits.{signers}
-use Rattle.nw_check.specs.Gathering.{Gathering, IsPlace, MayCount}
+use Rattle.nw_check.specs.Gathering.{Gathering, IsPlace, CanCount}
 use Rattle.nw_check.proofs.Gathered.{gathering-few, counted-gathering, counted-counts}
 use Rattle.nw_check.proofs.gather.Gather.add.Goals as goal
 use Rattle.nw_check.proofs.gather.Gather.add.Goals.{then-reach_quorum, else-reach_quorum}
@@ -8,14 +8,14 @@ use Rattle.nw_check.proofs.gather.Gather.add.Goals.{then-reach_quorum, else-reac
 pub reach_quorum-requires-clause-few : goal.reach_quorum-requires-clause-few
 reach_quorum-requires-clause-few g c =
     let accepts = g.S.Scheme.accepts in
-    let may = subst (λ (v : Gathering). MayCount accepts v c.args.vote.now) (sym c.self.view_is) c.in_ok-place.ensures.may_count in
+    let may = subst (λ (v : Gathering). CanCount accepts v c.args.vote.now) (sym c.self.view_is) c.in_ok-place.ensures.may_count in
     let place = subst (λ (v : Gathering). IsPlace (signers v.seals) c.args.vote.now.signer c.in_ok-place.place) (sym c.self.view_is) c.in_ok-place.ensures.place in
     rw (c.deref.ensures.value, c.in_ok-insert_seal.ensures.ok) (gathering-few accepts _ (counted-gathering accepts _ c.args.vote.now c.in_ok-place.place c.self.invariant may place))
 
 pub reach_quorum-requires-clause-in_order : goal.reach_quorum-requires-clause-in_order
 reach_quorum-requires-clause-in_order g c =
     let accepts = g.S.Scheme.accepts in
-    let may = subst (λ (v : Gathering). MayCount accepts v c.args.vote.now) (sym c.self.view_is) c.in_ok-place.ensures.may_count in
+    let may = subst (λ (v : Gathering). CanCount accepts v c.args.vote.now) (sym c.self.view_is) c.in_ok-place.ensures.may_count in
     let place = subst (λ (v : Gathering). IsPlace (signers v.seals) c.args.vote.now.signer c.in_ok-place.place) (sym c.self.view_is) c.in_ok-place.ensures.place in
     let gathered = counted-gathering accepts _ c.args.vote.now c.in_ok-place.place c.self.invariant may place in
     rw (c.deref.ensures.value, c.in_ok-insert_seal.ensures.ok) gathered.in_order
@@ -23,7 +23,7 @@ reach_quorum-requires-clause-in_order g c =
 pub invariant_of-self-2 : goal.invariant_of-self-2
 invariant_of-self-2 g c =
     let accepts = g.S.Scheme.accepts in
-    let may = subst (λ (v : Gathering). MayCount accepts v c.args.vote.now) (sym c.self.view_is) c.in_ok-place.ensures.may_count in
+    let may = subst (λ (v : Gathering). CanCount accepts v c.args.vote.now) (sym c.self.view_is) c.in_ok-place.ensures.may_count in
     let place = subst (λ (v : Gathering). IsPlace (signers v.seals) c.args.vote.now.signer c.in_ok-place.place) (sym c.self.view_is) c.in_ok-place.ensures.place in
     rw c.in_ok-insert_seal.ensures.ok (counted-gathering accepts _ c.args.vote.now c.in_ok-place.place c.self.invariant may place)
 

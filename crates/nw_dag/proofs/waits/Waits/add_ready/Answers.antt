@@ -4,7 +4,7 @@ use Rattle.std.proofs.lemmas.List.Elements.{Contains-get_or}
 use Rattle.nw_digest.specs.declared.digest.Digest.{Digest}
 use Rattle.nw_waiting.specs.Pairs.{Pairs}
 use Rattle.nw_dag.specs.Lacking.{IsReady}
-use Rattle.nw_dag.specs.Changes.{Adds}
+use Rattle.nw_dag.specs.Changes.{AppendsThose}
 use Rattle.nw_dag.proofs.Listed.{adds_more, adds_none, pending_next}
 use Rattle.nw_dag.proofs.Lists.{among_front}
 use Rattle.nw_dag.proofs.Releasing.{not_before}
@@ -33,12 +33,12 @@ loop-digest-preserved c =
     let more : take (c.loop-digest.digest-index + 1) c.args.digests.now ≡ seen ++ d ∷ [] = take_more c.args.digests.now c.loop-digest.digest-index none c.loop-digest-test.true in
     let inv = c.loop-digest.invariant in
     let new = c.add_if_ready.new.self.completions.fresh.items in
-    let one : Adds (P c.args.self.now.lacking) (d ∷ []) c.loop-digest.self.completions.fresh.items new =
-    subst (λ (m : Pairs). Adds (P m) (d ∷ []) c.loop-digest.self.completions.fresh.items new) inv.lacking c.add_if_ready.ensures.added in
+    let one : AppendsThose (P c.args.self.now.lacking) (d ∷ []) c.loop-digest.self.completions.fresh.items new =
+    subst (λ (m : Pairs). AppendsThose (P m) (d ∷ []) c.loop-digest.self.completions.fresh.items new) inv.lacking c.add_if_ready.ensures.added in
     record {
       unmet = c.add_if_ready.ensures.unmet ∙ inv.unmet;
       lacking = c.add_if_ready.ensures.lacking ∙ inv.lacking;
-      added = subst (λ xs. Adds (P c.args.self.now.lacking) xs c.args.self.now.completions.fresh.items new) (sym more)
+      added = subst (λ xs. AppendsThose (P c.args.self.now.lacking) xs c.args.self.now.completions.fresh.items new) (sym more)
           (adds_more (P c.args.self.now.lacking) seen d c.args.self.now.completions.fresh.items c.loop-digest.self.completions.fresh.items new
           (not_before c.args.digests.now c.loop-digest.digest-index none c.loop-digest-test.true c.requires.once) inv.added one);
       most = c.add_if_ready.ensures.most ∙ inv.most;

@@ -1,6 +1,6 @@
 use Rattle.std.proofs.Common.{IsSome, refl, sym, subst}
 use Rattle.nw_model.specs.State.{State}
-use Rattle.nw_held.specs.Standing.{Stands}
+use Rattle.nw_state.specs.Standing.{Stands}
 use Rattle.nw_dag.specs.Lacking.{LacksNothing, IsReady}
 use Rattle.nw_dag.proofs.Steps.{met_by_name, not_standing, not_ready, now_ready, pending_but, grown_none, grown_from}
 use Rattle.nw_dag.proofs.Wanting.{refuted}

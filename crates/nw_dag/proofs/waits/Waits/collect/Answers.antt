@@ -10,7 +10,7 @@ release_each-requires-clause-tally c =
     tally_kept c.args.held.now.state c.args.self.now.unmet c.args.self.now.lacking c.args.self.now.completions.pending c.args.holders.now c.args.dropped c.requires c.drop_pending.new.self.pending c.drop_pending.ensures.pending
 
 pub release_each-requires-clause-once : goal.release_each-requires-clause-once
-release_each-requires-clause-once c = c.requires.up_to.once
+release_each-requires-clause-once c = c.requires.digests_up_to.once
 
 pub cascade-requires : goal.cascade-requires
 cascade-requires c =

@@ -1,7 +1,7 @@
 use Rattle.std.proofs.Common.{◌≡◌, ◌+◌, List, [], ◌∷◌, ◌++◌, get_or, take, refl, sym, subst, arith}
 use Rattle.std.proofs.lemmas.List.{take_all, take_more, length_push}
 use Rattle.nw_digest.specs.declared.digest.Digest.{Digest}
-use Rattle.nw_dag.specs.Changes.{Adds}
+use Rattle.nw_dag.specs.Changes.{AppendsThose}
 use Rattle.nw_dag.specs.Collection.{IsCompleteBelow, HasCompleteBelow}
 use Rattle.nw_dag.proofs.Listed.{adds_more, adds_none, one_added, one_left}
 use Rattle.nw_dag.proofs.Releasing.{not_before}
@@ -28,12 +28,12 @@ loop-digest-preserved c =
       counts = elim c.if-is_complete_below.branch [
         | then-is_complete_below w ↦ (
           lost ++ d ∷ [],
-          subst (λ xs. Adds P xs [] (lost ++ d ∷ [])) (sym more) (adds_more P seen d [] lost (lost ++ d ∷ []) other inv.counts.1 (one_added P d lost (lost ++ d ∷ []) (c.is_complete_below.ensures.0 w.if-is_complete_below.true) refl)),
+          subst (λ xs. AppendsThose P xs [] (lost ++ d ∷ [])) (sym more) (adds_more P seen d [] lost (lost ++ d ∷ []) other inv.counts.1 (one_added P d lost (lost ++ d ∷ []) (c.is_complete_below.ensures.0 w.if-is_complete_below.true) refl)),
           omega (arith, length_push lost d, inv.counts.2, w.count-is),
         )
         | else-is_complete_below w ↦ (
           lost,
-          subst (λ xs. Adds P xs [] lost) (sym more) (adds_more P seen d [] lost lost other inv.counts.1 (one_left P d lost (refuted c.is_complete_below.result (P d) c.is_complete_below.ensures w.if-is_complete_below.false))),
+          subst (λ xs. AppendsThose P xs [] lost) (sym more) (adds_more P seen d [] lost lost other inv.counts.1 (one_left P d lost (refuted c.is_complete_below.result (P d) c.is_complete_below.ensures w.if-is_complete_below.false))),
           omega (arith, inv.counts.2, w.count-is),
         )
       ];

@@ -2,7 +2,7 @@ use Rattle.std.proofs.Common.{List, sym, subst}
 use Rattle.nw_digest.specs.declared.digest.Digest.{Digest}
 use Rattle.nw_waiting.specs.Pairs.{Pairs}
 use Rattle.nw_dag.specs.Lacking.{IsReady}
-use Rattle.nw_dag.specs.Changes.{Adds, Promotes}
+use Rattle.nw_dag.specs.Changes.{AppendsThose, Promotes}
 use Rattle.nw_dag.specs.Settled.{IsTally}
 use Rattle.nw_dag.proofs.Steps.{tally_fewer, promotes}
 use Rattle.nw_dag.proofs.waits.Waits.promote.Goals as goal
@@ -17,8 +17,8 @@ returns-in-Some-clause-promotes c =
     let s = c.args.held.now.state in
     let old = c.args.self.now.completions.fresh.items in
     let new = c.add_ready.new.self.completions.fresh.items in
-    let adds : Adds (IsReady s c.satisfy-holders.new.self) c.satisfy-holders.result.items old new =
-    subst (λ xs. Adds (IsReady s c.satisfy-holders.new.self) xs old new) c.as_slice.ensures.value c.add_ready.ensures.added in
+    let adds : AppendsThose (IsReady s c.satisfy-holders.new.self) c.satisfy-holders.result.items old new =
+    subst (λ xs. AppendsThose (IsReady s c.satisfy-holders.new.self) xs old new) c.as_slice.ensures.value c.add_ready.ensures.added in
     subst (λ (m : Pairs). Promotes s c.args.digest c.args.self.now.lacking m old new) (sym c.add_ready.ensures.lacking)
     (promotes s c.args.digest c.args.self.now.lacking c.satisfy-holders.new.self c.in-Some.wanted old new c.satisfy-holders.result.items
     c.in-Some.ensures c.satisfy-holders.ensures.holders c.satisfy-holders.ensures.rest adds)

@@ -2,7 +2,7 @@ use Rattle.std.proofs.Common.{◌≡◌, ◌+◌, List, [], ◌∷◌, ◌++◌,
 use Rattle.std.proofs.lemmas.List.{take_all, take_more}
 use Rattle.nw_digest.specs.declared.digest.Digest.{Digest}
 use Rattle.nw_model.specs.State.{State}
-use Rattle.nw_dag.specs.Changes.{Adds}
+use Rattle.nw_dag.specs.Changes.{AppendsThose}
 use Rattle.nw_dag.specs.Collection.{AreReleased, StandsButLacks}
 use Rattle.nw_dag.proofs.Listed.{adds_none}
 use Rattle.nw_dag.proofs.Releasing.{without_none, without_more, not_before, stuck_more, tally_released}
@@ -37,7 +37,7 @@ loop-holder-preserved c =
     record {
       unmet = subst (λ xs. AreReleased xs old.unmet new.unmet) (sym more) (without_more seen d old.unmet c.loop-holder.self.unmet new.unmet inv.unmet c.release.ensures.unmet);
       lacking = subst (λ xs. AreReleased xs old.lacking new.lacking) (sym more) (without_more seen d old.lacking c.loop-holder.self.lacking new.lacking inv.lacking c.release.ensures.lacking);
-      added = subst (λ xs. Adds (StandsButLacks s old.lacking) xs old.completions.fresh.items new.completions.fresh.items) (sym more)
+      added = subst (λ xs. AppendsThose (StandsButLacks s old.lacking) xs old.completions.fresh.items new.completions.fresh.items) (sym more)
           (stuck_more s seen d old.lacking c.loop-holder.self.lacking old.completions.fresh.items c.loop-holder.self.completions.fresh.items new.completions.fresh.items inv.lacking
           (not_before c.args.holders.now c.loop-holder.holder-index none c.loop-holder-test.true c.requires.once) inv.added c.release.ensures.added);
       most = c.release.ensures.most ∙ inv.most;

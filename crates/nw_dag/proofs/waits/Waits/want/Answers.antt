@@ -1,5 +1,5 @@
 use Rattle.nw_model.specs.declared.wanted.Wanted.{Wanted}
-use Rattle.nw_held.specs.Standing.{IsMet}
+use Rattle.nw_state.specs.Standing.{IsMet}
 use Rattle.nw_dag.specs.Lacking.{LacksNothing, IsReady}
 use Rattle.nw_dag.proofs.Wanting.{refuted, on_ok, same_either, same_inserted, wants_inserted, wants_on_ok}
 use Rattle.nw_dag.proofs.waits.Waits.want.Goals as goal

@@ -1,5 +1,5 @@
 use Rattle.std.specs.Prelude.{◌≡◌, ◌+◌, take}
-use Rattle.nw_held.specs.Standing.{IsMet}
+use Rattle.nw_state.specs.Standing.{IsMet}
 use Rattle.nw_dag.specs.Lacking.{IsReady, IsNamedAmong}
 use Rattle.nw_dag.specs.Changes.{AreSameExcept, LacksAlso}
 use Rattle.nw_dag.proofs.waits.Waits.want_each.Given as goal

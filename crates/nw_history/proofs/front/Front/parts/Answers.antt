@@ -1,5 +1,5 @@
 use Rattle.std.proofs.Common.{◌+◌, ◌/◌, ◌%◌, ◌∙◌, length, ap}
-use Rattle.nw_chunks.proofs.Chunked.{items_parts}
+use Rattle.nw_shared_list.proofs.Chunked.{items_parts}
 use Rattle.nw_history.proofs.front.Front.parts.Goals as goal
 
 pub returns-clause-parts : goal.returns-clause-parts

@@ -1,7 +1,7 @@
 use Rattle.std.proofs.Common.{[], subst, ◌∙◌}
 use Rattle.std.proofs.lemmas.List.{take_all}
 use Rattle.nw_codec.specs.declared.block.Ref.{Ref}
-use Rattle.nw_plain.specs.Added.{Adds, NamesMissing}
+use Rattle.nw_plain.specs.Added.{IsUnionWith, NamesMissing}
 use Rattle.nw_plain.proofs.Wanting.{Of, adds_next, of_references}
 use Rattle.nw_plain.proofs.plain.Plain.add_unsatisfied.Goals as goal
 
@@ -16,6 +16,6 @@ loop-reference-preserved c =
 pub returns-clause-added : goal.returns-clause-added
 returns-clause-added c =
     of_references c.args.self.now.state c.args.block.now c.args.wanted.now.keys c.loop-reference.wanted.keys c.requires.above
-    (subst (λ refs. Adds (Of (NamesMissing c.args.self.now.state c.args.block.now.round) refs) c.args.wanted.now.keys c.loop-reference.wanted.keys)
+    (subst (λ refs. IsUnionWith (Of (NamesMissing c.args.self.now.state c.args.block.now.round) refs) c.args.wanted.now.keys c.loop-reference.wanted.keys)
     (take_all c.loop-reference.reference-index c.as_slice-reference-items.result.now c.loop-reference-test.false ∙ c.as_slice-reference-items.ensures)
     c.loop-reference.invariant.0)

@@ -1,11 +1,11 @@
 use Rattle.std.proofs.Common.{take}
 use Rattle.std.specs.List.Sorted.{IsStrictlySortedBy}
-use Rattle.nw_plain.specs.Added.{Adds, NamesMissing}
+use Rattle.nw_plain.specs.Added.{IsUnionWith, NamesMissing}
 use Rattle.nw_plain.proofs.Wanting.{Of}
 use Rattle.nw_plain.proofs.plain.Plain.add_unsatisfied.Given as goal
 use Rattle.nw_model.specs.Missing.{wanted_cmp}
 
 abbrev pub invariant-loop-reference : goal.invariant-loop-reference
 invariant-loop-reference l =
-    Adds (Of (NamesMissing l.self.state l.block.round) (take l.reference-index l.reference-items)) l.fn.wanted.keys l.wanted.keys
+    IsUnionWith (Of (NamesMissing l.self.state l.block.round) (take l.reference-index l.reference-items)) l.fn.wanted.keys l.wanted.keys
     × (IsStrictlySortedBy wanted_cmp l.fn.wanted.keys → IsStrictlySortedBy wanted_cmp l.wanted.keys)

@@ -1,5 +1,5 @@
 use Rattle.nw_history.specs.Story.{first_origin}
-use Rattle.nw_store.specs.Kept.{parts_of_a_ledger}
+use Rattle.nw_store.specs.Lock.{parts_of_a_ledger}
 use Rattle.test_refused_stores.proofs.tests.limits.faults_of.Given as goal
 
 -- the ledger of the opening

@@ -4,7 +4,7 @@ use Rattle.nw_digest.specs.declared.digest.Digest.{Digest}
 use Rattle.nw_codec.specs.declared.block.Block.{Block}
 use Rattle.nw_model.specs.View.{IsClosed}
 use Rattle.nw_generation.specs.Seen.{union, seen_of}
-use Rattle.nw_generation.proofs.Unions.{get_nowhere}
+use Rattle.nw_generation.proofs.Unions.{get_from_none}
 use Rattle.test_refused_tables.proofs.tests.without.view_of_none.Goals as goal
 
 -- Some is not None
@@ -13,7 +13,7 @@ some_none x e = cc
 
 -- a view without generations has no block
 has_no_block : (d : Digest) (b : Block) → get (union []) d ≡ Some b → ⊥
-has_no_block d b at = some_none b (sym at ∙ get_nowhere [] d refl)
+has_no_block d b at = some_none b (sym at ∙ get_from_none [] d refl)
 
 -- a view without generations is closed
 closed_none : (floor : ℕ) → IsClosed (seen_of [] floor).frozen

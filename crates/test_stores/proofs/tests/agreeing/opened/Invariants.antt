@@ -1,5 +1,5 @@
 use Rattle.nw_store.specs.Journal.{origin_of}
-use Rattle.nw_store.specs.Kept.{parts_of_a_ledger}
+use Rattle.nw_store.specs.Lock.{parts_of_a_ledger}
 use Rattle.test_stores.proofs.tests.agreeing.opened.Given as goal
 
 -- the ledger of the opening

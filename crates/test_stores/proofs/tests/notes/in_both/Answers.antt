@@ -8,7 +8,7 @@ use Rattle.crossbeam_channel.proofs.channel.Sender.TheSendSync as sender
 use Rattle.nw_sig.specs.contracts.demo.DemoScheme as demo
 use Rattle.nw_sig.specs.contracts.demo.DemoSchemeScheme.TheImpl as demo_is
 use Rattle.nw_store.specs.contracts.notes.Note as notes
-use Rattle.nw_store.proofs.Sent.{note_send, session_send, store_sync}
+use Rattle.nw_store.proofs.Send.{note_send, session_send, store_sync}
 use Rattle.nw_store.proofs.Crossing.{taken_send, along_send}
 use Rattle.nw_store.proofs.Crossing.Sends.{none, also}
 use Rattle.test_stores.proofs.tests.chains.Link.TheSendSync as link

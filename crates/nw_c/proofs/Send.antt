@@ -1,0 +1,50 @@
+-- What a handle holds may be used by another thread, one thread at a time.
+use denote.Enum.Enum.{Enum}
+use denote.Enum.Declared.{shape, Declared}
+use denote.Param.Send.{IsSend, enum_send, recorded_send, sendable}
+use Rattle.std.proofs.Crossing.{crosses}
+use Rattle.nw_ed25519.specs.contracts.scheme.Ed25519 as ed25519
+use Rattle.nw_ed25519.specs.contracts.scheme.Ed25519Scheme.TheImpl.{ghosts}
+use Rattle.nw_check.specs.contracts.message.Checked as checked
+use Rattle.nw_book.proofs.Send.{book_send, done_send, ticket_send}
+use Rattle.nw_c.specs.contracts.content.Content as content
+
+abbrev Message : Declared
+Message = checked.the_type ed25519.the_row ghosts
+
+-- a checked text
+checked_send : IsSend (Enum (shape Message))
+checked_send = enum_send (shape Message) (
+  (search (sendable, crosses) depth 30, tt),
+  (
+    (search (sendable, crosses) depth 30, tt),
+    (
+      (search (sendable, crosses) depth 30, tt),
+      ((search (sendable, crosses) depth 30, tt), ((search (sendable, crosses) depth 30, tt), ((search (sendable, crosses) depth 30, tt), tt))),
+    ),
+  ),
+)
+
+pub content_send : IsSend content.the_row
+content_send = recorded_send (Enum (shape content.the_type)) (content.the_type).D (content.the_type).to (content.the_type).to_one (enum_send (shape content.the_type) (
+  tt,
+  (
+    (search (sendable, crosses) depth 30, tt),
+    (
+      (checked_send, tt),
+      (
+        (search (sendable, crosses) depth 30, tt),
+        (
+          (search (sendable, crosses, book_send) depth 30, tt),
+          (
+            (search (sendable, crosses, done_send) depth 30, tt),
+            (
+              (search (sendable, crosses, ticket_send) depth 30, tt),
+              ((search (sendable, crosses) depth 30, tt), ((search (sendable, crosses) depth 30, tt), tt)),
+            ),
+          ),
+        ),
+      ),
+    ),
+  ),
+))

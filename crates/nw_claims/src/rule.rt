@@ -1,0 +1,73 @@
+//! What each seat of a log's table knows, and how its steps change that.
+use atomic_table::{Join, Play, Split, TableRule};
+use std::collections::LinkedList;
+
+/// What a seat knows: the whole log, a beginning of it, or nothing. No value of this type is ever made.
+pub(crate) struct Knowledge<E> {
+    /// Whether this is the keeper's seat.
+    keeps: bool,
+    /// The whole log, if it is.
+    all: LinkedList<E>,
+    /// Whether the seat claims a beginning of the log.
+    claims: bool,
+    /// The claimed beginning, if it does.
+    seen: LinkedList<E>,
+}
+
+/// The rule of the table: there is one log, which at most one seat knows. It begins with each claim.
+pub(crate) struct OneLog;
+
+impl<E> TableRule<E, Knowledge<E>, ()> for OneLog {
+    ghost use Rattle.std.specs.Prelude.{[]};
+    ghost use Rattle.nw_claims.specs.Claims.{IsOneLog, keeper_knows};
+
+    ghost holds = { λ _ s. IsOneLog s };
+
+    ghost first = { λ _. keeper_knows [] };
+}
+
+/// The step that adds an event to the log.
+pub(crate) struct Appends;
+
+impl<E> Play<E, Knowledge<E>> for Appends {
+    ghost use Rattle.nw_claims.specs.Claims.{Appended};
+
+    ghost then = { Appended };
+}
+
+/// The step that compares a claim with the log.
+pub(crate) struct Checks;
+
+impl<E> Play<E, Knowledge<E>> for Checks {
+    ghost use Rattle.nw_claims.specs.Claims.{Checked};
+
+    ghost then = { Checked };
+}
+
+/// How a claim of the whole log is made, and how a claim is shown to the keeper.
+pub(crate) struct Whole;
+
+impl<E> Split<Knowledge<E>> for Whole {
+    ghost use Rattle.nw_claims.specs.Claims.{claim_of};
+
+    ghost left = { λ v. v };
+
+    ghost right = { claim_of };
+}
+
+/// How a claim is copied.
+pub(crate) struct Copies;
+
+impl<E> Split<Knowledge<E>> for Copies {
+    ghost left = { λ v. v };
+
+    ghost right = { λ v. v };
+}
+
+impl<E> Join<Knowledge<E>> for Whole {
+    ghost use Rattle.nw_claims.specs.Claims.{with_claim, knows_nothing};
+
+    ghost both = { with_claim };
+
+    ghost spent = { knows_nothing };
+}

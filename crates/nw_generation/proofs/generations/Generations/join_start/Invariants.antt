@@ -1,0 +1,5 @@
+use Rattle.std.proofs.Common.{length}
+use Rattle.nw_generation.proofs.generations.Generations.join_start.Given as goal
+
+abbrev pub decreases-loop-generation : goal.decreases-loop-generation
+decreases-loop-generation l = length l.left

@@ -1,8 +1,0 @@
-pub mod Opening
-pub mod Puts
-pub mod Dropped
-pub mod Filtered
-pub mod HeldRaised
-pub mod Sent
-pub mod Counted
-pub mod Slotted

@@ -1,9 +1,0 @@
-use Rattle.std.proofs.Common.{sym, ◌∙◌}
-use Rattle.nw_model.proofs.Maps.{get_lookup, digests_total}
-use Rattle.nw_held.proofs.held.Held.block.Goals as goal
-
-pub returns-clause-value : goal.returns-clause-value
-returns-clause-value c = rw (← c.self.view_is) (c.get.ensures.value ∙ sym (get_lookup digests_total _ _))
-
-pub returns-clause-sound : goal.returns-clause-sound
-returns-clause-sound c = rw (← c.self.view_is) c.self.invariant.kept.sound

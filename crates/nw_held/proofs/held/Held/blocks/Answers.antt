@@ -1,6 +1,0 @@
-use Rattle.std.proofs.Common.{sym, ◌∙◌}
-use Rattle.nw_model.proofs.Maps.{len_sorted, digests_total}
-use Rattle.nw_held.proofs.held.Held.blocks.Goals as goal
-
-pub returns : goal.returns
-returns c = rw (← c.self.view_is) (c.len.ensures.len ∙ sym (len_sorted digests_total _ c.self.invariant.blocks_ordered))

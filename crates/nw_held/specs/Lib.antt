@@ -1,4 +1,0 @@
-pub mod Held
-pub mod Dropping
-pub mod Standing
-pub mod Collection

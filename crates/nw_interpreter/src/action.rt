@@ -1,0 +1,151 @@
+//! From the requests of a script to calls of a store.
+
+use crate::fault::LineFault;
+use crate::interpreter::Interpreter;
+use crate::print::Answer;
+use nw_book::Command;
+use nw_check::{Checked, check_message};
+use nw_committee::Committee;
+use nw_digest::{Digest, Shared};
+use nw_script::{Name, Request};
+use nw_sig::DemoScheme;
+use std::alloc::Global;
+
+/// What the player still has to do for a request.
+#[derive(Drop)]
+pub enum Action<'a> {
+    /// Print the answer. The request needs no store.
+    Print(Answer<'a>),
+    /// Make the call, and print its reply (`Interpreter::answer_to`).
+    Call {
+        /// The block that the answer names, if it names one.
+        name: Option<Name<'a>>,
+        command: Command<DemoScheme>,
+    },
+    /// Make a causal read of the digest, and print the ticket (`Interpreter::answer_to_ticket`) or the reply.
+    Open {
+        /// The name in the answer: that of the ticket if it is kept, else that of the block.
+        name: Name<'a>,
+        digest: Digest,
+        /// Whether the ticket is kept under the name. If not, its list is printed at once.
+        is_kept: bool,
+    },
+    /// Make all later calls by this session.
+    Session(u16),
+    /// Compact the store: later tickets share one list of the complete blocks.
+    Compact,
+}
+
+impl<'a> Interpreter<'a> {
+    /// Does the part of the request that needs no store, and returns the rest.
+    ///
+    /// `Bad` if the request can't be played: a name is unbound or bound already, or a message does not decode. `NoMemory` if an
+    /// allocation fails.
+    pub fn action_for(
+        &mut self,
+        alloc: Global,
+        request: &Request<'a>,
+    ) -> Result<Action<'a>, LineFault> {
+        match request {
+            Request::Write { name, signer } => self.write(alloc, *name, *signer),
+            Request::Certify { name, signers } => self.certify(alloc, *name, signers),
+            Request::Certificate(_) | Request::Read(_) => self.call(request),
+            Request::Collect(_) | Request::Missing(_) | Request::Status => self.call(request),
+            Request::Causal(name) => self.open(*name, *name, false),
+            Request::Open { ticket, name } => self.open(*ticket, *name, true),
+            Request::Session(id) => Ok(Action::Session(*id)),
+            Request::Compact => Ok(Action::Compact),
+            _ => Ok(Action::Print(self.answer(alloc, request)?)),
+        }
+    }
+
+    // The answer to a request that needs no store. Any other is `Bad`.
+    fn answer(&mut self, alloc: Global, request: &Request<'a>) -> Result<Answer<'a>, LineFault> {
+        match request {
+            Request::Block(line) => self.block(alloc, line),
+            Request::Body(name) => self.body(alloc, *name),
+            Request::Digest(name) => self.digest(alloc, *name),
+            Request::Hash(word) => Interpreter::hash(alloc, word),
+            Request::Valid { name, signers } => self.valid(alloc, *name, signers),
+            Request::Gather { name, signers } => self.gather(alloc, *name, signers),
+            Request::Walk(ticket) => self.walk(alloc, *ticket),
+            _ => Err(LineFault::Bad),
+        }
+    }
+
+    // The call of a request that hands in neither a block nor a certificate. Any other is `Bad`.
+    fn call(&self, request: &Request<'a>) -> Result<Action<'a>, LineFault> {
+        let (name, command) = match request {
+            Request::Certificate(name) => {
+                (Some(*name), Command::Certificate(self.digest_of(*name)?))
+            }
+            Request::Read(name) => (Some(*name), Command::Read(self.digest_of(*name)?)),
+            Request::Collect(round) => (None, Command::Collect(*round)),
+            Request::Missing(most) => (None, Command::Missing(*most)),
+            Request::Status => (None, Command::Status),
+            _ => return Err(LineFault::Bad),
+        };
+        Ok(Action::Call { name, command })
+    }
+
+    // The write of the block after its message is encoded, decoded and checked. The given member or its author signs it.
+    fn write(
+        &self,
+        alloc: Global,
+        name: Name<'a>,
+        signer: Option<u16>,
+    ) -> Result<Action<'a>, LineFault> {
+        let text = self.text_of_block(alloc, name, signer)?;
+        checked_command(alloc, &self.committee, name, &text)
+    }
+
+    // The certification of the block, with the votes in the order of `signers`, after the message is encoded, decoded and checked.
+    fn certify(
+        &self,
+        alloc: Global,
+        name: Name<'a>,
+        signers: &[u16],
+    ) -> Result<Action<'a>, LineFault> {
+        match self.certificate_text(alloc, name, signers)? {
+            Some(text) => checked_command(alloc, &self.committee, name, &text),
+            None => Ok(Action::Print(Answer::over_limit(name))),
+        }
+    }
+
+    // The causal read of the block `name`, answered under `printed_as`. That name must be free if the ticket is kept.
+    fn open(
+        &self,
+        printed_as: Name<'a>,
+        name: Name<'a>,
+        is_kept: bool,
+    ) -> Result<Action<'a>, LineFault> {
+        if is_kept && self.has_ticket(printed_as) {
+            return Err(LineFault::Bad);
+        }
+        Ok(Action::Open {
+            name: printed_as,
+            digest: self.digest_of(name)?,
+            is_kept,
+        })
+    }
+}
+
+// The call that hands in the block or certificate of the message, or the answer with the rule that it breaks.
+fn checked_command<'a>(
+    alloc: Global,
+    committee: &Shared<Committee>,
+    name: Name<'a>,
+    text: &[u8],
+) -> Result<Action<'a>, LineFault> {
+    let command = match check_message(alloc, committee, text)? {
+        Checked::Block(block) => Command::Write(block),
+        Checked::Cert(certificate) => Command::Certify(certificate),
+        Checked::BadBlock(fault) => return Ok(Action::Print(Answer::BadBlock { name, fault })),
+        Checked::BadCert(fault) => return Ok(Action::Print(Answer::BadCert { name, fault })),
+        Checked::Vote(_) | Checked::BadText(_) => return Err(LineFault::Bad),
+    };
+    Ok(Action::Call {
+        name: Some(name),
+        command,
+    })
+}

@@ -1,0 +1,79 @@
+//! The named blocks and their messages.
+
+use crate::fault::LineFault;
+use crate::interpreter::Interpreter;
+use crate::members::block_message;
+use crate::print::Answer;
+use nw_codec::{Block, EncodeError, Transactions, encode_body};
+use nw_digest::Digest;
+use nw_script::{BlockLine, Name};
+use std::alloc::Global;
+
+impl<'a> Interpreter<'a> {
+    /// Binds the name of the line to its block. The name stays free if the block is over a limit. `Bad` if the name is bound.
+    pub(crate) fn block(
+        &mut self,
+        alloc: Global,
+        line: &BlockLine<'a>,
+    ) -> Result<Answer<'a>, LineFault> {
+        let name = line.name;
+        if self.names.has(name) {
+            return Err(LineFault::Bad);
+        }
+        let block = self.block_of(alloc, line)?;
+        if !block.fits() {
+            drop(block);
+            return Ok(Answer::over_limit(name));
+        }
+        let body = block.body_size();
+        self.names.bind(name, block)?;
+        Ok(Answer::Block { name, body })
+    }
+
+    fn block_of(&self, alloc: Global, line: &BlockLine<'a>) -> Result<Block, LineFault> {
+        Ok(Block {
+            author: line.author,
+            round: line.round,
+            parents: self.names.references(alloc, &line.parents)?,
+            transactions: transactions_of(alloc, &line.transactions)?,
+        })
+    }
+
+    /// The answer with the body of the block in hex.
+    pub(crate) fn body(&self, alloc: Global, name: Name<'a>) -> Result<Answer<'a>, LineFault> {
+        let text = encode_body(alloc, &self.named_block(name)?.block)?;
+        in_hex(alloc, name, text.as_slice())
+    }
+
+    /// The answer with the digest of the block in hex.
+    pub(crate) fn digest(&self, alloc: Global, name: Name<'a>) -> Result<Answer<'a>, LineFault> {
+        let Digest(bytes) = self.digest_of(name)?;
+        in_hex(alloc, name, bytes.as_slice())
+    }
+
+    /// The encoded message of the block, signed by the given member, or by its author if none is given.
+    pub(crate) fn text_of_block(
+        &self,
+        alloc: Global,
+        name: Name<'a>,
+        signer: Option<u16>,
+    ) -> Result<Vec<u8>, LineFault> {
+        let named = self.named_block(name)?;
+        let signer = signer.unwrap_or(named.block.author);
+        Ok(block_message(alloc, signer, &named.digest, &named.block)?)
+    }
+}
+
+fn in_hex<'a>(alloc: Global, name: Name<'a>, bytes: &[u8]) -> Result<Answer<'a>, LineFault> {
+    let hex = hex::encode(alloc, bytes)?;
+    Ok(Answer::Hex { name, hex })
+}
+
+// The words as transactions of a block. A word has at most 64 bytes, so each is within the limit.
+fn transactions_of(alloc: Global, words: &[&str]) -> Result<Transactions, EncodeError> {
+    let mut transactions = Transactions::new(alloc);
+    for word in words {
+        transactions.push(word.as_bytes())?;
+    }
+    Ok(transactions)
+}

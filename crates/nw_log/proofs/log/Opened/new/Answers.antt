@@ -1,5 +1,0 @@
-use Rattle.nw_log.proofs.Claims.{opens}
-use Rattle.nw_log.proofs.log.Opened.new.Goals as goal
-
-pub of_words-requires : goal.of_words-requires
-of_words-requires g c = opens g.row.E.Denot

@@ -1,5 +1,0 @@
-use Rattle.nw_model.proofs.Stable.{causal_lists_stay}
-use Rattle.nw_model.proofs.laws.a_causal_list_stays.Goals as goal
-
-pub returns : goal.returns
-returns c = causal_lists_stay

@@ -1,5 +1,0 @@
-use Rattle.nw_model.proofs.Existing.{one_causal_list}
-use Rattle.nw_model.proofs.laws.a_complete_digest_has_one_causal_list.Goals as goal
-
-pub returns : goal.returns
-returns c = one_causal_list

@@ -1,5 +1,0 @@
-use Rattle.nw_model.proofs.Integrity.{reads_agree}
-use Rattle.nw_model.proofs.laws.reads_of_a_digest_agree.Goals as goal
-
-pub returns : goal.returns
-returns c = reads_agree

@@ -1,0 +1,44 @@
+//! SharedList of a list.
+ghost use Rattle.std.specs.Prelude.{◌≡◌, ◌<◌, length, slice_get, Some};
+
+use crate::trail::Link;
+use std::marker::Model;
+
+/// The number of items in a chunk.
+pub const CHUNK: usize = 256;
+
+/// 256 items of a list, which never change. Contracts see the items.
+#[derive(Drop)]
+pub(crate) struct Chunk<T: Drop> {
+    items: Vec<Link<T>>,
+}
+
+impl<T: Drop> Model for Chunk<T> {
+    ghost use Rattle.std.specs.Prelude.{◌≡◌, List, length};
+    ghost use Rattle.nw_shared_list.specs.declared.chunk.TheConstants.{CHUNK};
+
+    ghost Value = { List T };
+
+    ghost view = { λ c. c.items.items };
+
+    ghost invariant = { λ c. length c.items.items ≡ CHUNK };
+}
+
+impl<T: Drop> Chunk<T> {
+    /// The chunk of these items. It takes no memory.
+    pub(crate) fn new(items: Vec<Link<T>>) -> Chunk<T>
+        requires { length items.items ≡ CHUNK }
+        ensures { result ≡ items.items }
+    {
+        Chunk { items }
+    }
+
+    /// The item at the index.
+    pub(crate) fn item(&self, index: usize) -> &T
+        requires { index < CHUNK }
+        ensures item { slice_get self.now index ≡ Some result.now }
+        ensures whole { length self.now ≡ CHUNK }
+    {
+        self.items[index].item()
+    }
+}

@@ -1,0 +1,54 @@
+-- The slots of a store tell which digests stand.
+use Rattle.std.proofs.Common.{◌≡◌, ℕ, List, Option, Some, None, IsSome, refl, sym, ap, ◌∙◌, subst}
+use Rattle.std.specs.Bool.{Decides}
+use Rattle.std.specs.Option.{option_eq}
+use Rattle.std.specs.FinMap.{get}
+use Rattle.nw_digest.specs.declared.digest.Digest.{Digest}
+use Rattle.nw_codec.specs.declared.block.Block.{Block}
+use Rattle.nw_codec.specs.declared.certificate.Certificate.{Certificate}
+use Rattle.nw_model.specs.declared.wanted.Wanted.{Wanted}
+use Rattle.nw_rounds.specs.Slots.{Tables}
+use Rattle.nw_digest.specs.Order.{Slot}
+use Rattle.nw_model.specs.State.{State, block_slot}
+use Rattle.nw_model.proofs.Sames.{same_digest, same_digest_decides}
+use Rattle.nw_state.specs.StateTables.{IsHeld, state_of}
+use Rattle.nw_state.specs.Standing.{IsMet}
+use Rattle.nw_state.proofs.HeldRaised.{certified_slot}
+
+is_there : {X : Type 0} (found : Option X) (x : X) → found ≡ Some x → IsSome found
+is_there found x e = subst IsSome (sym e) refl
+
+-- a found digest is compared with another
+pub named_decides : (found : Option Digest) (d : Digest) → Decides (option_eq same_digest found (Some d)) (found ≡ Some d)
+named_decides None d = (λ e. absurd cc, λ e. absurd cc)
+named_decides (Some x) d = (λ e. ap Some ((same_digest_decides x d).0 e), λ e. (same_digest_decides x d).1 cc)
+
+which : {X : Type 0} (found : Option X) → IsSome found → (x : X) × (found ≡ Some x)
+which None h = absurd cc
+which (Some x) h = (x, refl)
+
+module _ (blocks : List (Digest × Block)) (certificates : List (Digest × Certificate)) (slots : Tables) (floor : ℕ) (held : IsHeld blocks certificates slots floor) (w : Wanted) where
+  abbrev s : State
+  s = state_of blocks certificates slots floor
+
+  -- a first digest is held
+  pub first_held : get slots.firsts (w.round, w.author) ≡ Some w.digest → IsSome (get s.blocks w.digest)
+  first_held first = let (b, there, here) = held.voted (w.round, w.author) w.digest first in is_there (get s.blocks w.digest) b there
+
+  -- a digest that is held, and certified for a slot, stands with a block of that slot
+  pub met : get slots.certified (w.round, w.author) ≡ Some w.digest → IsSome (get s.blocks w.digest) → IsMet s w
+  met certified some =
+      let (c, is, here) = (held.kept.indexed (w.round, w.author) w.digest).0 certified in
+      let (b, there) = which (get s.blocks w.digest) some in
+      let slot = certified_slot blocks certificates slots floor held (w.round, w.author) w.digest b certified there in
+      (b, (there, is_there (get s.certificates w.digest) c is), ap (λ (q : Slot). q.1) slot, ap (λ (q : Slot). q.0) slot)
+
+  -- a digest that stands is held, and certified for its block's slot
+  pub met_certified : IsMet s w → get slots.certified (w.round, w.author) ≡ Some w.digest
+  met_certified (b, (there, some), author, round) =
+      let (c, is) = which (get s.certificates w.digest) some in
+      let slot : block_slot b ≡ (w.round, w.author) = λ i. (round i, author i) in
+      (held.kept.indexed (w.round, w.author) w.digest).1 (c, is, sym (held.kept.sound.one_slot w.digest b c there is) ∙ slot)
+
+  pub met_held : IsMet s w → IsSome (get s.blocks w.digest)
+  met_held (b, (there, some), author, round) = is_there (get s.blocks w.digest) b there

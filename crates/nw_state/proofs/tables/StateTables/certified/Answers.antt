@@ -1,0 +1,11 @@
+use Rattle.std.proofs.Common.{◌∙◌, ap}
+use Rattle.nw_model.specs.Step.{certified_digest}
+use Rattle.nw_model.proofs.Kept.{index_answers}
+use Rattle.nw_state.specs.StateTables.{state_of}
+use Rattle.nw_state.proofs.tables.StateTables.certified.Goals as goal
+
+pub returns : goal.returns
+returns c =
+    c.certified.ensures
+    ∙ index_answers (state_of c.self.inside.blocks c.self.inside.certificates c.self.inside.slots c.self.inside.floor) c.self.inside.slots.certified (c.args.round, c.args.author) c.self.invariant.kept.indexed
+    ∙ ap (λ t. certified_digest t.state (c.args.round, c.args.author)) c.self.view_is

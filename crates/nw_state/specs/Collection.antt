@@ -1,0 +1,29 @@
+-- The digests that a collection goes through.
+use Rattle.std.specs.Prelude.{◌≡◌, ℕ, ◌≤◌, List, Some, Bool, not, is_some, Contains}
+use Rattle.std.specs.List.{IsDistinct}
+use Rattle.std.specs.Ordering.{eq_by_cmp}
+use Rattle.std.specs.FinMap.{get}
+use Rattle.nw_digest.specs.declared.digest.Digest.{Digest}
+use Rattle.nw_codec.specs.declared.block.Block.{Block}
+use Rattle.nw_codec.specs.declared.certificate.Certificate.{Certificate}
+use Rattle.nw_rounds.specs.declared.table.Table.{Table}
+use Rattle.nw_rounds.specs.declared.table.Table.TheVariants.{First, Certified}
+use Rattle.nw_digest.specs.Order.{digest_cmp}
+use Rattle.nw_model.specs.State.{State}
+
+-- a digest that is listed in this table counts as a block there: a first digest if it is not certified, and a certified digest if its block
+-- is held
+abbrev pub counts_at : State → Table → Digest → Bool
+counts_at s First d = not (is_some (get s.certificates d))
+counts_at s Certified d = is_some (get s.blocks d)
+
+-- the digests are those of the blocks and certificates of this round and of lower rounds
+pub record AreDigestsUpTo (s : State) (round : ℕ) (digests : List Digest) : Type 0 where
+  -- each block up to this round is held under one of the digests
+  pub blocks : (d : Digest) (b : Block) → get s.blocks d ≡ Some b → b.round ≤ round → Contains digests d
+  -- each certificate up to this round is kept for one of the digests
+  pub certificates : (d : Digest) (c : Certificate) → get s.certificates d ≡ Some c → c.round ≤ round → Contains digests d
+  -- no block of a higher round is held under one of them
+  pub only : (d : Digest) (b : Block) → Contains digests d → get s.blocks d ≡ Some b → b.round ≤ round
+  -- no digest is listed twice
+  pub once : IsDistinct (eq_by_cmp digest_cmp) digests

@@ -1,0 +1,4 @@
+pub mod StateTables
+pub mod Dropping
+pub mod Standing
+pub mod Collection

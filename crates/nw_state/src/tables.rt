@@ -1,0 +1,226 @@
+//! The blocks, certificates and slots of one state.
+ghost use Rattle.std.specs.Prelude.{◌≡◌, ◌↔◌, ◌≤◌};
+ghost use Rattle.std.specs.Prelude.{OnOk, OnErr, IfSome, IsSome, IsNone, Some, None, IsTrue, false, not};
+ghost use Rattle.std.specs.Prelude.{is_some};
+ghost use Rattle.std.specs.Option.{option_copied, option_map};
+ghost use Rattle.std.specs.FinMap as map;
+ghost use Rattle.nw_digest.specs.declared.digest.Digest.{Digest};
+ghost use Rattle.nw_model.specs.State.{opening, block_slot, certificate_slot};
+ghost use Rattle.nw_model.specs.Sound.{IsSound};
+ghost use Rattle.nw_state.specs.Standing.{Stands, IsMet, name_of};
+ghost use Rattle.nw_model.specs.Step.{certified_digest, is_elsewhere, rival, with_block};
+ghost use Rattle.nw_model.specs.Step.{with_certificate};
+
+mod collection;
+mod dropping;
+mod replies;
+
+use nw_codec::{Block, Certificate};
+use nw_digest::{Digest, NoMemory, Round, Shared};
+use nw_model::Wanted;
+use nw_rounds::Rounds;
+use nw_trie::Trie;
+use std::alloc::Global;
+use std::marker::Model;
+
+/// The blocks, certificates and slots of one state, with the bounds of a store. Contracts see the state and the bounds.
+#[derive(Drop)]
+pub struct StateTables {
+    blocks: Trie<Shared<Block>, Global>,
+    certificates: Trie<Shared<Certificate>, Global>,
+    /// The first and the certified digest of each round and author.
+    slots: Rounds<Global>,
+    floor: Round,
+    /// The largest number of held blocks, and separately of certificates.
+    limit: u32,
+    window: u32,
+    alloc: Global,
+}
+
+impl Model for StateTables {
+    ghost use Rattle.nw_model.specs.Step.{BoundedState, coded_bounded_state};
+    ghost use Rattle.nw_state.specs.StateTables.{IsHeld, state_of};
+
+    ghost Value = { BoundedState };
+
+    ghost coded = { coded_bounded_state };
+
+    ghost view = { λ h. record {
+      bounds = record { blocks = h.limit; window = h.window };
+      state = state_of h.blocks h.certificates h.slots h.floor;
+    } };
+
+    ghost invariant = { λ h. IsHeld h.blocks h.certificates h.slots h.floor };
+}
+
+impl StateTables {
+    /// The opening state: three empty maps, and garbage round 0. Allocates nothing.
+    ///
+    /// The bounds are `blocks` blocks and `blocks` certificates, of `window` rounds from the garbage round on.
+    pub fn new(alloc: Global, blocks: u32, window: u32) -> StateTables
+        ensures { result ≡ record {
+          bounds = record { blocks = blocks; window = window };
+          state = opening;
+        } }
+    {
+        StateTables {
+            blocks: Trie::new_in(alloc),
+            certificates: Trie::new_in(alloc),
+            slots: Rounds::new_in(alloc),
+            floor: Round::ZERO,
+            limit: blocks,
+            window,
+            alloc,
+        }
+    }
+
+    /// The garbage round.
+    pub fn floor(&self) -> Round
+        ensures { result ≡ self.now.state.floor }
+    {
+        self.floor
+    }
+
+    /// The block that is held under the digest, if there is one.
+    pub fn block(&self, digest: &Digest) -> Option<&Shared<Block>>
+        ensures value { option_copied result ≡ map.get self.now.state.blocks digest.now }
+        ensures sound { IsSound self.now.state }
+    {
+        self.blocks.get(digest)
+    }
+
+    /// Whether a block is held under the digest.
+    pub fn holds(&self, digest: &Digest) -> bool
+        ensures { result ≡ is_some (map.get self.now.state.blocks digest.now) }
+    {
+        self.block(digest).is_some()
+    }
+
+    /// The certificate that is kept for the digest, if there is one.
+    pub fn certificate(&self, digest: &Digest) -> Option<&Shared<Certificate>>
+        ensures value { option_copied result ≡ map.get self.now.state.certificates digest.now }
+        ensures sound { IsSound self.now.state }
+    {
+        self.certificates.get(digest)
+    }
+
+    /// The first digest of the round and author, if there is one.
+    fn first(&self, round: Round, author: u16) -> Option<Digest>
+        ensures { result ≡ map.get self.now.state.firsts (round, author) }
+    {
+        self.slots.first(round, author)
+    }
+
+    /// The certified digest of the round and author, if there is one.
+    fn certified(&self, round: Round, author: u16) -> Option<Digest>
+        ensures { result ≡ certified_digest self.now.state (round, author) }
+    {
+        self.slots.certified(round, author)
+    }
+
+    /// How many blocks are held.
+    pub fn blocks(&self) -> usize
+        ensures { result ≡ map.len self.now.state.blocks }
+    {
+        self.blocks.len()
+    }
+
+    /// How many certificates are kept.
+    pub fn certificates(&self) -> usize
+        ensures count { result ≡ map.len self.now.state.certificates }
+        ensures sound { IsSound self.now.state }
+    {
+        self.certificates.len()
+    }
+
+    /// The name of the block under the digest, if the digest stands: its block is held, and it is certified. Otherwise `None`. If the
+    /// digest is not certified, this takes one look-up.
+    pub fn standing(&self, digest: &Digest) -> Option<Wanted>
+        ensures stands { IsSome result ↔ Stands self.now.state digest.now }
+        ensures name { IfSome result (λ name. Some name
+            ≡ option_map (name_of digest.now) (map.get self.now.state.blocks digest.now)) }
+        ensures sound { IsSound self.now.state }
+    {
+        let _certificate = self.certificate(digest)?;
+        self.name(*digest)
+    }
+
+    /// Whether the wanted digest stands, with a block of the wanted round and author. This looks up the slot. It looks up the block only
+    /// if the digest is not the first of its slot.
+    pub fn is_met(&self, wanted: &Wanted) -> bool
+        ensures { IsTrue result ↔ IsMet self.now.state wanted.now }
+    {
+        let (round, author) = (wanted.round, wanted.author);
+        self.slots.certified(round, author) == Some(wanted.digest)
+            && (self.slots.first(round, author) == Some(wanted.digest)
+                || self.holds(&wanted.digest))
+    }
+
+    /// The name of the block that is held under the digest, if there is one: its round, author and digest.
+    pub fn name(&self, digest: Digest) -> Option<Wanted>
+        ensures { result ≡ option_map (name_of digest) (map.get self.now.state.blocks digest) }
+    {
+        let block = self.block(&digest)?.get();
+        Some(Wanted {
+            round: block.round,
+            author: block.author,
+            digest,
+        })
+    }
+
+    /// Adds the block under the digest, for a write whose reply is `Stored` with this vote. If `vote` is set, the digest becomes the
+    /// first of the block's slot.
+    ///
+    /// `NoMemory` if allocation fails. Then nothing changes.
+    pub fn put_block(
+        &mut self,
+        digest: Digest,
+        block: Shared<Block>,
+        vote: bool,
+    ) -> Result<(), NoMemory>
+        requires absent { IsNone (map.get self.old.state.blocks digest) }
+        requires first { vote ≡ not (is_some (map.get self.old.state.firsts (block_slot block))) }
+        requires alone { rival self.old.state digest (block_slot block) ≡ None }
+        requires misfit { is_elsewhere certificate_slot (map.get self.old.state.certificates digest)
+            (block_slot block) ≡ false }
+        requires kept { self.old.state.floor ≤ block.round }
+        ensures state { OnOk result (self.new.state ≡ with_block self.old.state digest block vote) }
+        ensures bounds { self.new.bounds ≡ self.old.bounds }
+        ensures unchanged { OnErr result (self.new ≡ self.old) }
+    {
+        let held = block.get();
+        let (round, author) = (held.round, held.author);
+        self.blocks.put(digest, block)?;
+        if vote {
+            if let Err(refused) = self.slots.put_first(round, author, digest) {
+                let _block = self.blocks.remove(&digest);
+                return Err(refused);
+            }
+        }
+        Ok(())
+    }
+
+    /// Adds the certificate, for one whose reply is `Certified`.
+    ///
+    /// `NoMemory` if allocation fails. Then nothing changes.
+    pub fn put_certificate(&mut self, certificate: Shared<Certificate>) -> Result<(), NoMemory>
+        requires absent { IsNone (map.get self.old.state.certificates certificate.digest) }
+        requires open { certified_digest self.old.state (certificate_slot certificate) ≡ None }
+        requires misfit { is_elsewhere block_slot (map.get self.old.state.blocks certificate.digest)
+            (certificate_slot certificate) ≡ false }
+        requires kept { self.old.state.floor ≤ certificate.round }
+        ensures state { OnOk result (self.new.state ≡ with_certificate self.old.state certificate) }
+        ensures bounds { self.new.bounds ≡ self.old.bounds }
+        ensures unchanged { OnErr result (self.new ≡ self.old) }
+    {
+        let kept = certificate.get();
+        let digest = kept.digest;
+        let (round, author) = (kept.round, kept.author);
+        self.certificates.put(digest, certificate)?;
+        if let Err(refused) = self.slots.put_certified(round, author, digest) {
+            let _certificate = self.certificates.remove(&digest);
+            return Err(refused);
+        }
+        Ok(())
+    }
+}

@@ -1,9 +1,0 @@
-use Rattle.std.proofs.Common.{subst}
-use Rattle.nw_store.specs.Journal.{Kept, AreBegun}
-use Rattle.nw_store.proofs.Begun.{comparable}
-use Rattle.nw_store.proofs.locked.compare_locked.Goals as goal
-
-pub returns-clause-comparable : goal.returns-clause-comparable
-returns-clause-comparable g c =
-    let also : AreBegun c.args.locked.now.history c.args.two.now.answers = subst (λ (h : Kept). AreBegun h.history c.args.two.now.answers) c.renew_locked.ensures.same c.renew_locked-2.ensures.begun in
-    comparable c.args.locked.now.history c.args.one.now.answers c.args.two.now.answers c.renew_locked.ensures.begun also

@@ -1,4 +1,0 @@
-use Rattle.nw_store.proofs.notes.what_was_heard_of_begins_an_answer.Goals as goal
-
-pub returns : goal.returns
-returns c = λ accepts first second note noted heard. second.answered.heard first.front (heard first.front (noted first.front first.answered.knows))

@@ -1,0 +1,43 @@
+-- Invariants of a store's lock and of its sessions.
+use Rattle.std.specs.Prelude.{◌≡◌, ℕ, ◌+◌, ◌<◌, ◌≤◌, List, length, All}
+use Rattle.nw_sig.specs.Signed.{Meaning}
+use Rattle.nw_history.specs.Limits.{AreInRange}
+use Rattle.nw_history.specs.declared.limits.TheConstants.{MAX_SESSIONS}
+use Rattle.nw_history.specs.Story.{Story, IsLegalStory}
+use Rattle.nw_history.specs.Prefix.{IsPrefixOf}
+use Rattle.nw_store.specs.Journal.{Guarded, Journal, AreAmong, AreAnswers}
+
+-- the number of parts of a store's ledger: one for each possible session, and one more
+abbrev pub parts_of_a_ledger : ℕ
+parts_of_a_ledger = MAX_SESSIONS + 1
+
+-- the invariant of the lock: `total` is what the ledger counts, `spare` the number of its spare parts, `idle` what these count, and
+-- `log` the fronts that the store handed out
+pub record IsLockInvariant (accepts : Meaning) (held : Guarded) (total spare idle : ℕ) (log : List Story) : Type 0 where
+  -- the limits are in their ranges
+  pub in_range : AreInRange held.history.limits
+  -- the history is legal
+  pub legal : IsLegalStory accepts held.history
+  -- the limits allow the sessions made so far
+  pub few : held.made ≤ held.history.limits.sessions
+  -- each part of the ledger is spare or belongs to a session
+  pub shared : spare + held.made ≡ parts_of_a_ledger
+  -- the spare parts count no calls
+  pub unused : idle ≡ 0
+  -- the ledger counts the events of the history
+  pub counted : total ≡ length held.history.events
+  -- each front in the log is a prefix of the history
+  pub begun : All (λ front. IsPrefixOf front held.history) log
+
+-- the invariant of a session, which has `parts` parts of the ledger that count `amount` calls
+pub record IsSession (parts amount : ℕ) (j : Journal) : Type 0 where
+  -- the id is below the greatest limit of sessions
+  pub id_below : j.id < MAX_SESSIONS
+  -- the session has one part of the ledger
+  pub part : parts ≡ 1
+  -- this part counts the session's answers
+  pub counted : amount ≡ length j.answers
+  -- the session knows of the front of each of its answers
+  pub claimed : AreAmong j.known j.answers
+  -- the answers are to the session's calls, numbered from 1
+  pub numbered : AreAnswers j.id 1 j.answers
