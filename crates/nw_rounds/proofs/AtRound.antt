@@ -95,7 +95,7 @@ at_table : (es : List (Place × Digest)) (slot : Slot) (t : Table) → get (tabl
 at_table es slot First = get_in First slot es
 at_table es slot Certified = get_in Certified slot es
 
--- the entries rs from the first place of `from` on, before the first place of `to`
+-- rs has the entries from the first place of `from` on, before the first place of `to`
 module _ (es rs : List (Place × Digest)) (from to : ℕ) (sorted : IsStrictlySortedBy place_cmp (keys_of es))
     (part : rs ≡ filter (λ e. range_contains place_cmp (Included ((from, 0), First)) (Excluded ((to, 0), First)) e.0) es) where
   there : rs ≡ filter (λ e. is_between from to e.0.0.0) es
