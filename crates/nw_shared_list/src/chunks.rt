@@ -1,4 +1,4 @@
-//! Lists of chunks.
+//! Immutable lists of full chunks and a tail.
 ghost use Rattle.std.specs.Prelude.{◌≡◌, ◌+◌, ◌-◌, ◌^◌, ◌<◌, ◌==◌, ◌++◌, ◌∷◌, []};
 ghost use Rattle.std.specs.Prelude.{IfOk, length, reverse, slice_get};
 ghost use Rattle.std.specs.Option.{option_copied};
@@ -116,7 +116,7 @@ impl<H: Drop, T: Drop> SharedList<H, T> {
     }
 
     /// The item at the index, counted from 0, or `None` if there is none. It takes a constant number of steps in a full
-    /// chunk, and at most 255 in the tail.
+    /// chunk, and at most 255 steps in the tail.
     pub fn get(&self, index: usize) -> Option<&T>
         ensures { option_copied result ≡ slice_get (items_of self.now) index }
     {
@@ -138,7 +138,7 @@ impl<H: Drop, T: Drop> SharedList<H, T> {
         self.tail.items(alloc, self.count)
     }
 
-    /// The same as `get`, in a constant number of steps, by the links that `tail_links` returned.
+    /// The same as `get`, in a constant number of steps. `tail` must be what `tail_links` returned for this list.
     pub fn get_with_links<'a>(&'a self, tail: &'a [Link<T>], index: usize) -> Option<&'a T>
         requires { tail.now ≡ self.now.tail }
         ensures { option_copied result ≡ slice_get (items_of self.now) index }
