@@ -41,9 +41,9 @@ pub record Terms : Type 0 where
   pub committee : List Member
   -- the bounds of the store
   pub bounds : Bounds
-  -- how many events the history may have
+  -- the largest number of events
   pub events : ℕ
-  -- the numbers of sessions are below this
+  -- each session's number is below this
   pub sessions : ℕ
 
 -- the state is a base: some events with admitted calls lead to it from the opening state

@@ -59,7 +59,7 @@ FirstsOfABaseGetNoVote =
     (accepts : Meaning) (terms : Terms) (base : State) (es : List Event) → IsLegal accepts terms base es
     → (slot : Slot) → IsSome (get base.firsts slot) → (i : ℕ) (e : Event) → slice_get es i ≡ Some e → IsVotingEvent slot e → ⊥
 
--- s and t are states of one legal history, s not later than t
+-- s and t are states of one legal history, and s is not later than t
 pub record LeadsOn (accepts : Meaning) (terms : Terms) (s t : State) : Type 0 where
   -- the base of the history
   pub base : State

@@ -14,7 +14,7 @@ use Rattle.nw_model.specs.Paths.{IsComplete, Lists}
 pub record Frozen : Type 0 where
   -- the blocks, by digest
   pub blocks : FinMap digest_cmp Block
-  -- the round down to which the view is used; blocks of lower rounds do not count
+  -- the floor: blocks of lower rounds do not count
   pub floor : ℕ
 
 -- the code of a view
