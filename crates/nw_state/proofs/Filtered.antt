@@ -44,7 +44,7 @@ module _ {X : Type 0} (p : X → Bool) where
       by true rest = (all.0, rest)
       by false rest = rest
 
-  -- a list without repetition stays so if some elements are removed
+  -- a list without repetition still has none after some elements are removed
   pub distinct_filter : (e : X → X → Bool) (xs : List X) → IsDistinct e xs → IsDistinct e (filter p xs)
   distinct_filter e [] once = once
   distinct_filter e (y ∷ ys) once = by (p y) (distinct_filter e ys (IsDistinct-tail e y ys once))

@@ -134,7 +134,7 @@ impl StateTables {
     }
 
     /// The name of the block under the digest, if the digest stands: its block is held, and it is certified. Otherwise `None`. If the
-    /// digest is not certified, this takes one look-up.
+    /// digest is not certified, this takes one lookup.
     pub fn standing(&self, digest: &Digest) -> Option<Wanted>
         ensures stands { IsSome result ↔ Stands self.now.state digest.now }
         ensures name { IfSome result (λ name. Some name
@@ -200,7 +200,7 @@ impl StateTables {
         Ok(())
     }
 
-    /// Adds the certificate, for one whose reply is `Certified`.
+    /// Adds a certificate whose reply is `Certified`.
     ///
     /// `NoMemory` if allocation fails. Then nothing changes.
     pub fn put_certificate(&mut self, certificate: Shared<Certificate>) -> Result<(), NoMemory>

@@ -1,4 +1,4 @@
-//! Tries of values that have a round: dropping those of lower rounds.
+//! Dropping the values of lower rounds from a trie.
 ghost use Rattle.std.specs.Prelude.{◌↔◌, IsTrue, [], ◌∷◌};
 ghost use Rattle.std.specs.List.Sorted.{IsStrictlySortedBy};
 ghost use Rattle.std.specs.Map.{keys_of, lookup};
