@@ -20,7 +20,7 @@ pub record Arrives (s t : State) (d : Digest) : Type 0 where
   pub absent : Stands s d → ⊥
   pub others : (x : Digest) (b : Block) → (x ≡ d → ⊥) → IsStanding t x b ↔ IsStanding s x b
 
--- each block lacks the parents that it names in t, as they stand in s
+-- each block lacks the parents that it names in t and that are not met or not ready in s, and only d's pairs changed
 pub record AreLackingSince (s t : State) (d : Digest) (old new : Pairs) : Type 0 where
   pub each : (h : Digest) (w : Wanted) → ReferencesParent t h w → Lacks new h w ⊎ (IsMet s w × IsReady s old w.digest)
   pub only : (h : Digest) (w : Wanted) → Lacks new h w → ReferencesParent t h w × (IsMet s w → IsReady s old w.digest → ⊥)

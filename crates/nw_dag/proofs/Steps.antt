@@ -196,7 +196,7 @@ not_ready s d unmet met lacking pending never standing far = record {
   counts = far.counts;
 }
 
--- nothing grew
+-- if d is not ready, no digest became ready
 pub grown_none : (s : State) (d : Digest) (lacking : Pairs) (fresh : List Digest) → (IsReady s lacking d → ⊥) → Grows s (λ x. IsReady s lacking x × (x ≡ d → ⊥)) lacking lacking fresh fresh
 grown_none s d lacking fresh never = record {
   still = λ x ready. ready;

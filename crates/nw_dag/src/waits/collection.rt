@@ -46,7 +46,7 @@ impl Waits {
         count
     }
 
-    /// Releases the holder: it lacks nothing from now on, and is listed if it became ready by this.
+    /// Releases the holder: it lacks nothing from now on, and is listed if it becomes ready as a result.
     fn release(&mut self, held: &StateTables, holder: Digest)
         requires tally { IsTally held.now.state self.old.lacking [] self.old.completions.pending }
         ensures unmet { self.new.unmet ≡ without_holder self.old.unmet holder }
@@ -63,7 +63,7 @@ impl Waits {
         }
     }
 
-    /// Releases the holders: they lack nothing from now on, and those that became ready by this are listed.
+    /// Releases the holders: they lack nothing from now on, and those that become ready as a result are listed.
     fn release_each(&mut self, held: &StateTables, holders: &[Digest])
         requires tally { IsTally held.now.state self.old.lacking [] self.old.completions.pending }
         requires once { IsDistinct (eq_by_cmp digest_cmp) holders.now }
@@ -80,7 +80,7 @@ impl Waits {
     }
 
     /// Updates the sets after the garbage round was raised. The holders are the digests of rounds up to it, and `dropped` is the number of
-    /// dropped blocks that were not complete. Blocks that become complete by this are listed and promoted. Allocates nothing.
+    /// dropped blocks that were not complete. Blocks that become complete as a result are listed and promoted. Allocates nothing.
     pub(crate) fn collect(&mut self, held: &StateTables, holders: &[Digest], dropped: usize)
         requires { IsCollecting held.now.state self.old.unmet self.old.lacking
             self.old.completions.pending holders.now dropped }
