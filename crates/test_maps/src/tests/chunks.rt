@@ -1,4 +1,4 @@
-//! Lists that share their earlier items.
+//! Lists in chunks, which share their earlier items.
 use super::*;
 use nw_digest::Shared;
 use nw_shared_list::SharedList;

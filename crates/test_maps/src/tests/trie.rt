@@ -17,7 +17,7 @@ fn entries<A: Allocator>(
     Ok(seen)
 }
 
-/// Whether one of three inserts is refused in this heap. If so, it must return its value and leave the entries as they were.
+/// Whether one of three inserts runs out of memory in this heap. If so, it must return its value and leave the entries unchanged.
 fn is_refused(rt: &impl Abort, alloc: Global, heap: &LocalHeap) -> Result<bool, NoMemory> {
     let all = [(digest(0, 0), 1), (digest(0, 1), 2), (digest(128, 0), 3)];
     let mut trie = Trie::new_in(heap);
