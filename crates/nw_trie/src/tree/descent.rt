@@ -1,4 +1,4 @@
-//! The way down to a value that the caller may change.
+//! The descent to a value that the caller may change.
 //!
 //! The kit generates no proof for a `&mut` that a recursive function returns. So no function here calls itself: the number of
 //! remaining steps is part of a type.
