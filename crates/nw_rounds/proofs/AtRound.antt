@@ -137,7 +137,7 @@ module _ (t : Tables) (from to : ℕ) (rs : List (Place × Digest)) (are : ArePl
       by r author First found = (author, inl found)
       by r author Certified found = (author, inr found)
 
-  -- and each digest of these rounds has a place
+  -- each digest of these rounds has a place
   at_place : (d : Digest) → IsDigestIn d → Contains (values_of rs) d
   at_place d (round, low, high, (author, inl is)) = Contains-values_of rs ((round, author), First) d ((are.exactly ((round, author), First) d).1 (low, high, is))
   at_place d (round, low, high, (author, inr is)) = Contains-values_of rs ((round, author), Certified) d ((are.exactly ((round, author), Certified) d).1 (low, high, is))
