@@ -17,9 +17,9 @@ struct Root<H: Drop, T: Drop> {
     full: Vec<Shared<Chunk<T>>>,
 }
 
-/// An immutable list with a head. Adding an item makes another list, which shares the head and all earlier items: full chunks
-/// of 256 items, and the tail (the items after them). Contracts see the head, the chunks and the tail; `items_of` gives all
-/// items in order.
+/// An immutable list with a head. Its items are in full chunks of 256 items, and in the tail after them. Adding an item makes another
+/// list, which shares the head and all earlier items. Contracts see the head, the chunks and the tail; `items_of` gives all items
+/// in order.
 #[derive(Drop)]
 pub struct SharedList<H: Drop, T: Drop> {
     root: Shared<Root<H, T>>,
