@@ -62,12 +62,12 @@ module _ (accepts : Meaning) (members : List Member) where
   admitted_opening : AreAdmitted opening
   admitted_opening d b at = absurd (some_none b (sym at ∙ get-empty digest_cmp d))
 
--- it holds of a base
+-- each block of a base was admitted
 pub admitted_base : (accepts : Meaning) (terms : Terms) (base : State) → IsBase accepts terms base → AreAdmitted accepts terms.committee base
 admitted_base accepts terms base based =
     subst (AreAdmitted accepts terms.committee) (sym based.left)
     (admitted_replay accepts terms.committee terms.bounds opening based.earlier based.admitted (admitted_opening accepts terms.committee))
 
--- and of the state that a legal history leaves
+-- each block of the state that a legal history leaves was admitted
 pub admitted_left : (accepts : Meaning) (terms : Terms) (base : State) (es : List Event) → IsLegal accepts terms base es → AreAdmitted accepts terms.committee (replay terms.bounds base es)
 admitted_left accepts terms base es legal = admitted_replay accepts terms.committee terms.bounds base es legal.admitted (admitted_base accepts terms base legal.based)

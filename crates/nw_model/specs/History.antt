@@ -28,7 +28,7 @@ abbrev pub AreNumbered : ℕ → List Event → Type 0
 AreNumbered n [] = Unit {0}
 AreNumbered n (e ∷ es) = (e.number ≡ n) × AreNumbered (n + 1) es
 
--- a call is admitted if what it hands in passes the checks: a block is well formed and written under its own digest, and a certificate
+-- a call is admitted if its block or certificate passes the checks. A block is well formed, and written under its own digest. A certificate
 -- is valid
 abbrev pub IsAdmitted : Meaning → List Member → Call → Type 0
 IsAdmitted accepts members (call.Write d b) = (d ≡ digest_of b) × IsWellFormed accepts members b
