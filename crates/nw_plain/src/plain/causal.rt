@@ -46,8 +46,7 @@ impl Plain {
         Ok(complete)
     }
 
-    /// Adds the block that is held under the digest if it is not above the garbage round, or if its parents are among the complete
-    /// blocks.
+    /// Adds the block held under the digest if it is not above the garbage round, or if its parents are among the complete blocks.
     fn add_if_complete(
         &self,
         complete: &mut BTreeMap<Digest, Shared<Block>>,
