@@ -11,8 +11,8 @@ use Rattle.nw_rounds.specs.declared.table.Table.TheVariants.{First, Certified}
 use Rattle.nw_digest.specs.Order.{digest_cmp}
 use Rattle.nw_model.specs.State.{State}
 
--- whether a digest that is listed in this table counts as a block there: a first digest if it is not certified, and a certified digest if
--- its block is held. So each held block counts once
+-- whether a digest that is listed in this table counts as a block there. A first digest counts if it is not certified. A certified digest
+-- counts if its block is held. So each held block counts once
 abbrev pub counts_at : State → Table → Digest → Bool
 counts_at s First d = not (is_some (get s.certificates d))
 counts_at s Certified d = is_some (get s.blocks d)

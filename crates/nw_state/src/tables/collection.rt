@@ -25,7 +25,7 @@ impl StateTables {
         }
     }
 
-    /// How many held blocks are of rounds below this one.
+    /// How many held blocks belong to rounds below this one.
     fn blocks_below(&self, round: Round) -> usize
         ensures { result
             ≡ map.len self.now.state.blocks - map.len (raised self.now.state round).blocks }
