@@ -82,7 +82,7 @@ module _ (s t : State) (d : Digest) (arrives : Arrives s t d) where
     λ (names, unmet). (since h w).1 (names, λ met. unmet (met_still w met, λ same. arrives.absent (subst (λ q. Stands s q) same (met.0, met.1)))),
   )
 
--- d stands, and no block lacks it any longer
+-- d stands, and no block lacks it from now on
 pub met_now : (t : State) (d : Digest) (b : Block) (old new : Pairs) → IsStanding t d b → AreUnmetWithout t d old → new ≡ without_wanted old (name_of d b) → AreUnmet t new
 met_now t d b old new stands since is h w = (
   λ lacks.

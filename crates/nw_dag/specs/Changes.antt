@@ -36,7 +36,7 @@ pub record AppendsThose (P : Digest → Type 0) (digests old new : List Digest) 
   -- they are exactly the digests with P
   pub exactly : (x : Digest) → Contains added x ↔ (Contains digests x × P x)
 
--- the digest e is promoted: no block lacks e's block from now on, and the blocks that become ready as a result are added to the list
+-- the digest e is promoted: no block lacks e's block from now on. The blocks that become ready as a result are added to the list
 pub record Promotes (s : State) (e : Digest) (old new : Pairs) (fresh more : List Digest) : Type 0 where
   -- the block under e
   pub block : Block

@@ -17,7 +17,7 @@ use nw_digest::{Digest, Round};
 use nw_state::StateTables;
 
 impl Waits {
-    /// Whether the digest is complete, and its block is of a round below this one.
+    /// Whether the digest is complete, and its block belongs to a round below this one.
     fn is_complete_below(&self, held: &StateTables, digest: Digest, round: Round) -> bool
         ensures { IsTrue result ↔ IsCompleteBelow held.now.state self.now.lacking round digest }
     {
