@@ -42,7 +42,7 @@ fn is_read(trie: &Blocks) -> bool {
     is_newer && listed && trie.get(&name(1, 0)).is_none()
 }
 
-/// Whether a trie of three blocks lends and removes one, and drops the one below round 1.
+/// Whether a trie of three blocks gives access to one, removes it, and drops the one below round 1.
 fn is_thinned(trie: &mut Blocks) -> bool {
     let (second, third) = (name(0, 1), name(0, 2));
     let lent = trie.get_mut(&second).is_some();
