@@ -88,7 +88,7 @@ sound_after bounds s (call.Certify c) sound = sound_after_certify bounds s c (ce
 sound_after bounds s (call.Collect round) sound = sound_after_collect s round (collect_reply s round) sound
 sound_after bounds s other sound = sound
 
--- so do the calls of these events
+-- the calls of these events keep a sound state sound
 pub sound_replay : (bounds : Bounds) (s : State) (es : List Event) → IsSound s → IsSound (replay bounds s es)
 sound_replay bounds s [] sound = sound
 sound_replay bounds s (e ∷ es) sound = sound_replay bounds (after bounds s e.call) es (sound_after bounds s e.call sound)
