@@ -29,7 +29,7 @@ module _ {E : Type 0} where
   abbrev pub knows_nothing : Knowledge E
   knows_nothing = record { keeps = false; all = []; claims = false; seen = [] }
 
-  -- the knowledge v of the seat `by` fits the log: only the keeper's seat, `seat`, knows the log, and a claim is a beginning of it
+  -- the knowledge v of the seat `by` fits the log: only the keeper's seat, `seat`, knows the log. A claim is a beginning of it
   abbrev pub FitsLog : ℕ → List E → ℕ → Knowledge E → Type 0
   FitsLog seat log by v = (v.keeps ≡ true → (by ≡ seat) × (v.all ≡ log)) × (v.claims ≡ true → IsPrefix v.seen log)
 
