@@ -27,7 +27,7 @@ impl Waits {
         }
     }
 
-    /// How many of the digests are complete, with blocks of rounds below this one.
+    /// How many of the digests are complete and have blocks in rounds below this one.
     pub(crate) fn complete_below(
         &self,
         held: &StateTables,
