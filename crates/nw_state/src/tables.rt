@@ -145,8 +145,8 @@ impl StateTables {
         self.name(*digest)
     }
 
-    /// Whether the wanted digest stands, with a block of the wanted round and author. This looks up the slot. It looks up the block only
-    /// if the digest is not the first of its slot.
+    /// Whether the wanted digest stands, with a block of the wanted round and author. It looks up the slot, and the block only if the
+    /// digest is not the first of its slot.
     pub fn is_met(&self, wanted: &Wanted) -> bool
         ensures { IsTrue result ↔ IsMet self.now.state wanted.now }
     {
