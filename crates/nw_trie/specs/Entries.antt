@@ -37,7 +37,7 @@ pub record IsFork {V : Type 0} (bit : ℕ) (left right : List (Digest × V)) : T
   pub unset : EachKey (λ d. bit_of d bit ≡ false) left
   -- on the right it is set
   pub set : EachKey (λ d. bit_of d bit ≡ true) right
-  -- a digest that has the bits which all entries share
+  -- a digest with the bits that all entries share before the fork's bit
   pub front : Digest
   -- before the bit, all digests have the same bits
   pub agree : EachKey (λ d. AgreeBelow bit front d) (left ++ right)

@@ -76,7 +76,7 @@ impl<V: Drop, A: Allocator> Tree<V, A> {
     }
 }
 
-/// If one side of a fork is empty, replaces the fork with its other side.
+/// If one side of the fork is empty, replaces the fork with the other side.
 fn drop_empty_side<V: Drop, A: Allocator>(link: &mut Link<V, A>)
     requires { IsNearlyTree link.old }
     ensures tree { IsTree link.new }
