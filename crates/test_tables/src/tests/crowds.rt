@@ -58,6 +58,6 @@ fn count(view: &View) -> (u32, u32) {
 // the interpreter of `rt try --test`.
 #[test]
 fn searches_among_8192_crowded_digests_end_soon(rt: HostRuntime) {
-    let view = view_of_all(rt.alloc()).expect(&rt, "there is memory");
+    let view = view_of_all(rt.alloc()).expect(&rt, "allocation succeeds");
     assert_eq!(rt; count(&view), (65_536, 8));
 }

@@ -42,7 +42,7 @@ fn reference(word: u32, round: u64, author: u16) -> Ref {
     }
 }
 
-/// The references of the named block. One name and variant always gets the same references.
+/// The references of the named block. The same name and variant always get the same references.
 fn drawn_references(alloc: Global, name: Name, variant: u8) -> Result<Vec<Ref>, NoMemory> {
     let stream = (u64::from(name.1) * 256 + u64::from(name.2)) * 256 + u64::from(variant);
     let mut random = Pcg32::new(name.0, stream);
