@@ -132,7 +132,7 @@ pub(super) fn missing_counts(waiting: &Waiting<Global>) -> [usize; 3] {
 #[test]
 fn holders_of_a_wanted_parent(rt: HostRuntime) {
     let mut waiting = Waiting::new_in(rt.alloc());
-    let first = want_thrice(&mut waiting, rt.alloc()).expect(&rt, "there is memory");
+    let first = want_thrice(&mut waiting, rt.alloc()).expect(&rt, "allocation succeeds");
     assert_eq!(rt; first.as_slice(), [wanted(0, 1)].as_slice());
     assert_eq!(rt; missing_counts(&waiting), [2, 2, 1]);
     let holders = waiting.satisfy(&wanted(0, 1));

@@ -18,8 +18,8 @@ fn frozen(alloc: Global, trie: Blocks) -> Result<Generation, NoMemory> {
 
 #[test]
 fn a_refused_freeze_hands_its_blocks_back(rt: HostRuntime) {
-    let trie = retry!(NoMemory, older(rt.alloc(), 3, b"x")).expect(&rt, "there is memory");
-    let generation = frozen(rt.alloc(), trie).expect(&rt, "there is memory");
+    let trie = retry!(NoMemory, older(rt.alloc(), 3, b"x")).expect(&rt, "allocation succeeds");
+    let generation = frozen(rt.alloc(), trie).expect(&rt, "allocation succeeds");
     let found = [name(0, 2), name(1, 0)].map(|digest: Digest| generation
         .get(None, &digest)
         .is_some());
