@@ -121,7 +121,7 @@ no_certificates s e = ap (λ (x : State). len x.certificates) e ∙ len-empty di
 pub no_firsts : (s : State) → s ≡ opening → len s.firsts ≡ 0
 no_firsts s e = ap (λ (x : State). len x.firsts) e ∙ len-empty slot_cmp Digest
 
--- `false` decides whether the state is the opening state, if it is not
+-- if the state is not the opening state, `false` decides whether it is
 pub not_opening : (s : State) → (s ≡ opening → ⊥) → Decides false (s ≡ opening)
 not_opening s other = (λ yes. absurd cc, λ e. absurd (other e))
 
