@@ -156,18 +156,8 @@ impl<E, L: LogName> Keeper<E, L> {
         });
     }
 
-    /// Shows that the log begins with the claim, and returns a claim of the whole log as it is now.
-    pub fn renew(&mut self, claim: Claim<E, L>) -> Claim<E, L>
-        ensures begins { IsPrefix claim self.old }
-        ensures claim { result ≡ self.old }
-        ensures same { self.new ≡ self.old }
-    {
-        self.check(claim);
-        self.claim()
-    }
-
-    /// The same as `renew`, but replaces the claim in place.
-    pub fn renew_in_place(&mut self, claim: &mut Claim<E, L>)
+    /// Shows that the log begins with the claim, and replaces it with a claim of the whole log as it is now.
+    pub fn renew(&mut self, claim: &mut Claim<E, L>)
         ensures begins { IsPrefix claim.old self.old }
         ensures claim { claim.new ≡ self.old }
         ensures same { self.new ≡ self.old }

@@ -48,7 +48,7 @@ impl<S: Scheme, L: Home> Tally<S, L> {
     {
         self.calls.add(&mut pass.share, 1);
         self.keeper.append(front);
-        self.keeper.renew_in_place(&mut pass.claim);
+        self.keeper.renew(&mut pass.claim);
     }
 
     /// The number of the session's next call. It fits, since a session has at most as many calls as the history has events.

@@ -60,7 +60,7 @@ pub fn hear_locked<S: Scheme, L: Home>(
     ensures same { locked.new ≡ locked.old }
 {
     locked.tally.keeper.check(note.claim);
-    locked.tally.keeper.renew_in_place(&mut session.pass.claim);
+    locked.tally.keeper.renew(&mut session.pass.claim);
 }
 
 /// The law of notes. Suppose that a session got an answer, a note was then taken of what it knew, and another session heard the

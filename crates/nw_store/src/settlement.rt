@@ -123,7 +123,7 @@ fn settle_in_place<S: Scheme, L: Home>(
         return Err(SettleFault::Unfinished { made, given });
     }
     add_up(&mut locked.tally.calls, sessions, &mut locked.spare);
-    renew_all(locked, sessions);
+    check_all_journals(locked, sessions);
     if let Some(session) = first_stray(sessions, made) {
         return Err(SettleFault::Differs { session, number: 0 });
     }
@@ -162,7 +162,7 @@ fn is_stray<S: Scheme, L: Home>(sessions: &[Session<S, L>], id: u16, made: u16) 
 }
 
 /// Does what `check_journal_locked` does for each session.
-fn renew_all<S: Scheme, L: Home>(locked: &mut Locked<S, L>, sessions: &mut [Session<S, L>])
+fn check_all_journals<S: Scheme, L: Home>(locked: &mut Locked<S, L>, sessions: &mut [Session<S, L>])
     ensures begun { All
         (λ s. AreBegun locked.old.history s.answers × AreAnswers s.id 1 s.answers) sessions.old }
     ensures below { All (λ s. s.id < MAX_SESSIONS) sessions.old }
@@ -171,7 +171,7 @@ fn renew_all<S: Scheme, L: Home>(locked: &mut Locked<S, L>, sessions: &mut [Sess
 {
     if let Some((first, rest)) = sessions.split_first_mut() {
         check_journal_locked(locked, first);
-        renew_all(locked, rest);
+        check_all_journals(locked, rest);
     }
 }
 

@@ -30,7 +30,7 @@ returns-in-Some-clause-refused g c =
     let all = c.locked.invariant.1.counted in
     let whole = c.add_up.ensures.whole in
     let total = c.add_up.ensures.total in
-    let sessions : c.renew_all.new.sessions ≡ c.args.sessions.now = c.renew_all.ensures.sessions ∙ c.add_up.ensures.sessions in
+    let sessions : c.check_all_journals.new.sessions ≡ c.args.sessions.now = c.check_all_journals.ensures.sessions ∙ c.add_up.ensures.sessions in
     let first : IsFirstStray c.args.locked.now.made (ids_of c.args.sessions.now) c.in-Some.session = subst (λ m. IsFirstStray m (ids_of c.args.sessions.now) c.in-Some.session) made (subst (λ (js : List Journal). IsFirstStray c.locked.inside.made (ids_of js) c.in-Some.session) sessions c.in-Some.ensures.stray) in
     (omega (arith, parts, shared, whole, made), omega (arith, total, none, all, len), first, refl)
 
@@ -45,7 +45,7 @@ returns-clause-exactly g c =
     let made : c.locked.inside.made ≡ c.args.locked.now.made = ap (λ (h : Guarded). h.made) c.locked.view_is in
     let from : c.from.result ≡ c.locked.inside.made = c.from.ensures in
     let given = c.if-given-from.false in
-    let same : c.renew_all.new.sessions ≡ c.args.sessions.now = c.renew_all.ensures.sessions ∙ c.add_up.ensures.sessions in
+    let same : c.check_all_journals.new.sessions ≡ c.args.sessions.now = c.check_all_journals.ensures.sessions ∙ c.add_up.ensures.sessions in
     let p : IsPermutation c.args.sessions.now c.sort.new.sessions = subst (λ (js : List Journal). IsPermutation js c.sort.new.sessions) same c.sort.ensures.permutation in
     let none : (id : ℕ) → IsStray c.args.locked.now.made (ids_of c.args.sessions.now) id → ⊥ = subst (λ m. (id : ℕ) → IsStray m (ids_of c.args.sessions.now) id → ⊥) made (subst (λ (js : List Journal). (id : ℕ) → IsStray c.locked.inside.made (ids_of js) id → ⊥) same c.in_default.ensures.none) in
     let order = order_from_none c.args.locked.now.made c.args.sessions.now c.sort.new.sessions p c.sort.ensures.sorted (omega (arith, given, from, made)) none in
@@ -53,20 +53,20 @@ returns-clause-exactly g c =
 
 pub returns-clause-all : goal.returns-clause-all
 returns-clause-all g c =
-    let same : c.renew_all.new.sessions ≡ c.args.sessions.now = c.renew_all.ensures.sessions ∙ c.add_up.ensures.sessions in
+    let same : c.check_all_journals.new.sessions ≡ c.args.sessions.now = c.check_all_journals.ensures.sessions ∙ c.add_up.ensures.sessions in
     let p : IsPermutation c.args.sessions.now c.sort.new.sessions = subst (λ (js : List Journal). IsPermutation js c.sort.new.sessions) same c.sort.ensures.permutation in
     all_in_order c.args.locked.now.made c.args.sessions.now c.sort.new.sessions ((returns-clause-exactly g c).0 refl) p c.sort.ensures.sorted
 
 pub returns-clause-settled : goal.returns-clause-settled
 returns-clause-settled g c =
     let all : AreAll c.args.locked.now.made c.args.sessions.now = (returns-clause-exactly g c).0 refl in
-    let same : c.renew_all.new.sessions ≡ c.args.sessions.now = c.renew_all.ensures.sessions ∙ c.add_up.ensures.sessions in
+    let same : c.check_all_journals.new.sessions ≡ c.args.sessions.now = c.check_all_journals.ensures.sessions ∙ c.add_up.ensures.sessions in
     let p : IsPermutation c.args.sessions.now c.sort.new.sessions = subst (λ (js : List Journal). IsPermutation js c.sort.new.sessions) same c.sort.ensures.permutation in
     let whole = all_length c.args.locked.now.made c.args.sessions.now all in
     let order = order_from_none c.args.locked.now.made c.args.sessions.now c.sort.new.sessions p c.sort.ensures.sorted (omega (arith, whole)) (none_of_all c.args.locked.now.made c.args.sessions.now all) in
     let numbered : (s : ℕ) → AreNumbered 1 (events_of s c.args.locked.now.history.events) = subst (λ (h : Guarded). (s : ℕ) → AreNumbered 1 (events_of s h.history.events)) c.locked.view_is c.locked.invariant.1.legal.numbered in
     let P : Journal → Type 0 = λ j. AreBegun c.args.locked.now.history j.answers × AreAnswers j.id 1 j.answers in
-    let begun : All P c.args.sessions.now = subst (λ (js : List Journal). All P js) c.add_up.ensures.sessions (subst (λ (h : Guarded). All (λ j. AreBegun h.history j.answers × AreAnswers j.id 1 j.answers) c.add_up.new.sessions) c.locked.view_is c.renew_all.ensures.begun) in
+    let begun : All P c.args.sessions.now = subst (λ (js : List Journal). All P js) c.add_up.ensures.sessions (subst (λ (h : Guarded). All (λ j. AreBegun h.history j.answers × AreAnswers j.id 1 j.answers) c.add_up.new.sessions) c.locked.view_is c.check_all_journals.ensures.begun) in
     let none = c.locked.invariant.1.unused in
     let counted = c.locked.invariant.1.counted in
     let len = ap (λ (h : Guarded). length h.history.events) c.locked.view_is in
