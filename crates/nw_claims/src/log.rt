@@ -156,7 +156,7 @@ impl<E, L: LogName> Keeper<E, L> {
         });
     }
 
-    /// Shows that the log begins with the claim, and replaces it with a claim of the whole log as it is now.
+    /// Shows that the log begins with the claim, and replaces the claim with one of the whole log as it is now.
     pub fn renew(&mut self, claim: &mut Claim<E, L>)
         ensures begins { IsPrefix claim.old self.old }
         ensures claim { claim.new ≡ self.old }
