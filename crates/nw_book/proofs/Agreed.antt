@@ -82,7 +82,7 @@ agreed accepts t u v w h k same (agreements.Collision b c) (apart, (d, (in_one, 
       (d, first.0, second.0, record { differ = differ; first = first.1; second = second.1 }),
     )
 
--- the same, for a comparison that may fail
+-- if the comparison succeeds, an agreement of the walks in the views is an agreement of the tickets
 pub tickets_agree : {E : Type 0} (accepts : Meaning) (t u : TicketView) (v w : Frozen) (r : Result Agreement E) → IsTicketWith accepts t v → IsTicketWith accepts u w → t.digest ≡ u.digest
     → IfOk r (λ a. IsAgreement v w t.digest a) → IfOk r (λ a. IsAgreed t u a)
 tickets_agree accepts t u v w (Ok a) h k same is = agreed accepts t u v w h k same a is

@@ -47,7 +47,7 @@ legal_last accepts t base es e h reply short below number room admitted = record
   admitted = All-push (λ (x : Event). IsAdmitted accepts t.committee x.call) es e h.admitted admitted;
 }
 
--- the last of some events followed by one more
+-- the last event of a list to which an event was added
 last_of : (es : List Event) (e : Event) → slice_get (es ++ e ∷ []) (length (es ++ e ∷ []) - 1) ≡ Some e
 last_of [] e = refl
 last_of (x ∷ es) e =

@@ -65,7 +65,7 @@ opened accepts old front session number d v is legal shows =
       shows = subst (Shows v) (sym same) shows;
     }
 
--- the same, for a walk that may fail
+-- if a walk in a ticket's view succeeds, it is the list of the ticket's causal read
 pub ticket_walks : {Z E : Type 0} (accepts : Meaning) (t : TicketView) (v : Frozen) (r : Result (Vec Block Z) E) → IsTicketWith accepts t v → IfOk r (λ blocks. IsWalk v t.digest blocks.items)
     → IfOk r (λ blocks. IsReply (bounds_of t.front.limits) (state_of t.front) (calls.Causal t.digest) (replies.List blocks.items))
 ticket_walks accepts t v (Ok blocks) h walked = ticket_walk accepts t v blocks.items h walked

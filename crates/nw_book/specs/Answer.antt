@@ -12,7 +12,7 @@ use Rattle.nw_history.specs.Story.{Story, IsLegalStory, bounds_of, state_of, wit
 use Rattle.nw_book.specs.Ticket.{TicketView}
 use Rattle.nw_book.specs.Turn.{event}
 
--- an answer as contracts see it
+-- an answer, as contracts see it
 pub record DoneView : Type 0 where
   -- the event of the call
   pub event : Event

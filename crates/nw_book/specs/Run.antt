@@ -17,7 +17,7 @@ use Rattle.nw_book.specs.declared.moves.Cause.TheVariants as causes
 use Rattle.nw_book.specs.declared.moves.Stop.{Stop}
 use Rattle.nw_book.specs.declared.moves.Run.{Run}
 
--- what a run carries along
+-- the progress of a run: what its moves so far left
 pub record Progress (S : Type 0) : Type 0 where
   -- the book's history
   pub history : Story
@@ -26,7 +26,7 @@ pub record Progress (S : Type 0) : Type 0 where
   -- the answers to the moves so far, in order
   pub answers : List (Answer S)
 
--- the answer to a move, and the history and the tickets after it
+-- the move may get this answer, and leads from the old history and tickets to the new ones
 abbrev pub AnswersMove : {S : Type 0} → Meaning → Progress S → Move S → Answer S → Progress S → Type 0
 AnswersMove accepts old (moves.Call session command) (gets.Done done) new =
     Takes accepts old.history new.history session (next_number old.history session) (call_of command) done.event.reply done.front

@@ -16,7 +16,7 @@ use Rattle.nw_causal.specs.declared.agreement.Agreement.TheVariants as agreement
 use Rattle.nw_history.specs.Story.{Story, IsLegalStory, bounds_of, state_of}
 use Rattle.nw_book.specs.Turn.{event}
 
--- a ticket as contracts see it
+-- a ticket, as contracts see it
 pub record TicketView : Type 0 where
   -- the digest of the causal read
   pub digest : Digest

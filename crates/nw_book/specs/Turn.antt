@@ -31,13 +31,13 @@ pub record IsInTurn (s : Story) (session number : ℕ) : Type 0 where
 abbrev pub HasRoom : Story → Type 0
 HasRoom s = length s.events < s.limits.events
 
--- the second committee, if there is one, is the first
+-- the second committee, if there is one, is equal to the first
 abbrev pub MatchesCommittee : List Member → Option (List Member) → Type 0
 MatchesCommittee members None = Unit {0}
 MatchesCommittee members (Some own) = own ≡ members
 
--- why a call of the session with this number takes no step: it is out of turn; else its block or certificate was checked under another
--- committee; else the history is full; else an allocation failed
+-- why a call of the session with this number takes no step, the first that applies: it is out of turn; its block or certificate was
+-- checked under another committee; the history is full; an allocation failed
 abbrev pub IsRefusal : Story → ℕ → ℕ → Option (List Member) → NoStep → Type 0
 IsRefusal s session number under refusals.OutOfTurn = IsInTurn s session number → ⊥
 IsRefusal s session number under refusals.OtherCommittee = IsInTurn s session number × (MatchesCommittee s.committee under → ⊥)
@@ -53,7 +53,7 @@ pub record MayStep (s : Story) (session number : ℕ) (under : Option (List Memb
   -- the history is not full
   pub room : HasRoom s
 
--- the list has the number of each session's events, by session
+-- the list has, for each session in order, the number of its events
 pub record AreEventCounts (counts : List ℕ) (s : Story) : Type 0 where
   -- the list has an item for each session that the limits allow
   pub sessions : length counts ≡ s.limits.sessions

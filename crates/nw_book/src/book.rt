@@ -26,7 +26,9 @@ use std::marker::Model;
 #[derive(Drop)]
 pub struct Book<S: Scheme> {
     history: History<S>,
+    /// The state after the history.
     tables: Dag,
+    /// The number of calls of each session that the limits allow.
     calls: Vec<u32>,
 }
 
@@ -47,7 +49,9 @@ impl<S: Scheme> Model for Book<S> {
 }
 
 impl<S: Scheme> Book<S> {
-    /// A book with an empty history. `BadLimits` if a limit is outside its range, else `NoMemory` if an allocation fails.
+    /// A book with an empty history that starts from the opening state.
+    ///
+    /// `BadLimits`: a limit is outside its range. `NoMemory`: the limits are in their ranges, but an allocation failed.
     pub fn new(
         alloc: Global,
         committee: Shared<Committee>,
@@ -83,15 +87,15 @@ impl<S: Scheme> Book<S> {
         &self.history
     }
 
-    /// Takes the step of the session's call with this number, and adds its event to the history. The calls of each session are
-    /// numbered from 1.
+    /// Takes the step of the session's call with this number, adds its event to the history, and returns the answer. The calls of each
+    /// session are numbered from 1.
     ///
-    /// The errors are tested in this order. An error changes nothing.
+    /// On error nothing changes. The error is the first of these that applies:
     ///
-    /// - `OutOfTurn`: the session is not below the limit of sessions, or the number is not that of its next call.
-    /// - `OtherCommittee`: the block or certificate was checked under another committee.
-    /// - `HistoryFull`: the history has reached its limit of events.
-    /// - `NoMemory`: an allocation failed.
+    /// 1. `OutOfTurn`: the session is not below the limit of sessions, or the number is not that of its next call.
+    /// 2. `OtherCommittee`: the block or certificate was checked under another committee.
+    /// 3. `HistoryFull`: the history has reached its limit of events.
+    /// 4. `NoMemory`: an allocation failed.
     pub fn step(
         &mut self,
         alloc: Global,
@@ -115,14 +119,14 @@ impl<S: Scheme> Book<S> {
 
     /// Takes the step of a session's causal read with this number, and adds its event to the history.
     ///
-    /// If the digest is complete, the event's reply is `Ready`, and the ticket gives the causal list at any later time. Otherwise
-    /// the answer's reply says why there is no list: `Unknown`, `Uncertified` or `Incomplete`.
+    /// If the digest is complete, the event's reply is `Ready`, and `open` returns a ticket, which gives the causal list at any later
+    /// time. Otherwise it returns an answer, whose reply says why there is no list: `Unknown`, `Uncertified` or `Incomplete`.
     ///
-    /// The errors are tested in this order. An error changes nothing.
+    /// On error nothing changes. The error is the first of these that applies:
     ///
-    /// - `OutOfTurn`: the session is not below the limit of sessions, or the number is not that of its next call.
-    /// - `HistoryFull`: the history has reached its limit of events.
-    /// - `NoMemory`: an allocation failed.
+    /// 1. `OutOfTurn`: the session is not below the limit of sessions, or the number is not that of its next call.
+    /// 2. `HistoryFull`: the history has reached its limit of events.
+    /// 3. `NoMemory`: an allocation failed.
     pub fn open(
         &mut self,
         alloc: Global,
@@ -142,8 +146,10 @@ impl<S: Scheme> Book<S> {
         Ok(answer)
     }
 
-    /// Freezes all complete blocks as one generation, which later tickets share. Collected blocks are not part of it. No history,
-    /// reply or earlier ticket changes, even if it fails with `NoMemory`. Its cost grows with the number of complete blocks.
+    /// Freezes all complete blocks as one generation, which later tickets share. Collected blocks are not part of it. No history, reply or
+    /// earlier ticket changes, even on error. The cost grows with the number of complete blocks.
+    ///
+    /// `NoMemory`: an allocation failed.
     pub fn compact(&mut self, alloc: Global) -> Result<(), NoMemory>
         ensures { self.new ≡ self.old }
     {

@@ -12,13 +12,13 @@ use nw_digest::{Digest, NoMemory, Round};
 use nw_model::Call;
 use nw_sig::Scheme;
 
-/// A call of a session, other than a causal read. A block or certificate is a checked value, which carries the committee of its
-/// check.
+/// A call of a session, other than a causal read. A block or certificate is a checked value, which carries the committee under which it
+/// was checked.
 #[derive(Drop)]
 pub enum Command<S: Scheme> {
     /// Store the block under its digest.
     Write(CheckedBlock<S>),
-    /// Keep the certificate of a digest.
+    /// Keep the certificate for its digest.
     Certify(CheckedCert<S>),
     /// Read the certificate for the digest.
     Certificate(Digest),
@@ -26,14 +26,16 @@ pub enum Command<S: Scheme> {
     Read(Digest),
     /// Raise the garbage round to this round, and drop all entries of lower rounds.
     Collect(Round),
-    /// Read this many of the first wanted parents, by round, author and digest.
+    /// Read the first wanted parents by round, author and digest: this many, or all if there are fewer.
     Missing(u16),
     /// Read the garbage round, and the numbers of blocks, certificates, complete blocks and wanted parents.
     Status,
 }
 
 impl<S: Scheme> Command<S> {
-    /// The call of this command. It shares ownership of the command's block or certificate. `NoMemory` if an allocation fails.
+    /// The call of this command. It shares ownership of the command's block or certificate.
+    ///
+    /// `NoMemory`: an allocation failed.
     pub fn call(&self) -> Result<Call, NoMemory>
         ensures call { IfOk result (λ call. call ≡ call_of self.now) }
         ensures no_read { IfOk result IsNoCausalRead }

@@ -1,8 +1,8 @@
-//! Books: each keeps a growing legal history with the state that its calls leave, and gives tickets for causal reads.
+//! Books: each keeps a growing legal history and the state after it, and gives tickets for causal reads.
 //!
-//! A step adds one event to the history, and its answer carries the history up to and including that event. A refused step
-//! changes nothing. A step of its own opens a causal read; its ticket gives the list of that step at any later time. Two tickets
-//! for one digest show whether their lists are equal. A run makes moves in order and stops at the first that is refused.
+//! A step adds one event to the history. Its answer carries the history up to and including that event. A refused step changes nothing.
+//! Opening a causal read is also a step. Its ticket gives the causal list as of that step at any later time. [`Ticket::agree`] tells
+//! whether two tickets for one digest give equal lists. A run makes moves in order, and stops at the first one that is refused.
 //!
 //! The crate uses `nw_history` for histories, `nw_dag` for tables, `nw_causal` for walks, and `nw_check` for checked values.
 #![tactic(auto)]

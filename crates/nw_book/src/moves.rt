@@ -1,4 +1,4 @@
-//! Moves, their answers, and where a run stops.
+//! Moves, their answers, and the results of runs.
 use crate::{Command, Done, NoStep};
 use nw_codec::Block;
 use nw_digest::{Digest, NoMemory, Sequence, Shared};
@@ -22,7 +22,7 @@ pub enum Move<S: Scheme> {
         /// The digest to read.
         digest: Digest,
     },
-    /// A walk of a ticket.
+    /// A ticket of this run is walked.
     Walk {
         /// The number of the ticket, counted from 0 in the order in which this run got its tickets.
         ticket: u32,
@@ -32,11 +32,11 @@ pub enum Move<S: Scheme> {
 /// The answer to a move.
 #[derive(Drop)]
 pub enum Answer<S: Scheme> {
-    /// To a call, or to a causal read that gets no ticket: the front that ends with the call.
+    /// The answer to a call, or to a causal read that gets no ticket.
     Done(Done<S>),
-    /// To a causal read that gets a ticket: the run has one more ticket.
+    /// The answer to a causal read that gets a ticket. The run has one more ticket.
     Opened,
-    /// To a walk: the list that the ticket gives.
+    /// The answer to a walk: the list that the ticket gives.
     Walked(Sequence<Shared<Block>>),
 }
 

@@ -14,8 +14,8 @@ use std::alloc::Global;
 impl<S: Scheme> Book<S> {
     /// Makes the moves in order, and stops at the first that is refused. A refused move changes nothing.
     ///
-    /// Each call and each causal read is its session's next call. It is refused if its step is refused. A walk is refused with
-    /// `NoTicket` if the run got no ticket with this number, else with `NoMemory` if an allocation fails.
+    /// Each call and each causal read is its session's next call, and is refused if its step is refused. A walk is refused with `NoTicket`
+    /// if the run got no ticket with this number. Otherwise it is refused with `NoMemory` if an allocation fails.
     pub fn run(&mut self, alloc: Global, moves: &[Move<S>]) -> Run<S>
         ensures { IsRun S.accepts self.old moves.now result self.new }
     {
@@ -37,7 +37,7 @@ impl<S: Scheme> Book<S> {
     }
 }
 
-/// Makes the move, and adds its answer, and its ticket if it gets one.
+/// Makes the move. Adds its answer, and its ticket if it gets one.
 fn make<S: Scheme>(
     book: &mut Book<S>,
     alloc: Global,
@@ -93,7 +93,7 @@ fn make_call<S: Scheme>(
     Ok(())
 }
 
-/// Opens a causal read as the session's next call, and adds the answer, and the ticket if there is one.
+/// Opens a causal read as the session's next call. Adds the answer, and the ticket if there is one.
 fn make_open<S: Scheme>(
     book: &mut Book<S>,
     alloc: Global,

@@ -16,8 +16,8 @@ use nw_sig::Scheme;
 use std::alloc::Global;
 use std::marker::Model;
 
-/// An opened causal read. It may be walked at any time, any number of times. Every walk gives the list of the step that opened
-/// it, whatever was stored since. Contracts see the digest and the front.
+/// An opened causal read. It may be walked at any time, any number of times. Every walk gives the causal list as of the step that opened
+/// the read, whatever was called since. Contracts see the digest and the front.
 #[derive(Drop)]
 pub struct Ticket<S: Scheme> {
     digest: Digest,
@@ -79,8 +79,9 @@ impl<S: Scheme> Ticket<S> {
         &self.view
     }
 
-    /// The causal list of the digest after the front, strictly ascending by round and author. `NoMemory` if an allocation fails;
-    /// a later try may succeed.
+    /// The causal list of the digest after the front, strictly ascending by round and author.
+    ///
+    /// `NoMemory`: an allocation failed. A later walk may succeed.
     pub fn walk(&self, alloc: Global) -> Result<Vec<Shared<Block>>, NoMemory>
         ensures list { IfOk result (λ blocks. IsReply (bounds_of self.now.front.limits)
             (state_of self.now.front) (Call.Causal self.now.digest) (Reply.List blocks.items)) }
@@ -89,9 +90,12 @@ impl<S: Scheme> Ticket<S> {
         walk(alloc, &self.view, self.digest)
     }
 
-    /// Compares the lists of two tickets for one digest, which may come from two books. Their fronts must leave the same garbage
-    /// round. `Same` if the lists are equal. Otherwise `Collision`: two different blocks with one digest, of which one is held
-    /// after this ticket's front and the other after the other's. `NoMemory` if an allocation fails; a later try may succeed.
+    /// Compares the lists of two tickets for one digest, which may come from two books. Their fronts must leave the same garbage round.
+    ///
+    /// Returns `Same` if the lists are equal. Otherwise it returns `Collision` with two different blocks under one digest: `one` is held
+    /// after this ticket's front, and `other` after the other ticket's.
+    ///
+    /// `NoMemory`: an allocation failed. A later call may succeed.
     pub fn agree(&self, alloc: Global, other: &Ticket<S>) -> Result<Agreement, NoMemory>
         requires digests { self.now.digest ≡ other.now.digest }
         requires floors { (state_of self.now.front).floor ≡ (state_of other.now.front).floor }

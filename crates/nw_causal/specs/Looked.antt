@@ -1,4 +1,4 @@
--- Looked up ancestors: digests with their blocks.
+-- Ancestors that were looked up: digests with their blocks.
 use Rattle.std.specs.Prelude.{◌≡◌, ◌↔◌, ◌⊎◌, ℕ, List, Some, All, Contains, map}
 use Rattle.std.specs.List.Sorted.{IsStrictlySortedBy}
 use Rattle.std.specs.FinMap.{get}

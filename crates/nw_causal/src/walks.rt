@@ -81,7 +81,7 @@ fn find_parents_of_all<'a>(
 /// Adds the referenced blocks of the round to the parents, which descend by author.
 ///
 /// A reference names the author, so each block is looked up only once. References ascend by author, so the place of the next author
-/// is mostly just before the last place.
+/// is usually just before the last place.
 fn find_parents<'a>(
     view: &'a View,
     round: Round,
@@ -114,7 +114,7 @@ fn find_parents<'a>(
     Ok(())
 }
 
-/// Searches the author's block in a level, which descends by author. `Ok` has the place of the block, and `Err` the place at which
+/// Searches for the author's block in a level, which descends by author. `Ok` has the place of the block, and `Err` the place at which
 /// to insert it. The guessed place is tested first.
 fn place_of(level: &[Ancestor<'_>], author: u16, guess: usize) -> Result<usize, usize>
     ensures bound { IsSearchInRange result (length level.now) }

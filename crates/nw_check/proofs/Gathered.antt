@@ -53,7 +53,7 @@ module _ (accepts : Meaning) (g : Gathering) (ok : IsGathering accepts g) where
       ∙ ap (λ (front : List ℕ). front ++ number s ∷ map number (drop p g.seals)) (sym (take-map number p g.seals))
       ∙ ap (λ (back : List ℕ). take p (signers g.seals) ++ number s ∷ back) (sym (drop-map number p g.seals))
 
-  -- after a member's seal is inserted at its place, the gatherer still keeps `IsGathering`
+  -- after a member's seal is inserted at its place, `IsGathering` still holds
   pub gathering-insert : (p : ℕ) (s : Seal) → IsPlace (signers g.seals) s.signer p → IsSealOf accepts g.committee (certificate_of g) s → IsGathering accepts (record g { seals = insert g.seals p s })
   gathering-insert p s place own =
       let is_own : Seal → Type 0 = IsSealOf accepts g.committee (certificate_of g) in
@@ -64,7 +64,7 @@ module _ (accepts : Meaning) (g : Gathering) (ok : IsGathering accepts g) where
         sealed = All-append is_own (take p g.seals) (s ∷ drop p g.seals) (All-take is_own p g.seals ok.sealed) (All-cons is_own s (drop p g.seals) own (All-drop is_own p g.seals ok.sealed));
       }
 
--- after the seal of a vote that may count is inserted at its place, the gatherer still keeps `IsGathering`
+-- after the seal of a vote that may count is inserted at its place, `IsGathering` still holds
 pub counted-gathering : (accepts : Meaning) (g : Gathering) (v : Vote) (p : ℕ) → IsGathering accepts g → CanCount accepts g v → IsPlace (signers g.seals) v.signer p
     → IsGathering accepts (record g { seals = insert g.seals p (seal v) })
 counted-gathering accepts g v p ok may place =
@@ -74,7 +74,7 @@ counted-gathering accepts g v p ok may place =
     let text : text_of_vote v.digest v.round v.author ≡ text_of_vote g.digest g.round g.author = cc in
     gathering-insert accepts g ok p (seal v) place (subst (λ t. IsSignedBy accepts g.committee v.signer t v.signature) text may.2)
 
--- a gatherer whose vote's seal was inserted at a place has counted the vote
+-- if the seal of a vote was inserted at a place, the vote was counted
 pub counted-counts : (g : Gathering) (v : Vote) (p : ℕ) (new : List Seal) → new ≡ insert g.seals p (seal v) → Counts g v (record g { seals = new })
 counted-counts g v p new e = record {
   seals = (take p g.seals, drop p g.seals, sym (take-append-drop p g.seals), e);

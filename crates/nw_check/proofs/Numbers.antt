@@ -1,4 +1,4 @@
--- The members' numbers of listed values, one after another.
+-- The numbers of listed values, copied one by one.
 use Rattle.std.proofs.Common.{◌≡◌, ◌∙◌, ℕ, ◌+◌, ◌<◌, ◌≤◌, List, [], ◌∷◌, ◌++◌, length, map, take, drop, get_or, set, sym, ap, subst, arith, add-one, drop-cons}
 use Rattle.std.specs.List.{All}
 use Rattle.std.proofs.lemmas.List.{take_more, take_all, take_more_set, take-append-drop, get_or-map, length-map}
@@ -23,7 +23,7 @@ module _ {X : Type 0} (f : X → ℕ) (xs : List X) (i : ℕ) (x : X) (h : i < l
       take_more_set numbers i (f x) room ∙ ap (λ (front : List ℕ). front ++ f x ∷ []) before
       ∙ ap (λ (n : ℕ). take i (map f xs) ++ n ∷ []) (sym at_number) ∙ sym (take_more (map f xs) i 0 within)
 
--- what holds of all elements before a place at or past the end holds of all elements
+-- if a place is at or past the end, a property of all elements before it is a property of all elements
 pub all_front : (P : ℕ → Type 0) {X : Type 0} (f : X → ℕ) (xs : List X) (i : ℕ) → length xs ≤ i → All P (take i (map f xs)) → All P (map f xs)
 all_front P f xs i high all = subst (All P) (take_all i (map f xs) (omega (arith, length-map xs f))) all
 

@@ -31,7 +31,7 @@ BreaksRule accepts members b signature block_fault.FewParents = HasMembers membe
 BreaksRule accepts members b signature block_fault.Signature = HasParents members b × (IsSignedBy accepts members b.author (text_of_block (digest_of b)) signature → ⊥)
 BreaksRule accepts members b signature block_fault.NoMemory = ⊥
 
--- the block may get this fault: it is the first rule that the block breaks, or it is `NoMemory` and the block is well formed
+-- the check of the block may fail with this fault: that of the first rule that the block breaks, or `NoMemory` if it is well formed
 abbrev pub IsBlockFault : Meaning → List Member → Block → Signature → BlockFault → Type 0
 IsBlockFault accepts members b signature block_fault.NoMemory = IsWellFormedWith accepts members b signature
 IsBlockFault accepts members b signature fault = BreaksRule accepts members b signature fault
@@ -54,7 +54,7 @@ BreaksCertRule accepts members c cert_fault.FewVotes = HasSigners members c × (
 BreaksCertRule accepts members c (cert_fault.Signature signer) = HasSigners members c × ReachesQuorum members (signers c.votes) × IsFirstBadSeal accepts members c signer
 BreaksCertRule accepts members c cert_fault.NoMemory = ⊥
 
--- the certificate may get this fault: it is the first rule that the certificate breaks, or it is `NoMemory` and the certificate is valid
+-- the check of the certificate may fail with this fault: that of the first rule that it breaks, or `NoMemory` if it is valid
 abbrev pub IsCertFault : Meaning → List Member → Certificate → CertFault → Type 0
 IsCertFault accepts members c cert_fault.NoMemory = IsValid accepts members c
 IsCertFault accepts members c fault = BreaksCertRule accepts members c fault

@@ -33,7 +33,7 @@ pub record Gathering : Type 0 where
 abbrev pub certificate_of : Gathering → Certificate
 certificate_of g = record { digest = g.digest; round = g.round; author = g.author; votes = g.seals }
 
--- what every gatherer keeps
+-- the invariant of a gatherer
 pub record IsGathering (accepts : Meaning) (g : Gathering) : Type 0 where
   -- the members form a committee
   pub committee : IsCommittee g.committee
@@ -60,7 +60,7 @@ IsVoteOf accepts members v = IsSignedBy accepts members v.signer (text_of_vote v
 abbrev pub CanCount : Meaning → Gathering → Vote → Type 0
 CanCount accepts g v = IsNew g v × IsMember g.committee v.signer × IsVoteOf accepts g.committee v
 
--- the vote may get this fault: it is the first reason not to count the vote, or it is `NoMemory` and the vote may count
+-- adding the vote may fail with this fault: the first reason not to count the vote, or `NoMemory` if it may count
 abbrev pub IsGatherFault : Meaning → Gathering → Vote → GatherFault → Type 0
 IsGatherFault accepts g v fault.OtherBlock = IsVoteForBlock g v → ⊥
 IsGatherFault accepts g v fault.Repeated = IsVoteForBlock g v × Contains (signers g.seals) v.signer
@@ -81,7 +81,7 @@ pub record IsPlace (numbers : List ℕ) (number place : ℕ) : Type 0 where
 abbrev pub AddsSeal : List Seal → Seal → List Seal → Type 0
 AddsSeal old one new = (before after : List Seal) × (old ≡ before ++ after) × (new ≡ before ++ one ∷ after)
 
--- the vote was counted
+-- the new gatherer is the old one after it counted the vote
 pub record Counts (old : Gathering) (v : Vote) (new : Gathering) : Type 0 where
   -- its seal was added
   pub seals : AddsSeal old.seals (seal v) new.seals

@@ -13,7 +13,7 @@ use nw_digest::{Digest, Shared};
 use nw_sig::{Scheme, text_of_block, text_of_vote};
 use std::alloc::Global;
 
-/// Checks the block and its author's signature.
+/// Checks the block and its author's signature. Returns the block with its digest and the committee.
 ///
 /// On error the block is dropped. The error is the first of these that applies:
 ///
@@ -71,14 +71,14 @@ fn block_fault<S: Scheme>(
     }
 }
 
-/// Checks the certificate and the signature of each vote, also of those beyond the quorum.
+/// Checks the certificate and the signature of each vote, including votes beyond the quorum. Returns it with the committee.
 ///
 /// On error the certificate is dropped. The error is the first of these that applies:
 ///
 /// 1. `Author`: the author is not a member.
 /// 2. `Signer`: a signer is not a member.
 /// 3. `FewVotes`: the signers do not reach the quorum.
-/// 4. `Signature`: the scheme does not accept the signature of a vote under its signer's key. It names the first such signer.
+/// 4. `Signature`: the scheme does not accept the signature of a vote under its signer's key. The fault names the first such signer.
 /// 5. `NoMemory`: an allocation failed.
 pub fn check_cert<S: Scheme>(
     alloc: Global,

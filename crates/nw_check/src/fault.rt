@@ -12,7 +12,7 @@ pub enum BlockFault {
     /// The author of a parent is not a member.
     #[error("parent author")]
     ParentAuthor,
-    /// A block of round 0 has parents.
+    /// The block is of round 0 and has parents.
     #[error("genesis parents")]
     GenesisParents,
     /// The block is of a later round, and the authors of its parents do not reach the quorum.
@@ -49,7 +49,7 @@ pub enum CertFault {
     /// The signers do not reach the quorum.
     #[error("few votes")]
     FewVotes,
-    /// The scheme does not accept this signer's signature. It is the first bad one.
+    /// The scheme does not accept the signature of this signer's vote. It accepts those of all votes before it.
     #[error("signature {signer}")]
     Signature { signer: u16 },
     /// An allocation failed. The certificate is valid.
@@ -68,13 +68,13 @@ impl From<NoMemory> for CertFault {
     }
 }
 
-/// Why gathering cannot start.
+/// Why `Gather::new` returns no gatherer.
 #[derive(Clone, Copy, Debug, PartialEq, Eq, Error)]
 pub enum StartFault {
     /// The author of the block is not a member.
     #[error("author")]
     Author,
-    /// An allocation failed.
+    /// An allocation failed. The author is a member.
     #[error("out of memory")]
     NoMemory,
 }
@@ -105,7 +105,7 @@ pub enum GatherFault {
     /// The vote is for another block: its digest, round or author differs.
     #[error("other block")]
     OtherBlock,
-    /// A vote of the signer was counted already.
+    /// A vote by this signer was already counted.
     #[error("repeated")]
     Repeated,
     /// The signer is not a member.
@@ -114,7 +114,7 @@ pub enum GatherFault {
     /// The scheme does not accept the signature under the signer's key.
     #[error("signature")]
     Signature,
-    /// An allocation failed.
+    /// An allocation failed. No other reason applies.
     #[error("out of memory")]
     NoMemory,
 }
@@ -130,13 +130,13 @@ impl From<NoMemory> for GatherFault {
     }
 }
 
-/// Why there is no certificate yet.
+/// Why `Gather::finish` returns no certificate.
 #[derive(Clone, Copy, Debug, PartialEq, Eq, Error)]
 pub enum FinishFault {
     /// The signers of the counted votes do not reach the quorum.
     #[error("few votes")]
     FewVotes,
-    /// An allocation failed.
+    /// An allocation failed. The signers reach the quorum.
     #[error("out of memory")]
     NoMemory,
 }

@@ -18,8 +18,8 @@ use nw_sig::{Scheme, text_of_vote};
 use std::alloc::Global;
 use std::marker::{Model, PhantomData};
 
-/// The counted votes for one block. Contracts see the block's digest, round and author, the committee, and the seals of the
-/// counted votes, ascending by signer.
+/// A gatherer: it counts the votes for one block, and makes a certificate of them. Contracts see the block's digest, round and author,
+/// the committee, and the seals of the counted votes, ascending by signer.
 #[derive(Drop)]
 pub struct Gather<S: Scheme> {
     digest: Digest,
@@ -53,9 +53,9 @@ impl<S: Scheme> Model for Gather<S> {
 }
 
 impl<S: Scheme> Gather<S> {
-    /// Starts with no votes, for the block with this digest, round and author.
+    /// A gatherer without votes, for the block with this digest, round and author.
     ///
-    /// `Author`: the author is not a member. `NoMemory`: an allocation failed, and the author is a member.
+    /// `Author`: the author is not a member. `NoMemory`: the author is a member, but an allocation failed.
     pub fn new(
         alloc: Global,
         committee: &Shared<Committee>,
@@ -94,7 +94,7 @@ impl<S: Scheme> Gather<S> {
     /// 1. `OtherBlock`: the vote is for another digest, round or author.
     /// 2. `Repeated`: a vote of the same signer was counted before.
     /// 3. `Signer`: the signer is not a member.
-    /// 4. `Signature`: the scheme does not accept the signature.
+    /// 4. `Signature`: the scheme does not accept the signature under the signer's key.
     /// 5. `NoMemory`: an allocation failed.
     pub fn add(&mut self, vote: &Vote) -> Result<Counted, GatherFault>
         ensures counted { OnOk result (Counts self.old vote.now self.new) }
@@ -117,7 +117,7 @@ impl<S: Scheme> Gather<S> {
         }
     }
 
-    /// The place of the vote's seal among the counted ones, or the first reason not to count the vote.
+    /// The place at which to insert the vote's seal among the counted ones, or the first reason not to count the vote.
     fn place_for(&self, vote: &Vote) -> Result<usize, GatherFault>
         ensures may_count { OnOk result (CanCount S.accepts self.now vote.now) }
         ensures place { IfOk result (IsPlace (signers self.now.seals) vote.now.signer) }
@@ -146,9 +146,9 @@ impl<S: Scheme> Gather<S> {
         vote.digest == self.digest && vote.round == self.round && vote.author == self.author
     }
 
-    /// The certificate with all counted votes. The gatherer keeps them, so it can go on counting.
+    /// The certificate with all counted votes. The gatherer keeps its votes, so it can count more.
     ///
-    /// `FewVotes`: the signers of the counted votes do not reach the quorum. `NoMemory`: an allocation failed, and they reach it.
+    /// `FewVotes`: the signers of the counted votes do not reach the quorum. `NoMemory`: they reach it, but an allocation failed.
     pub fn finish(&self, alloc: Global) -> Result<CheckedCert<S>, FinishFault>
         ensures certificate { IfOk result (λ checked. checked
             ≡ record { certificate = certificate_of self.now; committee = self.now.committee }) }
@@ -175,7 +175,7 @@ impl<S: Scheme> Gather<S> {
     }
 }
 
-/// The place of this signer's seal among the others, or `None` if they contain one already.
+/// The place at which to insert a seal of this signer, or `None` if the seals already contain one.
 fn place_of(seals: &[Seal], signer: u16) -> Option<usize>
     requires { IsStrictlyIncreasing (signers seals.now) }
     ensures { MatchOption result (Contains (signers seals.now) signer)
@@ -192,7 +192,7 @@ fn place_of(seals: &[Seal], signer: u16) -> Option<usize>
     Some(seals.len())
 }
 
-/// Inserts the seal at the place.
+/// Inserts the seal at the place. On error the seals do not change.
 fn insert_seal(seals: &mut Vec<Seal>, place: usize, seal: Seal) -> Result<(), NoMemory>
     requires { place ≤ vec_len seals.old }
     ensures ok { OnOk result (seals.new.items ≡ insert seals.old.items place seal) }

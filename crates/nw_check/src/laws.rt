@@ -1,4 +1,4 @@
-//! Laws of the faults. Each law is the contract of a function, and proved. The functions do nothing.
+//! Laws of faults. Each law is the proved contract of a function that does nothing.
 ghost use Rattle.nw_check.specs.Laws.{BlocksHaveOneFault, CertificatesHaveOneFault};
 ghost use Rattle.nw_check.specs.Laws.{VotesHaveOneFault};
 

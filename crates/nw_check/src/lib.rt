@@ -1,4 +1,4 @@
-//! Checks blocks and certificates from other validators, and gathers votes to a quorum.
+//! Checks blocks and certificates from other validators, and gathers votes into certificates.
 //!
 //! The type of a checked value guarantees that its block is well formed, or its certificate valid, under the value's committee and
 //! scheme. `nw_model` defines both terms. The crate uses `nw_codec`, `nw_committee` and `nw_sig`.

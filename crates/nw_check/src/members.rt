@@ -1,4 +1,4 @@
-//! Tests for membership, quorums and signatures.
+//! Membership, quorums, and signatures of members.
 ghost use Rattle.std.specs.Prelude.{◌≡◌, ◌↔◌, ◌≤◌, ℕ, length, map, All, IsTrue};
 ghost use Rattle.std.specs.List.Sorted.{IsStrictlyIncreasing};
 ghost use Rattle.nw_committee.specs.Committee.{IsCommittee, ReachesQuorum};
@@ -12,10 +12,11 @@ use nw_sig::Scheme;
 /// The maximum number of parents of a block, and of votes of a certificate.
 const MAX_LISTED: usize = 100;
 
-/// A value that has a member's number: a reference has its author's, and a seal has its signer's.
+/// A value with a number that may be a member's: a reference has that of its author, and a seal that of its signer.
 pub(crate) trait Numbered {
     ghost number_of: { Self → ℕ };
 
+    /// The number of the author or signer.
     fn number(&self) -> u16
         ensures { result ≡ number_of self.now };
 }
@@ -44,7 +45,7 @@ pub(crate) fn is_member(committee: &Committee, number: u16) -> bool
     usize::from(number) < committee.size()
 }
 
-/// Whether the committee has a member for each of the values.
+/// Whether the number of each value is that of a member.
 pub(crate) fn are_members<T: Numbered>(committee: &Committee, listed: &[T]) -> bool
     ensures { IsTrue result ↔ All (IsMember committee.now) (map T.number_of listed.now) }
 {

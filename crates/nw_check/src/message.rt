@@ -11,7 +11,7 @@ use nw_digest::{NoMemory, Shared};
 use nw_sig::Scheme;
 use std::alloc::Global;
 
-/// The result of checking a text from another validator. None of the contained faults is `NoMemory`.
+/// The result of checking a text from another validator. `check_message` never returns `NoMemory` as one of these faults.
 #[derive(Drop)]
 pub enum Checked<S: Scheme> {
     /// A well-formed block.
@@ -28,7 +28,7 @@ pub enum Checked<S: Scheme> {
     BadCert(CertFault),
 }
 
-/// Decodes the text and checks its message.
+/// Decodes the text, and checks the block or certificate in it. A fault of the text, the block or the certificate is a result.
 ///
 /// `NoMemory`: an allocation failed. Only blocks and certificates need memory.
 pub fn check_message<S: Scheme>(

@@ -14,7 +14,7 @@ use Rattle.nw_digest.specs.Order.{digest_cmp}
 abbrev pub Ascend : List (Digest × Block) → Type 0
 Ascend entries = IsStrictlySortedBy digest_cmp (keys_of entries)
 
--- the two bytes that make the number
+-- the number as two bytes, big-endian
 abbrev pub bytes_of : ℕ → List ℕ
 bytes_of n = n / 256 ∷ n % 256 ∷ []
 
@@ -36,7 +36,7 @@ under entries d = lookup (is_at (digest_cmp d)) entries
 
 -- a step of a merge: the first entry of both lists, and the remaining entries of each
 pub record IsNext (newer older : List (Digest × Block)) (first : Digest × Block) (newer_left older_left : List (Digest × Block)) : Type 0 where
-  -- the entry and the remaining ones have the same blocks under each digest as both lists
+  -- under each digest, the entry and the remaining ones have the same block as both lists
   pub same : (d : Digest) → option_or (under newer d) (under older d) ≡ option_or (under (first ∷ []) d) (option_or (under newer_left d) (under older_left d))
   -- the entry comes before the remaining ones of the newer list
   pub before_newer : ComesBeforeAll first.0 newer_left
@@ -46,7 +46,7 @@ pub record IsNext (newer older : List (Digest × Block)) (first : Digest × Bloc
   pub newer_ascend : Ascend newer_left
   -- and so do those of the older list
   pub older_ascend : Ascend older_left
-  -- a digest before both lists comes before the entry and the remaining ones
+  -- a digest that comes before both lists also comes before the entry and the remaining ones
   pub above : (d : Digest) → ComesBeforeAll d newer → ComesBeforeAll d older → ComesBeforeAll d (first ∷ []) × ComesBeforeAll d newer_left × ComesBeforeAll d older_left
   -- there are fewer entries left
   pub fewer : length newer_left + length older_left < length newer + length older

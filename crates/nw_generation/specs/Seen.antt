@@ -11,7 +11,7 @@ use Rattle.nw_model.specs.State.{coded_digest, coded_block}
 use Rattle.nw_model.specs.View.{Frozen, IsClosed, coded_frozen}
 use Rattle.nw_generation.specs.declared.generations.TheConstants.{MAX_GENERATIONS}
 
--- the entries of all generations: the generations are given from the oldest on, and the latest one's entries come first
+-- the entries of all generations: the generations are given from the oldest to the latest, and the latest one's entries come first
 abbrev pub latest_first : List (FinMap digest_cmp Block) → List (Digest × Block)
 latest_first [] = []
 latest_first (oldest ∷ later) = latest_first later ++ entries oldest
@@ -20,18 +20,18 @@ latest_first (oldest ∷ later) = latest_first later ++ entries oldest
 abbrev pub union : List (FinMap digest_cmp Block) → FinMap digest_cmp Block
 union generations = from_entries (latest_first generations)
 
--- the generations of a store
+-- the generations of a store, as contracts see them
 pub record Joined : Type 0 where
   -- the union of their blocks
   pub blocks : FinMap digest_cmp Block
   -- the number of generations
   pub parts : ℕ
 
--- a code, by which equal generations are told from others
+-- the code of generations: generations with equal codes are equal
 abbrev pub coded_joined : Coded Joined
 coded_joined = code_by (FinMap digest_cmp Block × ℕ) (coded× (map.code coded_digest coded_block) coded_ℕ) (λ j. (j.blocks, j.parts)) (λ p. record { blocks = p.0; parts = p.1 }) (λ _. refl)
 
--- these generations, given from the oldest on
+-- these generations, given from the oldest to the latest, as contracts see them
 abbrev pub joined : List (FinMap digest_cmp Block) → Joined
 joined generations = record { blocks = union generations; parts = length generations }
 
@@ -43,22 +43,22 @@ IsOverlay newer older both = (d : Digest) → get both d ≡ option_or (get newe
 abbrev pub IsOfRound : Option (ℕ × ℕ) → Option Block → Type 0
 IsOfRound slot found = IfSome slot (λ s. IfSome found (λ b. b.round ≡ s.0))
 
--- a view
+-- a view, as contracts see it
 pub record Seen : Type 0 where
   -- the frozen blocks and the floor
   pub frozen : Frozen
   -- the number of generations
   pub parts : ℕ
 
--- a code, by which equal views are told from others
+-- the code of a view: views with equal codes are equal
 abbrev pub coded_seen : Coded Seen
 coded_seen = code_by (Frozen × ℕ) (coded× coded_frozen coded_ℕ) (λ s. (s.frozen, s.parts)) (λ p. record { frozen = p.0; parts = p.1 }) (λ _. refl)
 
--- the view of these generations, given from the oldest on, and the floor
+-- the view of these generations, given from the oldest to the latest, with this floor
 abbrev pub seen_of : List (FinMap digest_cmp Block) → ℕ → Seen
 seen_of generations floor = record { frozen = record { blocks = union generations; floor = floor }; parts = length generations }
 
--- what every view keeps
+-- the invariant of a view
 pub record IsView (s : Seen) : Type 0 where
   -- it is closed
   pub closed : IsClosed s.frozen

@@ -1,4 +1,4 @@
-//! Entries: blocks under their digests, ascending. Each entry is one allocation, which the lists that contain it share.
+//! Entries: blocks under their digests, ascending. Each entry is one allocation, shared by all lists that contain it.
 ghost use Rattle.std.specs.Prelude.{◌≡◌, ◌≤◌, IfOk, IfSome, [], drop, filter, length, nat_le};
 ghost use Rattle.std.specs.Option.{MatchOption};
 ghost use Rattle.std.specs.FinMap as map;
@@ -44,7 +44,7 @@ pub(crate) fn of_trie<A: Allocator>(
     Ok(entries)
 }
 
-/// The entries of both lists. If both have a digest, the newer list's entry counts.
+/// The entries of both lists, ascending. If both lists have a digest, the newer list's entry is taken.
 pub(crate) fn merged<'a>(
     alloc: Global,
     newer: &[EntryRef<'a>],
@@ -66,8 +66,8 @@ pub(crate) fn merged<'a>(
     Ok(both)
 }
 
-/// The first entry of both lists, and for each list the number of entries with its digest: 0 or 1. If both have the digest, the
-/// newer list's entry counts.
+/// The first entry of both lists, and for each list the number of entries with its digest: 0 or 1. If both lists have the digest, the
+/// newer list's entry is taken.
 fn first_of<'a>(newer: &[EntryRef<'a>], older: &'a [Entry]) -> Option<(&'a Entry, usize, usize)>
     requires newer { Ascend newer.now }
     requires older { Ascend older.now }
@@ -93,7 +93,7 @@ fn first_of<'a>(newer: &[EntryRef<'a>], older: &'a [Entry]) -> Option<(&'a Entry
     }
 }
 
-/// A clone of each entry at or above the round.
+/// A clone of each entry whose block is at or above the round.
 pub(crate) fn owned(
     alloc: Global,
     entries: &[EntryRef],

@@ -107,7 +107,7 @@ impl Generation {
     /// The block under the digest, or `None` if there is no such block.
     ///
     /// `slot` makes the search fast. Its round must be that of the block, if the generation has the block. Its author is only a
-    /// guess. If the generation has no block of the round, nothing is searched.
+    /// guess. If the round is outside the range of the generation's rounds, nothing is searched.
     pub fn get(&self, slot: Option<(Round, u16)>, digest: &Digest) -> Option<&Shared<Block>>
         requires { IsOfRound slot (map.get self.now digest.now) }
         ensures { option_copied result ≡ map.get self.now digest.now }
@@ -119,7 +119,7 @@ impl Generation {
         self.index.get().get(named, digest)
     }
 
-    /// Whether a round is given, and the generation has no block of it.
+    /// Whether a slot is given whose round is outside the range of the generation's rounds.
     fn excludes(&self, slot: &Option<(Round, u16)>) -> bool
         ensures { IsTrue result → (d : Digest) → IsOfRound slot.now (map.get self.now d)
             → map.get self.now d ≡ None }

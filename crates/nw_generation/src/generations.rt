@@ -12,7 +12,7 @@ use nw_digest::{NoMemory, Round};
 use std::alloc::Global;
 use std::marker::Model;
 
-/// The maximum number of generations.
+/// The maximum number of generations of a store, and of a view.
 pub const MAX_GENERATIONS: usize = 16;
 
 /// At most `MAX_GENERATIONS` generations. Freezing blocks adds one. Contracts see the number of generations and the union of their blocks.
@@ -80,9 +80,10 @@ impl Generations {
         Generation::of(alloc, entries)
     }
 
-    /// The index of the first generation to join with all later ones, so that each block is joined seldom.
+    /// The index of the first generation to join with all later ones.
     ///
-    /// This is the oldest generation with at most as many blocks as all later ones together. At least the last two are joined.
+    /// This is the oldest generation with at most as many blocks as all later ones together, so that each block is joined only a few
+    /// times. At least the last two generations are joined.
     pub fn join_start(&self) -> usize
         requires several { 2 ≤ self.now.parts }
         ensures { result + 2 ≤ self.now.parts }

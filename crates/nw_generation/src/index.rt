@@ -59,7 +59,7 @@ impl Index {
         self.entries.as_slice()
     }
 
-    /// The block under the digest, or `None` if there is no such block. If a slot is given, it is searched first.
+    /// The block under the digest, or `None` if there is no such block. If a slot is given, the search tries its place first.
     pub(crate) fn get(&self, slot: &Option<(Round, u16)>, digest: &Digest) -> Option<&Shared<Block>>
         ensures { option_copied result ≡ under self.now digest.now }
     {
@@ -75,7 +75,8 @@ impl Index {
 /// The block under the digest, or `None` if there is no such block.
 ///
 /// Digests are spread evenly, so a head tells roughly where its digest is. The search compares heads, which are adjacent in memory.
-/// It follows a pointer only if the heads are equal. In case digests are crowded, every eighth look halves the rest.
+/// It follows a pointer only if the heads are equal. If many digests are close together, guesses are poor; so every eighth look halves
+/// the rest.
 fn find<'a>(heads: &[u16], entries: &'a [Entry], digest: &Digest) -> Option<&'a Shared<Block>>
     requires heads { AreHeads heads.now entries.now }
     requires ascend { Ascend entries.now }
@@ -111,7 +112,7 @@ fn split_around<T>(items: &[T], place: usize) -> (&[T], &T, &[T])
     (before, item, after)
 }
 
-/// Compares the digest with the entry's digest. `head` is the head of the first, and `other` that of the second.
+/// Compares the digest with the entry's digest. `head` is the head of the digest, and `other` that of the entry's digest.
 fn order(head: u16, digest: &Digest, other: u16, entry: &Entry) -> Ordering
     requires head { IsHead head digest.now }
     requires other { IsHead other entry.now.0 }
@@ -121,7 +122,7 @@ fn order(head: u16, digest: &Digest, other: u16, entry: &Entry) -> Ordering
         return head.cmp(&other);
     }
     let key = &entry.get().0;
-    // Two digests with one head are mostly equal, and equality is faster to test than order.
+    // Two digests with the same head are usually equal, and equality is faster to test than order.
     if digest == key {
         Ordering::Equal
     } else {

@@ -61,7 +61,7 @@ impl Slots {
     fn place(&self, round: Round, author: u16) -> Option<usize> {
         let (begin, row) = self.row(round)?;
         let mut last = 0;
-        // In a row of one block, the place does not depend on the author. So a processor need not wait for the author.
+        // In a row of one block, the place does not depend on the author. So the processor need not wait until the author is loaded.
         if row.len() > 1 {
             last = row.len().min(author as usize + 1) - 1;
             while last > 0 && is_after(row, last, author) {
@@ -71,7 +71,7 @@ impl Slots {
         begin.checked_add(last)
     }
 
-    /// The number of slots before those of the round, and the slots of the round, by author.
+    /// The number of slots before those of the round, and the slots of the round, by author. `None` if `starts` does not list the round.
     fn row(&self, round: Round) -> Option<(usize, &[Slot])> {
         let first = self.slots.first()?.round;
         let number = round.get().checked_sub(first.get())? as usize;
@@ -110,7 +110,8 @@ fn slots_of(alloc: Global, entries: &[Entry]) -> Result<Vec<Slot>, NoMemory>
     Ok(slots)
 }
 
-/// For each round from the first one on, the number of slots of earlier rounds. It lists at most four rounds for each slot.
+/// For each round from the first one on, the number of slots of earlier rounds. It lists at most four times as many rounds as there are
+/// slots; blocks of later rounds are found only by their digests.
 fn starts_of(alloc: Global, slots: &[Slot]) -> Result<Vec<u32>, NoMemory> {
     let mut starts = Vec::new(alloc);
     let Some(first) = slots.first() else {

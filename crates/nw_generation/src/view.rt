@@ -14,7 +14,7 @@ use std::marker::Model;
 /// The blocks of at most `MAX_GENERATIONS` generations, and a floor. If generations have different blocks under one digest, the latest
 /// one counts.
 ///
-/// A view is closed. Each parent of a block above the floor is in the view, with the named author and the preceding round. No two
+/// A view is closed: each parent of a block above the floor is in the view, with the named author and the preceding round. No two
 /// blocks at or above the floor share a slot.
 #[derive(Drop)]
 pub struct View {
@@ -56,7 +56,7 @@ impl View {
     /// The block under the digest, or `None` if there is no such block.
     ///
     /// `slot` makes the search fast. Its round must be that of the block, if the view has the block. Its author is only a guess.
-    /// Only generations with blocks of the round are searched.
+    /// Only generations whose range of rounds includes this round are searched.
     pub fn get_in_slot(&self, slot: Option<(Round, u16)>, digest: &Digest) -> Option<&Shared<Block>>
         requires { IsOfRound slot (map.get self.now.frozen.blocks digest.now) }
         ensures block { option_copied result ≡ map.get self.now.frozen.blocks digest.now }

@@ -48,7 +48,7 @@ alike [] fs k p below = absurd (omega arith)
 alike (e ∷ es) fs zero p below = subst (λ xs. AlikeAt (e ∷ es) xs zero) p.1 (refl, refl, refl)
 alike (e ∷ es) fs (suc k) p below = subst (λ xs. AlikeAt (e ∷ es) xs (suc k)) p.1 (alike es (es ++ p.0) k (p.0, refl) (omega arith))
 
--- one more place
+-- if the events at the next place are such events too, the lists have such events at one more place
 pub alike_next : (es fs : List Event) (n : ℕ) → AlikeBelow es fs n → AlikeAt es fs n → AlikeBelow es fs (n + 1)
 alike_next es fs n below here k h = by (k == n) refl
   where

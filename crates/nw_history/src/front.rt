@@ -97,7 +97,9 @@ impl<S: Scheme> Front<S> {
         }
     }
 
-    /// A clone, which shares the events. It raises at most two reference counts, at any length.
+    /// A clone, which shares the events. It raises at most two reference counts, whatever the number of events, and allocates nothing.
+    ///
+    /// `NoMemory`: a reference count is at its limit.
     pub fn try_clone(&self) -> Result<Front<S>, NoMemory>
         ensures same { IfOk result (λ front. front ≡ self.now) }
         ensures legal { IsLegalStory S.accepts self.now }
@@ -106,7 +108,7 @@ impl<S: Scheme> Front<S> {
     }
 
     /// The history with one more event. It shares all earlier events, so the cost is the same at any length. Only each 256th event
-    /// costs more, since it closes a chunk.
+    /// costs more, because it closes a chunk.
     ///
     /// `NoMemory`: an allocation failed.
     pub fn with_event(&self, alloc: Global, event: Event) -> Result<Front<S>, NoMemory>
@@ -141,8 +143,8 @@ impl<S: Scheme> Front<S> {
         self.events.parts()
     }
 
-    /// The event at the index, counted from 0, or `None` if there are at most `index` events. It takes a constant number of steps in
-    /// full chunks, and at most 255 steps after the last one.
+    /// The event at the index, counted from 0, or `None` if there are at most `index` events. The search takes a constant number of steps
+    /// for an event in a full chunk, and at most 255 steps for a later event.
     pub fn event(&self, index: usize) -> Option<&Event>
         ensures event { option_copied result ≡ slice_get self.now.events index }
         ensures legal { IsLegalStory S.accepts self.now }
@@ -159,7 +161,7 @@ impl<S: Scheme> Front<S> {
         self.events.last()
     }
 
-    /// The committee under which it is legal.
+    /// The committee under which the history is legal.
     pub fn committee(&self) -> &Shared<Committee>
         ensures committee { result.now ≡ self.now.committee }
         ensures legal { IsLegalStory S.accepts self.now }
@@ -167,7 +169,7 @@ impl<S: Scheme> Front<S> {
         self.events.head().committee()
     }
 
-    /// The limits under which it is legal.
+    /// The limits under which the history is legal.
     pub fn limits(&self) -> Limits
         ensures limits { result ≡ self.now.limits }
         ensures legal { IsLegalStory S.accepts self.now }

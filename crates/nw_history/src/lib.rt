@@ -1,7 +1,7 @@
 //! Keeps fronts: legal histories that never change and share their events.
 //!
-//! A [`Front`] is legal under its committee and limits, from its base on. One more event makes another front, which shares all
-//! earlier events. [`Front::is_prefix_of`] tells exactly whether a front is a prefix of another one.
+//! A [`Front`] is legal under its committee and limits, and starts from its base. One more event makes another front, which shares all
+//! earlier events. [`Front::is_prefix_of`] tells whether a front is a prefix of another one.
 //!
 //! `nw_model` defines legal histories. The crate uses `nw_plain` for bases, and `nw_shared_list` for lists that share their items.
 #![tactic(auto)]

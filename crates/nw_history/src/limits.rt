@@ -35,7 +35,7 @@ impl Limits {
             && (1..=MAX_SESSIONS).contains(&self.sessions)
     }
 
-    /// Whether all limits are equal.
+    /// Whether each limit is equal to that of the other.
     pub(crate) fn is_same(&self, other: &Limits) -> bool
         ensures { IsTrue result ↔ self.now ≡ other.now }
     {

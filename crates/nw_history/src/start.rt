@@ -88,10 +88,11 @@ impl Start {
         Plain::over(alloc, &self.base)
     }
 
-    /// Whether the other start has the same committee, limits and base. It calls `eq` by name, since the proof needs its clause `same`.
+    /// Whether the other start has the same committee, limits and base.
     pub(crate) fn is_same(&self, other: &Start) -> bool
         ensures { IsTrue result ↔ self.now ≡ other.now }
     {
+        // `eq` is called by name, because the proof needs its clause `same`.
         self.committee.get().eq(other.committee.get())
             && self.limits.is_same(&other.limits)
             && self.base.is_same(&other.base)

@@ -21,6 +21,6 @@ abbrev pub IsDealtFrom : {X A : Type 0} → ℕ → List X → List (VecDeque X 
 IsDealtFrom {X} {A} number items shares =
     (worker : ℕ) (none : VecDeque X A) → worker < length shares → (slice_index_or shares worker none).items ≡ turns_of worker (length shares) number items
 
--- the items are this many, and were dealt to these shares in turns
+-- there are this many items, and they were dealt to these shares in turns
 abbrev pub IsDealt : {X A : Type 0} → List X → ℕ → List (VecDeque X A) → Type 0
 IsDealt items count shares = (length items ≡ count) × IsDealtFrom 0 items shares

@@ -7,11 +7,11 @@ use Rattle.nw_intake.specs.declared.promise.SharePromise.{SharePromise}
 
 -- the promise is for the share of this worker
 pub record IsPromise {S G : Type 0} (members : List Member) (texts : List (Vec ℕ Global)) (gate : G) (workers worker : ℕ) (p : SharePromise S G) : Type 0 where
-  -- it is under this committee
+  -- the worker checks under this committee
   pub has_committee : p.committee.now ≡ members
-  -- it shares these texts
+  -- the worker checks its share of these texts
   pub has_texts : p.texts.now ≡ texts
-  -- this gate lets its checks start
+  -- this gate lets the worker's checks start
   pub has_gate : p.gate.now ≡ gate
   -- there are this many workers
   pub has_workers : p.workers ≡ workers

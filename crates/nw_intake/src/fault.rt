@@ -17,7 +17,7 @@ pub enum IntakeFault {
     /// An allocation failed.
     #[error("out of memory")]
     NoMemory,
-    /// A thread was not started, for any reason. Lack of memory is one.
+    /// A thread could not be started, for example because memory ran out.
     #[error("spawn")]
     Spawn,
     /// The gate did not let a check start.

@@ -6,8 +6,8 @@ use crate::{GateShut, Point};
 /// The maximum number of times that a gate is asked about one start.
 const TURNS: u32 = 1_000_000;
 
-/// Threads report to a gate where they are, and ask it whether they may start. They share it, so it may have atomics or a lock.
-/// `may_pass` may sleep or yield before it returns `false`.
+/// Threads report to a gate which points they reach, and ask it whether they may start. They share the gate, so its state must be in
+/// atomics or behind a lock. `may_pass` may sleep or yield before it returns `false`.
 pub trait Gate {
     ghost use Rattle.std.specs.Prelude.{Bool};
     ghost use Rattle.nw_intake.specs.declared.point.Point.{Point};

@@ -1,7 +1,7 @@
-//! Checks many messages in several threads, and has gates, which hold threads at named points.
+//! Checks many messages in several threads. Gates hold threads at named points.
 //!
-//! [`check_all`] returns one answer for each text: the one that a check of this text by itself gives. The number of workers and the
-//! gate do not change the answers. [`pass_start`] returns `Ok` only after its gate let the thread start. The crate uses `nw_check`.
+//! [`check_all`] returns one answer for each text: the same as a separate check of this text. The number of workers and the gate do
+//! not change the answers. [`pass_start`] returns `Ok` only after its gate let the thread start. The crate uses `nw_check`.
 #![tactic(auto)]
 
 mod fault;

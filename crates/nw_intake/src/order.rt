@@ -1,4 +1,4 @@
-//! Puts items back in order that were dealt to shares in turns.
+//! Puts items back in order after they were dealt to shares in turns.
 ghost use Rattle.std.specs.Prelude.{◌≡◌, ◌<◌, List, IfOk, vec_len};
 ghost use Rattle.nw_intake.specs.Answers.{IsDealt};
 
@@ -6,7 +6,7 @@ use nw_digest::NoMemory;
 use std::alloc::Global;
 use std::collections::VecDeque;
 
-/// All items of the shares, in order: one item of each share in turn.
+/// All items of the shares, in order: one item of each share in turn. `count` is the number of items.
 pub(crate) fn put_in_order<T: Drop>(
     alloc: Global,
     mut shares: Vec<VecDeque<T>>,

@@ -28,13 +28,13 @@ const MAX_WORKERS: usize = 16;
 /// Checks the texts in as many threads as there are workers. Returns one answer for each text, in order.
 ///
 /// Thread i mod `workers` checks text i. Before the check it waits at `CheckStart(i)` until the gate lets it start, and after the
-/// check it reports `CheckDone(i)`. All started threads have ended when `check_all` returns. It consumes the texts, also on error.
+/// check it reports `CheckDone(i)`. All started threads have ended when `check_all` returns. It consumes the texts, even on error.
 ///
 /// The error is the first of these that applies:
 ///
-/// 1. `BadWorkers`: the number of workers is not between 1 and 16. No memory was allocated, and no thread started.
+/// 1. `BadWorkers`: the number of workers is not between 1 and 16. Nothing was allocated, and no thread was started.
 /// 2. `NoMemory`: an allocation failed.
-/// 3. `Spawn`: a thread was not started, for any reason. Lack of memory is one.
+/// 3. `Spawn`: a thread could not be started, for example because memory ran out.
 /// 4. `GateShut`: the gate did not let a check start.
 pub fn check_all<S: Scheme + Send, G: Gate + Sync, R: Threads + Wait + Sync>(
     rt: &R,
@@ -90,7 +90,7 @@ fn run_all<S: Scheme + Send, G: Gate + Sync, R: Threads + Wait + Sync>(
     )
 }
 
-/// Starts the workers, and stops at the first one that does not start.
+/// Starts the workers in the order of their numbers, up to the first one that cannot be started. Returns the handles of those started.
 fn start_all<'s, 'e, S: Scheme + Send + 'e, G: Gate + Sync>(
     alloc: Global,
     scope: &Scope<'s, &'e ()>,

@@ -1,4 +1,4 @@
--- What an answer of the store means follows from what the book promises of its step.
+-- What an answer of the store means follows from the clauses of the book's step.
 use Rattle.std.proofs.Common.{◌≡◌, ℕ, ◌+◌, List, [], ◌∷◌, ◌++◌, length, Option, Result, Ok, Err, refl, sym, ap, ◌∙◌, subst}
 use Rattle.std.specs.Result.{IfOk, IfErr}
 use Rattle.nw_committee.specs.declared.member.Member.{Member}

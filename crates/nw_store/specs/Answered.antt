@@ -32,7 +32,7 @@ abbrev pub IsExplained : Meaning → Origin → Journal → Journal → Call →
 IsExplained accepts origin old new call reply front =
     (history : Story) × IsHistoryOf accepts origin history × IsAnswered accepts history old new call reply front
 
--- after some history of the store, this is why the session's next call takes no step; `under` is the committee of the checked value, if
+-- after some history of the store, the session's next call takes no step for this cause; `under` is the committee of the checked value, if
 -- the call has one
 abbrev pub TakesNoStep : Meaning → Origin → Journal → Option (List Member) → NoStep → Type 0
 TakesNoStep accepts origin old under why =

@@ -1,4 +1,4 @@
--- The form in which contracts see a store: the value under its lock, and the journals of its sessions.
+-- A store, as contracts see it: the value under its lock, and the journals of its sessions.
 use Rattle.std.specs.Prelude.{◌≡◌, ℕ, ◌+◌, List, [], ◌∷◌, ◌++◌, length, All}
 use Rattle.std.specs.List.{Contains}
 use mathlib.Core.Logic.{◌⊎◌}
@@ -11,7 +11,9 @@ use Rattle.nw_book.specs.Answer.{DoneView}
 
 -- the log and the ledger of an opening
 pub record StoreNames : Type 0 where
+  -- the identity of the log
   pub log : LogId
+  -- the identity of the ledger
   pub ledger : ℕ
 
 -- the origin of a history: its committee, its limits and its base
@@ -29,8 +31,9 @@ pub record IsHistoryOf (accepts : Meaning) (origin : Origin) (s : Story) : Type 
   -- the history is legal
   pub legal : IsLegalStory accepts s
 
--- the value under a store's lock
+-- the value under a store's lock, as contracts see it
 pub record Guarded : Type 0 where
+  -- the history so far
   pub history : Story
   -- the number of sessions made so far
   pub made : ℕ

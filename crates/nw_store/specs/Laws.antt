@@ -22,7 +22,7 @@ pub record AnsweredCall (accepts : Meaning) : Type 0 where
   -- the call got this reply and this front
   pub answered : IsAnswered accepts history before after call reply front
 
--- take a note of all that a session knows after a first call; if the session of a second call knew all of the note before that call,
+-- if a note has all that a session knew after a first call, and the session of a second call knew all of the note before that call, then
 -- the first front is a prefix of the second
 abbrev pub NotesCarryOrder : Type 0
 NotesCarryOrder =

@@ -31,7 +31,7 @@ pub record IsLockInvariant (accepts : Meaning) (held : Guarded) (total spare idl
 
 -- the invariant of a session, which has `parts` parts of the ledger that count `amount` calls
 pub record IsSession (parts amount : ℕ) (j : Journal) : Type 0 where
-  -- the id is below the greatest limit of sessions
+  -- the id is below the maximum number of sessions
   pub id_below : j.id < MAX_SESSIONS
   -- the session has one part of the ledger
   pub part : parts ≡ 1

@@ -32,7 +32,7 @@ AreAll made js = IsPermutation (ids_of js) (range_with_len 0 made)
 abbrev pub times : List ℕ → ℕ → ℕ
 times ids id = count_by (λ x. x == id) ids
 
--- the id is stray: it is given twice, or it is given and the store never made its session
+-- the id is stray: it is given more than once, or it is given and the store never made its session
 abbrev pub IsStray : ℕ → List ℕ → ℕ → Type 0
 IsStray made ids id = (1 < times ids id) ⊎ ((0 < times ids id) × (made ≤ id))
 
@@ -60,7 +60,7 @@ pub record AreSettled (history : Story) (js : List Journal) : Type 0 where
 abbrev pub AreAllComparable : List Journal → Type 0
 AreAllComparable js = (i k : ℕ) (one two : Journal) → slice_get js i ≡ Some one → slice_get js k ≡ Some two → AreComparable one.answers two.answers
 
--- the form in which contracts see a settled store
+-- a settled store, as contracts see it
 pub record Settlement : Type 0 where
   pub history : Story
   -- the number of sessions that the store made
@@ -68,8 +68,8 @@ pub record Settlement : Type 0 where
   -- the journals, in the order of their sessions
   pub journals : List Journal
 
--- why sessions do not settle: fewer are given than the store made; else as many are given, their answers are as many as the history's
--- events, and the fault names the least stray id, with 0 in place of a call's number
+-- why sessions do not settle: fewer are given than the store made; otherwise as many are given, their answers are as many as the
+-- history's events, and the fault names the least stray id, with 0 in place of a call's number
 abbrev pub IsFault : Guarded → List Journal → SettleFault → Type 0
 IsFault held js (faults.Unfinished m given) = (m ≡ held.made) × (given ≡ length js) × (given < m)
 IsFault held js (faults.Differs session number) =

@@ -20,14 +20,14 @@ use nw_model::Call;
 use nw_sig::Scheme;
 use std::alloc::Global;
 
-/// Makes the command as the session's next call, for a caller that holds the lock. A refused command can be tried again.
+/// Makes the command's call as the session's next call, for a caller that holds the lock. A refused command can be tried again.
 ///
-/// The errors are tested in this order. An error changes neither the session nor the value under the lock.
+/// An error changes neither the session nor the value under the lock. The error is the first of these that applies:
 ///
-/// - `OutOfTurn`: the session's next number is not in turn.
-/// - `OtherCommittee`: the block or certificate was checked under another committee.
-/// - `HistoryFull`: the history has reached its limit of events.
-/// - `NoMemory`: an allocation failed. Nothing is allocated before the other three tests.
+/// 1. `OutOfTurn`: the session's next call is out of turn.
+/// 2. `OtherCommittee`: the block or certificate was checked under another committee.
+/// 3. `HistoryFull`: the history has reached its limit of events.
+/// 4. `NoMemory`: an allocation failed. The first allocation follows the other three tests.
 pub fn call_locked<S: Scheme, L: Home>(
     locked: &mut Locked<S, L>,
     alloc: Global,
@@ -55,11 +55,11 @@ pub fn call_locked<S: Scheme, L: Home>(
 /// Opens a causal read as the session's next call, for a caller that holds the lock. Returns a ticket if the digest is complete,
 /// and otherwise an answer that says why there is no list.
 ///
-/// The errors are tested in this order. An error changes neither the session nor the value under the lock.
+/// An error changes neither the session nor the value under the lock. The error is the first of these that applies:
 ///
-/// - `OutOfTurn`: the session's next number is not in turn.
-/// - `HistoryFull`: the history has reached its limit of events.
-/// - `NoMemory`: an allocation failed. Nothing is allocated before the other two tests.
+/// 1. `OutOfTurn`: the session's next call is out of turn.
+/// 2. `HistoryFull`: the history has reached its limit of events.
+/// 3. `NoMemory`: an allocation failed. The first allocation follows the other two tests.
 pub fn open_locked<S: Scheme, L: Home>(
     locked: &mut Locked<S, L>,
     alloc: Global,
@@ -136,7 +136,7 @@ pub(crate) fn certify_locked<S: Scheme, L: Home>(
 }
 
 /// The number of the session's next call, if the session may make it. `under` is the committee under which the block or
-/// certificate of the call was checked, if it has one. Changes and allocates nothing.
+/// certificate of the call was checked, if it has one. Changes nothing, and allocates nothing.
 fn may_call<S: Scheme, L: Home>(
     locked: &mut Locked<S, L>,
     session: &mut Session<S, L>,
@@ -159,8 +159,9 @@ fn may_call<S: Scheme, L: Home>(
     Ok(number)
 }
 
-/// Takes the step of the session's next call, which may be made and is not a causal read. `NoMemory` if an allocation fails;
-/// then nothing changes.
+/// Takes the step of the session's next call, which may be made and is not a causal read.
+///
+/// `NoMemory`: an allocation failed. Nothing changed.
 fn take_call<S: Scheme, L: Home>(
     locked: &mut Locked<S, L>,
     alloc: Global,
@@ -187,8 +188,9 @@ fn take_call<S: Scheme, L: Home>(
     Ok(done)
 }
 
-/// Takes the step of the session's next call, which may be made and is a causal read. `NoMemory` if an allocation fails; then
-/// nothing changes.
+/// Takes the step of the session's next call, which may be made and is a causal read.
+///
+/// `NoMemory`: an allocation failed. Nothing changed.
 fn take_open<S: Scheme, L: Home>(
     locked: &mut Locked<S, L>,
     alloc: Global,

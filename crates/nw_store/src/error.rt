@@ -14,10 +14,10 @@ pub enum SettleFault {
     Unfinished {
         /// The number of sessions that the store made.
         made: u16,
-        /// The number of given sessions.
+        /// The number of sessions that were given.
         given: usize,
     },
-    /// The given sessions are not those that the store made, each once.
+    /// The given sessions are not exactly those that the store made.
     #[error("session {session} was not made, or is given twice")]
     Differs {
         /// The least stray id: two of the given sessions have it, or the store never made it.

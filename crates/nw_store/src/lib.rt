@@ -3,10 +3,10 @@
 //! Each answer carries a legal history with the store's origin, which ends with the answered call. The session's earlier
 //! histories are prefixes of it. Every history that the store ever handed out is a prefix of the one under the lock.
 //!
-//! The methods of [`Store`] wait for the lock. The functions that work under the lock do not wait, but no clause bounds their
-//! running time. After all sessions are given back, the history is an interleaving of their journals; this is proved.
+//! The methods of [`Store`] wait for the lock. The functions whose names end in `_locked` are for callers that hold the lock. They do not
+//! wait, but no clause bounds their running time. When all sessions are given back, the history is an interleaving of their journals.
 //!
-//! The crate uses `nw_book` for steps, `nw_claims` for knowledge that threads share, and std's ledger for counts.
+//! The crate uses `nw_book` for steps, `nw_claims` for what sessions know of the history, and std's ledger to count their calls.
 #![tactic(auto)]
 
 mod calls;

@@ -27,8 +27,8 @@ pub(crate) struct Tally<S: Scheme, L: Home> {
     pub(crate) keeper: Keeper<Front<S>, L>,
 }
 
-/// What a session carries out of the lock: its part of the ledger, and a claim of the log. The claim has the fronts that the
-/// store had handed out when the session was made, was last answered or last heard a note. It takes no bytes at run time.
+/// What a session carries outside the lock: its part of the ledger, and a claim of the log. The claim has the fronts that the store had
+/// handed out when the session was made, was last answered or last heard a note. A pass takes no bytes at run time.
 #[derive(Drop)]
 pub(crate) struct Pass<S: Scheme, L: Home> {
     pub(crate) share: Share<L>,
@@ -71,8 +71,10 @@ impl<S: Scheme, L: Home> Tally<S, L> {
 #[derive(Drop)]
 pub struct Locked<S: Scheme, L: Home> {
     pub(crate) book: Book<S>,
+    /// The number of sessions made so far.
     pub(crate) made: u16,
     pub(crate) tally: Tally<S, L>,
+    /// The parts of the ledger that no session has.
     pub(crate) spare: Share<L>,
 }
 
@@ -125,7 +127,9 @@ impl<S: Scheme, L: Home> Locked<S, L> {
         self.book.history()
     }
 
-    /// The reopened book. `NoMemory` if an allocation fails; then everything comes back as it was.
+    /// The reopened book.
+    ///
+    /// `NoMemory`: an allocation failed. The error returns the value unchanged.
     pub(crate) fn reopen(mut self, alloc: Global) -> Result<Book<S>, (NoMemory, Locked<S, L>)>
         ensures reopened { IfOk result (λ book. book ≡ reopened self.history) }
         ensures back { IfErr result (λ refused. refused.1 ≡ self) }
@@ -137,8 +141,9 @@ impl<S: Scheme, L: Home> Locked<S, L> {
     }
 }
 
-/// Makes a new session, for a caller that holds the lock. `TooMany` if the store has made as many sessions as its limit allows;
-/// then nothing changes. It allocates nothing.
+/// Makes a new session, for a caller that holds the lock. Allocates nothing.
+///
+/// `TooMany`: the store has made as many sessions as its limit allows. Nothing changed.
 pub fn session_locked<S: Scheme, L: Home>(
     locked: &mut Locked<S, L>,
     alloc: Global,
@@ -165,8 +170,10 @@ pub fn session_locked<S: Scheme, L: Home>(
     })
 }
 
-/// Freezes all complete blocks as one generation, which later tickets share, for a caller that holds the lock. Collected blocks
-/// are not part of it. No history, reply or earlier ticket changes, even if it fails with `NoMemory`.
+/// Freezes all complete blocks as one generation, which later tickets share, for a caller that holds the lock. Collected blocks are not
+/// part of it. No history, reply or earlier ticket changes, even on error. The cost grows with the number of complete blocks.
+///
+/// `NoMemory`: an allocation failed.
 pub fn compact_locked<S: Scheme, L: Home>(
     locked: &mut Locked<S, L>,
     alloc: Global,

@@ -9,9 +9,10 @@ use nw_claims::Claim;
 use nw_sig::Scheme;
 use std::marker::Model;
 
-/// All histories that a session knew of when the note was taken, and perhaps more of the store's histories. Contracts see them.
+/// All histories that a session knew of when the note was taken, and perhaps more of the store's histories. Contracts see these
+/// histories.
 ///
-/// A note takes no bytes and may be sent to another thread. `L` names its store. A note may be dropped unheard.
+/// A note takes no bytes, and may be sent to another thread. `L` names its store. A note may be dropped without being heard.
 #[derive(Drop)]
 pub struct Note<S: Scheme, L: Home> {
     claim: Claim<Front<S>, L>,

@@ -8,7 +8,7 @@ use std::alloc::Global;
 use std::marker::Model;
 use std::sync::ledger::Blank;
 
-/// An empty log and an empty ledger for a new store, which no home names yet. Contracts see which log and ledger they are.
+/// An empty log and an empty ledger for a new store. No home names them yet. Contracts see the identities of both.
 #[derive(Drop)]
 pub struct Opening<S: Scheme> {
     pub(crate) log: NewLog<Front<S>>,
@@ -28,7 +28,9 @@ impl<S: Scheme> Model for Opening<S> {
 }
 
 impl<S: Scheme> Opening<S> {
-    /// An empty log and an empty ledger. It makes two allocations of a few bytes each. `NoMemory` if one fails.
+    /// An empty log and an empty ledger. This makes two allocations of a few bytes each.
+    ///
+    /// `NoMemory`: an allocation failed.
     pub fn new(alloc: Global) -> Result<Opening<S>, NoMemory> {
         Ok(Opening {
             log: NewLog::new(alloc)?,

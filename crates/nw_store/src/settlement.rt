@@ -57,8 +57,9 @@ impl<S: Scheme, L: Home> Settled<S, L> {
         self.locked.history()
     }
 
-    /// The reopened book, for a new store: it has the same tables, committee and limits, and an empty history. `NoMemory` if an
-    /// allocation fails; then everything comes back as it was.
+    /// The reopened book, for a new store: it has the same tables, committee and limits, and an empty history.
+    ///
+    /// `NoMemory`: an allocation failed. The error returns the settled store unchanged.
     pub fn reopen(self, alloc: Global) -> Result<Book<S>, (NoMemory, Settled<S, L>)>
         ensures reopened { IfOk result (λ book. book ≡ reopened self.history) }
         ensures back { IfErr result (λ refused. refused.1 ≡ self) }
@@ -84,8 +85,13 @@ impl<S: Scheme, L: Home> Settled<S, L> {
     }
 }
 
-/// Settles the sessions with the value that was under the lock. It succeeds if they are all sessions that the store made, each
-/// once, in any order. An error hands everything back as it was. It compares no events and allocates nothing.
+/// Settles the sessions with the value that was under the lock. Succeeds exactly if they are all sessions that the store made, in any
+/// order. Compares no events, and allocates nothing.
+///
+/// The error returns everything unchanged, with the first of these faults that applies:
+///
+/// 1. `Unfinished`: fewer sessions were given than the store made.
+/// 2. `Differs`: an id is stray. The fault names the least one.
 pub fn settle_locked<S: Scheme, L: Home>(
     mut locked: Locked<S, L>,
     mut sessions: Vec<Session<S, L>>,
@@ -104,7 +110,7 @@ pub fn settle_locked<S: Scheme, L: Home>(
     }
 }
 
-/// Sorts the sessions by their ids, and proves that they are settled, if they are all that the store made.
+/// If the sessions are all that the store made, sorts them by their ids, and proves that they are settled.
 fn settle_in_place<S: Scheme, L: Home>(
     locked: &mut Locked<S, L>,
     sessions: &mut [Session<S, L>],
@@ -161,7 +167,7 @@ fn is_stray<S: Scheme, L: Home>(sessions: &[Session<S, L>], id: u16, made: u16) 
     times > 1 || times > 0 && id >= made
 }
 
-/// Does what `check_journal_locked` does for each session.
+/// Does for each session what `check_journal_locked` does.
 fn check_all_journals<S: Scheme, L: Home>(locked: &mut Locked<S, L>, sessions: &mut [Session<S, L>])
     ensures begun { All
         (λ s. AreBegun locked.old.history s.answers × AreAnswers s.id 1 s.answers) sessions.old }
@@ -175,8 +181,8 @@ fn check_all_journals<S: Scheme, L: Home>(locked: &mut Locked<S, L>, sessions: &
     }
 }
 
-/// Proves, for at least as many sessions as parts of the ledger that are not gathered, that there are exactly as many, and that
-/// the calls of the sessions and of the gathered parts are all calls. Each session lends its part and gets it back.
+/// Counts the parts of the ledger. If there are at least as many sessions as parts outside `gathered`, this proves that there are exactly
+/// as many, and that the sessions and `gathered` together count all calls. Each session lends its part and gets it back.
 fn add_up<S: Scheme, L: Home>(
     calls: &mut ledger::Book<L>,
     sessions: &mut [Session<S, L>],
@@ -204,7 +210,7 @@ fn add_up<S: Scheme, L: Home>(
     }
 }
 
-/// What `settle` hands back if the sessions do not settle: the reason, the value that was under the lock, and the sessions.
+/// What `settle` returns if the sessions do not settle: the fault, the value that was under the lock, and the sessions.
 #[derive(Drop)]
 pub struct Unsettled<S: Scheme, L: Home> {
     /// Why the sessions do not settle.
@@ -215,8 +221,8 @@ pub struct Unsettled<S: Scheme, L: Home> {
     pub sessions: Vec<Session<S, L>>,
 }
 
-/// Ends the store, and settles its sessions as `settle_locked` does. The given order of the sessions does not matter. An error
-/// hands everything back, with the value that was under the lock in place of the store.
+/// Ends the store, and settles its sessions as `settle_locked` does. The order of the given sessions does not matter. The error returns
+/// everything, with the value that was under the lock in place of the store.
 pub fn settle<S: Scheme, L: Home>(
     store: Store<S, L>,
     sessions: Vec<Session<S, L>>,

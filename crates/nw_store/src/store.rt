@@ -1,4 +1,4 @@
-//! The store, whose methods take the lock, make a call and release the lock.
+//! The store. Each method takes the lock, does its work, and releases the lock.
 ghost use Rattle.std.specs.Prelude.{
   ◌≡◌,
   ◌↔◌,
@@ -43,16 +43,21 @@ use std::sync::{Mutex, Wait};
 /// The answer to a call carries a legal history that has the store's origin and ends with the call. The fronts of the session's
 /// earlier answers are prefixes of it.
 ///
-/// A refused call leaves the session as it was. The error holds after some history of the store, and is the first that applies:
-/// the call is out of turn, its committee is another one, the history is full, or an allocation failed.
+/// A refused call does not change the session. For some history of the store, the error is the first of these that applies:
+///
+/// 1. `OutOfTurn`: the session's next call is out of turn.
+/// 2. `OtherCommittee`: the block or certificate was checked under another committee.
+/// 3. `HistoryFull`: the history has reached its limit of events.
+/// 4. `NoMemory`: an allocation failed.
 #[derive(Drop)]
 pub struct Store<S: Scheme, L: Home> {
     pub(crate) locked: Mutex<Locked<S, L>>,
 }
 
 impl<S: Scheme, L: Home> Store<S, L> {
-    /// A store with an empty history under the committee and limits, and no sessions. `BadLimits` if a limit is outside its
-    /// range, else `NoMemory` if an allocation fails.
+    /// A store with an empty history under the committee and limits, and no sessions.
+    ///
+    /// `BadLimits`: a limit is outside its range. `NoMemory`: the limits are in their ranges, but an allocation failed.
     pub fn new(
         alloc: Global,
         opening: Opening<S>,
@@ -71,8 +76,7 @@ impl<S: Scheme, L: Home> Store<S, L> {
         })
     }
 
-    /// A store over the book, without sessions. If the book's history is not empty, the book comes back as the error. It
-    /// allocates nothing.
+    /// A store over the book, without sessions. If the book's history is not empty, the error returns the book. Allocates nothing.
     pub fn over(opening: Opening<S>, book: Book<S>) -> Result<Store<S, L>, Book<S>>
         requires log { opening.log ≡ L.log }
         requires ledger { (opening.ledger ≡ L.name) × (L.parts ≡ parts_of_a_ledger) }
@@ -89,7 +93,9 @@ impl<S: Scheme, L: Home> Store<S, L> {
         })
     }
 
-    /// Makes a new session. `TooMany` if the store has made as many sessions as its limit allows.
+    /// Makes a new session.
+    ///
+    /// `TooMany`: the store has made as many sessions as its limit allows.
     pub fn session<R: Wait>(&self, rt: &R, alloc: Global) -> Result<Session<S, L>, TooMany>
         ensures { IfOk result (λ session. (session.answers ≡ []) × (session.id < MAX_SESSIONS)) }
     {
@@ -116,7 +122,7 @@ impl<S: Scheme, L: Home> Store<S, L> {
         hear_locked(&mut *self.locked.lock(rt), session, note)
     }
 
-    /// Makes the command as the session's next call. A refused command can be tried again.
+    /// Makes the command's call as the session's next call. A refused command can be tried again.
     pub fn call<R: Wait>(
         &self,
         rt: &R,
@@ -258,15 +264,16 @@ impl<S: Scheme, L: Home> Store<S, L> {
         self.call(rt, alloc, session, &Command::Status)
     }
 
-    /// Freezes all complete blocks as one generation, which later tickets share. Collected blocks are not part of it. This is not
-    /// a call: no history, reply or earlier ticket changes, even if it fails with `NoMemory`. Its cost grows with the number of
-    /// complete blocks.
+    /// Freezes all complete blocks as one generation, which later tickets share. Collected blocks are not part of it. This is not a call:
+    /// no history, reply or earlier ticket changes, even on error. The cost grows with the number of complete blocks.
+    ///
+    /// `NoMemory`: an allocation failed.
     pub fn compact<R: Wait>(&self, rt: &R, alloc: Global) -> Result<(), NoMemory> {
         compact_locked(&mut *self.locked.lock(rt), alloc)
     }
 
-    /// Opens a causal read of the digest: a call of the session. A complete digest gives a ticket, which is walked later without
-    /// the lock. Otherwise the answer says why there is no list.
+    /// Opens a causal read of the digest: a call of the session. If the digest is complete, returns a ticket, which is walked later without
+    /// the lock. Otherwise returns an answer that says why there is no list.
     pub fn open_causal<R: Wait>(
         &self,
         rt: &R,

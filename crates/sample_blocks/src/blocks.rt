@@ -6,7 +6,7 @@ use nw_codec::{Block, Ref, Transactions};
 use nw_digest::{Digest, NoMemory, Round, Sequence, Shared};
 use std::alloc::Global;
 
-/// The digest of the sample block of this round and author: 32 bytes 16 * `round` + `author`. It is not a SHA-256 hash.
+/// The digest of the sample block of this round and author: 32 bytes, each of them 16 * `round` + `author`. It is not a SHA-256 hash.
 pub fn name(round: u8, author: u8) -> Digest
     requires { 16 * round + author < 256 }
     ensures { result ≡ name_of (round, author) }

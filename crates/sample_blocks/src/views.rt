@@ -16,8 +16,8 @@ pub fn view_of_one(alloc: Global, text: &[u8], floor: Round) -> Result<View, NoM
     Ok(View::new(generations, floor))
 }
 
-/// A view of two generations. The older one has blocks of three authors, of round 0 with this transaction. The later one has one
-/// block of round 1 with these parents.
+/// A view of two generations. The older one has blocks of round 0 of authors 0, 1 and 2, each with this transaction. The later one has
+/// one block of round 1, whose parents are those three blocks.
 pub fn view_of_both(alloc: Global, text: &[u8], floor: Round) -> Result<View, NoMemory>
     ensures { IfOk result (λ view. view.frozen.floor ≡ floor) }
 {

@@ -1,7 +1,8 @@
-//! Repeated calls, and requests that make all allocations fail.
+//! Repeats a call after an allocation failure, and makes all allocations fail.
 use std::alloc::Global;
 
-/// The result of the call. If it is the given error, an allocation failure, the call is repeated once, and its second result counts.
+/// The result of the call. The pattern is the call's error for an allocation failure. If the call returns this error, it is made once
+/// more, and the result is that of the second call.
 #[macro_export]
 macro_rules! retry {
     ($refused:pat, $ask:expr) => {
@@ -12,11 +13,11 @@ macro_rules! retry {
     };
 }
 
-/// After a request of this size, the library that `.ci/refusals` loads makes all allocations fail. Without the library nothing
-/// changes.
+/// After an allocation of this size, the library that `.ci/refusals` loads makes all allocations fail. Without the library, it has no
+/// effect.
 const REFUSE_ALL: usize = 1_000_003;
 
-/// After a request of this size, allocations succeed again.
+/// After an allocation of this size, allocations succeed again.
 const REFUSE_NONE: usize = 1_000_033;
 
 /// Makes all allocations fail from now on, if the library of `.ci/refusals` is loaded.

@@ -1,9 +1,8 @@
 //! Makes sample committees for tests, with checked blocks and certificates.
 //!
-//! Members sign with the demonstration scheme.
-//! The values of [`committee`], [`block`], [`block_with`] and [`certificate`] are as their arguments say, under the given committee.
-//! The builders in [`refused`] report an allocation failure by their error, so that a test can recognize it and repeat the call with
-//! [`retry`]. No program uses this crate.
+//! Members sign with the demonstration scheme. [`block`], [`block_with`] and [`certificate`] return values that were checked under the
+//! given committee. The functions in [`refused`] return an allocation failure as an error of its own, so that a test can recognize it and
+//! repeat the call with [`retry`]. Only tests use this crate.
 #![tactic(auto)]
 
 mod asking;

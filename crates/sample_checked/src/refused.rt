@@ -1,4 +1,4 @@
-//! Builders of committees, blocks, votes and certificates, which report an allocation failure by their error.
+//! Makes committees, blocks, votes and certificates, and returns an allocation failure as an error of its own.
 use crate::signing::seal;
 pub use crate::signing::signature;
 use crate::values::key;
@@ -24,7 +24,8 @@ pub fn keys(alloc: Global, numbers: &[u8]) -> Result<Vec<Key>, NoMemory> {
     Ok(keys)
 }
 
-/// A committee of the members with these numbers.
+/// A committee of members of weight 1 with the keys of these numbers. The numbers must be distinct, and 1, 4, 7, .. or 100 of them;
+/// otherwise the error is `NoMemory` too.
 pub fn committee(alloc: Global, numbers: &[u8]) -> Result<Shared<Committee>, NoMemory> {
     match Committee::new(alloc, keys(alloc, numbers)?) {
         Ok(committee) => Shared::new(alloc, committee),
@@ -65,7 +66,7 @@ pub fn certificate(
     })
 }
 
-/// The same certificate, checked.
+/// The certificate that `certificate` returns, checked. The error is `FewVotes` also if the certificate does not fit.
 pub fn checked_certificate(
     alloc: Global,
     committee: &Shared<Committee>,
@@ -99,7 +100,7 @@ pub fn unsigned(
     })
 }
 
-/// The same block, signed by this signer and checked.
+/// The block that `unsigned` returns, signed by this signer and checked. The error is `ParentAuthor` also if the block does not fit.
 pub fn checked_block(
     alloc: Global,
     committee: &Shared<Committee>,

@@ -7,7 +7,7 @@ use nw_committee::{Committee, Key};
 use nw_digest::{Digest, Round};
 use nw_sig::{DemoSigner, Signer, text_of_block, text_of_vote};
 
-/// The member's signature of the text. If there is no such member, it is that of a key of 32 bytes 0.
+/// The member's signature of the text. If there is no such member, the key is 32 zero bytes.
 fn sign(committee: &Committee, member: u16, text: &[u8]) -> Signature {
     let key = committee.key(member).copied().unwrap_or(Key([0; 32]));
     DemoSigner::new(key).sign(text)

@@ -10,7 +10,7 @@ use nw_sig::DemoScheme;
 use std::alloc::Global;
 use std::test::Fail;
 
-/// The key of the member: 30 bytes 0, followed by its number in two bytes.
+/// The key of the member: 30 zero bytes, followed by its number in two bytes.
 pub fn key(member: u16) -> Key {
     let mut bytes = [0; 32];
     bytes[30..].copy_from_slice(&member.to_be_bytes());
@@ -35,7 +35,7 @@ pub fn committee(alloc: Global, members: u16) -> Result<Shared<Committee>, Fail>
     Ok(Shared::new(alloc, Committee::new(alloc, keys)?)?)
 }
 
-/// A checked block without transactions. It has these digests as parents, by authors 0, 1, 2, ..
+/// A checked block without transactions. These digests are its parents, which are by authors 0, 1, 2, ..
 pub fn block(
     alloc: Global,
     committee: &Shared<Committee>,
@@ -50,7 +50,7 @@ pub fn block(
     checked(alloc, committee, author, round, parents, transactions)
 }
 
-/// A checked block of round 0 of member 0, with this one transaction.
+/// A checked block of round 0 by member 0, with this transaction and no other.
 pub fn block_with(
     alloc: Global,
     committee: &Shared<Committee>,

@@ -1,6 +1,6 @@
-//! Tests of books and their runs: answers, turns, sharing between views, late walks, and reopened books.
+//! Tests books and their runs: answers, turns, sharing between views, late walks, and reopened books.
 //!
-//! It has only tests, and no crate uses it.
+//! This crate contains only tests. No other crate uses it.
 #![tactic(auto)]
 
 #[cfg(test)]

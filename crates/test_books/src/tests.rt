@@ -34,7 +34,7 @@ enum Plan {
     Walk(u32),
 }
 
-/// The first block of the chain and its child.
+/// The plan of the first block of the chain and its child.
 const TWO: [Plan; 2] = [Plan::Block, Plan::Block];
 
 /// The moves of a plan, and the digests of the blocks.
@@ -75,7 +75,7 @@ impl Planned {
         Ok(())
     }
 
-    /// Adds a call.
+    /// Adds the call of the command.
     fn ask(&mut self, command: Command<DemoScheme>) -> Result<(), Fail> {
         Ok(
             self.moves.push(Move::Call {
@@ -85,7 +85,7 @@ impl Planned {
         )
     }
 
-    /// Adds the moves of the block whose parent is the last one.
+    /// Adds the moves of the next block, whose parent is the last one so far.
     fn add_block(&mut self, alloc: Global) -> Result<(), Fail> {
         let one = committee(alloc, 1)?;
         let added = self.add_block_of(alloc, &one);
@@ -93,7 +93,7 @@ impl Planned {
         added
     }
 
-    /// Adds the moves of the next block, for this committee.
+    /// Does what `add_block` does, under this committee.
     fn add_block_of(&mut self, alloc: Global, one: &Shared<Committee>) -> Result<(), Fail> {
         let round = self.digests.len() as u64;
         let parents = self.digests.chunks(1).last().unwrap_or(&[]);
@@ -114,7 +114,7 @@ fn are_made(book: &mut Book<DemoScheme>, alloc: Global, moves: &[Move<DemoScheme
     are_made
 }
 
-/// Makes the next call of session 0.
+/// Makes the command's call as the next call of session 0.
 fn ask(
     book: &mut Book<DemoScheme>,
     alloc: Global,
@@ -124,13 +124,13 @@ fn ask(
     book.step(alloc, 0, number, command)
 }
 
-/// A ticket for the digest, if the digest is complete.
+/// A ticket for the digest, or `None` if the digest is not complete or the read is refused.
 fn open(book: &mut Book<DemoScheme>, alloc: Global, digest: Digest) -> Option<Ticket<DemoScheme>> {
     let number = book.next_number(0).ok()?;
     book.open(alloc, 0, number, digest).ok()?.ok()
 }
 
-/// A ticket for the digest after the moves.
+/// A ticket for the digest after the book made the moves, or `None` if one is refused.
 fn opened(
     book: &mut Book<DemoScheme>,
     alloc: Global,

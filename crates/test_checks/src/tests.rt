@@ -18,7 +18,7 @@ mod votes;
 /// The slot of all votes and certificates.
 const SLOT: Slot = (Round::ZERO, 0);
 
-/// The result of a check, without checked values.
+/// The result of a check, without the checked value.
 #[derive(Clone, Copy, PartialEq)]
 enum Found {
     Block,
@@ -29,7 +29,7 @@ enum Found {
     BadCert(CertFault),
 }
 
-/// The result of the check.
+/// The result of the check, without the checked value.
 fn found_in(checked: &Checked<DemoScheme>) -> Found {
     match checked {
         Checked::Block(_) => Found::Block,

@@ -21,7 +21,7 @@ fn four(alloc: Global) -> Result<Shared<Committee>, NoMemory> {
     retry!(NoMemory, committee(alloc, &[0, 1, 2, 3]))
 }
 
-/// The message of a block of round 0 of member 0, signed by this signer.
+/// The message of a block of round 0 by member 0, signed by this signer.
 fn block_message(alloc: Global, four: &Committee, signer: u16) -> Result<Message, Fail> {
     let block = retry!(NoMemory, unsigned(alloc, SLOT, &[], b"x"))?;
     match signature(four, &block, signer) {

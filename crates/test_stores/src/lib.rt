@@ -1,6 +1,6 @@
-//! Tests of stores: replies and journals, threads that write, walk and collect side by side, notes, late walks, and settlements.
+//! Tests stores: replies and journals, threads that write, walk and collect at the same time, notes, late walks, and settlements.
 //!
-//! It has only tests, and no crate uses it.
+//! This crate contains only tests. No other crate uses it.
 #![tactic(auto)]
 
 #[cfg(test)]

@@ -24,7 +24,7 @@ mod scripts;
 mod settling;
 mod tasks;
 
-/// The limits of a script that does not set any.
+/// The limits of a script that sets none.
 const LIMITS: Limits = Limits {
     blocks: 1024,
     events: 1024,

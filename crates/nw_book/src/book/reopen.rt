@@ -8,11 +8,12 @@ use nw_sig::Scheme;
 use std::alloc::Global;
 
 impl<S: Scheme> Book<S> {
-    /// The reopened book: the same tables, committee and limits, an empty history, and as its base the state after the old
+    /// The reopened book. It has the same tables, committee and limits, and an empty history, whose base is the state after the old
     /// history. Each session starts again with call 1. Earlier tickets and fronts do not change.
     ///
-    /// It copies the old base and repeats the old history's writes, certificates and collections on the copy. `NoMemory` if an
-    /// allocation fails; then the book comes back as it was.
+    /// It copies the old base and repeats the old history's writes, certificates and collections on the copy.
+    ///
+    /// `NoMemory`: an allocation failed. The error returns the book unchanged.
     pub fn reopen(mut self, alloc: Global) -> Result<Book<S>, (NoMemory, Book<S>)>
         ensures reopened { IfOk result (λ book. book ≡ reopened self) }
         ensures back { IfErr result (λ refused. refused.1 ≡ self) }
@@ -23,7 +24,9 @@ impl<S: Scheme> Book<S> {
         }
     }
 
-    /// Reopens the book in place. `NoMemory` if an allocation fails; then nothing changes.
+    /// Reopens the book in place.
+    ///
+    /// `NoMemory`: an allocation failed. Nothing changed.
     pub fn restart(&mut self, alloc: Global) -> Result<(), NoMemory>
         ensures restarted { OnOk result (self.new ≡ reopened self.old) }
         ensures unchanged { OnErr result (self.new ≡ self.old) }

@@ -20,8 +20,9 @@ use nw_sig::Scheme;
 use std::alloc::Global;
 
 impl<S: Scheme> Book<S> {
-    /// Takes the step of a call that may be taken and is not a causal read. Returns its answer, and an entry for the caller's
-    /// journal. `NoMemory` if an allocation fails; then nothing changes.
+    /// Takes the step of a call that may be taken and is not a causal read. Returns its answer, and an entry for the caller's journal.
+    ///
+    /// `NoMemory`: an allocation failed. Nothing changed.
     pub fn take_step(
         &mut self,
         alloc: Global,
@@ -54,8 +55,9 @@ impl<S: Scheme> Book<S> {
         Ok((Done::of(answer), Entry::of(kept)))
     }
 
-    /// Takes the step of a causal read that may be taken. Returns its answer, and an entry for the caller's journal. `NoMemory`
-    /// if an allocation fails; then nothing changes.
+    /// Takes the step of a causal read that may be taken. Returns its answer, and an entry for the caller's journal.
+    ///
+    /// `NoMemory`: an allocation failed. Nothing changed.
     pub fn take_open(
         &mut self,
         alloc: Global,
@@ -98,7 +100,7 @@ impl<S: Scheme> Book<S> {
         self.tables.reply(alloc, call)
     }
 
-    /// A view of the complete blocks after the history, if the digest is complete, else the reason why there is no list.
+    /// If the digest is complete, a view of the complete blocks after the history. Otherwise the reply that says why there is no list.
     fn freeze_for(
         &mut self,
         alloc: Global,
@@ -114,8 +116,10 @@ impl<S: Scheme> Book<S> {
         self.tables.freeze_for(alloc, digest)
     }
 
-    /// Adds the event of a call to the history, and takes its step in the tables. Returns the front that ends with the event,
-    /// twice: for the answer and for the journal. `NoMemory` if an allocation fails; then nothing changes.
+    /// Adds the event of a call to the history, and takes its step in the tables. Returns the front that ends with the event, twice: for
+    /// the answer and for the journal.
+    ///
+    /// `NoMemory`: an allocation failed. Nothing changed.
     fn record(&mut self, alloc: Global, event: Event) -> Result<(Front<S>, Front<S>), NoMemory>
         requires turn { IsInTurn self.old event.session event.number }
         requires room { HasRoom self.old }
@@ -135,7 +139,7 @@ impl<S: Scheme> Book<S> {
         Ok((front, kept))
     }
 
-    /// Makes the front, which ends with this event, the history, and takes the event's call in the tables. Taking the call is the
+    /// Takes the event's call in the tables, and makes the front the new history. The front ends with this event. Taking the call is the
     /// last operation that can fail.
     fn advance(&mut self, event: &Event, front: &Front<S>) -> Result<(), NoMemory>
         requires turn { IsInTurn self.old event.now.session event.now.number }
@@ -166,7 +170,7 @@ fn read_event(session: u16, number: u32, digest: Digest, reply: Reply) -> Event
     }
 }
 
-/// The call, with the stored block or certificate in place of an equal one that is handed in. So a history keeps no second copy.
+/// The call. If the tables have an equal block or certificate, the call shares that one, so that the history keeps no second copy.
 fn with_kept(tables: &Dag, call: Call, reply: &Reply) -> Result<Call, NoMemory>
     requires reply { IsReply tables.now.bounds tables.now.state call reply.now }
     ensures { IfOk result (λ shared. shared ≡ call) }
@@ -186,7 +190,7 @@ fn with_kept(tables: &Dag, call: Call, reply: &Reply) -> Result<Call, NoMemory>
     }
 }
 
-/// The first call if both are equal, else the second.
+/// The first call if both are equal, and otherwise the second.
 fn same_or(first: Call, second: Call) -> Call
     ensures { result ≡ second }
 {

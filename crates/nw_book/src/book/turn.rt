@@ -1,4 +1,4 @@
-//! The tests before a step.
+//! Tests whether a call may take a step.
 ghost use Rattle.std.specs.Prelude.{◌≡◌, IfOk, IfErr, OnOk};
 ghost use Rattle.std.specs.Option.{option_copied};
 ghost use Rattle.std.specs.Result.{IsErrOf};
@@ -10,7 +10,9 @@ use nw_committee::Committee;
 use nw_sig::Scheme;
 
 impl<S: Scheme> Book<S> {
-    /// The number of the session's next call. `OutOfTurn` if the session is not below the limit of sessions.
+    /// The number of the session's next call.
+    ///
+    /// `OutOfTurn`: the session is not below the limit of sessions.
     pub fn next_number(&self, session: u16) -> Result<u32, NoStep>
         ensures number { IfOk result (λ number. number ≡ next_number self.now session) }
         ensures turn { OnOk result (IsInTurn self.now session (next_number self.now session)) }
@@ -25,13 +27,13 @@ impl<S: Scheme> Book<S> {
     }
 
     /// Tests whether the session's call with this number may take a step. `under` is the committee under which the block or
-    /// certificate of the call was checked, if it has one. It allocates nothing.
+    /// certificate of the call was checked, if it has one. Allocates nothing.
     ///
-    /// The errors are tested in this order.
+    /// The error is the first of these that applies:
     ///
-    /// - `OutOfTurn`: the session is not below the limit of sessions, or the number is not that of its next call.
-    /// - `OtherCommittee`: `under` is not the book's committee.
-    /// - `HistoryFull`: the history has reached its limit of events.
+    /// 1. `OutOfTurn`: the session is not below the limit of sessions, or the number is not that of its next call.
+    /// 2. `OtherCommittee`: `under` is not the book's committee.
+    /// 3. `HistoryFull`: the history has reached its limit of events.
     pub fn may_step(
         &self,
         session: u16,
@@ -47,7 +49,7 @@ impl<S: Scheme> Book<S> {
             return Err(NoStep::OutOfTurn);
         }
         if let Some(committee) = under {
-            // `eq` is called by its name, for its clause `same`.
+            // `eq` is called by name, because the proof needs its clause `same`.
             if !committee.eq(self.history.committee().get()) {
                 return Err(NoStep::OtherCommittee);
             }

@@ -1,7 +1,7 @@
-//! Views of books that are compacted.
+//! Views of tickets, before and after their book is compacted.
 use super::*;
 
-/// The number of parts of a ticket's view, the number of blocks that the ticket lists, and whether the view has the parent.
+/// The number of generations of a ticket's view, the number of blocks that the ticket lists, and whether the view has the parent.
 type Seen = (usize, usize, bool);
 
 /// What a book does between two tickets for a child, and what the second ticket then shows.
@@ -59,7 +59,8 @@ fn seen(alloc: Global, ticket: &Ticket<DemoScheme>, parent: &Digest) -> Seen {
     )
 }
 
-/// What the first and the second ticket show, after the book made the moves of two blocks and then the moves between.
+/// What the first and the second ticket show. The book makes the moves of two blocks, opens the first ticket, makes the moves between,
+/// and opens the second.
 fn seen_of(
     book: &mut Book<DemoScheme>,
     alloc: Global,
@@ -122,7 +123,7 @@ fn seen_in(alloc: Global, first: &Planned, case: &Case) -> Result<Option<[Seen; 
     seen
 }
 
-/// The first case whose tickets show something else than they should.
+/// The first case whose tickets do not show what it expects, if there is one.
 fn first_other(alloc: Global, first: &Planned) -> Result<Option<&'static str>, Fail> {
     for case in &CASES {
         if seen_in(alloc, first, case)? != Some([BEFORE, case.later]) {

@@ -24,7 +24,8 @@ fn answers(
     Ok((replies, second.front().try_clone()?))
 }
 
-/// Whether the front's base has this certified block of round 0 and author 0, and nothing else.
+/// Whether the front's base has this certified block of round 0 and author 0. The base must have no first digest for author 1, and no
+/// block under the digest of zeros.
 fn starts_with(front: &Front<DemoScheme>, digest: Digest) -> bool {
     let Some(base) = front.base() else {
         return false;
@@ -57,7 +58,7 @@ fn are_refused(replies: &[Reply; 2], first: Digest) -> bool {
         && matches!(&replies[1], Reply::Write(WriteReply::Held))
 }
 
-/// The reopened book, if it does not vote for a second block.
+/// The reopened book, if it does not vote for a second block of the slot.
 fn goes_on(
     alloc: Global,
     book: Book<DemoScheme>,
@@ -74,7 +75,7 @@ fn goes_on(
     }
 }
 
-/// Whether a book that made these moves does not vote for a second block, reopened once and reopened twice.
+/// Whether a book that made these moves does not vote for a second block after it is reopened, once and then once more.
 fn goes_on_twice(
     alloc: Global,
     moves: &[Move<DemoScheme>],
@@ -102,7 +103,7 @@ fn writes(alloc: Global) -> Result<[Command<DemoScheme>; 2], Fail> {
     ])
 }
 
-/// Whether a book with one block does not vote for a second one, reopened once and reopened twice.
+/// Whether a book with one block does not vote for a second one after it is reopened, once and then once more.
 fn goes_on_without_a_vote(alloc: Global, planned: &Planned) -> Result<bool, Fail> {
     let [other, again] = writes(alloc)?;
     let goes_on = match planned.digests.as_slice() {
@@ -130,7 +131,7 @@ fn agree(alloc: Global, one: &Ticket<DemoScheme>, other: &Ticket<DemoScheme>) ->
         && matches!(one.agree(alloc, other), Ok(Agreement::Same))
 }
 
-/// A ticket for the digest from a new book after the moves, and the book.
+/// A ticket for the digest from a new book that made the moves, and the book.
 fn opened_anew(
     alloc: Global,
     moves: &[Move<DemoScheme>],
@@ -189,7 +190,7 @@ fn other_agrees(
     Ok(agrees)
 }
 
-/// Whether tickets for the digest agree that come from two books and from one of them reopened.
+/// Whether three tickets for the digest agree: those of two books, and one of the first book after it is reopened.
 fn three_agree(alloc: Global, moves: &[Move<DemoScheme>], digest: Digest) -> Result<bool, Fail> {
     let (ticket, book) = opened_anew(alloc, moves, digest)?;
     let later = later_agrees(alloc, book, &ticket, digest);

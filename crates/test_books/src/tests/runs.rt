@@ -47,7 +47,7 @@ const CASES: [Case; 2] = [
     },
 ];
 
-/// An answer in words, if it is one of the expected ones, and the blocks that it lists.
+/// The answer in words, and the blocks that it lists. A reply that no case expects is `another reply`.
 fn word(answer: &Answer<DemoScheme>) -> (&'static str, &[Shared<Block>]) {
     match answer {
         Answer::Opened => ("opened", &[]),
@@ -104,7 +104,7 @@ fn is_answered(
     has_answers
 }
 
-/// The same for a run of the case in a new book.
+/// Whether a run of the case's plan in a new book has the answers of the case and then stops at a missing ticket.
 fn is_answered_anew(alloc: Global, case: &Case) -> Result<bool, Fail> {
     let planned = plan_of(alloc, case.plan)?;
     let is_answered = is_answered_by(alloc, &planned.moves, case);
@@ -112,7 +112,7 @@ fn is_answered_anew(alloc: Global, case: &Case) -> Result<bool, Fail> {
     is_answered
 }
 
-/// The same for a run of the moves in a new book.
+/// Whether a run of the moves in a new book has the answers of the case and then stops at a missing ticket.
 fn is_answered_by(alloc: Global, moves: &[Move<DemoScheme>], case: &Case) -> Result<bool, Fail> {
     let mut book = book_of_one(alloc, LIMITS)?;
     let is_answered = is_answered(&mut book, alloc, moves, case);

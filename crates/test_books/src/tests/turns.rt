@@ -1,10 +1,10 @@
-//! Calls out of turn, under another committee, or after a full history; and limits out of range.
+//! Calls that are refused as out of turn, as checked under another committee, or because the history is full. Limits out of range.
 use super::*;
 use nw_book::BookError;
 use nw_check::CheckedBlock;
 
-/// Writes of session 0, in order, to a book of one member whose history may have one event: the number of the call, the number of
-/// members of the block's committee, and the refusal, if there is one.
+/// Writes by session 0, in order, in a book of one member whose history may have one event. Each has the number of the call, the number
+/// of members of the block's committee, and the refusal, if there is one.
 const ASKED: [(u32, u16, Option<NoStep>); 6] = [
     (2, 4, Some(NoStep::OutOfTurn)),
     (2, 1, Some(NoStep::OutOfTurn)),
@@ -14,7 +14,7 @@ const ASKED: [(u32, u16, Option<NoStep>); 6] = [
     (2, 1, Some(NoStep::HistoryFull)),
 ];
 
-/// The refusal of the block's write by `may_step`, and the one by `step`.
+/// The refusals of the block's write: that of `may_step`, and that of `step`.
 fn refusals(
     book: &mut Book<DemoScheme>,
     alloc: Global,
@@ -28,7 +28,7 @@ fn refusals(
     [said, refused]
 }
 
-/// Makes the calls in order. The number of the first with another outcome than it should have, if there is one.
+/// Makes the calls of `ASKED` in order. Returns the number of the first one with an unexpected outcome, if there is one.
 fn first_other(book: &mut Book<DemoScheme>, alloc: Global) -> Result<Option<u32>, Fail> {
     for (number, members, why) in ASKED {
         let under = committee(alloc, members)?;

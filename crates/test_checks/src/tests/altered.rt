@@ -1,4 +1,4 @@
-//! Messages with one replaced byte.
+//! Messages with one altered byte.
 use super::texts::{block, certificate};
 use super::*;
 
@@ -18,8 +18,8 @@ fn altered(
     Ok(judge(alloc, committee, &altered)?)
 }
 
-/// Replaces the byte at the place by each other byte. Returns the number of these texts, and how many of them are accepted and how
-/// many have this fault.
+/// Replaces the byte at the place with each other byte. Returns the number of these texts, how many of them are accepted, and how many
+/// have this fault.
 fn count_at(
     alloc: Global,
     committee: &Shared<Committee>,
@@ -41,8 +41,8 @@ fn count_at(
     Ok([tried, accepted, faulty])
 }
 
-/// Replaces each byte by each other byte. Returns the number of these texts, how many of them are accepted, and how many of those
-/// with another last byte have this fault.
+/// Replaces each byte with each other byte. Returns the number of these texts, how many of them are accepted, and how many of those with
+/// an altered last byte have this fault.
 fn count(
     alloc: Global,
     committee: &Shared<Committee>,

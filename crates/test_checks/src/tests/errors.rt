@@ -47,7 +47,7 @@ const OF_WORKERS: [(IntakeFault, &str); 4] = [
     (IntakeFault::GateShut, "gate shut"),
 ];
 
-/// The first of these texts that differs from its error's, if there is one.
+/// The first text of the table that differs from the text of its error, if there is one.
 fn wrong_text<T: Display>(
     alloc: Global,
     table: &[(T, &'static str)],

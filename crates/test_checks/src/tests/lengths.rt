@@ -2,7 +2,7 @@
 use super::texts::{block, certificate};
 use super::*;
 
-/// Whether each proper prefix of the text is `Short`, and the text with any additional byte is `Trailing`.
+/// Whether each proper prefix of the text has the fault `Short`, and the text with any byte added has the fault `Trailing`.
 fn ends_exactly(alloc: Global, committee: &Shared<Committee>, text: &[u8]) -> Result<bool, Fail> {
     for length in 0..text.len() {
         if judge(alloc, committee, &text[..length])? != Found::BadText(DecodeError::Short) {

@@ -14,7 +14,7 @@ pub(super) const BODY: [u8; 18] = [
     0, 0, 0, 1, 0x78, // `x`, with its length
 ];
 
-/// The text that a vote for the block of [`BODY`] signs, without its first four bytes: digest, round and author.
+/// What a voter for the block of [`BODY`] signs, without the first four bytes: digest, round and author.
 const VOTE: [u8; 40] = [
     0xad, 0x5f, 0x10, 0x50, 0x76, 0xaf, 0xa1, 0x69, // digest
     0xe3, 0x88, 0x7a, 0xcc, 0x36, 0x00, 0x54, 0x05, //

@@ -15,7 +15,7 @@ struct Meeting {
 }
 
 impl Meeting {
-    /// No check has reached its start point.
+    /// A gate that no check has reached yet.
     fn new() -> Meeting {
         Meeting {
             reached: AtomicU64::new(0),
@@ -116,7 +116,7 @@ fn are_separate(
     Ok(are_answers? && answers.len() == usize::from(count))
 }
 
-/// Checks the first `count` texts by this many workers. Returns whether the answers are those of separate checks, or the fault.
+/// Checks the first `count` texts with this many workers. Returns whether the answers are those of separate checks, or the fault.
 fn checked_under<G: Gate + Sync, R: Threads + Wait + Sync>(
     rt: &R,
     alloc: Global,
@@ -137,7 +137,7 @@ fn checked_under<G: Gate + Sync, R: Threads + Wait + Sync>(
     }
 }
 
-/// Does the same under a committee of four.
+/// Does what `checked_under` does, under a committee of four.
 fn checked_by<G: Gate + Sync, R: Threads + Wait + Sync>(
     rt: &R,
     alloc: Global,

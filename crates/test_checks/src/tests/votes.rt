@@ -27,7 +27,7 @@ fn certificate(
     })
 }
 
-/// The fault of such a certificate under a committee of four.
+/// The fault of the certificate with these votes under a committee of four.
 fn fault_of(alloc: Global, signers: &[(u16, u16)]) -> Result<Option<CertFault>, Fail> {
     let committee = members(alloc, &[1; 4])?;
     let certificate = certificate(alloc, committee.get(), signers)?;

@@ -3,7 +3,7 @@ use super::*;
 use nw_check::{BlockFault, CertFault};
 use sample_checked::refused::{checked_block, checked_certificate};
 
-/// The author of a checked block, or `None` if it has another committee.
+/// The author of a checked block, or `None` if it was checked under another committee.
 fn author_of(alloc: Global, four: &Shared<Committee>) -> Result<Option<u16>, BlockFault> {
     let block = retry!(
         BlockFault::NoMemory,
@@ -15,7 +15,7 @@ fn author_of(alloc: Global, four: &Shared<Committee>) -> Result<Option<u16>, Blo
     Ok(is_under.then_some(author))
 }
 
-/// The number of votes of a checked certificate, or `None` if it has another committee.
+/// The number of votes of a checked certificate, or `None` if it was checked under another committee.
 fn votes_of(alloc: Global, four: &Shared<Committee>) -> Result<Option<usize>, CertFault> {
     let three = retry!(
         CertFault::NoMemory,

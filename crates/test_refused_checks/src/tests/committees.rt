@@ -4,7 +4,7 @@ use nw_committee::{CommitteeFault, Member};
 use sample_checked::key;
 use sample_checked::refused::keys;
 
-/// The quorum of the committee of the members with these numbers.
+/// The quorum of a committee of members of weight 1 with the keys of these numbers.
 fn quorum(alloc: Global, numbers: &[u8]) -> Result<u32, CommitteeFault> {
     let Ok(keys) = keys(alloc, numbers) else {
         return Err(CommitteeFault::NoMemory);
@@ -15,7 +15,7 @@ fn quorum(alloc: Global, numbers: &[u8]) -> Result<u32, CommitteeFault> {
     Ok(quorum)
 }
 
-/// The fault of such a committee, made while all allocations fail.
+/// The fault of the committee with the keys of these numbers, made while all allocations fail.
 fn fault_of(alloc: Global, numbers: &[u8]) -> Result<Option<CommitteeFault>, NoMemory> {
     let keys = retry!(NoMemory, keys(alloc, numbers))?;
     fail_allocations(alloc);
@@ -34,7 +34,7 @@ fn bad_committees(rt: HostRuntime) -> Result<(), Fail> {
     Ok(())
 }
 
-/// Members with these weights, whose keys are those of the committee of four.
+/// Members with these weights, numbered from 0. Each has the key of its number.
 pub(super) fn members(alloc: Global, weights: &[u32]) -> Result<Vec<Member>, NoMemory> {
     let mut members = Vec::new(alloc);
     for (number, weight) in (0u16..).zip(weights) {

@@ -17,7 +17,7 @@ fn add(
     retry!(GatherFault::NoMemory, gather.add(&vote))
 }
 
-/// Finishes the certificate. Returns whether its signers are 0, 1 and 2.
+/// Asks the gatherer for its certificate. Returns whether the signers are 0, 1 and 2.
 fn finished(alloc: Global, gather: &Gather<DemoScheme>) -> Result<bool, FinishFault> {
     let checked = retry!(FinishFault::NoMemory, gather.finish(alloc))?;
     let has_three = are_first_three(checked.certificate().get().votes.as_slice());
@@ -33,10 +33,10 @@ fn are_first_three(votes: &[Seal]) -> bool {
     }
 }
 
-/// For each of five votes: the gatherer's answer, and then that to `finish`.
+/// The results of `add` for each of five votes, each with the result of `finish` after it.
 type Gathered = [(Result<Counted, GatherFault>, Result<bool, FinishFault>); 5];
 
-/// The answers of a new gatherer to votes of these signers.
+/// The results of a new gatherer for votes of these signers.
 fn gathered(
     alloc: Global,
     four: &Shared<Committee>,
@@ -83,8 +83,8 @@ fn votes_are_gathered_to_a_quorum(rt: HostRuntime) -> Result<(), Fail> {
     Ok(())
 }
 
-/// Votes that do not count after that of member 0: for another digest, round and author, of member 0 again, of no member, and of
-/// member 2 with the signature of member 1.
+/// Votes that do not count after that of member 0. Three are for another digest, another round and another author. The others are a
+/// second vote of member 0, a vote of no member, and a vote of member 2 with the signature of member 1.
 fn uncounted(four: &Committee) -> [Vote; 6] {
     let (other, later) = (Digest([8; 32]), Round::new(1).unwrap_or(Round::ZERO));
     let mut forged = vote(four, VOTED, SLOT, 1);
@@ -114,7 +114,7 @@ fn gatherer(alloc: Global, four: &Shared<Committee>) -> Result<Gather<DemoScheme
     }
 }
 
-/// The gatherer's faults for these votes and for `finish`, and the fault of a gatherer for a block of no member, while all
+/// The gatherer's faults for these votes and for `finish`, and the fault of `new` for a block whose author is no member, while all
 /// allocations fail.
 fn refused_votes(
     alloc: Global,

@@ -44,7 +44,7 @@ fn lengths(alloc: Global, four: &Committee) -> Result<[usize; 3], Fail> {
     Ok([block, three, vote])
 }
 
-/// The length of the encoded message, which it consumes.
+/// The length of the encoded message. Consumes the message.
 fn length_of(alloc: Global, message: Message) -> Result<usize, Fail> {
     let length = encoded_length(alloc, &message);
     drop(message);
@@ -96,7 +96,7 @@ fn texts_are_decoded_and_checked(rt: HostRuntime) -> Result<(), Fail> {
     Ok(())
 }
 
-/// Words for four texts.
+/// The words for the results of four checks.
 type Words = (&'static str, &'static str, &'static str, &'static str);
 
 /// The words for a block, a forged block, a certificate with three votes and one with two.

@@ -1,4 +1,4 @@
-//! Calls that need no memory, made while all allocations fail.
+//! Calls that allocate nothing, made while all allocations fail.
 use super::*;
 use nw_check::{BlockFault, CertFault, Checked, check_block, check_cert, check_message, valid};
 use nw_codec::{
@@ -9,7 +9,7 @@ use nw_digest::digest_of;
 use nw_sig::{DemoScheme, DemoSigner, Scheme, Signer, text_of_block, text_of_vote};
 use sample_checked::refused::{checked_block, checked_certificate, vote};
 
-/// A text as a list of bytes, each with the number of its repetitions, and the fault of the text.
+/// A text and its fault. The text is a list of bytes, each with the number of times that it stands there.
 type Text = (&'static [(u8, usize)], DecodeError);
 
 /// A text for each fault except `BodyTooLong`.
@@ -32,7 +32,7 @@ const TEXTS: [Text; 10] = [
     (&[(2, 1), (0, 41), (2, 1), (0, 68)], DecodeError::VoteOrder),
 ];
 
-/// The text of these bytes.
+/// The text with these bytes, each as often as its number says.
 fn text_of(alloc: Global, bytes: &[(u8, usize)]) -> Result<Vec<u8>, NoMemory> {
     let mut text = Vec::new(alloc);
     for (byte, times) in bytes {
@@ -75,7 +75,7 @@ fn have_faults(alloc: Global, four: &Shared<Committee>) -> Result<bool, NoMemory
     Ok(fault_in(alloc, four, &long) == Some(DecodeError::BodyTooLong))
 }
 
-/// The vote of the text, checked while all allocations fail.
+/// The vote in the text, checked while all allocations fail. `None` if the check finds no vote.
 fn vote_in(alloc: Global, four: &Shared<Committee>, text: &[u8]) -> Option<Vote> {
     fail_allocations(alloc);
     let checked = check_message::<DemoScheme>(alloc, four, text);
@@ -106,7 +106,8 @@ fn block_over(alloc: Global, slot: Slot, authors: &[u16]) -> Result<Block, NoMem
     unsigned(alloc, slot, &parents, b"x")
 }
 
-/// Whether a block and a certificate that do not fit are not encoded, and a transaction that is too long is not added.
+/// Whether a block and a certificate that do not fit are not encoded, and a transaction that is too long is not added, without an
+/// allocation.
 fn are_over_limit(alloc: Global, four: &Committee) -> Result<bool, Fail> {
     let block = retry!(NoMemory, block_over(alloc, SLOT, &[1, 0]))?;
     let certificate = certificate_message(alloc, four, &[1, 0])?;
@@ -125,7 +126,7 @@ fn are_over_limit(alloc: Global, four: &Committee) -> Result<bool, Fail> {
     Ok(!fits && refused == [Some(EncodeError::OverLimit); 5])
 }
 
-/// Whether digests and signed texts are made, and signatures are made and verified.
+/// Whether digests, signed texts and signatures are made, and signatures are verified, without an allocation.
 fn is_signed(alloc: Global, four: &Committee) -> Result<bool, Fail> {
     let block = retry!(NoMemory, block_over(alloc, SLOT, &[]))?;
     let body = retry!(EncodeError::NoMemory, encode_body(alloc, &block))?;
@@ -142,7 +143,7 @@ fn is_signed(alloc: Global, four: &Committee) -> Result<bool, Fail> {
     Ok(is_its_digest && is_verified)
 }
 
-/// Whether committees give information on their members, and are compared.
+/// Whether committees tell of their members, and are compared, without an allocation.
 fn committees_answer(alloc: Global, four: &Committee) -> Result<bool, Fail> {
     let same = retry!(NoMemory, committee(alloc, &[0, 1, 2, 3]))?;
     let other = retry!(NoMemory, committee(alloc, &[0, 1, 2, 4]))?;
@@ -236,7 +237,7 @@ fn certificates_have_faults(alloc: Global, four: &Shared<Committee>) -> Result<b
     Ok(true)
 }
 
-/// Whether checked values give access to their parts, and a certificate is valid only for its own digest.
+/// Whether checked values give access to their parts, and a certificate is valid only for its own digest, without an allocation.
 fn checked_values_answer(alloc: Global, four: &Shared<Committee>) -> Result<bool, Fail> {
     let block = retry!(
         BlockFault::NoMemory,

@@ -5,7 +5,7 @@ use nw_digest::Sequence;
 use nw_store::{Done, Home, Session, Store};
 use std::sync::Wait;
 
-/// What a session asks, for one block and its certificate.
+/// What a session asks of its store, about one block and its certificate.
 #[derive(Clone, Copy)]
 pub(super) enum Ask {
     Write,
@@ -23,7 +23,7 @@ pub(super) enum Ask {
     Compact,
 }
 
-/// The place of a block, what the session asks, and the text of the expected reply. `Ready` has the number of parts of the last
+/// The place of a block, what the session asks, and the text of the expected reply. `Ready` has the number of generations of the last
 /// ticket's view.
 pub(super) struct Row(pub(super) usize, pub(super) Ask, pub(super) &'static str);
 
@@ -68,7 +68,7 @@ fn open<L: Home, R: Wait>(
     }
 }
 
-/// The list of the ticket, if there is one.
+/// The list of the ticket, or `OutOfTurn` if there is no ticket.
 fn walk(alloc: Global, ticket: Option<&Ticket<DemoScheme>>) -> Result<Reply, NoStep> {
     match ticket {
         Some(ticket) => Ok(Reply::List(Sequence::new(ticket.walk(alloc)?))),
@@ -102,7 +102,7 @@ fn reply_to<L: Home, R: Wait>(
     }
 }
 
-/// Whether the reply has this text. The text of `Ready` has the number of parts of the last ticket's view.
+/// Whether the reply has this text. The text of `Ready` has the number of generations of the last ticket's view.
 fn has_text(
     alloc: Global,
     desk: &Desk,
@@ -119,7 +119,7 @@ fn has_text(
     }
 }
 
-/// Asks the row. Whether the reply is the expected one.
+/// Asks the row. Returns whether the reply is the expected one.
 fn answers<L: Home, R: Wait>(
     rt: &R,
     alloc: Global,
@@ -142,7 +142,7 @@ fn answers<L: Home, R: Wait>(
     Ok(has_text?)
 }
 
-/// The number of rows, from the first on, that get the expected replies.
+/// Asks the rows in order, up to the first with another reply. Returns the number of rows before it.
 pub(super) fn answered<L: Home, R: Wait>(
     rt: &R,
     alloc: Global,

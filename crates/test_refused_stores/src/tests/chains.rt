@@ -25,7 +25,7 @@ const CHAIN: [Sketch; 17] = [
     Sketch(16, 0, b"", &[15]),
 ];
 
-/// Each block is written, certified and opened, and then the store is compacted. A view has at most 16 parts; after `Compact` a new
+/// Each block is written, certified and opened, and then the store is compacted. A view has at most 16 generations. After `Compact` a new
 /// view has one.
 const COMPACTED: [Row; 55] = [
     Row(0, Ask::Write, STORED),

@@ -45,7 +45,7 @@ fn references(alloc: Global, links: &[Link], places: &[usize]) -> Result<Vec<Ref
     Ok(references)
 }
 
-/// The block of the sketch, with parents among these.
+/// The block of the sketch. Its parents are among these blocks.
 fn made(
     alloc: Global,
     committee: &Shared<Committee>,
@@ -133,7 +133,7 @@ impl Desk {
         Ok(places)
     }
 
-    /// The text of wanted parents: for a single one its round, author and place, and otherwise their number.
+    /// The text of wanted parents: for a single one, its round, author and place; otherwise their number.
     fn missing(&self, alloc: Global, wanted: &[Wanted]) -> Result<String, AllocError> {
         match wanted {
             [only] => {

@@ -10,7 +10,7 @@ fn calls<L: Home>(settled: &Settled<DemoScheme, L>, session: u16) -> Option<usiz
     }
 }
 
-/// The number of events if the first of two sessions made them all, else 0. It allocates nothing.
+/// The number of events if the first of two sessions made all their calls, and otherwise 0. Reads them while all allocations fail.
 fn events<L: Home>(alloc: Global, settled: &Settled<DemoScheme, L>) -> usize {
     fail_allocations(alloc);
     let events = settled.history().len();
@@ -20,7 +20,7 @@ fn events<L: Home>(alloc: Global, settled: &Settled<DemoScheme, L>) -> usize {
     if is_first && are_two { events } else { 0 }
 }
 
-/// The reopened book, tried once more if an allocation fails.
+/// The reopened book. If an allocation fails, reopening is repeated once.
 fn reopened<L: Home>(
     alloc: Global,
     settled: Settled<DemoScheme, L>,
@@ -46,7 +46,7 @@ fn events_and_book<L: Home>(
     Ok((events, reopened(alloc, settled)?))
 }
 
-/// Settles the sessions, which are all of the store. Returns the number of events and the reopened book.
+/// Settles the sessions, which are all that the store made. Returns the number of events and the reopened book.
 pub(super) fn ended<L: Home>(
     alloc: Global,
     store: Store<DemoScheme, L>,

@@ -27,7 +27,7 @@ fn text_of<T: Display>(alloc: Global, error: &T) -> Result<String, AllocError> {
     format!(in alloc; "{error}")
 }
 
-/// The first of these texts that is not its error's, if there is one.
+/// The first text of the table that differs from the text of its error, if there is one.
 fn wrong_text<T: Display>(
     alloc: Global,
     table: &[(T, &'static str)],

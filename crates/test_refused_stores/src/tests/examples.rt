@@ -59,8 +59,8 @@ const KEPT: [Row; 6] = [
     Row(0, Ask::Certificate, "Certificate(0 by [0, 1, 2])"),
 ];
 
-/// The number of rows for which a new store gives the expected replies, and the number of events. The committee has members with
-/// these numbers.
+/// The number of rows before the first one for which a new store gives another reply, and the number of events. The committee has members
+/// with these numbers.
 pub(super) fn seen<R: Wait>(
     rt: &R,
     alloc: Global,
@@ -102,7 +102,8 @@ pub(super) fn new_book(alloc: Global, desk: &Desk) -> Result<Book<DemoScheme>, B
     Book::new(alloc, desk.committee.try_clone()?, LIMITS)
 }
 
-/// The rows for a store of one member, and for two stores over its reopened book, one after the other.
+/// The rows for a store of one member. `SECOND` is for a store over its reopened book, and `THIRD` for one over that store's reopened
+/// book.
 const FIRST: [Row; 3] = [
     Row(0, Ask::Write, STORED),
     Row(0, Ask::Certify, CERTIFIED),
@@ -119,7 +120,7 @@ const SECOND: [Row; 5] = [
 
 const THIRD: [Row; 1] = [Row(1, Ask::Write, "Write(Collected(Round { number: 1 }))")];
 
-/// The reopened book, if a store over this book gives all expected replies, in this many events.
+/// The reopened book, if a store over this book gives all expected replies and its history has this many events.
 fn reopened_after<R: Wait>(
     rt: &R,
     alloc: Global,

@@ -61,7 +61,7 @@ fn text_of(alloc: Global, answer: &Answer<DemoScheme>) -> Result<String, AllocEr
     }
 }
 
-/// Whether the answers are the first of the expected ones, and the history has their events and no other.
+/// Whether the answers are the first ones of `ANSWERS`, and the history has exactly their events.
 fn are_answers(
     alloc: Global,
     answers: &[Answer<DemoScheme>],
@@ -75,7 +75,7 @@ fn are_answers(
     Ok(events == answers.len().min(4))
 }
 
-/// Makes the moves on the book. Returns where the run stops, or fails if an answer before is not the expected one.
+/// Makes the moves on the book. Returns the stop of the run. Fails if an answer before the stop is not the expected one.
 fn stop_of(
     book: &mut Book<DemoScheme>,
     alloc: Global,
@@ -103,7 +103,7 @@ fn stop_anew(
     stop
 }
 
-/// Whether the run stopped since an allocation failed.
+/// Whether the run stopped because an allocation failed.
 fn is_refused(stop: Option<Stop>) -> bool {
     match stop {
         Some(stop) => matches!(
@@ -114,7 +114,7 @@ fn is_refused(stop: Option<Stop>) -> bool {
     }
 }
 
-/// The stop of a run in a new book, repeated in another one if an allocation fails.
+/// The stop of a run in a new book. If an allocation fails, the run is repeated in another new book.
 fn stop_again(
     alloc: Global,
     committee: &Shared<Committee>,

@@ -23,7 +23,7 @@ pub(super) const LIMITS: Limits = Limits {
 /// What a store leaves behind.
 #[derive(Drop)]
 pub(super) struct Outcome {
-    /// The number of rows, from the first on, that got the expected replies.
+    /// The number of rows before the first one with another reply.
     pub(super) answered: usize,
     /// The number of events.
     pub(super) events: usize,
@@ -31,7 +31,7 @@ pub(super) struct Outcome {
     pub(super) book: Book<DemoScheme>,
 }
 
-/// Makes two sessions, and asks the rows in the first. Returns the number of rows, from the first on, with the expected replies.
+/// Makes two sessions, and asks the rows in the first. Returns the number of rows before the first one with another reply.
 fn asked<L: Home, R: Wait>(
     rt: &R,
     alloc: Global,
@@ -119,7 +119,7 @@ fn play_new<L: Home, R: Wait>(
     }
 }
 
-/// Asks the rows on a new store with a new opening. The inner error says why there is no store.
+/// Does what `play_new` does, with a new opening.
 fn play_anew<R: Wait>(
     rt: &R,
     alloc: Global,

@@ -41,7 +41,8 @@ fn fill(alloc: Global, book: &mut Book<DemoScheme>) -> Result<Done<DemoScheme>, 
     }
 }
 
-/// The refusals of a full book: of calls out of turn, of a call of another committee, and of further calls.
+/// The refusals of a full book: for three calls out of turn, for a block that was checked under another committee, and for two further
+/// calls.
 fn refusals_of(
     alloc: Global,
     book: &mut Book<DemoScheme>,
@@ -85,7 +86,7 @@ fn are_read(book: &Book<DemoScheme>, desk: &Desk, first: &Done<DemoScheme>) -> b
     lengths && events && origins && begins
 }
 
-/// A desk for members with these numbers, and a write of its first block.
+/// A desk for members with these numbers, and the write of its block. The desk no longer has the block.
 fn write_under(alloc: Global, members: &[u8]) -> Result<(Desk, Command<DemoScheme>), Fail> {
     let mut desk = Desk::new(alloc, members, &TWO[..1])?;
     let link = desk.links.pop().ok_or("an example has blocks")?;
@@ -127,8 +128,8 @@ fn of_tickets<R: Wait>(rt: &R, alloc: Global) -> Result<bool, Fail> {
     }
 }
 
-/// Tries to settle the given sessions, which must fail since the first is missing. Then settles them together with the first and
-/// with one more.
+/// Tries to settle the given sessions, which must fail because the first is missing. Then settles them together with the first and with
+/// one more.
 fn settled_later<L: Home>(
     alloc: Global,
     store: Store<DemoScheme, L>,
@@ -178,7 +179,7 @@ fn of_sessions<L: Home, R: Wait>(
     Ok(are_counted && is_given && has_all)
 }
 
-/// The same for a store over the book.
+/// Does what `of_sessions` does, on a store over the book.
 fn of_a_store<L: Home, R: Wait>(
     rt: &R,
     alloc: Global,

@@ -20,7 +20,7 @@ use nw_sig::{DemoSigner, Signer, text_of_vote};
 use nw_store::{Agreement, NoMemory, Opening, View};
 use std::marker::Brand;
 
-/// Writes three blocks of round 0 and one with them as parents, then certifies all, and then opens the last one.
+/// Session 0 writes three blocks of round 0 and one with them as parents, certifies all four, and opens a causal read of the last one.
 const RUN: [Row; 9] = [
     Row(0, 0, Ask::Write, STORED),
     Row(0, 1, Ask::Write, STORED),
@@ -47,7 +47,7 @@ fn four(alloc: Global, is_weighted: bool) -> Result<Shared<Committee>, Fail> {
     Ok(Shared::new(alloc, Committee::weighted(members)?)?)
 }
 
-/// The certificate with the votes of members 0, 1 and 2.
+/// The certificate for this digest and slot, with the votes of members 0, 1 and 2.
 fn certificate_of(
     alloc: Global,
     under: &Shared<Committee>,
@@ -90,7 +90,7 @@ fn link_of(
     })
 }
 
-/// The four blocks.
+/// The four blocks of `RUN`, with their certificates.
 fn links_of(alloc: Global, under: &Shared<Committee>) -> Result<Vec<Link>, Fail> {
     let mut links = Vec::new(alloc);
     let mut parents = Vec::new(alloc);
@@ -116,7 +116,7 @@ fn opened_of<L: Home, R: Wait>(
     Ok(opened?.ok_or("a ticket is opened")?)
 }
 
-/// The same for a new store over the book.
+/// The ticket that a new session of a new store over the book gets from the rows of `RUN`.
 fn opened_in<L: Home, R: Wait>(
     rt: &R,
     alloc: Global,
@@ -141,7 +141,7 @@ fn opened_in<L: Home, R: Wait>(
     }
 }
 
-/// The same for a new store.
+/// The ticket that a new session of a new store with this committee gets from the rows of `RUN`.
 fn opened<R: Wait>(
     rt: &R,
     alloc: Global,
@@ -190,7 +190,7 @@ fn tickets_agree(
     }
 }
 
-/// Whether the views and the tickets of two stores with this committee agree.
+/// Whether the views of two stores with this committee agree, and whether the tickets do.
 fn both_agree<R: Wait>(
     rt: &R,
     alloc: Global,

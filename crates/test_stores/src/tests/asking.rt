@@ -1,10 +1,10 @@
-//! Calls of a session, and other questions to a store.
+//! Calls of a session, and other requests to a store.
 use super::chains::Link;
 use super::*;
 use nw_digest::Sequence;
 use nw_intake::Point;
 
-/// What a session asks, for one block and its certificate.
+/// What a session asks of its store, about one block and its certificate.
 #[derive(Clone, Copy)]
 pub(super) enum Ask {
     Write,
@@ -18,18 +18,18 @@ pub(super) enum Ask {
     Collect,
     Missing,
     Status,
-    /// The number of parts of the last ticket's view. This is not a call.
+    /// Count the generations of the last ticket's view. This is not a call.
     Parts,
     /// Compact the store. This is not a call.
     Compact,
-    /// Wait until the gate lets this point pass. This is not a call.
+    /// Wait until the gate lets the session pass this point. This is not a call.
     Start(Point),
     /// Tell the gate that this point is reached. This is not a call.
     Reach(Point),
 }
 
 impl Ask {
-    /// Whether it is a call, of which the history has an event.
+    /// Whether it is a call, for which the history gets an event.
     pub(super) fn is_call(&self) -> bool {
         match self {
             Ask::Write | Ask::Certify | Ask::Certificate | Ask::Read | Ask::Open => true,
@@ -83,7 +83,7 @@ fn open<L: Home, R: Wait>(
     }
 }
 
-/// The list of the ticket, if there is one.
+/// The list of the ticket, or `Ready` if there is no ticket.
 fn walk(alloc: Global, ticket: &Option<Ticket<DemoScheme>>) -> Result<Reply, NoStep> {
     match ticket {
         Some(ticket) => Ok(Reply::List(Sequence::new(ticket.walk(alloc)?))),

@@ -8,7 +8,7 @@ use super::tasks::{Crew, work};
 use super::*;
 use std::thread::{Threads, for_each_mut};
 
-/// Does each task of the crew in its own thread, in the session of the same place.
+/// Does each task of the crew in its own thread, with the session at the same place.
 pub(super) fn in_threads<L: Home, R: Threads + Wait + Sync>(
     rt: &R,
     alloc: Global,
@@ -26,7 +26,7 @@ pub(super) fn in_threads<L: Home, R: Threads + Wait + Sync>(
     );
 }
 
-/// Asks the rows, and then does each task in its own thread, on a store with these limits and with a chain of `rounds` blocks.
+/// On a store with these limits, asks the rows, and then does each task in its own thread, about a chain of `rounds` blocks.
 /// Returns the number of events, the number of calls in exact journals, and the number of threads that got only expected replies.
 pub(super) fn worked<R: Threads + Wait + Sync>(
     rt: &R,
@@ -45,7 +45,7 @@ pub(super) fn worked<R: Threads + Wait + Sync>(
     Ok((seen.events, seen.recorded, agreeing))
 }
 
-/// Limits with a chain of 200 blocks and two sessions.
+/// Limits for a chain of 200 blocks and two sessions.
 const WIDE: Limits = Limits {
     window: 200,
     sessions: 2,
@@ -72,7 +72,7 @@ fn sixteen_threads_follow_a_chain_and_settle(rt: HostRuntime) -> Result<(), Fail
     Ok(())
 }
 
-/// Limits with many events and two sessions.
+/// Limits of many events and two sessions.
 const LATE: Limits = Limits {
     events: 4096,
     sessions: 2,
@@ -89,7 +89,7 @@ fn a_walk_starts_after_a_collection_in_another_thread(rt: HostRuntime) -> Result
     Ok(())
 }
 
-/// Limits with many events and sixteen sessions.
+/// Limits of many events and sixteen sessions.
 const CROWDED: Limits = Limits {
     events: 2048,
     ..LIMITS

@@ -11,7 +11,7 @@ use sample_checked::block_with;
 use std::sync::Wait;
 use std::thread::Threads;
 
-/// Asks the rows in sessions of a store with these limits, whose committee has this many members, and settles the sessions.
+/// Asks the rows in sessions of a store with these limits, whose committee has this many members. Then settles the sessions.
 fn asked<R: Threads + Wait + Sync>(
     rt: &R,
     alloc: Global,
@@ -105,7 +105,7 @@ const REFUSED: [Row; 4] = [
 /// A write of the same block in a store of its own committee.
 const TAKEN: [Row; 1] = [Row(0, 0, Ask::Write, STORED)];
 
-/// Limits with one event.
+/// Limits of one event and one session.
 const SHORT: Limits = Limits {
     events: 1,
     sessions: 1,
@@ -123,7 +123,7 @@ fn a_refused_call_can_be_followed_by_others(rt: HostRuntime) -> Result<(), Fail>
     Ok(())
 }
 
-/// Limits with 513 events.
+/// Limits of 513 events and one session.
 const FULL: Limits = Limits {
     blocks: 16,
     events: 513,
@@ -155,7 +155,7 @@ fn openings(alloc: Global) -> Result<Vec<Row>, Fail> {
 
 const WHOLE: &str = "List([0, 1, 2, 3, 4, 5, 6, 7, 8, 9, 10, 11, 12, 13, 14, 15, 16])";
 
-/// The number of parts of the last ticket's view, before and after the store is compacted, and of a new ticket's view.
+/// Counts the generations of the last ticket's view before and after the store is compacted, and then those of a new ticket's view.
 const COMPACTED: [Row; 7] = [
     Row(0, 16, Ask::Parts, "Parts(2)"),
     Row(0, 16, Ask::Compact, ""),

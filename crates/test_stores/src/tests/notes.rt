@@ -14,7 +14,7 @@ use std::thread::Threads;
 /// A session that comes back from its thread, and the number of blocks for which the thread got the expected replies.
 type Worked<L> = (Session<DemoScheme, L>, usize);
 
-/// Writes and certifies the block. Whether it is certified.
+/// Writes and certifies the block. Returns whether it is certified.
 fn is_certified<L: Home, R: Wait>(
     rt: &R,
     alloc: Global,
@@ -30,7 +30,7 @@ fn is_certified<L: Home, R: Wait>(
     Ok(matches!(&certified?, Reply::Certify(CertifyReply::Certified)))
 }
 
-/// Writes and certifies each block, and sends a note after each.
+/// Writes and certifies each block, and sends a note after each. Returns the session and the number of notes sent.
 fn write_all<L: Home, R: Wait>(
     rt: &R,
     alloc: Global,
@@ -52,7 +52,7 @@ fn write_all<L: Home, R: Wait>(
     (session, sent)
 }
 
-/// Opens a causal read of the block, and walks it. Whether the walk lists the chain up to the block.
+/// Opens a causal read of the block, and walks it. Returns whether the walk lists the chain up to the block.
 fn is_walked<L: Home, R: Wait>(
     rt: &R,
     alloc: Global,
@@ -79,7 +79,8 @@ fn is_chain(blocks: &[Shared<Block>], last: u64) -> bool {
     (blocks.len() as u64).checked_sub(1) == Some(last)
 }
 
-/// Hears a note for each block, and then walks from the block.
+/// Hears a note for each block, and then walks from the block. Returns the session and the number of walks that list the chain up to
+/// the block.
 fn walk_all<L: Home, R: Wait>(
     rt: &R,
     alloc: Global,
@@ -118,7 +119,7 @@ pub(super) fn in_both<L: Home, R: Threads + Wait + Sync>(
     )
 }
 
-/// Lets one of two new sessions write blocks and send notes to the other, and gives both back.
+/// One of two new sessions writes the blocks and sends notes to the other. Both are put back when their threads end.
 pub(super) fn exchange_notes<L: Home, R: Threads + Wait + Sync>(
     rt: &R,
     alloc: Global,
@@ -156,7 +157,7 @@ pub(super) fn exchange_notes<L: Home, R: Threads + Wait + Sync>(
     }
 }
 
-/// Limits with two sessions.
+/// Limits of 96 events and two sessions.
 const TWO: Limits = Limits {
     events: 96,
     sessions: 2,

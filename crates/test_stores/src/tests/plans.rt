@@ -13,7 +13,7 @@ pub(super) enum Task {
     Write,
     /// Writes every second block of the chain.
     Share,
-    /// Collects half of the chain, one round after each second link.
+    /// Collects half of the chain: one more round after every two certified links.
     Collect,
     /// Opens, reads and walks fifty blocks of the chain, each a few links after it was certified.
     Read,
@@ -21,13 +21,13 @@ pub(super) enum Task {
     Follow,
     /// Asks the rows of a walk beside a collection.
     Beside,
-    /// Reads the first block before it is written, and then lets the waiting session write it.
+    /// Reads the first block before it is written. Then the session that waits for this read writes the block.
     Early,
     /// Writes and certifies the first block after another session read it and found none.
     Late,
 }
 
-/// How a task is done: a number of turns, each of which asks about one link and waits for a number of links (`Crew::steps`).
+/// How a task is done: in turns. Each turn waits until the crew has counted a number of steps (`Crew::steps`), and asks about one link.
 pub(super) struct Plan {
     pub(super) asks: &'static [Ask],
     pub(super) turns: u16,
@@ -35,7 +35,7 @@ pub(super) struct Plan {
     first: u16,
     stride: u16,
     spread: u16,
-    /// Turn `t` waits for `lag + t * pace` links.
+    /// Turn `t` waits for `lag + t * pace` steps.
     lag: u16,
     pace: u16,
     /// Blocks of rounds below this one may be collected or not yet written.
@@ -131,7 +131,7 @@ impl Plan {
         usize::from(place.saturating_add(further))
     }
 
-    /// The number of links that the turn waits for.
+    /// The number of steps that the turn waits for.
     pub(super) fn waits(&self, turn: u16) -> u32 {
         u32::from(turn.saturating_mul(self.pace).saturating_add(self.lag))
     }

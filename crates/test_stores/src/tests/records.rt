@@ -8,7 +8,7 @@ use super::tasks::Crew;
 use super::*;
 use nw_store::{Call, Entry, History, NoMemory};
 
-/// Lengths of fronts, and their numbers of parts.
+/// Lengths of fronts, and the numbers of their parts.
 const PARTS: [(usize, usize); 4] = [(255, 255), (256, 1), (257, 2), (513, 3)];
 
 /// The call in the history for what the session asks.
@@ -26,7 +26,7 @@ fn call_of(asked: &Ask, link: &Link) -> Result<Call, NoMemory> {
     })
 }
 
-/// Adds the session's own rows that a journal records.
+/// Adds those of the session's rows that its journal records.
 fn add_rows(rows: &[Row], session: u16, own: &mut Vec<Row>) -> Result<(), NoMemory> {
     for row in rows {
         if row.0 == usize::from(session) && row.is_recorded() {
@@ -50,7 +50,7 @@ fn add_task(crew: &Crew, session: u16, own: &mut Vec<Row>) -> Result<(), NoMemor
     Ok(())
 }
 
-/// Adds the session's calls for each link in order.
+/// Adds the session's calls about each link, in order.
 fn add_asks(asks: &[Ask], links: usize, session: u16, own: &mut Vec<Row>) -> Result<(), NoMemory> {
     for place in 0..links {
         for asked in asks {
@@ -138,7 +138,7 @@ pub(super) fn are_fronts(journal: &[Entry<DemoScheme>], session: u16) -> bool {
     true
 }
 
-/// Whether each front of the journal is a prefix of the next one, and not the other way round.
+/// Whether each front of the journal is a prefix of the next one, and the next one is no prefix of it.
 pub(super) fn grows(journal: &[Entry<DemoScheme>]) -> bool {
     for (earlier, later) in journal.iter().zip(journal.iter().skip(1)) {
         let (earlier, later) = (earlier.front(), later.front());

@@ -1,4 +1,4 @@
-//! Scenes, which tests play on stores. Only this module makes the stores that settle.
+//! Scenes, which tests play on stores. Only this module makes stores whose sessions are settled.
 ghost use Rattle.std.specs.Prelude.{◌≡◌};
 ghost use Rattle.nw_store.specs.Journal.{origin_of};
 ghost use Rattle.nw_store.specs.Lock.{parts_of_a_ledger};
@@ -107,7 +107,7 @@ fn on_store<L: Home, R: Threads + Wait + Sync>(
     }
 }
 
-/// Plays the scene on a store over the book.
+/// Plays the scene on a store over the book, and settles its sessions.
 fn play<L: Home, R: Threads + Wait + Sync>(
     rt: &R,
     alloc: Global,
@@ -128,7 +128,7 @@ fn play<L: Home, R: Threads + Wait + Sync>(
     }
 }
 
-/// Plays the scene on a new store over the book, and settles its sessions.
+/// Plays the scene on a store with a new opening over the book, and settles its sessions.
 pub(super) fn played<R: Threads + Wait + Sync>(
     rt: &R,
     alloc: Global,

@@ -7,7 +7,8 @@ use nw_intake::Gate;
 use nw_model::Wanted;
 use nw_store::{Block, NoMemory};
 
-/// A session, the place of a block, what the session asks, and the text of the expected reply. An empty text is not compared.
+/// The place of a session, the place of a block, what the session asks, and the text of the expected reply. An empty text
+/// matches any reply in a journal.
 #[derive(Clone, Copy)]
 pub(super) struct Row(
     pub(super) usize,
@@ -38,7 +39,7 @@ fn rounds_of(alloc: Global, blocks: &[Shared<Block>]) -> Result<Vec<u64>, NoMemo
     Ok(rounds)
 }
 
-/// The text of wanted parents: for a single one its round, its author, and whether it is `PARENT`; otherwise their number.
+/// The text of wanted parents: for a single one, its round, its author, and whether it is `PARENT`; otherwise their number.
 fn missing(alloc: Global, wanted: &[Wanted]) -> Result<String, NoMemory> {
     match wanted {
         [only] => {
@@ -49,7 +50,7 @@ fn missing(alloc: Global, wanted: &[Wanted]) -> Result<String, NoMemory> {
     }
 }
 
-/// The text of the reply: for a block or certificate whether it is that of the link, and for a list the rounds.
+/// The text of the reply. For a block or certificate it says whether it is that of the link, and for a list it has the rounds.
 pub(super) fn text_of(alloc: Global, reply: &Reply, link: &Link) -> Result<String, NoMemory> {
     match reply {
         Reply::Certificate(Some(kept)) => {
@@ -83,7 +84,7 @@ fn has_text(
     Ok(text.as_str() == expected)
 }
 
-/// Whether the number of parts of the ticket's view has this text.
+/// Whether this text has the number of generations of the ticket's view.
 fn has_parts(
     alloc: Global,
     ticket: &Option<Ticket<DemoScheme>>,
@@ -97,7 +98,7 @@ fn has_parts(
     Ok(text.as_str() == expected)
 }
 
-/// Asks the row. Whether the reply is the expected one.
+/// Asks the row. Returns whether the reply is the expected one.
 fn is_answered<L: Home, R: Wait>(
     rt: &R,
     alloc: Global,
@@ -128,7 +129,7 @@ fn is_answered<L: Home, R: Wait>(
     }
 }
 
-/// Asks the rows in order, up to the first with another reply. The failure has the text of that row.
+/// Asks the rows in order, up to the first with another reply. The failure is the expected text of that row.
 fn ask_all<L: Home, R: Wait>(
     rt: &R,
     alloc: Global,
@@ -149,7 +150,7 @@ fn ask_all<L: Home, R: Wait>(
     Ok(())
 }
 
-/// Asks the rows in order. Fails at the first with another reply.
+/// Does what `ask_all` does, and keeps the last ticket itself.
 pub(super) fn play_script<L: Home, R: Wait>(
     rt: &R,
     alloc: Global,
@@ -164,7 +165,7 @@ pub(super) fn play_script<L: Home, R: Wait>(
     played
 }
 
-/// Asks the session's own rows in order. Whether each gets the expected reply.
+/// Asks the session's own rows in order, up to the first with another reply. Returns whether each gets the expected reply.
 fn ask_own<L: Home, R: Wait>(
     rt: &R,
     alloc: Global,
@@ -183,7 +184,7 @@ fn ask_own<L: Home, R: Wait>(
     Ok(true)
 }
 
-/// The same, without a ticket from the caller.
+/// Does what `ask_own` does, and keeps the last ticket itself.
 pub(super) fn play_own<L: Home, R: Wait>(
     rt: &R,
     alloc: Global,

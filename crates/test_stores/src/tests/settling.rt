@@ -1,4 +1,4 @@
-//! Settling the sessions of a store, and what the journals then have.
+//! Settles the sessions of a store, and examines their journals.
 use super::records::{are_fronts, are_recorded, calls_of, grows, matches_history};
 use super::scenes::Scene;
 use super::*;
@@ -7,7 +7,7 @@ use nw_store::{Entry, NoMemory, SettleFault, Settled, Unsettled, settle, settle_
 /// What a settled store shows.
 #[derive(Clone, Copy)]
 pub(super) struct Seen {
-    /// The numbers of made and of given sessions that the fault reported when one session was missing.
+    /// The numbers of made and of given sessions in the fault that came while one session was missing.
     pub(super) withheld: (u16, usize),
     /// The number of events.
     pub(super) events: usize,
@@ -67,7 +67,7 @@ pub(super) fn seen_settled<L: Home>(
     }
 }
 
-/// Settles all sessions, including the one that was missing before.
+/// Settles all sessions, including the one that was missing before. Returns what the settled store shows.
 fn seen_of_all<L: Home>(
     alloc: Global,
     refused: Unsettled<DemoScheme, L>,
@@ -101,7 +101,7 @@ fn seen_of_all<L: Home>(
     }
 }
 
-/// The numbers of made and of given sessions that the fault reports, if all given sessions came back.
+/// The numbers of made and of given sessions in the fault, if the error returned all given sessions. Otherwise two zeros.
 fn withheld(fault: SettleFault, back: usize) -> (u16, usize) {
     match fault {
         SettleFault::Unfinished { made, given } if given == back => (made, given),
@@ -109,7 +109,7 @@ fn withheld(fault: SettleFault, back: usize) -> (u16, usize) {
     }
 }
 
-/// The texts of the faults. No program of the tests gets the second fault: sessions of another store have another type.
+/// The texts of the faults. No other test of this crate gets the second fault, because sessions of another store have another type.
 const FAULTS: [(SettleFault, &str); 2] = [
     (
         SettleFault::Unfinished { made: 2, given: 1 },

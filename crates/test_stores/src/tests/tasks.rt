@@ -15,7 +15,7 @@ use std::thread::yield_now;
 /// The number of times that a session tries to pass the gate.
 const TRIES: u32 = 20;
 
-/// The blocks, the tasks of the sessions, and the counters by which the sessions wait for each other.
+/// The blocks, the tasks of the sessions, and the counters that make sessions wait for each other.
 #[derive(Drop)]
 pub(super) struct Crew {
     links: Vec<Link>,
@@ -72,7 +72,7 @@ impl Crew {
         }
     }
 
-    /// Waits for a while until the start point may pass. Whether it passed.
+    /// Waits until the session may pass the start point, or all tries are used up. Returns whether it may pass.
     pub(super) fn passes(&self, start: Point) -> bool {
         for _ in 0..TRIES {
             if pass_start(self, start).is_ok() {
@@ -83,8 +83,8 @@ impl Crew {
     }
 }
 
-/// The crew is the gate of its sessions. A start point has a number, and passes when a counter has reached it: `steps` for a check,
-/// `walks` for a write, and `writes` for a walk. The crew yields before it returns false.
+/// The crew is the gate of its sessions. A session may pass a start point when a counter has reached the number of the point: `steps` for
+/// a check, `walks` for a write, and `writes` for a walk. `may_pass` yields before it returns `false`.
 impl Gate for Crew {
     ghost says = { λ _ _ _. Unit {0} };
 
@@ -131,7 +131,7 @@ pub(super) fn work<L: Home, R: Wait>(
     }
 }
 
-/// Takes all turns of the plan, with a new follower. Whether each reply and each walk is the expected one.
+/// Takes all turns of the plan, with a new follower. Returns whether each reply and each walk is the expected one.
 fn follows<L: Home, R: Wait>(
     rt: &R,
     alloc: Global,
@@ -157,7 +157,7 @@ fn follows<L: Home, R: Wait>(
     matches!(done, Ok(true))
 }
 
-/// Takes all turns of the plan. Whether each reply and each walk is the expected one.
+/// Takes all turns of the plan. Returns whether each reply and each walk is the expected one.
 fn turns<L: Home, R: Wait>(
     rt: &R,
     alloc: Global,
@@ -181,7 +181,7 @@ fn turns<L: Home, R: Wait>(
     Ok(true)
 }
 
-/// Asks all that the plan asks about the link. Whether each reply is the expected one.
+/// Asks all that the plan asks about the link. Returns whether each reply is the expected one.
 fn ask_all<L: Home, R: Wait>(
     rt: &R,
     alloc: Global,

@@ -4,7 +4,7 @@ use Rattle.nw_book.proofs.Agreed.{other_there, tickets_agree}
 use Rattle.nw_book.proofs.Opened.{ticket_there}
 use Rattle.nw_book.proofs.ticket.Ticket.agree.Goals as goal
 
--- two tickets have one digest if contracts see one digest of both
+-- two tickets have the same digest if their views in contracts have the same digest
 one_digest : (t u x y : TicketView) → x ≡ t → y ≡ u → t.digest ≡ u.digest → x.digest ≡ y.digest
 one_digest t u x y first second same = ap (λ (z : TicketView). z.digest) first ∙ same ∙ sym (ap (λ (z : TicketView). z.digest) second)
 
