@@ -50,7 +50,7 @@ impl Crew {
     }
 }
 
-/// Takes each pair of messages that is due to the thread at this place. It does not count a pair that is refused.
+/// Takes each pair of messages in the share of the thread with this index. It does not count refused pairs.
 pub fn work<L: Home, R: Wait + Clock>(
     rt: &R,
     alloc: Global,

@@ -1,4 +1,4 @@
-//! The blocks of a script, and what its answers say of each. If two answers differ, the last one counts.
+//! The blocks of a script, and what its answers say about each. If two answers differ, the last one counts.
 
 use nw_script::{BlockLine, Name};
 use std::alloc::{AllocError, Global};

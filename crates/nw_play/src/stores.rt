@@ -109,7 +109,7 @@ fn play_lines<'a, L: Home, R: Wait, W: Write>(
     Ok(End::Script)
 }
 
-// The end that the line causes, which is not a request. `number` is that of the line.
+// How the line, which is not a request, ends the store. `number` is the line's number.
 fn end_of(line: Line<'_>, may_set_limits: bool, number: usize) -> Result<End, PlayFault> {
     match line {
         Line::Limits(line) if may_set_limits => Ok(End::Limits(line)),
