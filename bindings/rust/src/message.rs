@@ -1,4 +1,4 @@
-//! Messages, and what they are once they are checked.
+//! Messages and their check.
 
 use crate::code::Code;
 use crate::ffi::{self, Handle};
@@ -6,7 +6,7 @@ use crate::told::{MessageTold, message};
 use crate::{CheckError, Checked, CheckedBlock, CheckedCertificate, CheckedVote, Committee};
 use std::cell::RefCell;
 
-/// What validators send one another: signed blocks, certificates and votes.
+/// The messages that validators send one another: signed blocks, certificates and votes.
 ///
 /// This type has no values. It names the check of a message's bytes, [`Message::check`].
 #[derive(Clone, Copy, Debug)]

@@ -30,7 +30,7 @@ pub(crate) fn refusing(
     }
 }
 
-/// A store that took some messages, and what comes next.
+/// A store that has some messages, and the messages to come.
 struct World {
     committee: Committee,
     store: Store,
@@ -44,7 +44,7 @@ struct World {
 }
 
 impl World {
-    /// The store takes all messages but the last block and the last certificate.
+    /// A store that has all messages except the last block and the last certificate.
     fn new() -> World {
         let committee = Committee::equal(&data::keys()).unwrap();
         let store = Store::new(&committee, Limits::default()).unwrap();
@@ -86,8 +86,8 @@ impl World {
     }
 }
 
-/// Refuses each allocation of the call in turn. A call that fails for it leaves the store as it
-/// was, and succeeds when it is repeated.
+/// Refuses each allocation of the call in turn. A call that fails must leave the store as it was,
+/// and succeed when it is repeated.
 #[track_caller]
 fn refuse_each<T: Debug + PartialEq, E: Debug + PartialEq>(
     no_memory: E,

@@ -19,7 +19,7 @@ pub struct Slot {
 }
 
 impl Slot {
-    /// Room for a slot that the library fills in.
+    /// A slot for the library to write into.
     pub(crate) const EMPTY: Slot = Slot {
         digest: Digest::ZERO,
         round: 0,
@@ -55,8 +55,8 @@ pub fn text_of_vote(slot: &Slot) -> Result<[u8; 44], BadRound> {
 /// Returns the message of a vote: the slot, the number of the member that signed it, and the
 /// signature of [`text_of_vote`].
 ///
-/// The message has 107 bytes. Nothing is verified here: [`Gather::add`](crate::Gather::add) does
-/// that.
+/// The message has 107 bytes. This does not verify the signature:
+/// [`Gather::add`](crate::Gather::add) does.
 ///
 /// # Errors
 ///
