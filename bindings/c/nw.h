@@ -34,7 +34,7 @@ enum {
 	NW_OPEN = 3,
 	/* A handle holds a value of another kind than the function takes. */
 	NW_OTHER_KIND = 4,
-	/* The members do not form a committee: there are not 1 to 100 members, a weight is not 1 to 1,000,000, or a
+	/* The members do not form a committee. There are none or more than 100, a weight is not 1 to 1,000,000, or a
 	   key is repeated. */
 	NW_BAD_COMMITTEE = 5,
 	/* A limit is outside its range. */
@@ -466,9 +466,9 @@ int32_t nw_answer_events(nw_answer *answer, size_t *out);
    if there is no such event. */
 int32_t nw_answer_event(nw_answer *answer, size_t index, nw_event *out);
 
-/* Writes whether the history of answer begins the history of other: both have the same committee, limits and
-   base, and the first events of other are the events of answer. The time grows with the number of these
-   events. Both handles may be answers or tickets. */
+/* Writes whether the history of answer begins the history of other. It does if both have the same committee,
+   limits and base, and the first events of other are the events of answer. The time grows with the number of
+   these events. Both handles may be answers or tickets. */
 int32_t nw_answer_begins(nw_answer *answer, nw_answer *other, bool *out);
 
 /* Writes the digest that the ticket is for, and the garbage round at the call that gave the ticket. */
@@ -479,9 +479,9 @@ int32_t nw_ticket_about(nw_answer *ticket, nw_digest *digest, uint64_t *floor);
    digests or garbage rounds. */
 int32_t nw_ticket_agree(nw_answer *ticket, nw_answer *other, bool *out);
 
-/* Walks the ticket and opens a list of blocks: the ticket's block and all its ancestors from the garbage
-   round on, as of the call that gave the ticket. They ascend by round and author. A ticket can be walked any
-   number of times, at any time, without a lock. */
+/* Walks the ticket and opens the list of its block and all ancestors from the garbage round on. The list is
+   as of the call that gave the ticket, and ascends by round and author. A ticket can be walked any number of
+   times, at any time, without a lock. */
 int32_t nw_ticket_walk(nw_answer *ticket, nw_list *out);
 
 /* Writes how many blocks the list has. */

@@ -5,12 +5,12 @@
 //! cargo run --release --example durable -- forget    deletes the log after each kill: some get two votes
 //! ```
 //!
-//! The store is in memory only. So the validator logs each call that changes the store: a write that answers `Stored`, a certificate
-//! that answers `Certified`, and a collection that answers `Raised`. It syncs the log *before* it sends a vote. After a crash it opens
-//! a store with the same committee and limits. Before anything else, it repeats the calls of the log in their order.
+//! The store is in memory only. So the validator logs each call that changes the store. Such a call is a write that answers `Stored`, a
+//! certificate that answers `Certified`, or a collection that answers `Raised`. The validator syncs the log *before* it sends a vote. After
+//! a crash it opens a store with the same committee and limits. Before anything else, it repeats the calls of the log in their order.
 //!
-//! This is enough because the reply to a call and the state after it depend only on the calls before it (the step table of docs/MODEL.md),
-//! and no other reply changes the state. So the replay gives each round and author the same first block. If a crash keeps a block out of
+//! This is enough, because the reply to a call and the state after it depend only on the calls before it. No other reply changes the state
+//! (see the step table of docs/MODEL.md). So the replay gives each round and author the same first block. If a crash keeps a block out of
 //! the log, its vote was not sent.
 //!
 //! If several threads call, hold one lock around each call and its append, so that the log has the order of the store's steps. After you

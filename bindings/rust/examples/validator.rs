@@ -1,10 +1,9 @@
 //! Four validators put the blocks of one network into one order. Each has a store and two threads.
 //!
-//! The *intake* of a validator checks the messages of the others, writes blocks, signs votes,
-//! gathers the votes for its own blocks, and hands in certificates. The *decider* delivers blocks
-//! by a toy rule: every second round has a leader, in round-robin order. Once the leader's block is
-//! complete, the decider walks its causal list, and delivers the blocks that it has not delivered
-//! before.
+//! The *intake* of a validator checks messages, writes blocks and signs votes. It gathers the votes
+//! for its own blocks, and hands in certificates. The *decider* delivers blocks by a toy rule:
+//! every second round has a leader, in round-robin order. Once the leader's block is complete, the
+//! decider walks its causal list, and delivers the blocks that it has not delivered before.
 //!
 //! Member 1 makes two blocks for round 3, and a block of round 5 also comes with a bad signature.
 //! The orders are equal all the same. A real validator signs at run time. Here all signatures come

@@ -66,9 +66,9 @@ impl Block {
     /// # Errors
     ///
     /// - [`BlockError::BadRound`] if the round is 2^48 or more.
-    /// - [`BlockError::OverLimit`] if there are more than 100 parents, if their authors are not
-    ///   strictly ascending, if there are more than 1,024 transactions, if a transaction has more
-    ///   than 65,536 bytes, or if the body has more than 1,048,576 bytes.
+    /// - [`BlockError::OverLimit`] if the authors of the parents are not strictly ascending, or if
+    ///   the block exceeds a limit: 100 parents, 1,024 transactions, 65,536 bytes in a transaction,
+    ///   and 1,048,576 bytes in the body.
     pub fn new(
         author: u16,
         round: u64,

@@ -51,8 +51,8 @@
 //!
 //! The proofs cover the static library: every function is memory-safe and returns, and
 //!
-//! - each answer carries a [`History`] of calls and replies that ends with its own, and a sequential
-//!   store that takes these calls in order gives exactly these replies;
+//! - each answer carries a [`History`] of calls and replies, which ends with its own call; a
+//!   sequential store that takes these calls in order gives exactly these replies;
 //! - a walk lists exactly the certified ancestors that are not below the garbage round, as of the
 //!   call that opened the ticket;
 //! - at most one write per round and author answers `Stored { vote: true }`, also across restarts

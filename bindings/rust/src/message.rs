@@ -15,10 +15,10 @@ pub enum Message {}
 impl Message {
     /// Decodes a message and checks it under the committee.
     ///
-    /// A block that passes is well formed: its author and the authors of its parents are members,
-    /// its parents reach the quorum unless its round is 0, and its author signed it. A certificate
-    /// that passes is valid: its signers are members and reach the quorum, and every signature
-    /// verifies. The signature of a vote is not verified here: [`Gather::add`] does that.
+    /// A block that passes is well formed and signed by its author. Its author and the authors of
+    /// its parents are members, and its parents reach the quorum unless its round is 0. A
+    /// certificate that passes is valid: its signers are members and reach the quorum, and every
+    /// signature verifies. The signature of a vote is not verified here: [`Gather::add`] does that.
     ///
     /// Several threads can check messages at once, under one committee. A check takes no lock of a
     /// store.

@@ -18,7 +18,7 @@ thread_local! {
     static REFUSED: Cell<usize> = const { Cell::new(0) };
 }
 
-/// An allocator that refuses the allocation whose turn it is.
+/// An allocator that refuses the chosen allocation.
 pub(crate) fn refusing(
     allocate: impl FnOnce(usize) -> *mut c_void,
 ) -> impl FnOnce(usize) -> *mut c_void {

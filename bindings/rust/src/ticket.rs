@@ -8,8 +8,8 @@ use crate::{Digest, History, NoMemory, Walk};
 use std::fmt;
 use std::ptr;
 
-/// A causal read that is ready to be walked: a snapshot of a block with its certified ancestors of
-/// rounds not below the garbage round, as of the call that opened the ticket.
+/// A causal read that is ready to be walked. It is a snapshot of a block and its certified
+/// ancestors of rounds not below the garbage round, as of the call that opened the ticket.
 ///
 /// [`Session::causal`](crate::Session::causal) opens it. A walk takes no lock, so other calls go on
 /// meanwhile. Later calls and collections do not change the list. A ticket outlives its store.

@@ -16,7 +16,7 @@ pub(crate) const CLOSED: i32 = 2;
 pub(crate) const OPEN: i32 = 3;
 /// A handle holds a value of another kind than the function takes.
 pub(crate) const OTHER_KIND: i32 = 4;
-/// The members do not form a committee: there are not 1 to 100 members, a weight is not 1 to 1,000,000, or a key is repeated.
+/// The members do not form a committee. There are none or more than 100, a weight is not 1 to 1,000,000, or a key is repeated.
 pub(crate) const BAD_COMMITTEE: i32 = 5;
 /// A limit is outside its range.
 pub(crate) const BAD_LIMITS: i32 = 6;

@@ -124,8 +124,9 @@ pub extern "C" fn nw_answer_event(answer: &mut AnswerHandle, index: usize, out: 
     }
 }
 
-/// Writes whether the history of `answer` begins the history of `other`: both have the same committee, limits and base, and the first
-/// events of `other` are the events of `answer`. The time grows with the number of these events. Both handles may be answers or tickets.
+/// Writes whether the history of `answer` begins the history of `other`. It does if both have the same committee, limits and base, and the
+/// first events of `other` are the events of `answer`. The time grows with the number of these events. Both handles may be answers or
+/// tickets.
 #[unsafe(no_mangle)]
 pub extern "C" fn nw_answer_begins(
     answer: &mut AnswerHandle,

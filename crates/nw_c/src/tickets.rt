@@ -87,8 +87,8 @@ pub extern "C" fn nw_ticket_agree(
     }
 }
 
-/// Walks the ticket and opens a list of blocks: the ticket's block and all its ancestors from the garbage round on, as of the call that
-/// gave the ticket. They ascend by round and author. A ticket can be walked any number of times, at any time, without a lock.
+/// Walks the ticket and opens the list of its block and all ancestors from the garbage round on. The list is as of the call that gave the
+/// ticket, and ascends by round and author. A ticket can be walked any number of times, at any time, without a lock.
 #[unsafe(no_mangle)]
 pub extern "C" fn nw_ticket_walk(
     alloc: Global,

@@ -17,7 +17,7 @@ use std::io::Write;
 use std::mem::forget;
 use std::sync::Wait;
 
-/// Why no more lines are played on a store.
+/// Why a store plays no further lines.
 enum End {
     /// The script ended.
     Script,

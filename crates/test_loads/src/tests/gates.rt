@@ -15,7 +15,7 @@ struct Interlocked {
 }
 
 impl Interlocked {
-    /// A gate of which no point was reached yet.
+    /// A gate before any point is reached.
     fn new() -> Interlocked {
         Interlocked {
             walk_reached: AtomicBool::new(false),
