@@ -1,8 +1,8 @@
 /* nw.h: the verified block store of a Narwhal validator, for C. Made by bindings/c/header from crates/nw_c; do not edit.
 
    A handle is one pointer, and {0} if it is closed. A function that makes a value takes a closed handle and opens it if it returns
-   NW_DONE. A closed handle and a handle of another kind are codes, not faults. Never copy an open handle. Close each with nw_free, which
-   takes the handle's address.
+   NW_DONE. For a closed handle or a handle of another kind, a function returns a code. Never copy an open handle. Close each with
+   nw_free, which takes the handle's address.
 
    Every pointer must be valid; only an array of length 0 may be NULL. All other values are checked. A function that writes bytes into a
    buffer first writes how many bytes are needed, so a buffer of length 0 asks for the size.

@@ -34,7 +34,7 @@ pub struct Scene<'a> {
     pub digests: BTreeMap<&'a str, usize>,
     /// The blocks that the store voted for.
     pub voted: Vec<Name<'a>>,
-    /// The wanted parents.
+    /// The wanted parents in the last answer to `missing`.
     pub wanted: Vec<Name<'a>>,
     /// The blocks that the last walk listed.
     pub walked: Vec<Name<'a>>,
