@@ -114,7 +114,7 @@ fn keep<L: Home, R: Wait + Clock>(
     Ok(())
 }
 
-/// The number of blocks that a causal read of the digest lists. It is 0 if an ancestor is missing.
+/// The number of blocks that a causal read of the digest lists. It is 0 if the digest is not complete.
 fn read<L: Home, R: Wait>(
     rt: &R,
     alloc: Global,

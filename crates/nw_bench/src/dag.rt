@@ -1,4 +1,4 @@
-//! Makes the messages of a full DAG. Its blocks have the most transactions of 512 bytes that are allowed.
+//! Makes the messages of a full DAG. Each block has 1,024 transactions of 512 bytes, the largest number that is allowed.
 
 use anyhow::Error;
 use nw_codec::{

@@ -63,7 +63,7 @@ fn is_reopened<L: Home, W: Write>(
     }
 }
 
-// Reopens the settled store: the start of the next one.
+// Reopens the settled store. Returns the start of the next store.
 fn reopen<L: Home, W: Write>(
     alloc: Global,
     settled: Settled<DemoScheme, L>,

@@ -47,7 +47,7 @@ pub fn play_store<'a, L: Home, R: Wait, W: Write>(
     }
 }
 
-// Plays lines on the store until it ends, and then settles, replaces or forgets it.
+// Plays lines on the store until it ends, and then settles, replaces or leaks it.
 fn play_to_end<'a, L: Home, R: Wait, W: Write>(
     rt: &R,
     alloc: Global,
