@@ -226,7 +226,8 @@ typedef struct {
 	uint8_t bytes[64];
 } nw_signature;
 
-/* The digest of a block with the block's round and author. */
+/* The digest of a block with the block's round and author. In docs/MODEL.md, a slot is the round and the
+   author only. */
 typedef struct {
 	nw_digest digest;
 	uint64_t round;

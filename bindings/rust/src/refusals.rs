@@ -37,7 +37,7 @@ struct World {
     session: Session,
     block: CheckedBlock,
     certificate: CheckedCertificate,
-    /// A digest that can be read with its causal history.
+    /// A complete digest.
     leader: Digest,
     tickets: [Ticket; 2],
     votes: Vec<CheckedVote>,

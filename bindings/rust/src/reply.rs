@@ -87,8 +87,8 @@ pub enum CollectReply {
     },
 }
 
-/// Why a block cannot be read with its causal history. It is the reply to
-/// [`Session::causal`](crate::Session::causal) when there is no ticket.
+/// Why a causal read gets no ticket. It is the reply to [`Session::causal`](crate::Session::causal)
+/// in that case.
 #[derive(Clone, Copy, Debug, PartialEq, Eq)]
 pub enum CausalFault {
     /// The block is not stored.
@@ -117,7 +117,7 @@ pub struct Status {
     pub blocks: u64,
     /// The number of certificates.
     pub certificates: u64,
-    /// The number of blocks that can be read with their causal history.
+    /// The number of complete blocks: those for which a causal read gets a ticket.
     pub complete: u64,
     /// The number of missing parents.
     pub wanted: u64,

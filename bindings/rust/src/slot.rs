@@ -4,7 +4,8 @@ use crate::code::Code;
 use crate::ffi;
 use crate::{BadRound, Digest, Signature};
 
-/// A block's digest, with the block's round and author.
+/// A block's digest, with the block's round and author. In docs/MODEL.md, a slot is the round and
+/// the author only.
 ///
 /// Each vote is for a slot, and a certificate proves that a quorum voted for one.
 #[derive(Clone, Copy, Debug, PartialEq, Eq, Hash)]

@@ -18,7 +18,7 @@ pub struct CSignature {
     pub bytes: [u8; 64],
 }
 
-/// The digest of a block with the block's round and author.
+/// The digest of a block with the block's round and author. In docs/MODEL.md, a slot is the round and the author only.
 #[repr(C)]
 #[derive(Clone, Copy)]
 pub struct CSlot {

@@ -17,7 +17,7 @@ const DEFAULT_LIMITS: Limits = Limits {
     sessions: 16,
 };
 
-/// What a store of a script starts from.
+/// The book from which a store of a script starts, and whether the script may still change its limits.
 #[derive(Drop)]
 pub struct Start {
     pub book: Book<DemoScheme>,
