@@ -73,34 +73,6 @@ packed_count count text p = omega (arith, cut_length count text, at_least (cut c
     at_least [] = omega arith
     at_least (t ∷ ts) = omega (arith, at_least ts, length-append (transaction_bytes t) (flat_map transaction_bytes ts), length-append (to_be_bytes w32 (length t)) t)
 
--- so many of the transactions were passed over; the others stand in front of the rest
-pub record IsLeft (count counter : ℕ) (here rest : List ℕ) : Type 0 where
-  pub left : List (List ℕ)
-  pub number : counter + length left ≡ count
-  pub low : All IsShort left
-  pub bytes : here ≡ flat_map transaction_bytes left ++ rest
-
--- the first of those that are left
-pub record IsFirst (count counter : ℕ) (here rest : List ℕ) : Type 0 where
-  pub item : List ℕ
-  pub after : List ℕ
-  pub low : IsShort item
-  pub cut_is : here ≡ transaction_bytes item ++ after
-  pub next : IsLeft count (counter + 1) after rest
-
-pub first_left : (count counter : ℕ) (here rest : List ℕ) → IsLeft count counter here rest → counter < count → IsFirst count counter here rest
-first_left count counter here rest h lt = from h.left h.number h.low h.bytes
-  where
-    from : (left : List (List ℕ)) → counter + length left ≡ count → All IsShort left → here ≡ flat_map transaction_bytes left ++ rest → IsFirst count counter here rest
-    from [] number low bytes = absurd (omega (arith, number, lt))
-    from (t ∷ ts) number low bytes = record {
-      item = t;
-      after = flat_map transaction_bytes ts ++ rest;
-      low = All-head IsShort t ts low;
-      cut_is = bytes ∙ append_assoc (transaction_bytes t) (flat_map transaction_bytes ts) rest;
-      next = record { left = ts; number = omega (arith, number); low = All-tail IsShort t ts low; bytes = refl };
-    }
-
 -- where a transaction stands in front: its length can be read, and it is behind that
 pub record IsFront (here item after : List ℕ) : Type 0 where
   pub number : 4 ≤ length here
@@ -117,13 +89,6 @@ in_front here item after low is =
       enough = omega (arith, ap length four, length-append item after);
       behind = ap (drop (length item)) four ∙ drop_at item after (length item) refl;
     }
-
-pub none_left : (count counter : ℕ) (here rest : List ℕ) → IsLeft count counter here rest → count ≤ counter → here ≡ rest
-none_left count counter here rest h le = from h.left h.number h.bytes
-  where
-    from : (left : List (List ℕ)) → counter + length left ≡ count → here ≡ flat_map transaction_bytes left ++ rest → here ≡ rest
-    from [] number bytes = bytes
-    from (t ∷ ts) number bytes = absurd (omega (arith, number, le))
 
 -- the text of so many transactions is theirs
 pub cut_text : (count : ℕ) (ts : List (List ℕ)) → length ts ≡ count → All IsShort ts → cut count (flat_map transaction_bytes ts) ≡ ts

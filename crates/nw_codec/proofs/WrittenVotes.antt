@@ -21,7 +21,7 @@ use Rattle.nw_codec.proofs.Passing.{count_passes, order_passes}
 pub subject_laid_out : (d r a x : List ℕ) → ((d ++ r) ++ a) ++ x ≡ d ++ (r ++ (a ++ x))
 subject_laid_out d r a x = simp append_assoc
 
-written_subject : (kind : Kind) (d : Digest) (r a : ℕ) (x : List ℕ) → IsSubject d r a → Reaches (AtDigest kind) (subject_bytes d r a ++ x) (behind_subject kind) x
+pub written_subject : (kind : Kind) (d : Digest) (r a : ℕ) (x : List ℕ) → IsSubject d r a → Reaches (AtDigest kind) (subject_bytes d r a ++ x) (behind_subject kind) x
 written_subject kind d r a x typed =
     let r2 : List ℕ = to_be_bytes w16 a ++ x in
     let r1 : List ℕ = round_bytes r ++ r2 in

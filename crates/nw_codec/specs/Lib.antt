@@ -5,3 +5,4 @@ pub mod Same
 pub mod Typed
 pub mod Faults
 pub mod Spelled
+pub mod Parts

@@ -13,6 +13,8 @@ pub const VERSION: u8 = 1;
 pub(crate) const SIGNATURE_BYTES: usize = 64;
 /// The bytes of a subject: a digest, a round and an author.
 pub(crate) const SUBJECT_BYTES: usize = 40;
+/// The bytes of a parent: its author and its digest.
+pub(crate) const PARENT_BYTES: usize = 34;
 /// The bytes of a seal: its signer and the signature.
 pub(crate) const SEAL_BYTES: usize = 66;
 

@@ -39,15 +39,15 @@ lacks_zero pairs d n (all, are, counts) = (
 pub lacks_some : (pairs : Pairs) (d : Digest) (n : ℕ) → LacksCount pairs d n → nat_eq n 0 ≡ false → LacksSomething pairs d
 lacks_some pairs d n (all, are, counts) fails = first all counts (λ w among. (are.exactly w).0 among)
   where
+    is_zero : (n : ℕ) → 0 ≡ n → nat_eq n 0 ≡ true
+    is_zero n e = grind (arith, e)
+
+    not_both : {b : Bool} → b ≡ true → b ≡ false → ⊥
+    not_both is fails = cc
+
     first : (xs : List Wanted) → length xs ≡ n → ((w : Wanted) → Contains xs w → Lacks pairs d w) → LacksSomething pairs d
-    first [] e from = absurd (not_zero (lacks_nowhere n e) fails)
+    first [] e from = absurd (not_both (is_zero n e) fails)
     first (x ∷ xs) e from = (x, from x (contains_first x xs))
-
-    lacks_nowhere : (n : ℕ) → 0 ≡ n → nat_eq n 0 ≡ true
-    lacks_nowhere n e = grind (arith, e)
-
-    not_zero : {b : Bool} → b ≡ true → b ≡ false → ⊥
-    not_zero yes no = cc
 
 -- a test that fails refutes what it decides
 pub refuted : (b : Bool) (P : Type 0) → IsTrue b ↔ P → b ≡ false → P → ⊥

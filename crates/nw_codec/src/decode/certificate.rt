@@ -1,147 +1,122 @@
-//! Certificates and votes: a check of the text, and the value of a text that was checked.
-ghost use Rattle.std.specs.Prelude.{◌≡◌, ℕ, ◌≤◌, ◌++◌};
-ghost use Rattle.std.specs.Prelude.{List, length, drop, MatchResult, IfOk, Some, None};
-ghost use Rattle.nw_codec.specs.Faults.{Kind, OfCertificate, OfVote, AtDigest, AtVoteCount};
-ghost use Rattle.nw_codec.specs.Faults.{AtSigner, AtEnd, at_seals, behind_subject, Reaches};
-ghost use Rattle.nw_codec.specs.Faults.{FaultFrom};
-ghost use Rattle.nw_codec.specs.Grammar.{subject_bytes, seal_bytes};
-ghost use Rattle.nw_codec.specs.Spelled.{Spells, IsCertificateText, IsVoteText, BeginsWithSeals};
-ghost use Rattle.nw_codec.specs.Typed.{IsSeal, IsSubject};
+//! Certificates and votes: one pass checks the text and keeps where its parts lie, and the value is built from them.
+ghost use Rattle.std.specs.Prelude.{◌≡◌, ℕ, ◌*◌, ◌≤◌, ◌∷◌, ◌++◌};
+ghost use Rattle.std.specs.Prelude.{List, length, All, MatchResult, IfOk, None};
+ghost use Rattle.std.specs.List.{flat_map};
+ghost use Rattle.nw_codec.specs.declared.certificate.Certificate.{Certificate};
+ghost use Rattle.nw_codec.specs.declared.message.Message.TheVariants as messages;
+ghost use Rattle.nw_codec.specs.Faults.{Kind, OfCertificate, OfVote, AtDigest, behind_subject};
+ghost use Rattle.nw_codec.specs.Faults.{Reaches, FaultFrom};
+ghost use Rattle.nw_codec.specs.Grammar.{seal_bytes};
+ghost use Rattle.nw_codec.specs.Parts.{SubjectAt, AreCertificateParts, Decodes};
+ghost use Rattle.nw_codec.specs.Spelled.{Spells};
+ghost use Rattle.nw_codec.specs.Typed.{IsSeal};
 
-use super::fields::{field, front, is_in_order, number_of, round_of};
-use crate::limits::MAX_VOTES;
+use super::fields::{
+    at_end, field, front, number_of, read_count, read_items, read_last_signature, read_number,
+    read_round,
+};
+use crate::limits::{CERTIFICATE_TAG, MAX_VOTES, SEAL_BYTES, VOTE_TAG};
 use crate::{Certificate, DecodeError, Message, Seal, Signature, Vote};
 use nw_digest::{Digest, NoMemory, Round, Sequence};
 use std::alloc::Global;
 
-/// The rest behind the digest, the round and the author.
-fn check_subject(text: &[u8]) -> Result<&[u8], DecodeError>
-    ensures { (kind : Kind) → MatchResult result
-        (λ rest. Reaches (AtDigest kind) text.now (behind_subject kind) rest.now)
-        (λ e. FaultFrom (AtDigest kind) text.now e) }
-{
-    let (_digest, rest) = field::<32>(text)?;
-    let (_round, rest) = field::<6>(rest)?;
-    let (_author, rest) = field::<2>(rest)?;
-    Ok(rest)
-}
-
-/// How many votes the certificate has, and the rest.
-fn check_vote_count(text: &[u8]) -> Result<(usize, &[u8]), DecodeError>
-    ensures { MatchResult result (λ x. Reaches AtVoteCount text.now (at_seals x.0 None) x.1.now)
-        (λ e. FaultFrom AtVoteCount text.now e) }
-{
-    let (count, rest) = field::<2>(text)?;
-    let count = u16::from_be_bytes(*count) as usize;
-    if count > MAX_VOTES {
-        return Err(DecodeError::TooManyVotes);
-    }
-    Ok((count, rest))
-}
-
-/// The signer of the seal at the front, behind a seal of this signer, and the rest.
-fn check_seal(before: Option<u16>, text: &[u8]) -> Result<(u16, &[u8]), DecodeError>
-    ensures { (more : ℕ) → MatchResult result
-        (λ x. Reaches (AtSigner more before) text.now (at_seals more (Some x.0)) x.1.now)
-        (λ e. FaultFrom (AtSigner more before) text.now e) }
-{
-    let (signer, rest) = field::<2>(text)?;
-    let signer = u16::from_be_bytes(*signer);
-    if !is_in_order(before, signer) {
-        return Err(DecodeError::VoteOrder);
-    }
-    let (_signature, rest) = field::<64>(rest)?;
-    Ok((signer, rest))
-}
-
-/// The rest behind so many seals.
-fn check_seals(count: usize, text: &[u8]) -> Result<&[u8], DecodeError>
-    ensures { MatchResult result (λ rest. Reaches (at_seals count None) text.now AtEnd rest.now)
-        (λ e. FaultFrom (at_seals count None) text.now e) }
-{
-    let mut before = None;
-    let mut rest = text;
-    for _ in 0..count {
-        let (signer, after) = check_seal(before, rest)?;
-        before = Some(signer);
-        rest = after;
-    }
-    Ok(rest)
-}
-
-/// The rest behind a certificate.
-pub(super) fn check_certificate(text: &[u8]) -> Result<&[u8], DecodeError>
-    ensures { MatchResult result (λ rest. Reaches (AtDigest OfCertificate) text.now AtEnd rest.now)
-        (λ e. FaultFrom (AtDigest OfCertificate) text.now e) }
-{
-    let rest = check_subject(text)?;
-    let (count, rest) = check_vote_count(rest)?;
-    check_seals(count, rest)
-}
-
-/// The rest behind a vote.
-pub(super) fn check_vote(text: &[u8]) -> Result<&[u8], DecodeError>
-    ensures { MatchResult result (λ rest. Reaches (AtDigest OfVote) text.now AtEnd rest.now)
-        (λ e. FaultFrom (AtDigest OfVote) text.now e) }
-{
-    let rest = check_subject(text)?;
-    let (_signer, rest) = check_seal(None, rest)?;
-    Ok(rest)
-}
-
 /// What a vote speaks of: the block of this digest, as the one of this round and author.
+#[derive(Clone, Copy)]
 struct Subject {
     digest: Digest,
-    round: Round,
+    round: u64,
     author: u16,
 }
 
-/// The subject at the front of the text, and the rest.
-fn subject_of(text: &[u8]) -> (Subject, &[u8])
-    requires { 40 ≤ length text.now }
-    ensures value { (digest : Digest) (round author : ℕ) (rest : List ℕ)
-        → IsSubject digest round author → text.now ≡ subject_bytes digest round author ++ rest
-        → (result.0.digest ≡ digest) × (result.0.round ≡ round) × (result.0.author ≡ author) }
-    ensures back { result.1.now ≡ drop 40 text.now }
+/// Where the parts of a certificate's text lie.
+#[derive(Drop)]
+struct CertificateParts<'a> {
+    subject: Subject,
+    seals: &'a [u8],
+}
+
+/// The message of the certificate that the text is. Its tag was read before.
+pub(super) fn decode_certificate(alloc: Global, text: &[u8]) -> Result<Message, DecodeError>
+    ensures { Decodes (CERTIFICATE_TAG ∷ text.now) result }
 {
-    let (digest, rest) = front::<32>(text);
-    let (round, rest) = round_of(rest);
-    let (author, rest) = number_of(rest);
-    (
+    let parts = read_certificate(text)?;
+    Ok(Message::Certificate(certificate_of(alloc, parts)?))
+}
+
+/// The message of the vote that the text is. Its tag was read before. It takes no memory.
+pub(super) fn decode_vote(text: &[u8]) -> Result<Message, DecodeError>
+    ensures { MatchResult result (λ m. Spells (VOTE_TAG ∷ text.now) m)
+        (λ e. FaultFrom (AtDigest OfVote) text.now e) }
+{
+    let (subject, rest) = read_subject(text)?;
+    let (signer, rest) = read_number(rest)?;
+    let signature = read_last_signature(rest)?;
+    Ok(Message::Vote(Vote {
+        digest: subject.digest,
+        round: Round::new(subject.round).unwrap(),
+        author: subject.author,
+        signer,
+        signature,
+    }))
+}
+
+/// The parts of the certificate that the text is.
+fn read_certificate(text: &[u8]) -> Result<CertificateParts<'_>, DecodeError>
+    ensures { MatchResult result
+        (λ p. (c : Certificate) × Spells (CERTIFICATE_TAG ∷ text.now) (messages.Certificate c)
+        × AreCertificateParts c p.subject.digest p.subject.round p.subject.author p.seals.now)
+        (λ e. FaultFrom (AtDigest OfCertificate) text.now e) }
+{
+    let (subject, rest) = read_subject(text)?;
+    let (count, rest) = read_count(MAX_VOTES, DecodeError::TooManyVotes, rest)?;
+    let (seals, rest) = read_items::<64>(count, DecodeError::VoteOrder, rest)?;
+    at_end(rest)?;
+    Ok(CertificateParts { subject, seals })
+}
+
+/// The subject at the front of the text, and the rest.
+fn read_subject(text: &[u8]) -> Result<(Subject, &[u8]), DecodeError>
+    ensures { (kind : Kind) → MatchResult result
+        (λ x. SubjectAt text.now x.0.digest x.0.round x.0.author x.1.now)
+        (λ e. FaultFrom (AtDigest kind) text.now e) }
+{
+    let (digest, rest) = field::<32>(text)?;
+    let (round, rest) = read_round(rest)?;
+    let (author, rest) = read_number(rest)?;
+    let digest = Digest(*digest);
+    Ok((
         Subject {
-            digest: Digest(*digest),
+            digest,
             round,
             author,
         },
         rest,
-    )
+    ))
 }
 
-/// The seal at the front of the text, and the rest.
-fn seal_of(text: &[u8]) -> (Seal, &[u8])
-    requires { 66 ≤ length text.now }
-    ensures value { (seal : Seal) (rest : List ℕ) → IsSeal seal → text.now ≡ seal_bytes seal ++ rest
-        → result.0 ≡ seal }
-    ensures back { result.1.now ≡ drop 66 text.now }
+/// The certificate of these parts.
+fn certificate_of(alloc: Global, parts: CertificateParts<'_>) -> Result<Certificate, NoMemory>
+    requires { (c : Certificate) × AreCertificateParts c parts.subject.digest parts.subject.round
+        parts.subject.author parts.seals.now }
+    ensures { (c : Certificate)
+        → AreCertificateParts c parts.entry.subject.digest parts.entry.subject.round
+        parts.entry.subject.author parts.entry.seals.now
+        → IfOk result (λ certificate. certificate ≡ c) }
 {
-    let (signer, rest) = number_of(text);
-    let (signature, rest) = front::<64>(rest);
-    (
-        Seal {
-            signer,
-            signature: Signature(*signature),
-        },
-        rest,
-    )
+    Ok(Certificate {
+        digest: parts.subject.digest,
+        round: Round::new(parts.subject.round).unwrap(),
+        author: parts.subject.author,
+        votes: seals_of(alloc, parts.seals)?,
+    })
 }
 
-/// So many seals at the front of the text.
-fn seals_of(alloc: Global, count: usize, text: &[u8]) -> Result<Sequence<Seal>, NoMemory>
-    requires { (seals : List Seal) × (rest : List ℕ) × (length seals ≡ count)
-        × BeginsWithSeals text.now seals rest }
-    ensures { IfOk result (λ seals. (length seals ≡ count)
-        × ((rest : List ℕ) × BeginsWithSeals text.now seals rest)) }
+/// The seals that the text is.
+fn seals_of(alloc: Global, text: &[u8]) -> Result<Sequence<Seal>, NoMemory>
+    requires { (count : ℕ) × (length text.now ≡ 66 * count) }
+    ensures { IfOk result (λ seals. All IsSeal seals × (text.now ≡ flat_map seal_bytes seals)) }
 {
+    let count = text.len() / SEAL_BYTES;
     let mut seals = Vec::with_capacity(alloc, count)?;
     let mut rest = text;
     for _ in 0..count {
@@ -152,50 +127,19 @@ fn seals_of(alloc: Global, count: usize, text: &[u8]) -> Result<Sequence<Seal>, 
     Ok(Sequence::new(seals))
 }
 
-/// The message of a certificate that the text spells.
-pub(super) fn certificate_message_of(alloc: Global, text: &[u8]) -> Result<Message, NoMemory>
-    requires { IsCertificateText text.now }
-    ensures { IfOk result (λ m. Spells text.now m) }
+/// The seal at the front of the text, and the rest.
+fn seal_of(text: &[u8]) -> (Seal, &[u8])
+    requires { 66 ≤ length text.now }
+    ensures typed { IsSeal result.0 }
+    ensures bytes { text.now ≡ seal_bytes result.0 ++ result.1.now }
 {
-    let (_tag, rest) = front::<1>(text);
-    let (
-        Subject {
-            digest,
-            round,
-            author,
+    let (signer, rest) = number_of(text);
+    let (signature, rest) = front::<64>(rest);
+    (
+        Seal {
+            signer,
+            signature: Signature(*signature),
         },
         rest,
-    ) = subject_of(rest);
-    let (count, rest) = number_of(rest);
-    let votes = seals_of(alloc, count as usize, rest)?;
-    Ok(Message::Certificate(Certificate {
-        digest,
-        round,
-        author,
-        votes,
-    }))
-}
-
-/// The message of a vote that the text spells. It takes no memory.
-pub(super) fn vote_message_of(text: &[u8]) -> Message
-    requires { IsVoteText text.now }
-    ensures { Spells text.now result }
-{
-    let (_tag, rest) = front::<1>(text);
-    let (
-        Subject {
-            digest,
-            round,
-            author,
-        },
-        rest,
-    ) = subject_of(rest);
-    let (seal, _) = seal_of(rest);
-    Message::Vote(Vote {
-        digest,
-        round,
-        author,
-        signer: seal.signer,
-        signature: seal.signature,
-    })
+    )
 }

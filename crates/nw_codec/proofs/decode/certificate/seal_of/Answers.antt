@@ -1,14 +1,21 @@
-use Rattle.std.proofs.Common.{◌≡◌, ℕ, List, ◌++◌, take, drop, ap, ◌∙◌}
-use Rattle.std.proofs.lemmas.List.{take_at, drop-drop}
-use Rattle.nw_codec.proofs.OneVote.{same_seal, same_signature}
+use Rattle.std.proofs.Common.{◌<◌, ◌≤◌, length, ap, arith}
+use Rattle.std.specs.Int.{w16, to_be_bytes}
+use Rattle.std.proofs.lemmas.List.{length-append}
+use Rattle.std.proofs.lemmas.List.Elements.{All-from_get_or}
+use Rattle.nw_codec.proofs.Fields.{item_at}
 use Rattle.nw_codec.proofs.decode.certificate.seal_of.Goals as goal
 
-pub returns-clause-value : goal.returns-clause-value
-returns-clause-value c seal rest typed cut =
-    let signer = c.number_of-signer.ensures.value seal.signer (seal.signature.0 ++ rest) typed.signer cut in
-    let behind : c.number_of-signer.result.1.now ≡ seal.signature.0 ++ rest = c.number_of-signer.ensures.back ∙ ap (λ (t : List ℕ). drop 2 t) cut in
-    let signature : c.front.result.0.now ≡ seal.signature.0 = c.front.ensures.front ∙ ap (λ (t : List ℕ). take 64 t) behind ∙ take_at seal.signature.0 rest 64 typed.signature.len in
-    same_seal (record { signer = c.number_of-signer.result.0; signature = record { 0 = c.front.result.0.now } }) seal signer (same_signature _ seal.signature signature)
+pub returns-clause-typed : goal.returns-clause-typed
+returns-clause-typed c =
+    let each = All-from_get_or (λ b. b < 256) c.args.text.now 0 (λ i lt. omega (arith, c.type_inv.text i)) in
+    let signer = c.number_of-signer.ensures in
+    let enough : 64 ≤ length c.number_of-signer.result.1.now = omega (arith, ap length signer.bytes, length-append (to_be_bytes w16 c.number_of-signer.result.0) c.number_of-signer.result.1.now) in
+    let item = item_at 64 c.number_of-signer.result.0 _ _ _ _ each enough signer c.front.ensures.front c.front.ensures.back in
+    record { signer = signer.low; signature = record { len = item.len; bytes = item.each } }
 
-pub returns-clause-back : goal.returns-clause-back
-returns-clause-back c = c.front.ensures.back ∙ ap (λ (t : List ℕ). drop 64 t) c.number_of-signer.ensures.back ∙ drop-drop 64 2 c.args.text.now
+pub returns-clause-bytes : goal.returns-clause-bytes
+returns-clause-bytes c =
+    let each = All-from_get_or (λ b. b < 256) c.args.text.now 0 (λ i lt. omega (arith, c.type_inv.text i)) in
+    let signer = c.number_of-signer.ensures in
+    let enough : 64 ≤ length c.number_of-signer.result.1.now = omega (arith, ap length signer.bytes, length-append (to_be_bytes w16 c.number_of-signer.result.0) c.number_of-signer.result.1.now) in
+    (item_at 64 c.number_of-signer.result.0 _ _ _ _ each enough signer c.front.ensures.front c.front.ensures.back).whole

@@ -1,18 +1,21 @@
-use Rattle.std.proofs.Common.{◌≡◌, ℕ, List, drop, ap, ◌∙◌}
-use Rattle.std.proofs.lemmas.List.{drop_at}
+use Rattle.std.proofs.Common.{◌≡◌, [], length, ap, arith}
+use Rattle.std.proofs.lemmas.List.{length-append, nil_from_length}
 use Rattle.nw_codec.specs.Grammar.{seal_bytes}
 use Rattle.nw_codec.specs.Typed.{IsSeal}
-use Rattle.nw_codec.proofs.Building.{built_more, built_with}
-use Rattle.nw_codec.proofs.LaidVotes.{length-seal, seal_left}
+use Rattle.nw_codec.proofs.Building.{one_more_built, all_built}
+use Rattle.nw_codec.proofs.Parts.{length-seal}
 use Rattle.nw_codec.proofs.decode.certificate.seals_of.Goals as goal
-
-pub seal_of-requires : goal.seal_of-requires
-seal_of-requires c =
-    let n = built_more seal_bytes IsSeal c.args.count c.loop.counter _ _ _ c.loop.invariant c.loop-test.true in
-    seal_left _ n.item n.after n.holds n.cut
 
 pub loop-preserved : goal.loop-preserved
 loop-preserved c =
-    let n = built_more seal_bytes IsSeal c.args.count c.loop.counter _ _ _ c.loop.invariant c.loop-test.true in
-    let behind : c.seal_of.result.1.now ≡ n.after = c.seal_of.ensures.back ∙ ap (λ (t : List ℕ). drop 66 t) n.cut ∙ drop_at (seal_bytes n.item) n.after 66 (length-seal n.item n.holds) in
-    built_with seal_bytes IsSeal _ _ _ _ _ _ _ _ n c.in_ok-push.ensures.items (c.seal_of.ensures.value n.item n.after n.holds n.cut) behind
+    let item = c.seal_of.result.0 in
+    let read = c.seal_of.ensures in
+    record {
+      built = one_more_built seal_bytes IsSeal _ _ _ item _ _ c.loop.invariant.built read.typed read.bytes c.in_ok-push.ensures.items;
+      left = omega (arith, c.loop.invariant.left, ap length read.bytes, length-append (seal_bytes item) c.seal_of.result.1.now, length-seal item read.typed);
+    }
+
+pub returns : goal.returns
+returns c =
+    let none : c.loop.rest.now ≡ [] = nil_from_length c.loop.rest.now (omega (arith, c.loop.invariant.left)) in
+    rw c.new.ensures (c.loop.invariant.built.holds, all_built seal_bytes IsSeal _ _ _ c.loop.invariant.built none)
