@@ -8,11 +8,11 @@ has the votes of 67 members. The program nw_bench, which `rt run` in crates/nw_b
 together, with 1, 2 and 4 workers. All times are in ms. The columns are:
 
 - `ms`: the least time of R runs (5);
-- `gain`: how many times as fast as with 1 worker that is;
-- `machine`: how many times as much as one process, that many processes count at once at that time;
+- `gain`: the throughput as a multiple of that with 1 worker;
+- `machine`: the same for as many processes that only count, measured at that time;
 - `OpenSSL`: the least processor time of R runs in which OpenSSL (python3-cryptography) verifies only the signatures on one thread;
 - `times`: ms / OpenSSL;
-- `digests`: the least processor time of Python's SHA-256 for the bodies, which a check digests too.
+- `digests`: the least processor time of Python's SHA-256 for the bodies. A check digests them too.
 
 The last line is the load of the machine.
 """
@@ -97,7 +97,7 @@ def processor_time(work, items):
 
 
 def measure(path, messages, keys, runs):
-    """The least ms for each number of workers, what the machine gave to that many processes, and the least ms of OpenSSL and SHA-256."""
+    """The least ms for each number of workers, the gain of that many counting processes, and the least ms of OpenSSL and of SHA-256."""
     claims = [claim for message in messages for claim in message.claims]
     bodies = [body for message in messages for body in message.bodies]
     took, given = {workers: [] for workers in WORKERS}, {workers: [] for workers in WORKERS}

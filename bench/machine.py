@@ -1,4 +1,4 @@
-"""Measures what the machine gives to several processes at once. On a busy machine this is less than its number of cores."""
+"""Measures the throughput of several processes as a multiple of that of one. On a busy machine it is below the number of cores."""
 import os
 import time
 
@@ -6,7 +6,7 @@ COUNTED = 1_000_000         # the number up to which each process counts
 
 
 def counting(processes):
-    """The seconds that this number of processes take at once. They only count."""
+    """The seconds that this number of processes take at the same time. They only count."""
     start, pids = time.monotonic(), []
     for _ in range(processes):
         pid = os.fork()
@@ -21,5 +21,5 @@ def counting(processes):
 
 
 def gains(seconds):
-    """How many times as much as one process each number of processes gets done, by the least of their times."""
+    """For each number of processes: their throughput as a multiple of that of one process. It compares the least times."""
     return {processes: processes * min(seconds[1]) / min(times) for processes, times in seconds.items()}

@@ -1,8 +1,8 @@
 /* nw.h: the verified block store of a Narwhal validator, for C. Made by bindings/c/header from crates/nw_c; do not edit.
 
    A handle is one pointer, and {0} if it is closed. A function that makes a value takes a closed handle and opens it if it returns
-   NW_DONE. A closed handle and a handle of another kind are codes, not faults. Never copy an open handle. Close each with nw_free, which
-   takes the handle's address.
+   NW_DONE. For a closed handle or a handle of another kind, a function returns a code. Never copy an open handle. Close each with
+   nw_free, which takes the handle's address.
 
    Every pointer must be valid; only an array of length 0 may be NULL. All other values are checked. A function that writes bytes into a
    buffer first writes how many bytes are needed, so a buffer of length 0 asks for the size.
@@ -32,35 +32,37 @@ enum {
 	NW_CLOSED = 2,
 	/* A handle that must be closed is open. */
 	NW_OPEN = 3,
-	/* A handle holds another kind of value. */
+	/* A handle holds a value of another kind than the function takes. */
 	NW_OTHER_KIND = 4,
-	/* The members make no committee: not 1 to 100 members, a weight outside 1 to 1,000,000, or a repeated key. */
+	/* The members do not form a committee. There are none or more than 100, a weight is not 1 to 1,000,000, or a
+	   key is repeated. */
 	NW_BAD_COMMITTEE = 5,
 	/* A limit is outside its range. */
 	NW_BAD_LIMITS = 6,
-	/* The call's number is not the session's next number, or the session is not below the limit. */
+	/* The call's number is not the session's next one, or the session's number is not below the limit on
+	   sessions. */
 	NW_OUT_OF_TURN = 7,
-	/* The value was checked under another committee. */
+	/* The block or certificate was checked under another committee than the book's. */
 	NW_OTHER_COMMITTEE = 8,
-	/* The history has as many events as its limit. */
+	/* The history has reached its limit on events. */
 	NW_HISTORY_FULL = 9,
 	/* A round is not below 2^48. */
 	NW_BAD_ROUND = 10,
 	/* The buffer is too small. Only the needed size was written. */
 	NW_SMALL = 11,
-	/* There is no value at the index, or none was found. */
+	/* There is nothing at the index, or there is no such value. */
 	NW_ABSENT = 12,
-	/* The block breaks a limit or an order of the format. */
+	/* The block or certificate breaks a limit of the format, or its parents or signers do not ascend strictly. */
 	NW_OVER_LIMIT = 13,
 	/* The author or signer is not a member of the committee. */
 	NW_NO_MEMBER = 14,
 	/* The vote is for another digest, round or author. */
 	NW_OTHER_BLOCK = 15,
-	/* A vote of the same signer was counted before. */
+	/* A vote of the same signer was already counted. */
 	NW_REPEATED = 16,
 	/* The signature is not the signer's. */
 	NW_BAD_SIGNATURE = 17,
-	/* The counted votes do not reach a quorum. */
+	/* The counted votes do not reach the quorum. */
 	NW_FEW_VOTES = 18,
 	/* The two tickets have different digests or garbage rounds, so their lists cannot be compared. */
 	NW_APART = 19,
@@ -72,15 +74,15 @@ enum {
 	NW_BLOCK = 1,
 	/* A valid certificate. */
 	NW_CERTIFICATE = 2,
-	/* A vote. Its signature is checked when it is added to a gathering. */
+	/* A vote. Its signature is not checked until it is added to the gathered votes. */
 	NW_VOTE = 3,
 	/* The text ends too early. */
 	NW_TEXT_SHORT = 10,
 	/* Bytes follow the message. */
 	NW_TEXT_TRAILING = 11,
-	/* The first byte is no kind of message. */
+	/* The first byte is not that of a message. */
 	NW_TEXT_TAG = 12,
-	/* The block has another version than 1. */
+	/* The version of the block is not 1. */
 	NW_TEXT_VERSION = 13,
 	/* The block has more than 100 parents. */
 	NW_TEXT_MANY_PARENTS = 14,
@@ -112,40 +114,41 @@ enum {
 	NW_CERT_SIGNER = 41,
 	/* The signers do not reach a quorum. */
 	NW_CERT_FEW_VOTES = 42,
-	/* The signature of the member signer is not its own, and no earlier one is wrong. */
+	/* The signature of signer is not that member's. All signatures before it are correct. */
 	NW_CERT_SIGNATURE = 43,
 };
 
 /* The kinds of replies. */
 enum {
-	/* Write: the block is stored now, and is the first of its round and author. Vote for it. */
+	/* Write: the block is now stored, and it is the first of its round and author. Vote for it. */
 	NW_STORED_VOTE = 1,
-	/* Write: the block is stored now, without a vote: another block of its round and author came first, and this
+	/* Write: the block is now stored, without a vote: another block of its round and author came first, but this
 	   one is certified. */
 	NW_STORED = 2,
-	/* Write: the same block was stored before. */
+	/* Write: the same block is already stored. */
 	NW_HELD = 3,
 	/* Write: another block is stored under the digest. */
 	NW_CLASH = 4,
-	/* Write: another block of this author and round came first, which digest names. */
+	/* Write: another block of this round and author came first. digest is the digest of that block. */
 	NW_EQUIVOCATES = 5,
-	/* Certificate: it is stored now. */
+	/* Certificate: it is now stored. */
 	NW_CERTIFIED = 6,
-	/* Certificate: the digest was certified before, for the same round and author. */
+	/* Certificate: the digest is already certified for the same round and author. */
 	NW_ALREADY = 7,
-	/* Certificate: another digest is certified for the round and author, which digest names. */
+	/* Certificate: another digest is certified for the round and author. digest is that digest. */
 	NW_CONFLICT = 8,
-	/* Write or certificate: the round is below the garbage round, which is number. */
+	/* Write or certificate: the round is below the garbage round. number is the garbage round. */
 	NW_COLLECTED = 9,
-	/* Write or certificate: the round is not below the garbage round plus the window. Hand it in again later. */
+	/* Write or certificate: the round is at or above the garbage round plus the window. Hand it in again later. */
 	NW_TOO_FAR = 10,
-	/* Write or certificate: the certificate and the block of the digest differ in round or author. */
+	/* Write or certificate: the block and the certificate of this digest have different rounds or authors. */
 	NW_MISFIT = 11,
-	/* Write or certificate: the book stores as many as its limit. Hand it in again after a collection. */
+	/* Write or certificate: the book has reached its limit on blocks or on certificates. Hand it in again after
+	   a collection. */
 	NW_FULL = 12,
-	/* Read, or call for a certificate: it is stored. */
+	/* Read or call for a certificate: it was found. */
 	NW_FOUND = 13,
-	/* Read, causal read, or call for a certificate: it is not stored. */
+	/* Read, causal read or call for a certificate: no block or certificate of this digest is stored. */
 	NW_UNKNOWN = 14,
 	/* Causal read: the digest is not certified. */
 	NW_UNCERTIFIED = 15,
@@ -155,7 +158,7 @@ enum {
 	NW_READY = 17,
 	/* Collection: the garbage round was raised, and number blocks were dropped. */
 	NW_RAISED = 18,
-	/* Collection: the garbage round, which is number, was as high before. */
+	/* Collection: the garbage round was already as high. number is the garbage round. */
 	NW_NOT_HIGHER = 19,
 	/* Call for missing parents: number of them are listed. */
 	NW_MISSING = 20,
@@ -167,7 +170,7 @@ enum {
 enum {
 	/* A write of the block of digest. */
 	NW_CALL_WRITE = 1,
-	/* A certificate of digest that was handed in. */
+	/* A certificate handed in for digest. */
 	NW_CALL_CERTIFY = 2,
 	/* A call for the certificate of digest. */
 	NW_CALL_CERTIFICATE = 3,
@@ -191,15 +194,16 @@ typedef struct {
 typedef struct {
 	void *at;
 } nw_checked;
-/* Votes that are gathered for one block. */
+/* The votes gathered for one block. */
 typedef struct {
 	void *at;
 } nw_gather;
-/* A book: the stored blocks and certificates, and the history of calls that explains them. */
+/* A book: the stored blocks and certificates, and the history of the calls that led to them. */
 typedef struct {
 	void *at;
 } nw_book;
-/* Room for an answer, an answer, or a ticket, which answers a causal read whose list can be walked. */
+/* Room for an answer, an answer, or a ticket. A ticket is the answer to a causal read whose list can be
+   walked. */
 typedef struct {
 	void *at;
 } nw_answer;
@@ -222,15 +226,16 @@ typedef struct {
 	uint8_t bytes[64];
 } nw_signature;
 
-/* The digest of a block with the block's round and author. */
+/* The digest of a block with the block's round and author. In docs/MODEL.md, a slot is the round and the
+   author only. */
 typedef struct {
 	nw_digest digest;
 	uint64_t round;
 	uint16_t author;
 } nw_slot;
 
-/* What an answer or an event says: a kind, and the number or digest that the kind's comment names. Both are
-   0 otherwise. */
+/* What a call or a reply is: its kind, and the number or digest that the kind's comment names. A number or
+   digest that it does not name is 0. */
 typedef struct {
 	int32_t kind;
 	uint64_t number;
@@ -260,16 +265,17 @@ typedef struct {
 } nw_parent;
 
 /* What a checked text is: its kind, the slot of a block, certificate or vote, and the signer of a vote or of
-   a wrong signature. What the kind does not have is 0. */
+   a wrong signature. Fields that the kind does not use are 0. */
 typedef struct {
 	int32_t kind;
 	uint16_t signer;
 	nw_slot slot;
 } nw_message;
 
-/* The limits of a book. blocks: stored blocks, and as many certificates, 1 to 65,536. events: events of a
-   history, 1 to 65,536. window: accepted rounds, counted from the garbage round, 1 to 4,096. sessions: 1 to
-   256, numbered from 0. */
+/* The limits of a book. blocks limits the stored blocks, and separately the certificates: 1 to 65,536.
+   events limits the events of the history: 1 to 65,536. window is the number of rounds that the book
+   accepts, from the garbage round on: 1 to 4,096. sessions limits the sessions, which are numbered from 0: 1
+   to 256. */
 typedef struct {
 	uint32_t blocks;
 	uint32_t events;
@@ -277,8 +283,8 @@ typedef struct {
 	uint32_t sessions;
 } nw_limits;
 
-/* How much a book stores: the garbage round, the blocks, certificates and complete blocks, and the missing
-   parents. */
+/* The counts of a book: its garbage round, and how many blocks, certificates, complete blocks and missing
+   parents (wanted) it has. */
 typedef struct {
 	uint64_t floor;
 	uint64_t blocks;
@@ -287,7 +293,8 @@ typedef struct {
 	uint64_t wanted;
 } nw_status;
 
-/* An event of a history: a call of a session, which of the session's calls it was, from 1, and the reply. */
+/* An event of a history: the session, the number of the session's call, counted from 1, the call, and its
+   reply. */
 typedef struct {
 	uint16_t session;
 	uint32_t number;
@@ -295,68 +302,72 @@ typedef struct {
 	nw_told reply;
 } nw_event;
 
-/* Makes a committee of 1 to 100 members. Members are numbered by their place in the list, from 0. Returns
-   NW_BAD_COMMITTEE if there are too few or too many, if a weight is out of range, or if a key is repeated. */
+/* Makes a committee of 1 to 100 members. A member's number is its index in the array. Returns
+   NW_BAD_COMMITTEE if there are too few or too many members, a weight is out of range, or a key is repeated. */
 int32_t nw_committee_new(const nw_member *members, size_t members_len, nw_committee *out);
 
-/* Opens a second handle of the committee, for another thread. The members are shared, not copied. */
+/* Opens a second handle of the committee, which another thread can use. Both handles share the members. */
 int32_t nw_committee_share(nw_committee *committee, nw_committee *out);
 
 /* Writes the number of members. */
 int32_t nw_committee_size(nw_committee *committee, size_t *out);
 
-/* Writes the member of this number. Returns NW_ABSENT if the committee has no such member. */
+/* Writes the key and the weight of the member with this number. Returns NW_ABSENT if there is no such
+   member. */
 int32_t nw_committee_member(nw_committee *committee, uint16_t number, nw_member *out);
 
-/* Writes the weight of a quorum: more than two thirds of the total weight. */
+/* Writes the quorum: the least weight that is more than two thirds of the total weight. */
 int32_t nw_committee_quorum(nw_committee *committee, uint32_t *out);
 
 /* Writes the SHA-256 digest of the bytes. */
 void nw_digest_of(const uint8_t *bytes, size_t bytes_len, nw_digest *out);
 
-/* Writes the text that the author of the block of this digest signs. */
+/* Writes the text that the author of a block with this digest signs. */
 void nw_text_of_block(const nw_digest *digest, nw_block_text *out);
 
-/* Writes the text that a member signs to vote for the block of this slot. Returns NW_BAD_ROUND if the round
-   is not below 2^48. */
+/* Writes the text that a member signs to vote for the block of this digest, round and author. Returns
+   NW_BAD_ROUND if the round is not below 2^48. */
 int32_t nw_text_of_vote(const nw_slot *slot, nw_vote_text *out);
 
-/* Writes the message of the signer's vote for the block of this slot: 107 bytes. Its size goes to needed;
-   NW_SMALL if the buffer is smaller. Returns NW_BAD_ROUND if the round is not below 2^48. The signature is
-   not checked. */
+/* Writes the message of the signer's vote for the block of this digest, round and author: 107 bytes. Writes
+   this size to needed. Returns NW_SMALL if the buffer is smaller, and NW_BAD_ROUND if the round is not below
+   2^48. It does not check the signature. */
 int32_t nw_vote_message(const nw_slot *slot, uint16_t signer, const nw_signature *signature, uint8_t *buffer, size_t buffer_len, size_t *needed);
 
-/* Makes a block of this author and round. transactions is all transactions, one after another, and lengths
-   the size of each. Parents ascend strictly by author. A block has at most 100 parents, 1,024 transactions
-   of at most 65,536 bytes each, and a body of 1,048,576 bytes. Returns NW_BAD_ROUND if the round is not
-   below 2^48, and NW_OVER_LIMIT if one of these limits is broken or the sizes do not add up. Nothing is
-   checked under a committee. */
+/* Makes a block of this author and round. transactions has the bytes of all transactions, one after another,
+   and lengths has the size of each. Parents must ascend strictly by author. A block has at most 100 parents,
+   1,024 transactions of at most 65,536 bytes each, and a body of 1,048,576 bytes. Returns NW_BAD_ROUND if
+   the round is not below 2^48. Returns NW_OVER_LIMIT if the parents do not ascend, a limit is exceeded, or
+   the sizes do not add up to the number of bytes. It checks nothing against a committee. */
 int32_t nw_block_new(uint16_t author, uint64_t round, const nw_parent *parents, size_t parents_len, const uint8_t *transactions, size_t transactions_len, const uint32_t *lengths, size_t lengths_len, nw_block *out);
 
 /* Writes the digest, round and author of the block. Returns NW_OVER_LIMIT if the block breaks a limit of the
-   format, which no checked block does. */
+   format; no checked block does. */
 int32_t nw_block_slot(nw_block *block, nw_slot *out);
 
 /* Writes how many parents and how many transactions the block has. */
 int32_t nw_block_counts(nw_block *block, size_t *parents, size_t *transactions);
 
-/* Writes the parent at the index, from 0; parents ascend by author. Returns NW_ABSENT past the last. */
+/* Writes the parent at the index, counted from 0. Parents ascend by author. Returns NW_ABSENT if the block
+   has no such parent. */
 int32_t nw_block_parent(nw_block *block, size_t index, nw_parent *out);
 
-/* Copies the transaction at the index, from 0. Its size goes to needed; NW_SMALL if the buffer is smaller.
-   Returns NW_ABSENT past the last. */
+/* Copies the transaction at the index, counted from 0, to the buffer. Writes its size to needed. Returns
+   NW_SMALL if the buffer is smaller, and NW_ABSENT if the block has no such transaction. */
 int32_t nw_block_transaction(nw_block *block, size_t index, uint8_t *buffer, size_t buffer_len, size_t *needed);
 
-/* Copies the body of the block, of which the digest is taken. Its size goes to needed; NW_SMALL if the
-   buffer is smaller. */
+/* Writes the encoded body of the block to the buffer. The block's digest is SHA-256 of these bytes. Writes
+   their size to needed. Returns NW_SMALL if the buffer is smaller, and NW_OVER_LIMIT if the block breaks a
+   limit of the format. */
 int32_t nw_block_body(nw_block *block, uint8_t *buffer, size_t buffer_len, size_t *needed);
 
-/* Writes the message of the block with this signature, to be sent. Its size goes to needed; NW_SMALL if the
-   buffer is smaller. The signature is not checked. */
+/* Writes the message of the block with this signature, which can be sent to other members. Writes its size
+   to needed. Returns NW_SMALL if the buffer is smaller, and NW_OVER_LIMIT if the block breaks a limit of the
+   format. It does not check the signature. */
 int32_t nw_block_message(nw_block *block, const nw_signature *signature, uint8_t *buffer, size_t buffer_len, size_t *needed);
 
-/* Decodes the text and checks its message under the committee. A text that is no message, or whose block or
-   certificate breaks a rule, is also a success: nw_checked_told says which. */
+/* Decodes the text and checks its message under the committee. It also returns NW_DONE for a text that is
+   not a message, and for a block or certificate that breaks a rule. nw_checked_told says what the text is. */
 int32_t nw_check(nw_committee *committee, const uint8_t *text, size_t text_len, nw_checked *out);
 
 /* Writes what the checked text is: a block, a certificate, a vote, or the first rule that it breaks. */
@@ -365,21 +376,22 @@ int32_t nw_checked_told(nw_checked *checked, nw_message *out);
 /* Opens a handle of the checked block. Returns NW_OTHER_KIND if the text is not a valid block. */
 int32_t nw_checked_block(nw_checked *checked, nw_block *out);
 
-/* Writes the message of the checked certificate or vote, to be sent. Its size goes to needed; NW_SMALL if
-   the buffer is smaller. Returns NW_OTHER_KIND of any other text. */
+/* Writes the message of the checked certificate or vote, which can be sent to other members. Writes its size
+   to needed. Returns NW_SMALL if the buffer is smaller, and NW_OTHER_KIND if the text is neither a valid
+   certificate nor a vote. */
 int32_t nw_checked_message(nw_checked *checked, uint8_t *buffer, size_t buffer_len, size_t *needed);
 
 /* Starts to gather votes for the block of this slot. Returns NW_BAD_ROUND if the round is not below 2^48,
    and NW_NO_MEMBER if the author is not a member. */
 int32_t nw_gather_new(nw_committee *committee, const nw_slot *slot, nw_gather *out);
 
-/* Checks the signature of the vote and counts it. quorum says whether the counted votes reach a quorum. A
-   vote is refused with NW_OTHER_BLOCK, NW_REPEATED, NW_NO_MEMBER or NW_BAD_SIGNATURE, whichever applies
-   first; nothing changes then. Returns NW_OTHER_KIND if the checked text is not a vote. */
+/* Checks the signature of the vote and counts the vote. Writes to quorum whether the counted votes reach the
+   quorum. Refuses a vote with NW_OTHER_BLOCK, NW_REPEATED, NW_NO_MEMBER or NW_BAD_SIGNATURE, the first that
+   applies, and then changes nothing. Returns NW_OTHER_KIND if the checked text is not a vote. */
 int32_t nw_gather_add(nw_gather *gather, nw_checked *vote, bool *quorum);
 
-/* Makes the certificate of the counted votes, as a checked text. Returns NW_FEW_VOTES if they do not reach a
-   quorum. More votes can be added afterwards. */
+/* Makes the certificate of the counted votes and opens a handle of it, as a checked text. Returns
+   NW_FEW_VOTES if the votes do not reach the quorum. More votes can be added afterwards. */
 int32_t nw_gather_certificate(nw_gather *gather, nw_checked *out);
 
 /* Makes an empty book under the committee and the limits. Returns NW_BAD_LIMITS if a limit is out of range. */
@@ -388,96 +400,98 @@ int32_t nw_book_new(nw_committee *committee, const nw_limits *limits, nw_book *o
 /* Writes how many events the history has. */
 int32_t nw_book_events(nw_book *book, size_t *out);
 
-/* Rebuilds the tables that later tickets share, without what was collected. Nothing that a caller can
-   observe changes. */
+/* Rebuilds the tables that later tickets share, without the blocks of collected rounds. It changes nothing
+   that a call can observe. */
 int32_t nw_book_compact(nw_book *book);
 
-/* Empties the history, and keeps the stored blocks, certificates and garbage round. Each session's next call
-   is number 1. Answers and tickets stay as they are. It takes as long as the history's writes and
-   certificates took, without their checks. */
+/* Empties the history. The book keeps its blocks, its certificates and its garbage round. The next call of
+   each session has number 1 again. Answers and tickets do not change. It takes as long as the writes and
+   certificates of the history took, without their checks. */
 int32_t nw_book_restart(nw_book *book);
 
-/* Writes the checked block, or hands in the checked certificate, as the session's call of this number. The
-   checked value stays open, and may be handed to other books. Returns NW_OTHER_KIND if it is neither block
-   nor certificate. */
+/* Writes the checked block, or certifies the digest of the checked certificate. number must be that of the
+   session's next call. The handle of the checked text stays open, and the text may be handed to other books.
+   Returns NW_OTHER_KIND if the text is neither a valid block nor a valid certificate. */
 int32_t nw_book_take(nw_book *book, uint16_t session, uint32_t number, nw_checked *checked, nw_answer *answer);
 
-/* Asks for the certificate of the digest, as the session's call of this number. */
+/* Asks for the certificate of the digest. number must be that of the session's next call. */
 int32_t nw_book_certificate(nw_book *book, uint16_t session, uint32_t number, const nw_digest *digest, nw_answer *answer);
 
-/* Asks for the block of the digest, as the session's call of this number. */
+/* Asks for the block of the digest. number must be that of the session's next call. */
 int32_t nw_book_read(nw_book *book, uint16_t session, uint32_t number, const nw_digest *digest, nw_answer *answer);
 
-/* Raises the garbage round to this one and drops everything of the rounds below it, as the session's call of
-   this number. Returns NW_BAD_ROUND if the round is not below 2^48. */
+/* Raises the garbage round to this round and drops everything of lower rounds. number must be that of the
+   session's next call. Returns NW_BAD_ROUND if the round is not below 2^48. */
 int32_t nw_book_collect(nw_book *book, uint16_t session, uint32_t number, uint64_t round, nw_answer *answer);
 
-/* Asks for the first missing parents, at most so many, as the session's call of this number. They ascend by
-   round, author and digest. */
+/* Asks for the first most missing parents, or for all if there are fewer. They ascend by round, author and
+   digest. number must be that of the session's next call. */
 int32_t nw_book_missing(nw_book *book, uint16_t session, uint32_t number, uint16_t most, nw_answer *answer);
 
-/* Asks how much is stored, as the session's call of this number. */
+/* Asks for the counts of the book. number must be that of the session's next call. */
 int32_t nw_book_status(nw_book *book, uint16_t session, uint32_t number, nw_answer *answer);
 
-/* Opens a causal read of the digest, as the session's call of this number. The answer becomes a ticket if
-   the block is complete: it and its ancestors, down to the garbage round, are stored and certified.
-   Otherwise it is an answer whose reply says why there is no ticket. */
+/* Opens a causal read of the digest. number must be that of the session's next call. The answer is a ticket
+   if the digest is complete: the block and its ancestors, down to the garbage round, are stored and
+   certified. Otherwise the reply of the answer says why there is no ticket. */
 int32_t nw_book_open(nw_book *book, uint16_t session, uint32_t number, const nw_digest *digest, nw_answer *answer);
 
-/* Makes room for an answer. It is made before a call, so that no call that was taken lacks memory for its
-   answer. The room can be used again: a new answer replaces the old one, and a refused call keeps it. */
+/* Makes room for an answer. Make it before the call, so that a call that was taken never runs out of memory
+   for its answer. The room can be used again: a new answer replaces the old one. A refused call leaves the
+   old one in place. */
 int32_t nw_answer_new(nw_answer *out);
 
-/* Opens a handle of the block that a read found. Returns NW_ABSENT if it found none, and NW_OTHER_KIND of
-   the answer to another call. */
+/* Opens a handle of the block that a read found. Returns NW_ABSENT if the read found none, and NW_OTHER_KIND
+   if the answer is not to a read. */
 int32_t nw_answer_block(nw_answer *answer, nw_block *out);
 
-/* Writes the message of the certificate that was asked for. Its size goes to needed; NW_SMALL if the buffer
-   is smaller. Returns NW_ABSENT if there is none, and NW_OTHER_KIND of the answer to another call. */
+/* Writes the message of the certificate that a call for a certificate found. Writes its size to needed.
+   Returns NW_SMALL if the buffer is smaller, NW_ABSENT if the call found no certificate, and NW_OTHER_KIND
+   if the answer is to another call. */
 int32_t nw_answer_message(nw_answer *answer, uint8_t *buffer, size_t buffer_len, size_t *needed);
 
-/* Writes the missing parent at the index, from 0, of the answer to the call for missing parents. Returns
-   NW_ABSENT past the last, and NW_OTHER_KIND of the answer to another call. */
+/* Writes one of the parents that a call for missing parents listed. index counts from 0. Returns NW_ABSENT
+   if the list has no parent at that index, and NW_OTHER_KIND if the answer is to another call. */
 int32_t nw_answer_missing(nw_answer *answer, size_t index, nw_slot *out);
 
-/* Writes how much the book stored, of the answer to the call for the status. Returns NW_OTHER_KIND of the
-   answer to another call. */
+/* Writes the counts of a call for the status. Returns NW_OTHER_KIND if the answer is to another call. */
 int32_t nw_answer_status(nw_answer *answer, nw_status *out);
 
 /* Writes the reply of the answer. The reply of a ticket is NW_READY. */
 int32_t nw_answer_reply(nw_answer *answer, nw_told *out);
 
-/* Writes how many events the history of the answer or ticket has: all events up to and with its own call. */
+/* Writes the number of events in the history of the answer or ticket. The last event is its own call. */
 int32_t nw_answer_events(nw_answer *answer, size_t *out);
 
-/* Writes the event at the index, from 0, of the history of the answer or ticket. Returns NW_ABSENT past the
-   last. */
+/* Writes the event at the index, counted from 0, of the history of the answer or ticket. Returns NW_ABSENT
+   if there is no such event. */
 int32_t nw_answer_event(nw_answer *answer, size_t index, nw_event *out);
 
-/* Writes whether the history of one answer or ticket begins the history of the other: same committee, limits
-   and start, and the other's first events are the one's. It takes time in proportion to the one's length. */
+/* Writes whether the history of answer begins the history of other. It does if both have the same committee,
+   limits and base, and the first events of other are the events of answer. The time grows with the number of
+   these events. Both handles may be answers or tickets. */
 int32_t nw_answer_begins(nw_answer *answer, nw_answer *other, bool *out);
 
-/* Writes the digest that the ticket is for, and the garbage round at the call that opened it. */
+/* Writes the digest that the ticket is for, and the garbage round at the call that gave the ticket. */
 int32_t nw_ticket_about(nw_answer *ticket, nw_digest *digest, uint64_t *floor);
 
-/* Walks both tickets, which are for one digest and one garbage round, and writes whether the lists are
-   equal. They may be tickets of two books. If they differ, two different blocks have one digest. Returns
-   NW_APART if the digests or garbage rounds differ. */
+/* Walks both tickets and writes whether their lists are equal. The tickets may come from two books. If the
+   lists differ, two different blocks have the same digest. Returns NW_APART if the tickets have different
+   digests or garbage rounds. */
 int32_t nw_ticket_agree(nw_answer *ticket, nw_answer *other, bool *out);
 
-/* Walks the ticket and opens a list: the block and all its certified ancestors not below the garbage round,
-   as they were at the call that opened the ticket. They ascend by round and author. A ticket can be walked
-   at any time and any number of times, without a lock. */
+/* Walks the ticket and opens the list of its block and all ancestors from the garbage round on. The list is
+   as of the call that gave the ticket, and ascends by round and author. A ticket can be walked any number of
+   times, at any time, without a lock. */
 int32_t nw_ticket_walk(nw_answer *ticket, nw_list *out);
 
 /* Writes how many blocks the list has. */
 int32_t nw_list_len(nw_list *list, size_t *out);
 
-/* Opens a handle of the block at the index, from 0. Returns NW_ABSENT past the last. */
+/* Opens a handle of the block at the index, counted from 0. Returns NW_ABSENT if the list has no such block. */
 int32_t nw_list_block(nw_list *list, size_t index, nw_block *out);
 
-/* Closes a handle and frees what only it holds. A closed handle stays closed. */
+/* Closes the handle and frees everything that no other handle shares. A closed handle stays closed. */
 void nw_free(void *handle);
 
 #ifdef __cplusplus

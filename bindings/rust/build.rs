@@ -11,7 +11,7 @@ use std::process;
 const PROVED: &str = "../../crates/nw_c/out";
 /// Where the repository ships the library, from the folder of this package.
 const SHIPPED: &str = "../prebuilt/x86_64-linux";
-/// What the library is called: as it is proved, and as it is shipped.
+/// The name of the library: as a proof leaves it, and as the repository ships it.
 const NAMES: [&str; 2] = ["libnw_c.a", "libnw.a"];
 /// The target of both.
 const TARGET: &str = "x86_64-unknown-linux-gnu";
@@ -65,8 +65,8 @@ fn in_folder(folder: &Path) -> Option<PathBuf> {
     candidates.find(|candidate| candidate.is_file())
 }
 
-/// Has cargo run this script again when a proof leaves a library. Cargo takes a path that is
-/// missing for one that changed, so this watches the nearest folder that exists.
+/// Makes cargo run this script again when a proof leaves a library. Cargo treats a missing path as
+/// changed, so this watches the nearest folder that exists.
 fn watch_for(proved: &Path) {
     if let Some(existing) = proved.ancestors().take(2).find(|folder| folder.is_dir()) {
         println!("cargo::rerun-if-changed={}", existing.display());

@@ -5,17 +5,18 @@
 //! cargo run --release --example durable -- forget    deletes the log after each kill: some get two votes
 //! ```
 //!
-//! The store is in memory only. So the validator logs each call that changes the store: a write that answers `Stored`, a certificate
-//! that answers `Certified`, and a collection that answers `Raised`. It syncs the log *before* it sends a vote. After a crash it opens
-//! a store with the same committee and limits. Before anything else, it repeats the calls of the log in their order.
+//! The store is in memory only. So the validator logs each call that changes the store. Such a call is a write that answers `Stored`, a
+//! certificate that answers `Certified`, or a collection that answers `Raised`. The validator syncs the log *before* it sends a vote. After
+//! a crash it opens a store with the same committee and limits. Before anything else, it repeats the calls of the log in their order.
 //!
-//! Why this is enough: the reply to a call and the state after it depend only on the calls before it (the step table of
-//! docs/MODEL.md), and no other reply changes the state. So the replay gives each round and author the same first block. If a crash
-//! keeps a block out of the log, its vote was not sent.
+//! This is enough, because the reply to a call and the state after it depend only on the calls before it. No other reply changes the state
+//! (see the step table of docs/MODEL.md). So the replay gives each round and author the same first block. If a crash keeps a block out of
+//! the log, its vote was not sent.
 //!
-//! If several threads call, hold one lock around each call and its append, so that the log has the order of the store's steps. After
-//! a logged collection to round g, the log may be cut to `collect(g)` followed by the logged messages of rounds >= g in their order.
-//! The example kills the process only. A power failure can also lose a new file: sync its folder once.
+//! If several threads call, hold one lock around each call and its append, so that the log has the order of the store's steps. After you
+//! log a collection to round g, you may cut the log to `collect(g)`, followed by the logged messages of rounds >= g in their order.
+//!
+//! The example only kills the process. A power failure can also lose a new file: sync its folder once.
 
 #[path = "../tests/corpus/records.rs"]
 mod file;
@@ -50,7 +51,7 @@ fn supervise(forget: bool) -> Result<()> {
         command.arg("validator").arg(&log).stdout(Stdio::piped());
         let mut validator = command.spawn()?;
         let pipe = validator.stdout.take().ok_or("no pipe")?;
-        // The kill comes early while the log is taken, or after the votes that earlier runs sent.
+        // The kill comes early in the replay of the log, or after the votes that earlier runs sent.
         let last = votes.len() as u64 * (run % 2) + random() % 10;
         for (count, line) in (0..).zip(BufReader::new(pipe).lines()) {
             if count == last {
@@ -73,7 +74,7 @@ fn supervise(forget: bool) -> Result<()> {
     is_same.ok_or("a slot got two votes".into())
 }
 
-/// Takes the log, and then the messages in an order of this run. A line that it prints stands for a vote.
+/// Replays the log, and then takes the messages in an order that differs in each run. Each line that it prints stands for a vote.
 fn validator(path: &str) -> Result<()> {
     let (committee, mut messages) = file::honest_messages(CORPUS);
     let mut limits = Limits::MAX;

@@ -1,16 +1,15 @@
-//! How long the calls of a store take, and how much of a validator's time goes into checks.
+//! Measures how long the calls of a store take, and how much of a validator's time goes into checks.
 //!
 //! ```text
 //! cargo run --release --example embedded               committees of 4, 10 and 100 members
 //! cargo run --release --example embedded -- 10 100     10 members, 100 rounds
 //! ```
 //!
-//! It needs python3 with the package `cryptography`: tests/corpus/make.py signs the messages into a temporary file. Each block has
-//! 16 transactions of 512 bytes, and each certificate the fewest votes that reach the quorum.
+//! It needs python3 with the package `cryptography`: tests/corpus/make.py signs the messages into a temporary file. Each block has 16
+//! transactions of 512 bytes, and each certificate has the fewest votes that reach the quorum.
 //!
-//! One thread checks every message once. Then it plays the messages to new stores for a second or more. Each block is written,
-//! certified and read. One block of each round is read causally, and its ticket is walked. The garbage round follows 20 rounds
-//! behind.
+//! One thread checks every message once. Then it plays the messages to new stores for a second or more. It writes, certifies and reads each
+//! block. It reads one block of each round causally, and walks its ticket. The garbage round stays 20 rounds behind.
 
 #[path = "../tests/corpus/records.rs"]
 mod file;
@@ -122,7 +121,7 @@ impl Load {
                 Checked::Certificate(certificate) => certificates.push(certificate),
                 Checked::Vote(_) => return Err("a vote".into()),
             }
-            // One byte too many is found after the last field. So this decodes the message, and checks nothing else.
+            // A check finds a surplus byte only after the last field. So this check decodes the message, and does nothing else.
             let longer = [message, &[0]].concat();
             let fault = decoding.take(|| Message::check(&committee, &longer));
             assert!(matches!(fault, Err(CheckError::Text(TextFault::Trailing))));

@@ -1,13 +1,13 @@
 //! Four validators put the blocks of one network into one order. Each has a store and two threads.
 //!
-//! The *intake* of a validator checks what the others send, writes blocks, signs votes, gathers the
-//! votes for its own blocks, and certifies. The *decider* gives blocks out by a toy rule: every
-//! second round has a leader, by turns. Once the leader's block is complete, the decider walks its
-//! causal history, and gives out the blocks that it did not give out before.
+//! The *intake* of a validator checks messages, writes blocks and signs votes. It gathers the votes
+//! for its own blocks, and hands in certificates. The *decider* delivers blocks by a toy rule:
+//! every second round has a leader, in round-robin order. Once the leader's block is complete, the
+//! decider walks its causal list, and delivers the blocks that it has not delivered before.
 //!
-//! Member 1 makes two blocks for round 3, and a block of round 5 comes with a bad signature, too.
-//! Still the orders are equal. A real validator signs at run time. Here all signatures come from
-//! `data/corpus.txt`, since the crate makes none. `durable.rs` shows how to survive a crash.
+//! Member 1 makes two blocks for round 3, and a block of round 5 also comes with a bad signature.
+//! The orders are equal all the same. A real validator signs at run time. Here all signatures come
+//! from `data/corpus.txt`, because the crate makes none. `durable.rs` shows how to survive a crash.
 mod data;
 
 use narwhal_store::{Causal, Checked, CheckedBlock, CheckedCertificate, CheckedVote, Committee};
@@ -21,13 +21,13 @@ use std::time::Duration;
 
 const MEMBERS: u16 = 4;
 const LAST_LEADER: u64 = 8;
-/// A thread that hears nothing for so long gives up.
+/// A thread gives up if it receives nothing for this long.
 const PATIENCE: Duration = Duration::from_secs(60);
 
 type Outcome<T> = Result<T, Box<dyn Error + Send + Sync>>;
 /// A message, or `None` when the validator is done.
 type Packet = Option<Vec<u8>>;
-/// The blocks that were given out, by round and author, and the ticket of the last leader.
+/// The delivered blocks, by round and author, and the ticket of the last leader.
 type Decided = (Vec<(u64, u16)>, Ticket);
 
 fn main() -> Outcome<()> {
@@ -51,7 +51,8 @@ fn main() -> Outcome<()> {
     Ok(())
 }
 
-/// What all validators share: the committee, their inboxes, and what was signed beforehand.
+/// The data that all validators share: the committee, their inboxes, and the signatures made
+/// beforehand.
 struct Network {
     committee: Committee,
     inboxes: Vec<Sender<Packet>>,
@@ -125,19 +126,19 @@ struct Intake<'a> {
     network: &'a Network,
     me: u16,
     session: Session,
-    /// Tells the decider of each certificate and each block.
+    /// Tells the decider about each certificate and each block.
     news: Sender<Option<Slot>>,
-    /// The messages of own blocks that are not sent yet.
+    /// The messages of its own blocks that are not sent yet.
     own: VecDeque<Vec<u8>>,
     certified: HashSet<Digest>,
-    /// The votes for own blocks.
+    /// The votes for its own blocks.
     gathers: HashMap<Digest, Gather>,
-    /// Blocks that are refused now, and may be stored later.
+    /// Refused blocks that may be stored later.
     later: Vec<CheckedBlock>,
 }
 
 impl Intake<'_> {
-    /// Takes what comes until the decider is done.
+    /// Handles messages until the decider is done.
     fn run(mut self, inbox: &Receiver<Packet>) -> Outcome<()> {
         loop {
             self.propose()?;
@@ -158,7 +159,7 @@ impl Intake<'_> {
         }
     }
 
-    /// Sends the next own blocks, once the parents of each are certified.
+    /// Sends its next blocks, once the parents of each are certified.
     fn propose(&mut self) -> Outcome<()> {
         while let Some(message) = self.own.front() {
             let Checked::Block(block) = Message::check(&self.network.committee, message)? else {
@@ -198,7 +199,8 @@ impl Intake<'_> {
         Ok(())
     }
 
-    /// Counts a vote for an own block, and sends the certificate when the votes reach the quorum.
+    /// Counts a vote for one of its blocks, and sends the certificate when the votes reach the
+    /// quorum.
     fn take_vote(&mut self, vote: &CheckedVote) -> Outcome<()> {
         let digest = vote.slot().digest;
         let Some(gather) = self.gathers.get_mut(&digest) else {
@@ -211,7 +213,8 @@ impl Intake<'_> {
         Ok(())
     }
 
-    /// Takes a certificate. Its block is stored now, even if another one of its slot came first.
+    /// Hands in a certificate. Its block is then stored, even if another block of its slot came
+    /// first.
     fn certify(&mut self, certificate: &CheckedCertificate) -> Outcome<()> {
         self.session.certify(certificate)?;
         self.certified.insert(certificate.slot().digest);
@@ -221,7 +224,7 @@ impl Intake<'_> {
     }
 }
 
-/// Decides one leader after another, and gives out what its causal history adds.
+/// Decides one leader after another, and delivers the new blocks of its causal list.
 fn decide_all(session: &Session, heard: &Receiver<Option<Slot>>) -> Outcome<Decided> {
     let (mut order, mut leaders, mut next) = (Vec::new(), HashMap::new(), 2);
     loop {

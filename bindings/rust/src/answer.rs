@@ -33,21 +33,21 @@ impl<R> Answer<R> {
         }
     }
 
-    /// Returns the reply. It is decoded when it is first asked for.
+    /// Returns the reply, which is decoded on first use.
     #[must_use]
     pub fn reply(&self) -> &R {
         let decode = || (self.decode)(&mut self.history.room.borrow_mut(), false);
         self.reply.get_or_init(decode)
     }
 
-    /// Returns the reply, and gives the history up.
+    /// Returns the reply and drops the history.
     #[must_use]
     pub fn into_reply(self) -> R {
         let decode = || (self.decode)(&mut self.history.room.into_inner(), true);
         self.reply.into_inner().unwrap_or_else(decode)
     }
 
-    /// Returns the history that explains the reply: all events up to and with this call.
+    /// Returns the history that explains the reply. Its last event is this call.
     #[must_use]
     pub fn history(&self) -> &History {
         &self.history

@@ -10,18 +10,17 @@ use crate::{Digest, Signature, Slot, Transactions, text_of_block};
 use std::fmt;
 use std::sync::{Arc, Mutex, MutexGuard, OnceLock, PoisonError};
 
-/// A block: its author, its round, its references to blocks of the round before, and its
+/// A block: its author, its round, its references to blocks of the preceding round, and its
 /// transactions.
 ///
-/// A clone is a second owner of the same block. The parts are decoded when they are first asked
-/// for, and kept from then on.
+/// A clone is a second owner of the same block. The parts are decoded on first use, and then kept.
 ///
-/// The digest of a block from a walk takes a SHA-256 of the whole body when it is first asked for.
-/// The first use of any other part copies the whole body once, also for the round and the author.
-/// That is cheaper than the digest. In one walk, no two blocks have the same round and author, so the
-/// two name a block there.
+/// For a block from a walk, the first use of the digest computes SHA-256 of the whole body. The
+/// first use of any other part, even of the round or the author, copies the whole body once. That
+/// is cheaper than the digest. In one walk, no two blocks have the same round and author, so round
+/// and author identify a block there.
 ///
-/// A block made by [`Block::new`] keeps the limits of the format, but it is not checked under a
+/// A block made by [`Block::new`] is within the limits of the format, but it is not checked under a
 /// committee. [`Message::check`](crate::Message::check) does that for a signed block.
 ///
 /// ```
@@ -36,22 +35,22 @@ use std::sync::{Arc, Mutex, MutexGuard, OnceLock, PoisonError};
 /// # Ok::<(), narwhal_store::BlockError>(())
 /// ```
 pub struct Block {
-    /// Where the block is until it is asked for.
+    /// The source of the block until its parts are first used.
     source: Mutex<Option<Source>>,
     inner: OnceLock<Arc<Inner>>,
 }
 
-/// Where a block is.
+/// A place from which the library gives a block.
 pub(crate) enum Source {
-    /// In its own handle.
+    /// Its own handle.
     Own(Handle),
-    /// In the answer to a read.
+    /// The answer to a read.
     Answer(Room),
-    /// At this index of the list of a walk.
+    /// This index of the list of a walk.
     Listed(Arc<Mutex<Handle>>, usize),
 }
 
-/// What all owners of a block share.
+/// The state that all owners of a block share.
 struct Inner {
     handle: Mutex<Handle>,
     digest: OnceLock<Digest>,
@@ -61,15 +60,15 @@ struct Inner {
 impl Block {
     /// Makes a block of this author and round.
     ///
-    /// Each parent is the author and the digest of a block of the round before. The parents are in
-    /// ascending order of their authors.
+    /// Each parent is the author and the digest of a block of the preceding round. The parents must
+    /// be in ascending order of their authors.
     ///
     /// # Errors
     ///
     /// - [`BlockError::BadRound`] if the round is 2^48 or more.
-    /// - [`BlockError::OverLimit`] if there are more than 100 parents, if their authors are not
-    ///   strictly ascending, if there are more than 1,024 transactions, if a transaction has more
-    ///   than 65,536 bytes, or if the body has more than 1,048,576 bytes.
+    /// - [`BlockError::OverLimit`] if the authors of the parents are not strictly ascending, or if
+    ///   the block exceeds a limit: 100 parents, 1,024 transactions, 65,536 bytes in a transaction,
+    ///   and 1,048,576 bytes in the body.
     pub fn new(
         author: u16,
         round: u64,
@@ -90,7 +89,7 @@ impl Block {
         Ok(Block::at(Source::Own(handle)))
     }
 
-    /// The block that is there.
+    /// The block from this source.
     #[inline]
     pub(crate) fn at(source: Source) -> Block {
         Block {
@@ -108,7 +107,7 @@ impl Block {
         }))
     }
 
-    /// The block that a read found, where its answer is used further.
+    /// The block that a read found. The answer stays usable.
     pub(crate) fn found(answer: &mut Handle) -> Block {
         Block::shared(Arc::new(Inner::found(answer)))
     }
@@ -125,7 +124,7 @@ impl Block {
             let mut source = self.source.lock().unwrap_or_else(PoisonError::into_inner);
             let source = source
                 .take()
-                .expect("a block has a source until it is asked for");
+                .expect("a block has a source until its parts are first used");
             Arc::new(Inner::of(source))
         })
     }
@@ -199,7 +198,7 @@ impl Block {
     /// Returns the block's message: the body and the author's signature of
     /// [`Block::text_to_sign`].
     ///
-    /// Nothing is verified here.
+    /// This does not verify the signature.
     #[must_use]
     pub fn message(&self, signature: &Signature) -> Vec<u8> {
         let message = ffi::block_message(&mut self.inner().lock(), signature);
@@ -208,7 +207,8 @@ impl Block {
 }
 
 impl Inner {
-    /// Takes a handle of the block alone. As with `Vec`, memory that runs out ends the process.
+    /// Opens a handle for this block only. If memory runs out, this ends the process, as `Vec`
+    /// does.
     fn of(source: Source) -> Inner {
         let handle = match source {
             Source::Own(handle) => handle,
@@ -242,7 +242,7 @@ impl Inner {
     }
 }
 
-/// The handle that the call opens. As with `Vec`, memory that runs out ends the process.
+/// The handle that the call opens. If memory runs out, this ends the process, as `Vec` does.
 pub(crate) fn opened(open: impl FnOnce(&mut Handle) -> Code) -> Handle {
     Handle::opened(open).unwrap_or_else(|code| code.abort())
 }
@@ -255,7 +255,7 @@ impl Clone for Block {
 
 impl fmt::Debug for Block {
     fn fmt(&self, f: &mut fmt::Formatter<'_>) -> fmt::Result {
-        // The digest is costly, so it is shown only if it is known.
+        // The digest is costly to compute, so it is shown only if it is known.
         f.debug_struct("Block")
             .field("round", &self.round())
             .field("author", &self.author())

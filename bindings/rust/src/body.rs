@@ -1,4 +1,4 @@
-//! The parts of a block, as its encoded body has them.
+//! The parts of a block, read from its encoded body.
 
 use crate::Digest;
 use std::fmt;
@@ -52,7 +52,7 @@ impl Body {
 struct Fields<'a>(&'a [u8]);
 
 impl<'a> Fields<'a> {
-    /// Reads a field of so many bytes.
+    /// Reads a field of `N` bytes.
     fn next<const N: usize>(&mut self) -> [u8; N] {
         let (field, rest) = self.0.split_first_chunk().expect(MALFORMED);
         self.0 = rest;
@@ -106,7 +106,7 @@ impl fmt::Debug for Transactions<'_> {
 mod tests {
     use crate::{Block, BlockError, Digest, Signature};
 
-    /// A block with so many parents, and transactions of these lengths, has just these parts.
+    /// A block that is made of these parts has exactly these parts.
     fn has_its_parts(author: u16, round: u64, parents: u16, lengths: &[usize]) {
         let parent = |number: u16| (number, Digest::of(&number.to_be_bytes()));
         let parents: Vec<_> = (0..parents).map(parent).collect();
@@ -132,7 +132,7 @@ mod tests {
         has_its_parts(3, 9, 100, &[0, 1, 65_536, 0, 5]);
         has_its_parts(1, 1, 2, &[1; 1024]);
         has_its_parts(1, 1, 0, &[65_536; 15]);
-        // The message fills the room on the stack, or needs one byte more.
+        // The message fills the buffer on the stack, or needs one byte more.
         for size in [4096, 4097] {
             has_its_parts(0, 0, 0, &[size - 65 - 13 - 4]);
         }

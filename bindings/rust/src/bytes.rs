@@ -96,7 +96,7 @@ bytes! {
 }
 
 impl Digest {
-    /// Room for a digest that the library fills in.
+    /// A digest for the library to write into.
     pub(crate) const ZERO: Digest = Digest([0; 32]);
 
     /// Returns the SHA-256 digest of the bytes.
@@ -137,7 +137,7 @@ impl fmt::Display for HexError {
 
 impl Error for HexError {}
 
-/// The bytes that the hex digits stand for.
+/// The bytes that the hex digits encode.
 fn bytes_of<const N: usize>(text: &str) -> Result<[u8; N], HexError> {
     let (expected, found) = (2 * N, text.len());
     if found != expected {

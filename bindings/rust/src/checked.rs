@@ -9,7 +9,7 @@ use std::fmt;
 
 /// A message that passed [`Message::check`](crate::Message::check).
 ///
-/// The type is `Send`, so a checked message can be moved to the thread that takes it. It is not
+/// The type is `Send`, so a checked message can be moved to the thread that writes it. It is not
 /// `Sync`.
 #[derive(Debug)]
 pub enum Checked {

@@ -1,9 +1,9 @@
-//! The codes that the library answers.
+//! The codes that the library returns.
 
 use crate::NoMemory;
 use std::alloc::{Layout, handle_alloc_error};
 
-/// What a function of the library answers.
+/// A code that a function of the library returned.
 #[derive(Clone, Copy, Debug, PartialEq, Eq)]
 #[repr(transparent)]
 #[must_use]
@@ -27,7 +27,7 @@ impl Code {
     pub(crate) const FEW_VOTES: Code = Code(18);
     pub(crate) const APART: Code = Code(19);
 
-    /// Whether the call is done, or which code refused it.
+    /// `Ok` if the call succeeded, and otherwise its code.
     #[inline]
     pub(crate) fn done(self) -> Result<(), Code> {
         match self {
@@ -36,13 +36,13 @@ impl Code {
         }
     }
 
-    /// Ends a call that can be refused for one reason, which is memory.
+    /// The result of a call that fails only if memory runs out.
     #[inline]
     pub(crate) fn or_no_memory(self) -> Result<(), NoMemory> {
         self.done().map_err(Code::no_memory)
     }
 
-    /// The only error of a call that can be refused for one reason.
+    /// The error of a call that fails only if memory runs out.
     #[cold]
     pub(crate) fn no_memory(self) -> NoMemory {
         match self {
@@ -51,8 +51,8 @@ impl Code {
         }
     }
 
-    /// Ends a call that has no error to report. As with `Vec`, memory that runs out ends the
-    /// process.
+    /// Ends the process if the call failed, because its caller returns no error. If memory ran out,
+    /// it ends the process as `Vec` does.
     #[inline]
     pub(crate) fn or_abort(self) {
         if self != Code::DONE {
@@ -69,7 +69,7 @@ impl Code {
         }
     }
 
-    /// A code that the function does not have, by its contract.
+    /// Panics, because by its contract the function never returns this code.
     #[cold]
     pub(crate) fn unexpected(self) -> ! {
         panic!(

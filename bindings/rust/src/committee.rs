@@ -18,7 +18,7 @@ pub struct Member {
 }
 
 impl Member {
-    /// Room for a member that the library fills in.
+    /// A member for the library to write into.
     const EMPTY: Member = Member {
         key: PublicKey([0; 32]),
         weight: 0,

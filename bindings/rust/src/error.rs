@@ -6,8 +6,8 @@ use std::fmt;
 
 /// The library could not allocate memory. The call changed nothing and can be repeated.
 ///
-/// Calls that decode what another call returned have no error. They end the process when memory
-/// runs out, as `Vec` and `Arc` do.
+/// Calls that only decode the result of another call return no error. If memory runs out, they end
+/// the process, as `Vec` and `Arc` do.
 #[derive(Clone, Copy, Debug, PartialEq, Eq)]
 pub struct NoMemory;
 
@@ -46,13 +46,13 @@ macro_rules! error_texts {
 
 pub(crate) use error_texts;
 
-/// Why a store is not opened, or a session is not made.
+/// Why a store cannot be opened, or a session cannot be made.
 #[derive(Clone, Copy, Debug, PartialEq, Eq)]
 #[non_exhaustive]
 pub enum OpenError {
     /// A limit is outside its range.
     BadLimits,
-    /// As many sessions were made as the limit allows.
+    /// The store has made as many sessions as its limit.
     TooManySessions,
     /// The library could not allocate memory.
     NoMemory,

@@ -76,7 +76,7 @@ pub enum Reply {
     Unknown,
     /// The block had no certificate.
     Uncertified,
-    /// An ancestor of the block was missing.
+    /// An ancestor of the block was missing or not certified.
     Incomplete,
     /// The call got a [`Ticket`](crate::Ticket).
     Ready,

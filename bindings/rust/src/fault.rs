@@ -8,7 +8,8 @@ use std::fmt;
 
 /// Why a message did not pass its check.
 ///
-/// The text names only the kind of the message. The source of the error is the rule that is broken.
+/// The error's text names only the kind of the message. Its source is the rule that the message
+/// breaks.
 #[derive(Clone, Copy, Debug, PartialEq, Eq)]
 #[non_exhaustive]
 pub enum CheckError {
@@ -151,7 +152,7 @@ impl From<NoMemory> for CheckError {
 }
 
 impl CheckError {
-    /// The fault that the library told.
+    /// The fault that the library reported.
     pub(crate) fn of(told: &MessageTold) -> CheckError {
         let text = |fault| CheckError::Text(fault);
         let block = |fault| CheckError::Block(fault);

@@ -13,17 +13,17 @@ use std::mem::{self, MaybeUninit};
 use std::sync::atomic::{AtomicPtr, Ordering};
 use std::{ptr, slice};
 
-/// What the library keeps for the crate: one pointer, which is null while the handle is closed. It
-/// closes when it is dropped.
+/// A handle of the library: one pointer, which is null while the handle is closed. Dropping it
+/// closes it.
 ///
-/// The library answers a code to a closed handle and to a handle of another kind, so one type
+/// The library returns a code for a closed handle and for a handle of another kind, so one type
 /// serves all kinds.
 #[repr(transparent)]
 pub(crate) struct Handle(*mut c_void);
 
 // SAFETY: any thread may use and free a handle, as long as there is one call at a time on it. The
-// library proves that what each kind of handle holds is `Send`. Every function takes `&mut Handle`,
-// and `Handle` is not `Sync`, so calls on one handle never overlap.
+// library proves that the content of each kind of handle is `Send`. Every function takes `&mut
+// Handle`, and `Handle` is not `Sync`, so calls on one handle never overlap.
 unsafe impl Send for Handle {}
 
 impl Handle {
@@ -45,7 +45,7 @@ impl Handle {
         self.0.is_null()
     }
 
-    /// What the handle has. The handle is closed afterwards.
+    /// Takes the content of the handle, which is closed afterwards.
     pub(crate) fn take(&mut self) -> Handle {
         mem::replace(self, Handle::CLOSED)
     }
@@ -60,7 +60,7 @@ impl Drop for Handle {
     }
 }
 
-/// A place for one handle that nobody uses, shared by threads.
+/// A place for one unused handle, which threads share.
 pub(crate) struct Spare(AtomicPtr<c_void>);
 
 impl Spare {
@@ -75,7 +75,7 @@ impl Spare {
         Handle(self.0.swap(ptr::null_mut(), Ordering::AcqRel))
     }
 
-    /// Puts a handle there. If there was one, that is closed.
+    /// Puts a handle there. If there was one already, that one is closed.
     #[inline]
     pub(crate) fn put(&self, mut handle: Handle) {
         let at = mem::replace(&mut handle.0, ptr::null_mut());
@@ -92,11 +92,11 @@ impl Drop for Spare {
 /// A handle, lent to a call.
 type At<'a> = &'a mut Handle;
 
-/// The exports that take references and numbers only, and answer a code.
+/// The exports that take only references and numbers, and return a code.
 macro_rules! exports {
     ($($export:ident($($argument:ident: $type:ty),+);)+) => {
         // SAFETY: the names and types are those of nw.h. These functions are safe: the library
-        // answers a code to every value of the arguments, and keeps no reference after the call.
+        // returns a code for all values of the arguments, and keeps no reference after the call.
         unsafe extern "C" {
             $(pub(crate) safe fn $export($($argument: $type),+) -> Code;)+
         }
@@ -168,10 +168,10 @@ unsafe extern "C" {
     ) -> Code;
 }
 
-/// The exports that write bytes into a room. `needed` gets the number of bytes.
+/// The exports that write bytes into a buffer. `needed` gets the number of bytes.
 macro_rules! rooms {
     ($($export:ident as $name:ident($($argument:ident: $type:ty),+);)+) => {
-        // SAFETY: as above. The room is a pointer with a length.
+        // SAFETY: as above. The buffer is a pointer with a length.
         unsafe extern "C" {
             $(fn $export(
                 $($argument: $type,)+ room: *mut u8, room_len: usize, needed: &mut usize,
@@ -179,7 +179,7 @@ macro_rules! rooms {
         }
 
         $(pub(crate) fn $name($($argument: $type),+) -> Result<Vec<u8>, Code> {
-            // SAFETY: the pointer and the length are those of one room, which may be written to.
+            // SAFETY: the pointer and the length are those of one buffer, which may be written to.
             written(|room, len, needed| unsafe { $export($($argument,)+ room, len, needed) })
         })+
     };
@@ -193,14 +193,14 @@ rooms! {
     nw_answer_message as answer_message(answer: &mut Handle);
 }
 
-/// The bytes that a call writes, at first into a room on the stack. If that is too small, the call
-/// is repeated with the room that it needs.
+/// The bytes that a call writes, at first into a buffer on the stack. If that is too small, the
+/// call is repeated with a buffer of the needed size.
 fn written(mut call: impl FnMut(*mut u8, usize, &mut usize) -> Code) -> Result<Vec<u8>, Code> {
     let (mut room, mut needed) = ([MaybeUninit::<u8>::uninit(); 4096], 0);
     match call(room.as_mut_ptr().cast(), room.len(), &mut needed) {
         Code::DONE => {
             let bytes = room[..needed].as_ptr().cast();
-            // SAFETY: a call that is done wrote the first `needed` bytes, which are in the room.
+            // SAFETY: a call that succeeded wrote the first `needed` bytes of the buffer.
             return Ok(unsafe { slice::from_raw_parts(bytes, needed) }.to_vec());
         }
         Code::SMALL => {}
@@ -235,8 +235,8 @@ pub(crate) fn check(committee: &mut Handle, text: &[u8]) -> Result<Handle, Code>
     Handle::opened(|out| unsafe { nw_check(committee, text.as_ptr(), text.len(), out) })
 }
 
-/// Makes a block. `transactions` has all of them one after another, and `lengths` the length of
-/// each.
+/// Makes a block. `transactions` has the bytes of all transactions, one after another, and
+/// `lengths` has the length of each.
 pub(crate) fn block_new(
     author: u16,
     round: u64,

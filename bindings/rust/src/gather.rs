@@ -70,10 +70,10 @@ impl Gather {
     ///
     /// # Errors
     ///
-    /// A vote that is refused is not counted. The error is the first that applies:
+    /// A refused vote is not counted. The error is the first that applies:
     ///
     /// - [`GatherError::OtherBlock`] if the vote is for another slot.
-    /// - [`GatherError::Repeated`] if a vote of its signer is counted already.
+    /// - [`GatherError::Repeated`] if a vote of its signer is already counted.
     /// - [`GatherError::NoMember`] if its signer is not a member.
     /// - [`GatherError::BadSignature`] if its signature does not verify.
     /// - [`GatherError::NoMemory`] if the library could not allocate memory.
@@ -84,7 +84,7 @@ impl Gather {
         Ok(quorum)
     }
 
-    /// Returns the certificate of the votes that are counted. More votes can be added afterwards.
+    /// Returns the certificate of the counted votes. More votes can be added afterwards.
     ///
     /// # Errors
     ///
@@ -113,7 +113,7 @@ pub enum GatherError {
     BadRound,
     /// The vote is for another slot.
     OtherBlock,
-    /// A vote of this signer is counted already.
+    /// A vote of this signer is already counted.
     Repeated,
     /// The signature of the vote does not verify.
     BadSignature,

@@ -10,14 +10,14 @@ use std::fmt;
 use std::iter::FusedIterator;
 use std::ptr;
 
-/// The history that explains an answer: the events of the store up to and with the call that was
-/// answered.
+/// The history that explains an answer: the events of the store up to the answered call, which is
+/// the last event.
 ///
-/// The proof says that the answer is what the step table of docs/MODEL.md gives after these events,
-/// in this order, whatever other threads did. The last event is the call itself.
+/// It is proved that the answer is what the step table of docs/MODEL.md gives after the earlier
+/// events, in this order, whatever other threads did.
 ///
-/// The history is a view of the answer and never changes. Events are decoded when they are asked
-/// for. The type is `Send` and not `Sync`.
+/// The history is a view of the answer and never changes. Events are decoded on use. The type is
+/// `Send` and not `Sync`.
 ///
 /// ```
 /// # use narwhal_store::{Committee, Digest, Limits, PublicKey, Store};
@@ -62,7 +62,7 @@ impl History {
         self.len() == 0
     }
 
-    /// Returns the event at the index, from 0, or `None` past the last one.
+    /// Returns the event at the index, counted from 0, or `None` past the last one.
     #[must_use]
     pub fn event(&self, index: usize) -> Option<Event> {
         let mut told = EventTold::EMPTY;

@@ -1,4 +1,4 @@
-//! The check of many messages by several threads.
+//! Checking many messages with several threads.
 
 use crate::message::check_with;
 use crate::{CheckError, Checked, Committee};
@@ -10,9 +10,9 @@ type Outcome = Result<Checked, CheckError>;
 
 /// Checks many messages with several threads, and returns one result for each message, in order.
 ///
-/// Each result is that of [`Message::check`](crate::Message::check). The calling thread is one of
-/// the threads, so `threads` below 2 starts no other thread. If the system refuses a thread, the
-/// others do its work.
+/// Each result is that of [`Message::check`](crate::Message::check). The calling thread checks
+/// messages too, so `threads` below 2 starts no other thread. If the system does not start a
+/// thread, the others do its work.
 ///
 /// ```
 /// # mod data { include!(concat!(env!("CARGO_MANIFEST_DIR"), "/examples/data/mod.rs")); }
@@ -60,8 +60,8 @@ pub fn check_all(
         .collect()
 }
 
-/// Checks one message after another that no thread has taken yet. Without memory for a handle of
-/// the committee it takes none.
+/// Checks one message after another that no thread has taken yet. If memory for a handle of the
+/// committee runs out, it checks none.
 fn check_some(
     committee: &Committee,
     messages: &[impl AsRef<[u8]>],

@@ -1,10 +1,10 @@
 //! The block store of a Narwhal mempool, as formally verified software.
 //!
 //! The store keeps blocks of transactions and their certificates in memory. For each round and
-//! author, it says which block came first, so that the validator votes for this one. It lists a
-//! block with its certified ancestors. Meanwhile, other threads write blocks and collect old rounds:
-//! a collection raises the *garbage round*, and drops all rounds below it. The code of the store is
-//! proved to meet its contracts. This crate is a thin safe layer over its static library.
+//! author, it says which block came first, so that the validator votes only for that block. It
+//! lists a block with its certified ancestors, while other threads write blocks and collect old
+//! rounds. A collection raises the *garbage round*, and drops all rounds below it. The code of the
+//! store is proved to meet its contracts. This crate is a thin safe layer over its static library.
 //!
 //! # Use
 //!
@@ -51,15 +51,15 @@
 //!
 //! The proofs cover the static library: every function is memory-safe and returns, and
 //!
-//! - each answer carries a [`History`] of calls and replies that ends with its own, and a sequential
-//!   store that takes these calls in order gives exactly these replies;
+//! - each answer carries a [`History`] of calls and replies, which ends with its own call; a
+//!   sequential store that takes these calls in order gives exactly these replies;
 //! - a walk lists exactly the certified ancestors that are not below the garbage round, as of the
 //!   call that opened the ticket;
 //! - at most one write per round and author answers `Stored { vote: true }`, also across restarts
 //!   of the history.
 //!
 //! The proofs do not cover this crate, its lock, std, libc, the compilers or the code of SHA-256.
-//! Nor do they show that signatures cannot be forged, or that no two blocks have one digest.
+//! Nor do they show that signatures cannot be forged, or that no two blocks have the same digest.
 //!
 //! # After a crash
 //!
@@ -74,9 +74,9 @@
 //! 3. After a crash, open a store with the same committee and limits. Repeat the calls of the log in
 //!    their order, before anything else.
 //!
-//! After you logged a collection to round g, you can cut the log. The shorter log has `collect(g)`,
-//! and then the logged messages of rounds >= g in their order. The example `durable` shows the log
-//! without the cut.
+//! After you log a collection to round g, you can cut the log. The shorter log has `collect(g)`,
+//! followed by the logged messages of rounds >= g in their order. The example `durable` shows the
+//! log without the cut.
 //!
 //! # Panics
 //!
@@ -138,7 +138,7 @@ pub use walk::Walk;
 /// The path of the static library that this crate was linked with.
 pub const ARCHIVE: &str = env!("NW_ARCHIVE");
 
-/// What may cross to another thread, and what may be shared.
+/// The types that can be sent to another thread, and those that can be shared.
 const _: () = {
     const fn send<T: Send>() {}
     const fn sync<T: Sync>() {}

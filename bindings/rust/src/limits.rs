@@ -1,9 +1,9 @@
 //! The limits of a store.
 
-/// How much a store holds.
+/// The limits of a store.
 ///
-/// A store never holds more than its limits allow. A call that would need more answers `Full` or
-/// `TooFar`, or fails with [`StepError::HistoryFull`](crate::StepError::HistoryFull).
+/// A store never exceeds its limits. A call that would exceed one answers `Full` or `TooFar`, or
+/// fails with [`StepError::HistoryFull`](crate::StepError::HistoryFull).
 ///
 /// ```
 /// use narwhal_store::Limits;
@@ -20,9 +20,9 @@ pub struct Limits {
     ///
     /// The history holds each block that was written, so a lower limit bounds its memory.
     pub events: u32,
-    /// How many rounds the store takes, counted from the garbage round: 1 to 4,096.
+    /// How many rounds the store accepts, from the garbage round on: 1 to 4,096.
     pub window: u32,
-    /// The most sessions that the store makes, dropped ones included: 1 to 256.
+    /// The most sessions that the store makes, including dropped ones: 1 to 256.
     pub sessions: u32,
 }
 
@@ -39,9 +39,9 @@ impl Limits {
 impl Default for Limits {
     /// Returns 65,536 blocks, 65,536 events, a window of 512 rounds and 16 sessions.
     ///
-    /// Each member can fill one block per round of the window without any votes. With 512 rounds,
-    /// the 100 members of the largest committee fill 51,200 blocks, so nobody can use up the store
-    /// this way.
+    /// Each member can make the store keep one block per round of the window without any votes.
+    /// With 512 rounds, these are at most 51,200 blocks from the 100 members of the largest
+    /// committee. So nobody can fill the store this way.
     fn default() -> Limits {
         Limits {
             window: 512,

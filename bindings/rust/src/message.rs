@@ -1,4 +1,4 @@
-//! Messages, and what they are once they are checked.
+//! Messages and their check.
 
 use crate::code::Code;
 use crate::ffi::{self, Handle};
@@ -6,7 +6,7 @@ use crate::told::{MessageTold, message};
 use crate::{CheckError, Checked, CheckedBlock, CheckedCertificate, CheckedVote, Committee};
 use std::cell::RefCell;
 
-/// What validators send one another: signed blocks, certificates and votes.
+/// The messages that validators send one another: signed blocks, certificates and votes.
 ///
 /// This type has no values. It names the check of a message's bytes, [`Message::check`].
 #[derive(Clone, Copy, Debug)]
@@ -15,10 +15,10 @@ pub enum Message {}
 impl Message {
     /// Decodes a message and checks it under the committee.
     ///
-    /// A block that passes is well formed: its author and the authors of its parents are members,
-    /// its parents reach the quorum unless its round is 0, and its author signed it. A certificate
-    /// that passes is valid: its signers are members and reach the quorum, and every signature
-    /// verifies. The signature of a vote is not verified here: [`Gather::add`] does that.
+    /// A block that passes is well formed and signed by its author. Its author and the authors of
+    /// its parents are members, and its parents reach the quorum unless its round is 0. A
+    /// certificate that passes is valid: its signers are members and reach the quorum, and every
+    /// signature verifies. The signature of a vote is not verified here: [`Gather::add`] does that.
     ///
     /// Several threads can check messages at once, under one committee. A check takes no lock of a
     /// store.

@@ -18,7 +18,7 @@ thread_local! {
     static REFUSED: Cell<usize> = const { Cell::new(0) };
 }
 
-/// An allocator that refuses the allocation whose turn it is.
+/// An allocator that refuses the chosen allocation.
 pub(crate) fn refusing(
     allocate: impl FnOnce(usize) -> *mut c_void,
 ) -> impl FnOnce(usize) -> *mut c_void {
@@ -30,21 +30,21 @@ pub(crate) fn refusing(
     }
 }
 
-/// A store that took some messages, and what comes next.
+/// A store that has some messages, and the messages to come.
 struct World {
     committee: Committee,
     store: Store,
     session: Session,
     block: CheckedBlock,
     certificate: CheckedCertificate,
-    /// A digest that can be read with its causal history.
+    /// A complete digest.
     leader: Digest,
     tickets: [Ticket; 2],
     votes: Vec<CheckedVote>,
 }
 
 impl World {
-    /// The store takes all messages but the last block and the last certificate.
+    /// A store that has all messages except the last block and the last certificate.
     fn new() -> World {
         let committee = Committee::equal(&data::keys()).unwrap();
         let store = Store::new(&committee, Limits::default()).unwrap();
@@ -86,8 +86,8 @@ impl World {
     }
 }
 
-/// Refuses each allocation of the call in turn. A call that fails for it leaves the store as it
-/// was, and succeeds when it is repeated.
+/// Refuses each allocation of the call in turn. A call that fails must leave the store as it was,
+/// and succeed when it is repeated.
 #[track_caller]
 fn refuse_each<T: Debug + PartialEq, E: Debug + PartialEq>(
     no_memory: E,

@@ -6,11 +6,11 @@ use crate::told::{Told, reply, unexpected_kind};
 
 /// The reply to [`Session::write`](crate::Session::write).
 ///
-/// The variants are tested in the order of docs/MODEL.md, which is the order here except that
-/// `Stored` is the last. Only `Stored` changes the store.
+/// The store tests the cases in the order of docs/MODEL.md. That is the order of the variants,
+/// except that `Stored` comes last. Only `Stored` changes the store.
 #[derive(Clone, Copy, Debug, PartialEq, Eq)]
 pub enum WriteReply {
-    /// The block is stored from now on. Log it.
+    /// The block is now stored. Log it.
     Stored {
         /// Whether the block is the first of its round and author.
         ///
@@ -27,29 +27,29 @@ pub enum WriteReply {
     /// The block's round is not below the garbage round plus the window. It is not stored. Keep the
     /// block, and write it again after the garbage round is raised.
     TooFar,
-    /// The block was stored already. There is nothing to do.
+    /// The block was already stored. There is nothing to do.
     Held,
     /// Another block with the same digest is stored. SHA-256 is broken.
     Clash,
     /// The block's digest is certified for another round or author. A quorum signed something
     /// false.
     Misfit,
-    /// The author made another block for the round, which came first, and this is its digest. The
-    /// block is not stored. Keep it, and write it again after its certificate answers `Certified`:
-    /// it is then stored without a vote.
+    /// The author made another block for the round, which came first. This is the digest of that
+    /// block. The new block is not stored. Keep it, and write it again after its certificate
+    /// answers `Certified`: it is then stored without a vote.
     Equivocates(Digest),
-    /// The store holds as many blocks as its limit. The block is not stored. Keep it, and write it
-    /// again after the garbage round is raised.
+    /// The number of stored blocks has reached its limit. The block is not stored. Keep it, and
+    /// write it again after the garbage round is raised.
     Full,
 }
 
 /// The reply to [`Session::certify`](crate::Session::certify).
 ///
-/// The variants are tested in the order of docs/MODEL.md, which is the order here except that
-/// `Certified` is the last. Only `Certified` changes the store.
+/// The store tests the cases in the order of docs/MODEL.md. That is the order of the variants,
+/// except that `Certified` comes last. Only `Certified` changes the store.
 #[derive(Clone, Copy, Debug, PartialEq, Eq)]
 pub enum CertifyReply {
-    /// The certificate is kept from now on. Log it.
+    /// The certificate is now stored. Log it.
     Certified,
     /// The certificate's round is below the garbage round. Drop the certificate.
     Collected {
@@ -59,15 +59,15 @@ pub enum CertifyReply {
     /// The certificate's round is not below the garbage round plus the window. Keep the certificate,
     /// and hand it in again after the garbage round is raised.
     TooFar,
-    /// The digest was certified already. There is nothing to do.
+    /// The digest was already certified. There is nothing to do.
     Already,
-    /// The digest is certified for another round or author, or its block has another. A quorum
-    /// signed something false.
+    /// The digest is certified for another round or author, or its block has another round or
+    /// author. A quorum signed something false.
     Misfit,
     /// Another block of the round and author is certified, and this is its digest. More members are
     /// faulty than the committee tolerates.
     Conflict(Digest),
-    /// The store holds as many certificates as its limit. Keep the certificate, and hand it in again
+    /// The number of certificates has reached its limit. Keep the certificate, and hand it in again
     /// after the garbage round is raised.
     Full,
 }
@@ -87,8 +87,8 @@ pub enum CollectReply {
     },
 }
 
-/// Why a block cannot be read with its causal history. It is the reply to
-/// [`Session::causal`](crate::Session::causal) when there is no ticket.
+/// Why a causal read gets no ticket. It is the reply to [`Session::causal`](crate::Session::causal)
+/// in that case.
 #[derive(Clone, Copy, Debug, PartialEq, Eq)]
 pub enum CausalFault {
     /// The block is not stored.
@@ -107,7 +107,7 @@ error_texts!(CausalFault {
     CausalFault::Incomplete => "an ancestor of the block is missing",
 });
 
-/// What a store holds. It is the reply to [`Session::status`](crate::Session::status).
+/// The counts of a store. They are the reply to [`Session::status`](crate::Session::status).
 #[derive(Clone, Copy, Debug, PartialEq, Eq)]
 #[repr(C)]
 pub struct Status {
@@ -117,14 +117,14 @@ pub struct Status {
     pub blocks: u64,
     /// The number of certificates.
     pub certificates: u64,
-    /// The number of blocks that can be read with their causal history.
+    /// The number of complete blocks: those for which a causal read gets a ticket.
     pub complete: u64,
     /// The number of missing parents.
     pub wanted: u64,
 }
 
 impl Status {
-    /// Room that the library fills in.
+    /// Counts for the library to write into.
     pub(crate) const EMPTY: Status = Status {
         garbage_round: 0,
         blocks: 0,

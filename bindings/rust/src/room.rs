@@ -1,12 +1,12 @@
-//! Rooms for answers.
+//! Rooms for answers, made before the calls.
 
 use crate::code::Code;
 use crate::ffi::{self, Handle, Spare};
 use std::ops::{Deref, DerefMut};
 use std::sync::Arc;
 
-/// The handle of an answer. When it is dropped, its store keeps it for the next call, which puts
-/// its own answer there.
+/// The handle of an answer. When it is dropped, its store keeps it for the next call, which
+/// replaces the answer.
 pub(crate) struct Room {
     handle: Handle,
     spare: Arc<Spare>,
@@ -26,7 +26,7 @@ impl Room {
         })
     }
 
-    /// What the room has. The room is closed afterwards.
+    /// Takes the content of the room, which is closed afterwards.
     pub(crate) fn take(&mut self) -> Room {
         Room {
             handle: self.handle.take(),

@@ -1,4 +1,4 @@
-//! Sessions: the calls of a store.
+//! Sessions, which make the calls of a store.
 
 use crate::answer::Answer;
 use crate::block::Source;
@@ -18,13 +18,13 @@ use std::sync::Arc;
 /// session are numbered 1, 2, 3, .. in the history. Threads can share a session or have one each: a
 /// history names the session of each event.
 ///
-/// Every call can fail with these errors of [`StepError`]. It then changed no block, certificate or
-/// vote, and no event was added:
+/// A failed call changes no block, certificate or vote, and adds no event. Every call can fail with
+/// these errors of [`StepError`]:
 ///
 /// - [`HistoryFull`](StepError::HistoryFull) if the history has as many events as its limit, unless
 ///   the store restarts by itself.
 /// - [`NoMemory`](StepError::NoMemory) if the library could not allocate memory. The call can be
-///   repeated. If the store restarts by itself, the history may be empty already.
+///   repeated. If the store restarts by itself, the history may already be empty.
 pub struct Session {
     store: Arc<Inner>,
     id: u16,
@@ -35,7 +35,7 @@ impl Session {
         Session { store, id }
     }
 
-    /// Returns the number of the session, from 0. Events of the history have it.
+    /// Returns the number of the session, counted from 0. Its events have this number.
     #[must_use]
     pub fn id(&self) -> u16 {
         self.id
@@ -85,8 +85,8 @@ impl Session {
         }))
     }
 
-    /// Hands in a certificate. It is kept if the reply is [`CertifyReply::Certified`], which is to be
-    /// logged, or [`CertifyReply::Already`].
+    /// Hands in a certificate. The store has it if the reply is [`CertifyReply::Certified`] or
+    /// [`CertifyReply::Already`]. Log it if the reply is `Certified`.
     ///
     /// The block and its certificate can come in any order. After `Certified`, write the block again
     /// if its write answered [`WriteReply::Equivocates`].
@@ -178,9 +178,9 @@ impl Session {
     /// lists.
     ///
     /// This does not free the blocks. The history holds them until
-    /// [`Store::restart`](crate::Store::restart), the list that causal reads share until
-    /// [`Store::compact`](crate::Store::compact) or its next rebuild, and answers and tickets until
-    /// they are dropped.
+    /// [`Store::restart`](crate::Store::restart). The list that causal reads share holds them until
+    /// [`Store::compact`](crate::Store::compact) or its next rebuild. Answers and tickets hold them
+    /// until they are dropped.
     ///
     /// # Errors
     ///
@@ -194,9 +194,9 @@ impl Session {
         }))
     }
 
-    /// Lists missing parents: those that a stored block above the garbage round refers to, and that
-    /// are not stored or not certified. The reply is the first `most` of them, ascending by round,
-    /// author and digest.
+    /// Lists missing parents: blocks that a stored block above the garbage round refers to, and
+    /// that are not stored or not certified. The reply has the first `most` of them, ascending by
+    /// round, author and digest.
     ///
     /// Ask other validators for these blocks and certificates.
     ///
@@ -210,7 +210,7 @@ impl Session {
         Ok(Answer::new(answer, |answer, _| slots_of(answer)))
     }
 
-    /// Counts what the store holds.
+    /// Counts the blocks, certificates, complete blocks and missing parents of the store.
     ///
     /// # Errors
     ///
@@ -229,8 +229,8 @@ impl Session {
         })
     }
 
-    /// Takes a step as this session's next call, and returns its answer. The answer's room is made
-    /// before the step, so that no event is recorded whose answer is lost.
+    /// Makes this session's next call, and returns its answer. The room for the answer is made
+    /// before the call, so that no event loses its answer.
     #[inline]
     fn step(
         &self,
@@ -262,7 +262,7 @@ fn block_of(answer: &mut Room, is_last: bool) -> Option<Block> {
     })
 }
 
-/// The missing parents that are listed.
+/// The listed missing parents.
 fn slots_of(answer: &mut Handle) -> Vec<Slot> {
     let listed = told(answer).number as usize;
     let slot = |index| {

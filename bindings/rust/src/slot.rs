@@ -4,7 +4,8 @@ use crate::code::Code;
 use crate::ffi;
 use crate::{BadRound, Digest, Signature};
 
-/// A block's digest, with the block's round and author.
+/// A block's digest, with the block's round and author. In docs/MODEL.md, a slot is the round and
+/// the author only.
 ///
 /// Each vote is for a slot, and a certificate proves that a quorum voted for one.
 #[derive(Clone, Copy, Debug, PartialEq, Eq, Hash)]
@@ -19,7 +20,7 @@ pub struct Slot {
 }
 
 impl Slot {
-    /// Room for a slot that the library fills in.
+    /// A slot for the library to write into.
     pub(crate) const EMPTY: Slot = Slot {
         digest: Digest::ZERO,
         round: 0,
@@ -55,8 +56,8 @@ pub fn text_of_vote(slot: &Slot) -> Result<[u8; 44], BadRound> {
 /// Returns the message of a vote: the slot, the number of the member that signed it, and the
 /// signature of [`text_of_vote`].
 ///
-/// The message has 107 bytes. Nothing is verified here: [`Gather::add`](crate::Gather::add) does
-/// that.
+/// The message has 107 bytes. This does not verify the signature:
+/// [`Gather::add`](crate::Gather::add) does.
 ///
 /// # Errors
 ///

@@ -1,4 +1,4 @@
-//! The store.
+//! The store and its builder.
 
 use crate::code::Code;
 use crate::ffi::{self, Handle, Spare};
@@ -15,12 +15,13 @@ use std::sync::{Arc, Mutex, MutexGuard, PoisonError};
 ///
 /// A clone is a second owner of the same store and costs one atomic increment.
 ///
-/// Nothing is written to disk. [After a crash](crate#after-a-crash) says what a validator must log.
+/// The store writes nothing to disk. [After a crash](crate#after-a-crash) says what a validator
+/// must log.
 ///
 /// Collection removes blocks from the tables, but does not free them. The history holds them until
-/// [`Store::restart`], the list that causal reads share until [`Store::compact`] or its next
-/// rebuild, and answers and tickets until they are dropped. If blocks are large, call
-/// [`Session::collect`] and these two, or lower [`Limits::events`].
+/// [`Store::restart`]. The list that causal reads share holds them until [`Store::compact`] or its
+/// next rebuild. Answers and tickets hold them until they are dropped. If blocks are large, call
+/// these two functions after [`Session::collect`], or lower [`Limits::events`].
 ///
 /// ```
 /// # mod data { include!(concat!(env!("CARGO_MANIFEST_DIR"), "/examples/data/mod.rs")); }
@@ -45,17 +46,17 @@ pub struct Store {
     inner: Arc<Inner>,
 }
 
-/// What the owners of a store share.
+/// The state that all owners of a store share.
 pub(crate) struct Inner {
     book: Mutex<Book>,
-    /// The room of an answer that was dropped.
+    /// The room of a dropped answer, for the next call.
     spare: Arc<Spare>,
     committee: Committee,
     limits: Limits,
     restart_when_full: bool,
 }
 
-/// What the lock keeps: the library's book, and the number of each session's next call.
+/// The state under the lock: the library's book, and the number of each session's next call.
 struct Book {
     handle: Handle,
     next: Vec<u32>,
@@ -71,8 +72,8 @@ impl Store {
         Store::builder(committee).limits(limits).open()
     }
 
-    /// Starts to set up a store under the committee, with [`Limits::default`] and without automatic
-    /// restarts.
+    /// Returns a builder for a store under the committee, with [`Limits::default`] and without
+    /// automatic restarts.
     ///
     /// ```
     /// # use narwhal_store::{Committee, PublicKey};
@@ -99,12 +100,12 @@ impl Store {
         }
     }
 
-    /// Makes a session, for one more caller. At most [`Limits::sessions`] can be made. The number of a
-    /// dropped session is never used again.
+    /// Makes a session for one more caller. A store makes at most [`Limits::sessions`] sessions. It
+    /// never uses the number of a dropped session again.
     ///
     /// # Errors
     ///
-    /// [`OpenError::TooManySessions`] if as many sessions were made as the limit allows.
+    /// [`OpenError::TooManySessions`] if the store has made as many sessions as its limit.
     pub fn session(&self) -> Result<Session, OpenError> {
         let mut book = self.inner.lock();
         let id = book.next.len();
@@ -131,10 +132,10 @@ impl Store {
         ffi::nw_book_compact(&mut self.inner.lock().handle).or_no_memory()
     }
 
-    /// Begins an empty history over the same content.
+    /// Begins an empty history.
     ///
     /// All blocks, certificates and votes stay. The calls of every session are numbered from 1
-    /// again. Answers and tickets of the old history stay as they are.
+    /// again. Answers and tickets of the old history do not change.
     ///
     /// A restart runs under the store's lock: 50 to 80 ms for 65,536 events.
     ///
@@ -169,17 +170,17 @@ impl Store {
 
 impl Inner {
     fn lock(&self) -> MutexGuard<'_, Book> {
-        // No call leaves the book half changed, so it is used on after a panic.
+        // No call leaves the book half changed, so a panic of another thread does no harm.
         self.book.lock().unwrap_or_else(PoisonError::into_inner)
     }
 
-    /// Room for an answer.
+    /// Returns room for an answer.
     #[inline]
     pub(crate) fn room(&self) -> Result<Room, Code> {
         Room::new(&self.spare)
     }
 
-    /// Takes a step as the session's next call, for an answer that has room already.
+    /// Makes the session's next call. The room for its answer was made before.
     #[inline]
     pub(crate) fn step(
         &self,
@@ -224,7 +225,7 @@ impl fmt::Debug for Store {
     }
 }
 
-/// What a store is opened with. [`Store::builder`] makes it.
+/// The settings of a new store. [`Store::builder`] makes them.
 #[derive(Clone, Debug)]
 #[must_use]
 pub struct StoreBuilder {
@@ -242,15 +243,15 @@ impl StoreBuilder {
 
     /// Sets whether the store restarts its history when a call finds it full.
     ///
-    /// A store that restarts runs for any length of time, and no call fails with
-    /// [`StepError::HistoryFull`]. An answer then has the events since the last restart in its
-    /// history. The default is `false`.
+    /// A store that restarts can run for any length of time, and no call fails with
+    /// [`StepError::HistoryFull`]. The history of an answer then has only the events since the last
+    /// restart. The default is `false`.
     ///
     /// - The restart runs inside one call under the store's lock: 50 to 80 ms for 65,536 events.
-    /// - It comes after a number of events, not of bytes. If blocks are large, lower
+    /// - It comes after a number of events, whatever their size in bytes. If blocks are large, lower
     ///   [`Limits::events`] or call [`Store::restart`].
-    /// - If the call fails with [`StepError::NoMemory`] after the restart, the history is empty
-    ///   already. No block, certificate or vote is lost, and the call can be repeated.
+    /// - If the call fails with [`StepError::NoMemory`] after the restart, the history is already
+    ///   empty. No block, certificate or vote is lost, and the call can be repeated.
     pub fn restart_when_full(mut self, restart: bool) -> StoreBuilder {
         self.restart_when_full = restart;
         self

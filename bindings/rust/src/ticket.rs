@@ -8,15 +8,14 @@ use crate::{Digest, History, NoMemory, Walk};
 use std::fmt;
 use std::ptr;
 
-/// A causal read that is ready to be walked: a snapshot of a block with its certified ancestors of
-/// rounds not below the garbage round, as of the call that opened the ticket.
+/// A causal read that is ready to be walked. It is a snapshot of a block and its certified
+/// ancestors of rounds not below the garbage round, as of the call that opened the ticket.
 ///
-/// [`Session::causal`](crate::Session::causal) opens it. A walk takes no lock, and other calls go
-/// on meanwhile. The list is that of the moment when the ticket was opened, also when rounds were
-/// collected since. A ticket outlives its store.
+/// [`Session::causal`](crate::Session::causal) opens it. A walk takes no lock, so other calls go on
+/// meanwhile. Later calls and collections do not change the list. A ticket outlives its store.
 ///
 /// A ticket keeps in memory its history and all blocks that were complete when it was opened, not
-/// only those of its list. Drop it after its use.
+/// only those of its list. Drop it when you no longer need it.
 ///
 /// The type is `Send`, so another thread can walk it, and it is not `Sync`.
 ///
@@ -35,14 +34,14 @@ impl Ticket {
         }
     }
 
-    /// Returns the digest of the block that is read.
+    /// Returns the digest of the block that the causal read is for.
     #[must_use]
     pub fn digest(&self) -> Digest {
         self.about().0
     }
 
-    /// Returns the garbage round when the ticket was opened. The list has no blocks of rounds below
-    /// it.
+    /// Returns the garbage round at the call that opened the ticket. The list has no blocks of
+    /// rounds below it.
     #[must_use]
     pub fn floor(&self) -> u64 {
         self.about().1
@@ -59,7 +58,8 @@ impl Ticket {
     /// call that opened the ticket. The order is ascending by round and author.
     ///
     /// Every walk of a ticket returns the same list. So do walks of all tickets for the same digest
-    /// with the same [`floor`](Ticket::floor), of any store, unless two blocks have one digest.
+    /// with the same [`floor`](Ticket::floor), of any store, unless two blocks have the same
+    /// digest.
     ///
     /// # Errors
     ///
@@ -98,10 +98,10 @@ impl Ticket {
         Ok(Walk::new(list, len))
     }
 
-    /// Compares the lists of two tickets for the same digest with the same
-    /// [`floor`](Ticket::floor), which may be of two stores. Returns whether they are the same.
+    /// Returns whether two tickets have equal lists. They must be for the same digest with the same
+    /// [`floor`](Ticket::floor), and may come from two stores.
     ///
-    /// They always are, unless two different blocks have one digest.
+    /// The lists are always equal, unless two different blocks have the same digest.
     ///
     /// # Errors
     ///
@@ -139,7 +139,7 @@ impl fmt::Debug for Ticket {
     }
 }
 
-/// Why two tickets are not compared.
+/// Why two tickets cannot be compared.
 #[derive(Clone, Copy, Debug, PartialEq, Eq)]
 #[non_exhaustive]
 pub enum AgreeError {

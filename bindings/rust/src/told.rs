@@ -1,4 +1,4 @@
-//! The structs that the library fills in, and the kinds that they name.
+//! The structs that the library writes into, and the kinds that they have.
 
 use crate::ffi::{self, Handle};
 use crate::{Digest, Limits, Member, Slot, Status};
@@ -13,7 +13,7 @@ pub(crate) struct Told {
 }
 
 impl Told {
-    /// Room that the library fills in.
+    /// A value for the library to write into.
     pub(crate) const EMPTY: Told = Told {
         kind: 0,
         number: 0,
@@ -40,7 +40,7 @@ pub(crate) struct EventTold {
 }
 
 impl EventTold {
-    /// Room that the library fills in.
+    /// A value for the library to write into.
     pub(crate) const EMPTY: EventTold = EventTold {
         session: 0,
         number: 0,
@@ -59,7 +59,7 @@ pub(crate) struct MessageTold {
 }
 
 impl MessageTold {
-    /// Room that the library fills in.
+    /// A value for the library to write into.
     pub(crate) const EMPTY: MessageTold = MessageTold {
         kind: 0,
         signer: 0,
@@ -67,7 +67,7 @@ impl MessageTold {
     };
 }
 
-/// A reference of a block to a block of the round before.
+/// A reference of a block to a block of the preceding round.
 #[derive(Clone, Copy, Debug)]
 #[repr(C)]
 pub(crate) struct ParentTold {
@@ -85,7 +85,7 @@ const _: () = {
     assert!(size_of::<MessageTold>() == 56);
 };
 
-/// A kind that `nw.h` does not have at this place.
+/// Panics, because `nw.h` has no such kind here.
 #[cold]
 pub(crate) fn unexpected_kind(kind: i32) -> ! {
     panic!("the linked library does not match narwhal-store: it told kind {kind}")

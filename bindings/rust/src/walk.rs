@@ -1,4 +1,4 @@
-//! Lists of walks.
+//! The lists of walks.
 
 use crate::Block;
 use crate::block::Source;
@@ -10,9 +10,9 @@ use std::sync::{Arc, Mutex};
 
 /// The blocks of a walk, ascending by round and author.
 ///
-/// [`Ticket::walk`](crate::Ticket::walk) makes it. It is an iterator that knows its length and goes
-/// in both directions. The blocks share one list in memory. Each leaves it when one of its parts is
-/// asked for.
+/// [`Ticket::walk`](crate::Ticket::walk) makes it. The iterator has an exact length and can go in
+/// both directions. The blocks share one list in memory. A block leaves that list when one of its
+/// parts is first used.
 #[derive(Clone)]
 pub struct Walk {
     list: Arc<Mutex<Handle>>,

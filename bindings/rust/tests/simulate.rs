@@ -1,7 +1,7 @@
 //! Runs stores in a bad network and compares every answer with a model.
 //!
-//! A seed draws the limits, and the order in which each store gets the signed messages of `tests/corpus`. Messages are late, lost or
-//! come twice. Stores collect garbage, restart their histories, crash, and replay their logs. After each call the reply, the vote
+//! A seed determines the limits, and the order in which each store gets the signed messages of `tests/corpus`. Messages come late, are
+//! lost, or come twice. Stores collect garbage, restart their histories, crash, and replay their logs. After each call the reply, the vote
 //! and the history must be those of the model in `tests/model`.
 //!
 //! ```text
@@ -66,7 +66,7 @@ fn every_answer_is_the_models() {
     assert!(count < 200 || missed.is_empty(), "no seed met {missed:?}");
 }
 
-/// What 200 seeds must meet: the rows of the step table, except for two blocks with one digest (`Clash`), and three events.
+/// The cases that 200 seeds must meet: the rows of the step table, except for two blocks with one digest (`Clash`), and three events.
 const MUST_BE_MET: [&str; 30] = [
     "Write: Collected",
     "Write: TooFar",

@@ -1,4 +1,4 @@
--- Consensus, Decider and Decided may cross to another thread.
+-- Consensus, Decider and Decided can be sent to another thread.
 use denote.RattleType.{RattleType}
 use denote.Ref.{NamedLft}
 use denote.Param.Send.{IsSend, IsSync, sendable}

@@ -118,7 +118,7 @@ impl<'a, L: Home, R: Wait> Decider<'a, L, R> {
         }
     }
 
-    /// Decides leaders each time when the intake sends certified digests, until it ends.
+    /// Decides leaders each time the intake sends certified digests, until the intake ends.
     fn run_all(&mut self) -> Result<(), End> {
         for _ in 0..u64::MAX {
             let Ok(certified) = self.intake.recv(self.host.rt) else {

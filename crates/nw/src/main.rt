@@ -16,7 +16,7 @@ use std::env::{self, Args};
 use std::io::ErrorKind;
 use std::process::ExitCode;
 
-// The exit status if the arguments can't be read. They are tested before anything else is read or run.
+// The exit status if the arguments are bad. They are tested before anything else is read or run.
 const BAD_ARGUMENTS: u8 = 2;
 
 fn main(rt: HostRuntime) -> ExitCode {

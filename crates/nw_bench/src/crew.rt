@@ -50,7 +50,7 @@ impl Crew {
     }
 }
 
-/// Takes each pair of messages that is due to the thread at this place. It does not count a pair that is refused.
+/// Takes each pair of messages in the share of the thread with this index. It does not count refused pairs.
 pub fn work<L: Home, R: Wait + Clock>(
     rt: &R,
     alloc: Global,
@@ -114,7 +114,7 @@ fn keep<L: Home, R: Wait + Clock>(
     Ok(())
 }
 
-/// The number of blocks that a causal read of the digest lists. It is 0 if an ancestor is missing.
+/// The number of blocks that a causal read of the digest lists. It is 0 if the digest is not complete.
 fn read<L: Home, R: Wait>(
     rt: &R,
     alloc: Global,

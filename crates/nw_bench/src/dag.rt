@@ -1,4 +1,4 @@
-//! Makes the messages of a full DAG. Its blocks have the most transactions of 512 bytes that are allowed.
+//! Makes the messages of a full DAG. Each block has 1,024 transactions of 512 bytes, the largest number that is allowed.
 
 use anyhow::Error;
 use nw_codec::{
@@ -10,7 +10,7 @@ use nw_digest::{Digest, Round, Sequence, Shared};
 use nw_sig::{DemoSigner, Signer, text_of_block, text_of_vote};
 use std::alloc::Global;
 
-/// The number of transactions of a block: the most that are allowed.
+/// The number of transactions of a block, which is the largest allowed.
 const TRANSACTIONS: usize = 1_024;
 
 /// The number of bytes of a transaction.

@@ -3,13 +3,13 @@
 //! `nw_bench MESSAGES BYTES WORKERS` makes MESSAGES messages. Each has a block with one transaction of BYTES bytes, signed by the only
 //! member of a committee. WORKERS threads check them. The program prints how long the check took, in milliseconds.
 //!
-//! `nw_bench ed25519 MEMBERS MESSAGES WORKERS` reads lines in hex from standard input: the Ed25519 public keys of MEMBERS members, and
-//! then MESSAGES messages of blocks and certificates. WORKERS threads check the messages. The program prints how long the check took, in
-//! milliseconds.
+//! `nw_bench ed25519 MEMBERS MESSAGES WORKERS` reads lines in hex from standard input. First come the Ed25519 public keys of MEMBERS
+//! members, and then MESSAGES messages of blocks and certificates. WORKERS threads check the messages. The program prints how long the
+//! check took, in milliseconds.
 //!
-//! `nw_bench node MEMBERS ROUNDS THREADS` makes the messages of a full DAG of MEMBERS members and ROUNDS rounds: one for each block, which
-//! has the most transactions of 512 bytes that are allowed, and one for its certificate. THREADS threads, 1 to 256, check them and write
-//! and certify them in one store. They read one block of each round causally. The program prints these five numbers:
+//! `nw_bench node MEMBERS ROUNDS THREADS` makes the messages of a full DAG of MEMBERS members and ROUNDS rounds: each block and its
+//! certificate. A block has the most transactions of 512 bytes that are allowed. THREADS threads, 1 to 256, check the messages and write
+//! and certify the blocks in one store. They read one block of each round causally. The program prints these five numbers:
 //!
 //! - how many blocks were written and certified;
 //! - how many blocks the walks listed;

@@ -73,7 +73,7 @@ pub fn timed_node<R: Threads + Wait + Sync + Clock>(
 fn digest_all<R: Clock>(rt: &R, pairs: &[Pair]) -> Result<Duration, Error> {
     let started = Instant::now(rt)?;
     for pair in pairs {
-        // (the tag precedes the body, and the signature follows it)
+        // The tag precedes the body, and the signature follows it.
         let body = pair.block.get(1..pair.block.len().saturating_sub(64));
         if digest_of(body.unwrap_or(&[])) != pair.digest {
             return Err(Error::msg("a digest is another one"));
@@ -92,7 +92,7 @@ fn take_all<R: Threads + Wait + Sync + Clock>(
     take_with_book(rt, alloc, book, crew)
 }
 
-/// The same, with a store that continues from the book.
+/// Lets the crew take all messages with a store that continues from the book, and returns the time.
 fn take_with_book<R: Threads + Wait + Sync + Clock>(
     rt: &R,
     alloc: Global,
@@ -103,7 +103,7 @@ fn take_with_book<R: Threads + Wait + Sync + Clock>(
     take_with_store::<Brand, R>(rt, alloc, opening, book, crew)
 }
 
-/// The same, with the store that `L` names.
+/// Lets the crew take all messages with the store that `L` names, and returns the time.
 fn take_with_store<L: Home, R: Threads + Wait + Sync + Clock>(
     rt: &R,
     alloc: Global,
@@ -128,7 +128,7 @@ fn take_with_store<L: Home, R: Threads + Wait + Sync + Clock>(
     }
 }
 
-/// The same, with a session for each thread.
+/// Lets the crew take all messages with a session for each thread, and returns the time.
 fn take_with_sessions<L: Home, R: Threads + Wait + Sync + Clock>(
     rt: &R,
     alloc: Global,

@@ -1,4 +1,4 @@
--- A handle that holds a content, and its parts, own what a box at the same types owns.
+-- An open handle owns what a box of its content owns, and so do the parts of a handle.
 use mir.Syntax.{impl, tnil, dnil}
 use mathlib.Core.List.{[]}
 use denote.Signature.{Slot, plain}

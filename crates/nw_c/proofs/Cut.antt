@@ -1,4 +1,4 @@
--- Bytes that are cut by lengths.
+-- Cutting bytes into transactions of given lengths.
 use Rattle.std.proofs.Common.{◌≡◌, ℕ, ◌+◌, ◌*◌, ◌<◌, ◌≤◌, List, [], ◌∷◌, ◌++◌, All, length, map, take, drop, get_or, arith, ap, sym, ◌∙◌, refl, subst, length-append}
 use Rattle.std.specs.List.{flat_map, sum_by}
 use Rattle.std.proofs.lemmas.List.Sums.{sum_by-cons, sum_by_more_le}
@@ -12,7 +12,7 @@ use Rattle.nw_codec.specs.declared.block.Block.{Block}
 use Rattle.nw_codec.specs.declared.limits.TheConstants.{MAX_PARENTS, MAX_TRANSACTIONS, MAX_TRANSACTION, MAX_BODY}
 use Rattle.nw_c.specs.Blocks.{AreCutFrom}
 
--- all bytes, one list after another
+-- the lists, one after another
 abbrev pub joined : List (List ℕ) → List ℕ
 joined = flat_map (λ t. t)
 
@@ -25,10 +25,13 @@ bytes_in [] = refl
 bytes_in (t ∷ ts) = length-append t (joined ts) ∙ (ap (λ n. length t + n) (bytes_in ts) ∙ sym (sum_by-cons (λ n. n) (length t) (map length ts)))
 
 module _ (bytes lengths : List ℕ) (done ts : List (List ℕ)) (left : List ℕ) (i : ℕ) where
-  -- some transactions were cut off, and ts would be all of them
+  -- the state of cutting: the first i transactions are done, and ts would be all of them
   pub record Cutting : Type 0 where
+    -- the done transactions have the first i lengths
     pub lengths_done : map length done ≡ take i lengths
+    -- the done transactions and the remaining bytes are all bytes
     pub bytes_left : joined done ++ left ≡ bytes
+    -- ts has these lengths and these bytes
     pub all : AreCutFrom bytes lengths ts
 
   done_size : Cutting → length (joined done) ≡ sum (take i lengths)
@@ -37,7 +40,7 @@ module _ (bytes lengths : List ℕ) (done ts : List (List ℕ)) (left : List ℕ
   all_size : Cutting → length (joined done) + length left ≡ sum lengths
   all_size c = sym (length-append (joined done) left) ∙ (ap length c.bytes_left ∙ (sym (ap length c.all.1) ∙ (bytes_in ts ∙ ap sum c.all.0)))
 
-  -- what is left has room for the next transaction
+  -- the remaining bytes have room for the next transaction
   pub has_room : Cutting → (d : ℕ) → i < length lengths → get_or lengths i d ≤ length left
   has_room c d low = let a = done_size c in let b = all_size c in let s = sum_by_more_le (λ n. n) lengths i d low in omega arith
 
@@ -48,11 +51,11 @@ module _ (bytes lengths : List ℕ) (done ts : List (List ℕ)) (left : List ℕ
       let count : length lengths ≡ length ts = ap length (sym c.all.0) ∙ length-map ts (length {A = ℕ}) in
       let here = All-get_or (λ t. length t ≤ MAX_TRANSACTION) ts i [] (subst (λ n. i < n) count low) short in omega arith
 
-  -- nothing is left behind the last
+  -- no bytes remain after the last transaction
   pub none_left : Cutting → length lengths ≤ i → length left ≡ 0
   none_left c past = let a = done_size c ∙ ap sum (take_all i lengths past) in let b = all_size c in omega arith
 
--- lengths and bytes have one cut
+-- the lengths and the bytes determine the transactions
 pub one_cut : (ts us : List (List ℕ)) → map length ts ≡ map length us → joined ts ≡ joined us → ts ≡ us
 one_cut [] [] sizes same = refl
 one_cut [] (u ∷ us) sizes same = cc
@@ -63,7 +66,7 @@ one_cut (t ∷ ts) (u ∷ us) sizes same =
     let rest : joined ts ≡ joined us = append_cancel_left u (joined ts) (joined us) (ap (λ v. v ++ joined ts) (sym first) ∙ same) in
     ap (λ v. v ∷ ts) first ∙ ap (λ vs. u ∷ vs) (one_cut ts us (ap (drop 1) sizes) rest)
 
--- a block fits if another with its parents and transactions does
+-- a block fits if another block with the same parents and transactions fits
 pub fits_as : (b c : Block) → b.parents ≡ c.parents → b.transactions ≡ c.transactions → Fits b → Fits c
 fits_as b c parents transactions fits = record {
   few_parents = subst (λ ps. length ps ≤ MAX_PARENTS) parents fits.few_parents;

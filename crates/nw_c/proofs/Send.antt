@@ -1,4 +1,4 @@
--- What a handle holds may be used by another thread, one thread at a time.
+-- The content of a handle can be sent to another thread.
 use denote.Enum.Enum.{Enum}
 use denote.Enum.Declared.{shape, Declared}
 use denote.Param.Send.{IsSend, enum_send, recorded_send, sendable}

@@ -1,4 +1,4 @@
--- What answers carry.
+-- The replies that answers have.
 use Rattle.std.specs.Prelude.{◌≡◌, ℕ, List, Option, Some, None, slice_get}
 use Rattle.nw_codec.specs.Fits.{CertificateFits}
 use Rattle.nw_codec.specs.Spelled.{Spells}
@@ -30,7 +30,7 @@ abbrev pub IsCertificateTold : Content → List ℕ → Type 0
 IsCertificateTold (kind.Answer told) text = IsSpelledIn told.event.reply text
 IsCertificateTold other text = ⊥
 
--- there is a missing parent, with this slot
+-- the option has a missing parent, and it has this slot
 abbrev pub IsSlotOf : Option Wanted → CSlot → Type 0
 IsSlotOf (Some w) s = s ≡ slot_of w.digest w.round w.author
 IsSlotOf None s = ⊥
@@ -40,12 +40,12 @@ abbrev pub IsListedIn : Reply → ℕ → CSlot → Type 0
 IsListedIn (reply.Missing wanted) index s = IsSlotOf (slice_get wanted index) s
 IsListedIn other index s = ⊥
 
--- it is the answer to a call for missing parents, and the one at the index has this slot
+-- it is the answer to a call for missing parents, and the listed one at the index has this slot
 abbrev pub IsMissingAt : Content → ℕ → CSlot → Type 0
 IsMissingAt (kind.Answer told) index s = IsListedIn told.event.reply index s
 IsMissingAt other index s = ⊥
 
--- the counts that C is told
+-- the counts in a status of C
 abbrev pub counts_of : CStatus → Counts
 counts_of s = record { floor = s.floor; blocks = s.blocks; certificates = s.certificates; complete = s.complete; wanted = s.wanted }
 
@@ -69,7 +69,7 @@ abbrev pub HasReply : Content → Reply → Type 0
 HasReply (kind.Answer told) r = told.event.reply ≡ r
 HasReply other r = ⊥
 
--- what the call asked for: a block, a certificate, missing parents, the status
+-- the answers to a read, to a call for a certificate, to a call for missing parents, and to a call for the status
 
 abbrev pub AnswersRead : Content → Type 0
 AnswersRead answer = (found : Option Block) × HasReply answer (reply.Read found)

@@ -1,4 +1,4 @@
--- Blocks that C makes and reads.
+-- Making and reading blocks.
 use Rattle.std.specs.Prelude.{◌≡◌, ℕ, ◌≤◌, List, Some, None, All, length, map, slice_get}
 use Rattle.std.specs.List.{flat_map}
 use Rattle.nw_codec.specs.Fits.{Fits}
@@ -16,11 +16,11 @@ use Rattle.nw_c.specs.declared.blocks.CParent.{CParent}
 use Rattle.nw_c.specs.declared.content.Content.{Content}
 use Rattle.nw_c.specs.declared.content.Content.TheVariants as kind
 
--- the parent that C lists
+-- the reference for a parent in the caller's array
 abbrev pub parent_in : CParent → Ref
 parent_in p = record { author = p.author; digest = digest_in p.digest }
 
--- the transactions have these lengths, and are the bytes one after another
+-- the transactions have these lengths, and one after another they are these bytes
 abbrev pub AreCutFrom : List ℕ → List ℕ → List (List ℕ) → Type 0
 AreCutFrom bytes lengths transactions = (map length transactions ≡ lengths) × (flat_map (λ t. t) transactions ≡ bytes)
 
@@ -43,7 +43,7 @@ abbrev pub HasSlot : Content → CSlot → Type 0
 HasSlot (kind.Block b) s = s ≡ slot_of (digest_of b) b.round b.author
 HasSlot other s = ⊥
 
--- it is a block with so many parents and so many transactions
+-- it is a block with these numbers of parents and transactions
 abbrev pub HasCounts : Content → ℕ → ℕ → Type 0
 HasCounts (kind.Block b) parents transactions = (parents ≡ length b.parents) × (transactions ≡ length b.transactions)
 HasCounts other parents transactions = ⊥

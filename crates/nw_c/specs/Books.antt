@@ -1,4 +1,4 @@
--- Steps of books.
+-- Books and their steps.
 use Rattle.std.specs.Prelude.{◌≡◌, ℕ, [], List, Option, length}
 use Rattle.nw_committee.specs.declared.member.Member.{Member}
 use Rattle.nw_sig.specs.Signed.{Meaning}
@@ -17,7 +17,7 @@ use Rattle.nw_c.specs.declared.books.CLimits.{CLimits}
 use Rattle.nw_c.specs.declared.content.Content.{Content}
 use Rattle.nw_c.specs.declared.content.Content.TheVariants as kind
 
--- the limits that C gives
+-- the limits as values of `nw_book`
 abbrev pub limits_in : CLimits → Limits
 limits_in l = record { blocks = l.blocks; events = l.events; window = l.window; sessions = l.sessions }
 
@@ -26,12 +26,12 @@ abbrev pub IsEmptyBook : Content → CLimits → Content → Type 0
 IsEmptyBook (kind.Committee members) limits (kind.Book s) = AreInRange (limits_in limits) × (s ≡ story_of (first_origin members (limits_in limits)) [])
 IsEmptyBook committee limits other = ⊥
 
--- it is a book whose history has so many events
+-- it is a book whose history has n events
 abbrev pub HasEvents : Content → ℕ → Type 0
 HasEvents (kind.Book s) n = n ≡ length s.events
 HasEvents other n = ⊥
 
--- the book takes the session's call of this number, and the answer is the step's
+-- the book takes this call as the session's call of this number, and the answer is the step's
 abbrev pub IsTaken : Meaning → ℕ → ℕ → Call → Content → Content → Content → Type 0
 IsTaken accepts session number asked (kind.Book old) (kind.Book new) (kind.Answer told) = Takes accepts old new session number asked told.event.reply told.front
 IsTaken accepts session number asked old new answer = ⊥
@@ -44,7 +44,8 @@ IsOpened accepts session number d (kind.Book old) (kind.Book new) (kind.Answer t
     Takes accepts old new session number (call.Causal d) told.event.reply told.front × ((why : CausalReply) × (told.event.reply ≡ reply.Causal why))
 IsOpened accepts session number d old new answer = ⊥
 
--- the book refuses the session's call of this number for this reason, where the committee is that of a value that is handed in
+-- the book refuses the session's call of this number for this reason; `under` is the committee of the value handed in, if the call hands
+-- one in
 abbrev pub IsRefusedBy : Content → ℕ → ℕ → Option (List Member) → NoStep → Type 0
 IsRefusedBy (kind.Book s) session number under why = IsRefusal s session number under why
 IsRefusedBy other session number under why = ⊥

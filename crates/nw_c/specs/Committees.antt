@@ -1,4 +1,4 @@
--- Committees that C makes and reads.
+-- Making and reading committees.
 use Rattle.std.specs.Prelude.{◌≡◌, ℕ, List, Some, None, length, map, slice_get}
 use Rattle.nw_committee.specs.Committee.{quorum}
 use Rattle.nw_committee.specs.declared.member.Member.{Member}
@@ -6,7 +6,7 @@ use Rattle.nw_c.specs.declared.committees.CMember.{CMember}
 use Rattle.nw_c.specs.declared.content.Content.{Content}
 use Rattle.nw_c.specs.declared.content.Content.TheVariants as kind
 
--- the member that C lists
+-- the member for an entry of the caller's array
 abbrev pub member_in : CMember → Member
 member_in m = record { key = record { 0 = m.key }; weight = m.weight }
 
@@ -15,12 +15,12 @@ abbrev pub IsCommitteeOf : List CMember → Content → Type 0
 IsCommitteeOf listed (kind.Committee members) = members ≡ map member_in listed
 IsCommitteeOf listed other = ⊥
 
--- both are one committee
+-- both are the same committee
 abbrev pub AreOneCommittee : Content → Content → Type 0
 AreOneCommittee (kind.Committee members) (kind.Committee others) = members ≡ others
 AreOneCommittee one other = ⊥
 
--- it is a committee of so many members
+-- it is a committee of n members
 abbrev pub HasSize : Content → ℕ → Type 0
 HasSize (kind.Committee members) n = n ≡ length members
 HasSize other n = ⊥
@@ -30,12 +30,12 @@ abbrev pub HasMember : Content → ℕ → CMember → Type 0
 HasMember (kind.Committee members) number m = slice_get members number ≡ Some (member_in m)
 HasMember other number m = ⊥
 
--- it is a committee whose quorum has this weight
+-- it is a committee with this quorum
 abbrev pub HasQuorum : Content → ℕ → Type 0
 HasQuorum (kind.Committee members) n = n ≡ quorum members
 HasQuorum other n = ⊥
 
--- it is a committee, and has no member of this number
+-- it is a committee without a member of this number
 abbrev pub LacksMember : Content → ℕ → Type 0
 LacksMember (kind.Committee members) number = slice_get members number ≡ None
 LacksMember other number = ⊥

@@ -1,4 +1,4 @@
--- The histories that explain answers, as C is told them.
+-- The histories of answers and tickets as C sees them.
 use Rattle.std.specs.Prelude.{◌≡◌, ◌↔◌, ℕ, Bool, IsTrue, Option, Some, None, length, slice_get}
 use Rattle.nw_model.specs.declared.call.Call.{Call}
 use Rattle.nw_model.specs.declared.call.Call.TheVariants as call
@@ -13,7 +13,7 @@ use Rattle.nw_c.specs.declared.events.TheConstants.{CALL_WRITE, CALL_CERTIFY, CA
 use Rattle.nw_c.specs.declared.content.Content.{Content}
 use Rattle.nw_c.specs.declared.content.Content.TheVariants as kind
 
--- the kind that is told is that of the call, and so are its digest or number
+-- t has the kind of the call, and its digest or number if it has one
 abbrev pub IsCallTold : Call → CTold → Type 0
 IsCallTold (call.Write d b) t = (t.kind ≡ CALL_WRITE) × (digest_in t.digest ≡ d)
 IsCallTold (call.Certify c) t = (t.kind ≡ CALL_CERTIFY) × (digest_in t.digest ≡ c.digest)
@@ -24,7 +24,7 @@ IsCallTold (call.Collect round) t = (t.kind ≡ CALL_COLLECT) × (t.number ≡ r
 IsCallTold (call.Missing most) t = (t.kind ≡ CALL_MISSING) × (t.number ≡ most)
 IsCallTold call.Status t = t.kind ≡ CALL_STATUS
 
--- an event is told
+-- t is the event: its session, its number, its call and its reply
 abbrev pub IsEventTold : Event → CEvent → Type 0
 IsEventTold e t = (t.session ≡ e.session) × (t.number ≡ e.number) × IsCallTold e.call t.call × IsToldAs e.reply t.reply
 
@@ -34,17 +34,17 @@ front_in (kind.Answer told) = Some told.front
 front_in (kind.Ticket given) = Some given.front
 front_in other = None
 
--- there is a history, and it has so many events
+-- there is a history, and it has n events
 abbrev pub HasLength : Option Story → ℕ → Type 0
 HasLength (Some s) n = n ≡ length s.events
 HasLength None n = ⊥
 
--- there is an event, and it is told
+-- there is an event, and t is that event
 abbrev pub IsSomeTold : Option Event → CEvent → Type 0
 IsSomeTold (Some e) t = IsEventTold e t
 IsSomeTold None t = ⊥
 
--- there is a history, and its event at the index is told
+-- there is a history, and t is its event at the index
 abbrev pub HasEventAt : Option Story → ℕ → CEvent → Type 0
 HasEventAt (Some s) index t = IsSomeTold (slice_get s.events index) t
 HasEventAt None index t = ⊥

@@ -1,4 +1,4 @@
--- Votes that C gathers.
+-- Gathering votes into a certificate.
 use Rattle.std.specs.Prelude.{◌≡◌, ◌↔◌, ℕ, Bool, IsTrue, []}
 use Rattle.nw_codec.specs.Fits.{signers}
 use Rattle.nw_committee.specs.Committee.{ReachesQuorum}
@@ -18,7 +18,7 @@ IsNewGather (kind.Committee members) s (kind.Gather g) =
     g ≡ record { digest = digest_in s.digest; round = s.round; author = s.author; committee = members; seals = [] }
 IsNewGather committee s other = ⊥
 
--- the vote may be counted and is, and b says whether the counted votes reach a quorum
+-- the vote can be counted and is counted, and b says whether the counted votes reach the quorum
 abbrev pub IsCountedIn : Meaning → Content → Content → Content → Bool → Type 0
 IsCountedIn accepts (kind.Gather old) (kind.Checked (checked.Vote v)) (kind.Gather new) b =
     CanCount accepts old v × Counts old v new × (IsTrue b ↔ ReachesQuorum new.committee (signers new.seals))
@@ -29,18 +29,18 @@ abbrev pub IsNotCounted : Meaning → Content → Content → GatherFault → Ty
 IsNotCounted accepts (kind.Gather g) (kind.Checked (checked.Vote v)) why = IsGatherFault accepts g v why
 IsNotCounted accepts gather vote why = ⊥
 
--- the counted votes reach a quorum, and it is their certificate, checked under the committee
+-- the counted votes reach the quorum, and the content is their certificate, checked under the committee
 abbrev pub IsCertificateOf : Content → Content → Type 0
 IsCertificateOf (kind.Gather g) (kind.Checked (checked.Cert c)) =
     ReachesQuorum g.committee (signers g.seals) × (c ≡ record { certificate = certificate_of g; committee = g.committee })
 IsCertificateOf gather other = ⊥
 
--- it is a committee, and the author is none of its members
+-- it is a committee without a member of this number
 abbrev pub LacksAuthor : Content → ℕ → Type 0
 LacksAuthor (kind.Committee members) author = IsMember members author → ⊥
 LacksAuthor other author = ⊥
 
--- the counted votes do not reach a quorum
+-- the counted votes do not reach the quorum
 abbrev pub HasFewVotes : Content → Type 0
 HasFewVotes (kind.Gather g) = ReachesQuorum g.committee (signers g.seals) → ⊥
 HasFewVotes other = ⊥

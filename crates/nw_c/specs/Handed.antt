@@ -1,4 +1,4 @@
--- What is handed to a book.
+-- Handing blocks and certificates to a book.
 use Rattle.std.specs.Prelude.{◌≡◌, ℕ, List, Option, Some, None}
 use Rattle.nw_committee.specs.declared.member.Member.{Member}
 use Rattle.nw_sig.specs.Signed.{Meaning}
@@ -23,7 +23,7 @@ committee_checked_under (kind.Checked (checked.Block b)) = Some b.committee
 committee_checked_under (kind.Checked (checked.Cert c)) = Some c.committee
 committee_checked_under other = None
 
--- the book takes the write of the checked block, or the checked certificate, and the answer is the step's
+-- the book takes the checked block as a write or the checked certificate as a certification, and the answer is the step's
 abbrev pub IsHandedIn : Meaning → ℕ → ℕ → Content → Content → Content → Content → Type 0
 IsHandedIn accepts session number (kind.Checked (checked.Block b)) old new answer = IsTaken accepts session number (call.Write (digest_of b.block) b.block) old new answer
 IsHandedIn accepts session number (kind.Checked (checked.Cert c)) old new answer = IsTaken accepts session number (call.Certify c.certificate) old new answer

@@ -1,4 +1,4 @@
--- The kinds of contents that calls want, and handles that are as they were.
+-- The contents that functions require, and unchanged handles.
 use Rattle.std.specs.Prelude.{◌≡◌, ◌⊎◌, List}
 use Rattle.nw_committee.specs.declared.member.Member.{Member}
 use Rattle.nw_codec.specs.declared.block.Block.{Block}
@@ -15,47 +15,58 @@ use Rattle.nw_c.specs.declared.content.Content.{Content}
 use Rattle.nw_c.specs.declared.content.Content.TheVariants as kind
 use Rattle.nw_c.specs.declared.handle.Handle.{Handle}
 
--- the handle is open or closed as it was, and holds what it held
+-- the handle is as open as before, and has the same content
 abbrev pub IsAsBefore : Handle → Handle → Type 0
 IsAsBefore old new = (new.held ≡ old.held) × (new.value ≡ old.value)
 
+-- it is a committee
 abbrev pub HoldsCommittee : Content → Type 0
 HoldsCommittee c = (members : List Member) × (c ≡ kind.Committee members)
 
+-- it is a checked text
 abbrev pub HoldsChecked : Content → Type 0
 HoldsChecked c = (text : Checked Ed25519) × (c ≡ kind.Checked text)
 
+-- it is a checked block
 abbrev pub HoldsCheckedBlock : Content → Type 0
 HoldsCheckedBlock c = (block : CheckedBlockView) × (c ≡ kind.Checked (checked.Block block))
 
+-- it is a checked certificate
 abbrev pub HoldsCheckedCert : Content → Type 0
 HoldsCheckedCert c = (certificate : CheckedCertView) × (c ≡ kind.Checked (checked.Cert certificate))
 
+-- it is a vote
 abbrev pub HoldsVote : Content → Type 0
 HoldsVote c = (vote : Vote) × (c ≡ kind.Checked (checked.Vote vote))
 
+-- it is the votes gathered for a block
 abbrev pub HoldsGather : Content → Type 0
 HoldsGather c = (votes : Gathering) × (c ≡ kind.Gather votes)
 
+-- it is a book
 abbrev pub HoldsBook : Content → Type 0
 HoldsBook c = (story : Story) × (c ≡ kind.Book story)
 
+-- it is an answer
 abbrev pub HoldsAnswer : Content → Type 0
 HoldsAnswer c = (told : DoneView) × (c ≡ kind.Answer told)
 
+-- it is a ticket
 abbrev pub HoldsTicket : Content → Type 0
 HoldsTicket c = (given : TicketView) × (c ≡ kind.Ticket given)
 
--- an answer or a ticket, which has a reply and a history
+-- it is an answer or a ticket, and so has a reply and a history
 abbrev pub HasHistory : Content → Type 0
 HasHistory c = HoldsAnswer c ⊎ HoldsTicket c
 
--- an answer can be put in its place
+-- an answer may replace it: it is room, an answer or a ticket
 abbrev pub HoldsRoom : Content → Type 0
 HoldsRoom c = (c ≡ kind.Room) ⊎ HasHistory c
 
+-- it is a list of blocks
 abbrev pub HoldsList : Content → Type 0
 HoldsList c = (blocks : List Block) × (c ≡ kind.List blocks)
 
+-- it is a block
 abbrev pub HoldsBlock : Content → Type 0
 HoldsBlock c = (block : Block) × (c ≡ kind.Block block)

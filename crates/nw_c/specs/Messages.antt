@@ -1,4 +1,4 @@
--- What checked texts are, as C is told.
+-- Checked texts as C sees them.
 use Rattle.std.specs.Prelude.{◌≡◌, ℤ, pos}
 use Rattle.nw_codec.specs.declared.error.DecodeError.{DecodeError}
 use Rattle.nw_codec.specs.declared.error.DecodeError.TheVariants as decode
@@ -13,7 +13,7 @@ use Rattle.nw_c.specs.Plain.{slot_of}
 use Rattle.nw_c.specs.declared.messages.CMessage.{CMessage}
 use Rattle.nw_c.specs.declared.messages.TheConstants.{BLOCK, CERTIFICATE, VOTE, TEXT_SHORT, TEXT_TRAILING, TEXT_TAG, TEXT_VERSION, TEXT_MANY_PARENTS, TEXT_PARENT_ORDER, TEXT_MANY_TRANSACTIONS, TEXT_LONG_TRANSACTION, TEXT_LONG_BODY, TEXT_MANY_VOTES, TEXT_VOTE_ORDER, BLOCK_AUTHOR, BLOCK_PARENT_AUTHOR, BLOCK_GENESIS_PARENTS, BLOCK_FEW_PARENTS, BLOCK_SIGNATURE, CERT_AUTHOR, CERT_SIGNER, CERT_FEW_VOTES, CERT_SIGNATURE}
 
--- the kind of a text that is no message
+-- the kind of a text that is not a message
 abbrev pub text_kind : DecodeError → ℤ
 text_kind decode.Short = TEXT_SHORT
 text_kind decode.Trailing = TEXT_TRAILING

@@ -1,4 +1,4 @@
--- What C is told of replies.
+-- Replies as C sees them.
 use Rattle.std.specs.Prelude.{◌≡◌, true, false, Some, None, length}
 use Rattle.nw_model.specs.declared.reply.Reply.{Reply}
 use Rattle.nw_model.specs.declared.reply.Reply.TheVariants as reply
@@ -12,7 +12,7 @@ use Rattle.nw_c.specs.declared.replies.TheConstants.{STORED_VOTE, STORED, HELD, 
 use Rattle.nw_c.specs.declared.content.Content.{Content}
 use Rattle.nw_c.specs.declared.content.Content.TheVariants as kind
 
--- the kind that is told is that of the reply, and so are the number or the digest where it has one
+-- t has the kind of the reply, and its number or digest if it has one
 abbrev pub IsToldAs : Reply → CTold → Type 0
 IsToldAs (reply.Write (write.Collected g)) t = (t.kind ≡ COLLECTED) × (t.number ≡ g)
 IsToldAs (reply.Write write.TooFar) t = t.kind ≡ TOO_FAR
@@ -44,7 +44,7 @@ IsToldAs (reply.Collect (collect.Raised dropped)) t = (t.kind ≡ RAISED) × (t.
 IsToldAs (reply.Missing wanted) t = (t.kind ≡ MISSING) × (t.number ≡ length wanted)
 IsToldAs (reply.Status counts) t = t.kind ≡ STATUS
 
--- the reply of the answer is told; that of a ticket is Ready
+-- t is the reply of the answer; the reply of a ticket is Ready
 abbrev pub IsReplyTold : Content → CTold → Type 0
 IsReplyTold (kind.Answer told) t = IsToldAs told.event.reply t
 IsReplyTold (kind.Ticket given) t = IsToldAs reply.Ready t

@@ -25,28 +25,32 @@ abbrev pub Agrees : Content → Content → Bool → Type 0
 Agrees (kind.Ticket one) (kind.Ticket other) b = IsTrue b ↔ HaveOneList one other
 Agrees one other b = ⊥
 
--- the tickets are for two digests or have two garbage rounds
+-- the tickets have different digests or different garbage rounds
 abbrev pub DifferInScope : TicketView → TicketView → Type 0
 DifferInScope one other = one.digest ≡ other.digest → floor_of one ≡ floor_of other → ⊥
 
--- the code is that of a refusal, and is APART only of tickets that differ so
+-- the code is that of a failed comparison of these tickets
 pub record IsWhyApart (one other : TicketView) (code : ℤ) : Type 0 where
+  -- it is not that of success
   pub not_done : code ≡ pos 0 → ⊥
+  -- it is not that of a closed handle
   pub not_closed : code ≡ CLOSED → ⊥
+  -- it is not that of another kind of content
   pub not_other_kind : code ≡ OTHER_KIND → ⊥
+  -- it is APART only if the tickets have different digests or garbage rounds
   pub apart : code ≡ APART → DifferInScope one other
 
--- both are tickets, for two digests or with two garbage rounds
+-- both are tickets, with different digests or different garbage rounds
 abbrev pub AreApart : Content → Content → Type 0
 AreApart (kind.Ticket one) (kind.Ticket other) = DifferInScope one other
 AreApart one other = ⊥
 
--- it is the list of the reply to the causal read of the ticket
+-- it is the list in the reply to the ticket's causal read
 abbrev pub IsWalkOf : Content → Content → Type 0
 IsWalkOf (kind.Ticket given) (kind.List blocks) = IsReply (bounds_of given.front.limits) (state_of given.front) (call.Causal given.digest) (reply.List blocks)
 IsWalkOf ticket list = ⊥
 
--- it is a list of so many blocks
+-- it is a list of n blocks
 abbrev pub HasBlocks : Content → ℕ → Type 0
 HasBlocks (kind.List blocks) n = n ≡ length blocks
 HasBlocks other n = ⊥

@@ -1,4 +1,4 @@
--- Votes that C writes.
+-- Votes as messages.
 use Rattle.std.specs.Prelude.{ℕ}
 use Rattle.nw_codec.specs.declared.message.Message.{Message}
 use Rattle.nw_codec.specs.declared.message.Message.TheVariants as messages

@@ -1,4 +1,4 @@
-//! What answers carry.
+//! The replies that answers have: blocks, certificates, missing parents and counts.
 ghost use Rattle.std.specs.Prelude.{◌≡◌, ◌<◌, pos, take, true, length, None};
 ghost use Rattle.nw_model.specs.declared.reply.Reply.TheVariants as Reply;
 ghost use Rattle.nw_c.specs.Answers.{AnswersCertificate, AnswersMissing, AnswersOverLimit, AnswersRead, AnswersStatus, HasNoMissingAt, HasReply, IsCertificateTold, FindsBlock, IsMissingAt, IsStatusTold};
@@ -13,7 +13,7 @@ use crate::texts::{certificate_text, hand_out_encoded};
 use nw_model::Reply;
 use std::alloc::Global;
 
-/// How much a book stores: the garbage round, the blocks, certificates and complete blocks, and the missing parents.
+/// The counts of a book: its garbage round, and how many blocks, certificates, complete blocks and missing parents (`wanted`) it has.
 #[repr(C)]
 #[derive(Clone, Copy)]
 pub struct CStatus {
@@ -24,8 +24,8 @@ pub struct CStatus {
     pub wanted: u64,
 }
 
-/// Makes room for an answer. It is made before a call, so that no call that was taken lacks memory for its answer. The room can be used
-/// again: a new answer replaces the old one, and a refused call keeps it.
+/// Makes room for an answer. Make it before the call, so that a call that was taken never runs out of memory for its answer. The room can
+/// be used again: a new answer replaces the old one. A refused call leaves the old one in place.
 #[unsafe(no_mangle)]
 pub extern "C" fn nw_answer_new(alloc: Global, out: &mut AnswerHandle) -> i32
     ensures unchanged { (result ≡ pos 0 → ⊥) → IsAsBefore out.old out.new }
@@ -38,7 +38,8 @@ pub extern "C" fn nw_answer_new(alloc: Global, out: &mut AnswerHandle) -> i32
     put(alloc, out, Content::Room)
 }
 
-/// Opens a handle of the block that a read found. Returns `NW_ABSENT` if it found none, and `NW_OTHER_KIND` of the answer to another call.
+/// Opens a handle of the block that a read found. Returns `NW_ABSENT` if the read found none, and `NW_OTHER_KIND` if the answer is not to a
+/// read.
 #[unsafe(no_mangle)]
 pub extern "C" fn nw_answer_block(
     alloc: Global,
@@ -73,8 +74,8 @@ pub extern "C" fn nw_answer_block(
     }
 }
 
-/// Writes the message of the certificate that was asked for. Its size goes to `needed`; `NW_SMALL` if the buffer is smaller. Returns
-/// `NW_ABSENT` if there is none, and `NW_OTHER_KIND` of the answer to another call.
+/// Writes the message of the certificate that a call for a certificate found. Writes its size to `needed`. Returns `NW_SMALL` if the buffer
+/// is smaller, `NW_ABSENT` if the call found no certificate, and `NW_OTHER_KIND` if the answer is to another call.
 #[unsafe(no_mangle)]
 pub extern "C" fn nw_answer_message(
     alloc: Global,
@@ -108,8 +109,8 @@ pub extern "C" fn nw_answer_message(
     }
 }
 
-/// Writes the missing parent at the index, from 0, of the answer to the call for missing parents. Returns `NW_ABSENT` past the last, and
-/// `NW_OTHER_KIND` of the answer to another call.
+/// Writes one of the parents that a call for missing parents listed. `index` counts from 0. Returns `NW_ABSENT` if the list has no parent
+/// at that index, and `NW_OTHER_KIND` if the answer is to another call.
 #[unsafe(no_mangle)]
 pub extern "C" fn nw_answer_missing(answer: &mut AnswerHandle, index: usize, out: &mut CSlot) -> i32
     ensures missing { result ≡ pos 0 → IsMissingAt answer.old.value index out.new }
@@ -136,7 +137,7 @@ pub extern "C" fn nw_answer_missing(answer: &mut AnswerHandle, index: usize, out
     }
 }
 
-/// Writes how much the book stored, of the answer to the call for the status. Returns `NW_OTHER_KIND` of the answer to another call.
+/// Writes the counts of a call for the status. Returns `NW_OTHER_KIND` if the answer is to another call.
 #[unsafe(no_mangle)]
 pub extern "C" fn nw_answer_status(answer: &mut AnswerHandle, out: &mut CStatus) -> i32
     ensures status { result ≡ pos 0 → IsStatusTold answer.old.value out.new }

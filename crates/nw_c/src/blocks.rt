@@ -1,4 +1,4 @@
-//! Blocks.
+//! Reading blocks: their parts, bodies and messages.
 ghost use Rattle.std.specs.Prelude.{◌≡◌, ◌<◌, pos, take, slice_get, true, length};
 ghost use Rattle.std.specs.Option.{option_copied};
 ghost use Rattle.nw_c.specs.Blocks.{HasBody, HasCounts, HasMessage, HasNoParentAt, HasNoTransactionAt, HasParentAt, HasSlot, HasTransaction, IsBlockOverLimit};
@@ -23,8 +23,8 @@ pub struct CParent {
     pub digest: CDigest,
 }
 
-/// Writes the digest, round and author of the block. Returns `NW_OVER_LIMIT` if the block breaks a limit of the format, which no checked
-/// block does.
+/// Writes the digest, round and author of the block. Returns `NW_OVER_LIMIT` if the block breaks a limit of the format; no checked block
+/// does.
 #[unsafe(no_mangle)]
 pub extern "C" fn nw_block_slot(block: &mut BlockHandle, out: &mut CSlot) -> i32
     ensures slot { result ≡ pos 0 → HasSlot block.old.value out.new }
@@ -72,7 +72,7 @@ pub extern "C" fn nw_block_counts(
     }
 }
 
-/// Writes the parent at the index, from 0; parents ascend by author. Returns `NW_ABSENT` past the last.
+/// Writes the parent at the index, counted from 0. Parents ascend by author. Returns `NW_ABSENT` if the block has no such parent.
 #[unsafe(no_mangle)]
 pub extern "C" fn nw_block_parent(block: &mut BlockHandle, index: usize, out: &mut CParent) -> i32
     ensures parent { result ≡ pos 0 → HasParentAt block.old.value index out.new }
@@ -99,7 +99,7 @@ pub extern "C" fn nw_block_parent(block: &mut BlockHandle, index: usize, out: &m
     }
 }
 
-/// The transaction at the index.
+/// The transaction at the index, or `None` if the block has no such transaction.
 fn transaction_at(transactions: &Transactions, index: usize) -> Option<&[u8]>
     ensures { option_copied result ≡ slice_get transactions.now index }
 {
@@ -113,8 +113,8 @@ fn transaction_at(transactions: &Transactions, index: usize) -> Option<&[u8]>
     None
 }
 
-/// Copies the transaction at the index, from 0. Its size goes to `needed`; `NW_SMALL` if the buffer is smaller. Returns `NW_ABSENT` past
-/// the last.
+/// Copies the transaction at the index, counted from 0, to the buffer. Writes its size to `needed`. Returns `NW_SMALL` if the buffer is
+/// smaller, and `NW_ABSENT` if the block has no such transaction.
 #[unsafe(no_mangle)]
 pub extern "C" fn nw_block_transaction(
     block: &mut BlockHandle,
@@ -142,7 +142,8 @@ pub extern "C" fn nw_block_transaction(
     }
 }
 
-/// Copies the body of the block, of which the digest is taken. Its size goes to `needed`; `NW_SMALL` if the buffer is smaller.
+/// Writes the encoded body of the block to the buffer. The block's digest is SHA-256 of these bytes. Writes their size to `needed`. Returns
+/// `NW_SMALL` if the buffer is smaller, and `NW_OVER_LIMIT` if the block breaks a limit of the format.
 #[unsafe(no_mangle)]
 pub extern "C" fn nw_block_body(
     alloc: Global,
@@ -170,8 +171,8 @@ pub extern "C" fn nw_block_body(
     }
 }
 
-/// Writes the message of the block with this signature, to be sent. Its size goes to `needed`; `NW_SMALL` if the buffer is smaller. The
-/// signature is not checked.
+/// Writes the message of the block with this signature, which can be sent to other members. Writes its size to `needed`. Returns `NW_SMALL`
+/// if the buffer is smaller, and `NW_OVER_LIMIT` if the block breaks a limit of the format. It does not check the signature.
 #[unsafe(no_mangle)]
 pub extern "C" fn nw_block_message(
     alloc: Global,

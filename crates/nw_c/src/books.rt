@@ -1,4 +1,4 @@
-//! Books: histories that grow by steps.
+//! Making, compacting and restarting books, and the limits of a book.
 ghost use Rattle.std.specs.Prelude.{◌≡◌, pos, IfErr, true, false};
 ghost use Rattle.nw_ed25519.specs.Accepts.{accepts};
 ghost use Rattle.nw_book.specs.Command.{call_of, committee_of};
@@ -18,8 +18,9 @@ use std::alloc::Global;
 
 mod calls;
 
-/// The limits of a book. `blocks`: stored blocks, and as many certificates, 1 to 65,536. `events`: events of a history, 1 to 65,536.
-/// `window`: accepted rounds, counted from the garbage round, 1 to 4,096. `sessions`: 1 to 256, numbered from 0.
+/// The limits of a book. `blocks` limits the stored blocks, and separately the certificates: 1 to 65,536. `events` limits the events of the
+/// history: 1 to 65,536. `window` is the number of rounds that the book accepts, from the garbage round on: 1 to 4,096. `sessions` limits
+/// the sessions, which are numbered from 0: 1 to 256.
 #[repr(C)]
 #[derive(Clone, Copy)]
 pub struct CLimits {
@@ -30,7 +31,7 @@ pub struct CLimits {
 }
 
 impl CLimits {
-    /// The limits.
+    /// The limits as values of `nw_book`.
     pub fn get(&self) -> Limits
         ensures { result ≡ limits_in self.now }
     {
@@ -99,7 +100,7 @@ pub extern "C" fn nw_book_events(book: &mut BookHandle, out: &mut usize) -> i32
     }
 }
 
-/// Whether an answer can be put in the place of this content.
+/// Whether an answer may replace this content: it is room, an answer or a ticket.
 pub(crate) fn is_room(content: &Content) -> bool
     ensures { result ≡ false → HoldsRoom content.now → ⊥ }
 {
@@ -109,7 +110,7 @@ pub(crate) fn is_room(content: &Content) -> bool
     )
 }
 
-/// Takes the step of the command, and puts the answer into its room.
+/// Takes the step of the command and replaces the content of `answer` with the answer. Returns the code of a refusal.
 pub(crate) fn take(
     alloc: Global,
     book: &mut Handle,
@@ -148,7 +149,7 @@ pub(crate) fn take(
     }
 }
 
-/// Rebuilds the tables that later tickets share, without what was collected. Nothing that a caller can observe changes.
+/// Rebuilds the tables that later tickets share, without the blocks of collected rounds. It changes nothing that a call can observe.
 #[unsafe(no_mangle)]
 pub extern "C" fn nw_book_compact(alloc: Global, book: &mut BookHandle) -> i32
     ensures same { IsAsBefore book.old book.new }
@@ -167,8 +168,8 @@ pub extern "C" fn nw_book_compact(alloc: Global, book: &mut BookHandle) -> i32
     }
 }
 
-/// Empties the history, and keeps the stored blocks, certificates and garbage round. Each session's next call is number 1. Answers and
-/// tickets stay as they are. It takes as long as the history's writes and certificates took, without their checks.
+/// Empties the history. The book keeps its blocks, its certificates and its garbage round. The next call of each session has number 1
+/// again. Answers and tickets do not change. It takes as long as the writes and certificates of the history took, without their checks.
 #[unsafe(no_mangle)]
 pub extern "C" fn nw_book_restart(alloc: Global, book: &mut BookHandle) -> i32
     ensures restarted { result ≡ pos 0 → IsRestarted book.old.value book.new.value }

@@ -1,4 +1,4 @@
-//! Texts that are decoded and checked.
+//! Decoding and checking texts.
 ghost use Rattle.std.specs.Prelude.{◌≡◌, ◌⊎◌, ◌<◌, pos, take, true, length};
 ghost use Rattle.nw_ed25519.specs.Accepts.{accepts};
 ghost use Rattle.nw_c.specs.Checks.{IsBlockOf, IsCheckOf, IsCertificateOverLimit, IsSpelledBy, IsToldOf};
@@ -15,8 +15,8 @@ use nw_codec::{Message, encode_message};
 use nw_ed25519::Ed25519;
 use std::alloc::Global;
 
-/// Decodes the text and checks its message under the committee. A text that is no message, or whose block or certificate breaks a rule,
-/// is also a success: `nw_checked_told` says which.
+/// Decodes the text and checks its message under the committee. It also returns `NW_DONE` for a text that is not a message, and for a block
+/// or certificate that breaks a rule. `nw_checked_told` says what the text is.
 #[unsafe(no_mangle)]
 pub extern "C" fn nw_check(
     alloc: Global,
@@ -97,8 +97,8 @@ pub extern "C" fn nw_checked_block(
     }
 }
 
-/// Writes the message of the checked certificate or vote, to be sent. Its size goes to `needed`; `NW_SMALL` if the buffer is smaller.
-/// Returns `NW_OTHER_KIND` of any other text.
+/// Writes the message of the checked certificate or vote, which can be sent to other members. Writes its size to `needed`. Returns
+/// `NW_SMALL` if the buffer is smaller, and `NW_OTHER_KIND` if the text is neither a valid certificate nor a vote.
 #[unsafe(no_mangle)]
 pub extern "C" fn nw_checked_message(
     alloc: Global,

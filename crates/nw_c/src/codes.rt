@@ -14,35 +14,35 @@ pub(crate) const NO_MEMORY: i32 = 1;
 pub(crate) const CLOSED: i32 = 2;
 /// A handle that must be closed is open.
 pub(crate) const OPEN: i32 = 3;
-/// A handle holds another kind of value.
+/// A handle holds a value of another kind than the function takes.
 pub(crate) const OTHER_KIND: i32 = 4;
-/// The members make no committee: not 1 to 100 members, a weight outside 1 to 1,000,000, or a repeated key.
+/// The members do not form a committee. There are none or more than 100, a weight is not 1 to 1,000,000, or a key is repeated.
 pub(crate) const BAD_COMMITTEE: i32 = 5;
 /// A limit is outside its range.
 pub(crate) const BAD_LIMITS: i32 = 6;
-/// The call's number is not the session's next number, or the session is not below the limit.
+/// The call's number is not the session's next one, or the session's number is not below the limit on sessions.
 pub(crate) const OUT_OF_TURN: i32 = 7;
-/// The value was checked under another committee.
+/// The block or certificate was checked under another committee than the book's.
 pub(crate) const OTHER_COMMITTEE: i32 = 8;
-/// The history has as many events as its limit.
+/// The history has reached its limit on events.
 pub(crate) const HISTORY_FULL: i32 = 9;
 /// A round is not below 2^48.
 pub(crate) const BAD_ROUND: i32 = 10;
 /// The buffer is too small. Only the needed size was written.
 pub(crate) const SMALL: i32 = 11;
-/// There is no value at the index, or none was found.
+/// There is nothing at the index, or there is no such value.
 pub(crate) const ABSENT: i32 = 12;
-/// The block breaks a limit or an order of the format.
+/// The block or certificate breaks a limit of the format, or its parents or signers do not ascend strictly.
 pub(crate) const OVER_LIMIT: i32 = 13;
 /// The author or signer is not a member of the committee.
 pub(crate) const NO_MEMBER: i32 = 14;
 /// The vote is for another digest, round or author.
 pub(crate) const OTHER_BLOCK: i32 = 15;
-/// A vote of the same signer was counted before.
+/// A vote of the same signer was already counted.
 pub(crate) const REPEATED: i32 = 16;
 /// The signature is not the signer's.
 pub(crate) const BAD_SIGNATURE: i32 = 17;
-/// The counted votes do not reach a quorum.
+/// The counted votes do not reach the quorum.
 pub(crate) const FEW_VOTES: i32 = 18;
 /// The two tickets have different digests or garbage rounds, so their lists cannot be compared.
 pub(crate) const APART: i32 = 19;

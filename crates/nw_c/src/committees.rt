@@ -1,4 +1,4 @@
-//! Committees.
+//! Making and reading committees.
 ghost use Rattle.std.specs.Prelude.{◌≡◌, pos, map, IfOk, IfErr, true};
 ghost use Rattle.nw_committee.specs.Committee.{HoldsCommittee as IsValid};
 ghost use Rattle.nw_c.specs.Committees.{AreOneCommittee, HasMember, HasQuorum, HasSize, IsCommitteeOf, LacksMember, member_in};
@@ -20,7 +20,7 @@ pub struct CMember {
     pub weight: u32,
 }
 
-/// The members that C lists.
+/// The members in the caller's array.
 fn members_of(alloc: Global, listed: &[CMember]) -> Result<Vec<Member>, NoMemory>
     ensures { IfOk result (λ members. members.items ≡ map member_in listed.now) }
 {
@@ -35,7 +35,7 @@ fn members_of(alloc: Global, listed: &[CMember]) -> Result<Vec<Member>, NoMemory
     )
 }
 
-/// The committee of these members, or the code of the refusal.
+/// The committee of these members. The error is the code to return.
 fn committee_of(alloc: Global, listed: &[CMember]) -> Result<Shared<Committee>, i32>
     ensures made { IfOk result (λ committee. committee ≡ map member_in listed.now) }
     ensures refused { IfErr result (λ why. (why ≡ pos 0 → ⊥) × (why ≡ OPEN → ⊥)) }
@@ -54,8 +54,8 @@ fn committee_of(alloc: Global, listed: &[CMember]) -> Result<Shared<Committee>, 
     }
 }
 
-/// Makes a committee of 1 to 100 members. Members are numbered by their place in the list, from 0. Returns `NW_BAD_COMMITTEE` if there
-/// are too few or too many, if a weight is out of range, or if a key is repeated.
+/// Makes a committee of 1 to 100 members. A member's number is its index in the array. Returns `NW_BAD_COMMITTEE` if there are too few or
+/// too many members, a weight is out of range, or a key is repeated.
 #[unsafe(no_mangle)]
 pub extern "C" fn nw_committee_new(
     alloc: Global,
@@ -77,7 +77,7 @@ pub extern "C" fn nw_committee_new(
     }
 }
 
-/// Opens a second handle of the committee, for another thread. The members are shared, not copied.
+/// Opens a second handle of the committee, which another thread can use. Both handles share the members.
 #[unsafe(no_mangle)]
 pub extern "C" fn nw_committee_share(
     alloc: Global,
@@ -127,7 +127,7 @@ pub extern "C" fn nw_committee_size(committee: &mut CommitteeHandle, out: &mut u
     }
 }
 
-/// Writes the member of this number. Returns `NW_ABSENT` if the committee has no such member.
+/// Writes the key and the weight of the member with this number. Returns `NW_ABSENT` if there is no such member.
 #[unsafe(no_mangle)]
 pub extern "C" fn nw_committee_member(
     committee: &mut CommitteeHandle,
@@ -155,7 +155,7 @@ pub extern "C" fn nw_committee_member(
     }
 }
 
-/// Writes the weight of a quorum: more than two thirds of the total weight.
+/// Writes the quorum: the least weight that is more than two thirds of the total weight.
 #[unsafe(no_mangle)]
 pub extern "C" fn nw_committee_quorum(committee: &mut CommitteeHandle, out: &mut u32) -> i32
     ensures quorum { result ≡ pos 0 → HasQuorum committee.old.value out.new }

@@ -1,4 +1,4 @@
-//! What a handle holds.
+//! The contents of handles.
 use nw_book::{Book, Done, Ticket};
 use nw_check::{Checked, Gather};
 use nw_codec::Block;
@@ -6,24 +6,24 @@ use nw_committee::Committee;
 use nw_digest::{Sequence, Shared};
 use nw_ed25519::Ed25519;
 
-/// What a handle holds: one variant for each kind of handle that C has.
+/// The content of a handle. It has one variant for each kind of handle.
 #[derive(Drop)]
 pub enum Content {
-    /// Room for an answer, which is made before the step that is answered.
+    /// Room for an answer, made before the call.
     Room,
     /// Members with keys and weights.
     Committee(Shared<Committee>),
-    /// What a text is, once it was decoded and checked.
+    /// The result of decoding and checking a text.
     Checked(Checked<Ed25519>),
     /// The votes for one block.
     Gather(Gather<Ed25519>),
-    /// A history with its tables.
+    /// A book: a history and the tables after it.
     Book(Book<Ed25519>),
-    /// The answer to a step.
+    /// The answer to a call.
     Answer(Done<Ed25519>),
-    /// A causal read, to be walked at any time.
+    /// A ticket, which can be walked at any time.
     Ticket(Ticket<Ed25519>),
-    /// The blocks of a walk.
+    /// The list of blocks of a walk.
     List(Sequence<Shared<Block>>),
     /// A block.
     Block(Shared<Block>),

@@ -1,4 +1,4 @@
-//! The events of the histories that explain answers.
+//! The histories of answers and tickets, and their events.
 ghost use Rattle.std.specs.Prelude.{◌≡◌, pos, true};
 ghost use Rattle.std.specs.Option.{option_copied};
 ghost use Rattle.nw_c.specs.Events.{ComparesHistories, HasEventAt, HasLength, HasNoEventAt, IsCallTold, IsEventTold, front_in};
@@ -16,7 +16,7 @@ use nw_model::{Call, Event};
 
 /// A write of the block of `digest`.
 pub(crate) const CALL_WRITE: i32 = 1;
-/// A certificate of `digest` that was handed in.
+/// A certificate handed in for `digest`.
 pub(crate) const CALL_CERTIFY: i32 = 2;
 /// A call for the certificate of `digest`.
 pub(crate) const CALL_CERTIFICATE: i32 = 3;
@@ -31,7 +31,7 @@ pub(crate) const CALL_MISSING: i32 = 7;
 /// A call for the status.
 pub(crate) const CALL_STATUS: i32 = 8;
 
-/// An event of a history: a call of a session, which of the session's calls it was, from 1, and the reply.
+/// An event of a history: the session, the number of the session's call, counted from 1, the call, and its reply.
 #[repr(C)]
 #[derive(Clone, Copy)]
 pub struct CEvent {
@@ -41,7 +41,7 @@ pub struct CEvent {
     pub reply: CTold,
 }
 
-/// A call.
+/// The call as C sees it.
 fn call_told(call: &Call) -> CTold
     ensures { IsCallTold call.now result }
 {
@@ -57,7 +57,7 @@ fn call_told(call: &Call) -> CTold
     }
 }
 
-/// An event.
+/// The event as C sees it.
 fn event_told(event: &Event) -> CEvent
     ensures { IsEventTold event.now result }
 {
@@ -69,7 +69,7 @@ fn event_told(event: &Event) -> CEvent
     }
 }
 
-/// The history of an answer or a ticket, or `None` of anything else.
+/// The history of an answer or a ticket. `None` for any other content.
 fn front_of(content: &Content) -> Option<&Front<Ed25519>>
     ensures { option_copied result ≡ front_in content.now }
 {
@@ -80,7 +80,7 @@ fn front_of(content: &Content) -> Option<&Front<Ed25519>>
     }
 }
 
-/// Writes how many events the history of the answer or ticket has: all events up to and with its own call.
+/// Writes the number of events in the history of the answer or ticket. The last event is its own call.
 #[unsafe(no_mangle)]
 pub extern "C" fn nw_answer_events(answer: &mut AnswerHandle, out: &mut usize) -> i32
     ensures events { result ≡ pos 0 → HasLength (front_in answer.old.value) out.new }
@@ -100,7 +100,7 @@ pub extern "C" fn nw_answer_events(answer: &mut AnswerHandle, out: &mut usize) -
     }
 }
 
-/// Writes the event at the index, from 0, of the history of the answer or ticket. Returns `NW_ABSENT` past the last.
+/// Writes the event at the index, counted from 0, of the history of the answer or ticket. Returns `NW_ABSENT` if there is no such event.
 #[unsafe(no_mangle)]
 pub extern "C" fn nw_answer_event(answer: &mut AnswerHandle, index: usize, out: &mut CEvent) -> i32
     ensures event { result ≡ pos 0 → HasEventAt (front_in answer.old.value) index out.new }
@@ -124,8 +124,9 @@ pub extern "C" fn nw_answer_event(answer: &mut AnswerHandle, index: usize, out: 
     }
 }
 
-/// Writes whether the history of one answer or ticket begins the history of the other: same committee, limits and start, and the other's
-/// first events are the one's. It takes time in proportion to the one's length.
+/// Writes whether the history of `answer` begins the history of `other`. It does if both have the same committee, limits and base, and the
+/// first events of `other` are the events of `answer`. The time grows with the number of these events. Both handles may be answers or
+/// tickets.
 #[unsafe(no_mangle)]
 pub extern "C" fn nw_answer_begins(
     answer: &mut AnswerHandle,

@@ -1,4 +1,4 @@
-//! Votes that are gathered into a certificate.
+//! Gathering votes into a certificate.
 ghost use Rattle.std.specs.Prelude.{◌≡◌, ◌^◌, ◌≤◌, pos, true};
 ghost use Rattle.nw_ed25519.specs.Accepts.{accepts};
 ghost use Rattle.nw_check.specs.declared.fault.GatherFault.{GatherFault as Fault};
@@ -56,8 +56,8 @@ pub extern "C" fn nw_gather_new(
     }
 }
 
-/// Checks the signature of the vote and counts it. `quorum` says whether the counted votes reach a quorum. A vote is refused with
-/// `NW_OTHER_BLOCK`, `NW_REPEATED`, `NW_NO_MEMBER` or `NW_BAD_SIGNATURE`, whichever applies first; nothing changes then. Returns
+/// Checks the signature of the vote and counts the vote. Writes to `quorum` whether the counted votes reach the quorum. Refuses a vote with
+/// `NW_OTHER_BLOCK`, `NW_REPEATED`, `NW_NO_MEMBER` or `NW_BAD_SIGNATURE`, the first that applies, and then changes nothing. Returns
 /// `NW_OTHER_KIND` if the checked text is not a vote.
 #[unsafe(no_mangle)]
 pub extern "C" fn nw_gather_add(
@@ -92,8 +92,8 @@ pub extern "C" fn nw_gather_add(
     }
 }
 
-/// Makes the certificate of the counted votes, as a checked text. Returns `NW_FEW_VOTES` if they do not reach a quorum. More votes can
-/// be added afterwards.
+/// Makes the certificate of the counted votes and opens a handle of it, as a checked text. Returns `NW_FEW_VOTES` if the votes do not reach
+/// the quorum. More votes can be added afterwards.
 #[unsafe(no_mangle)]
 pub extern "C" fn nw_gather_certificate(
     alloc: Global,

@@ -1,4 +1,4 @@
-//! Blocks and certificates that are handed to a book.
+//! Handing blocks and certificates to a book.
 ghost use Rattle.std.specs.Prelude.{◌≡◌, ◌⊎◌, pos, IfOk, IfErr, true};
 ghost use Rattle.nw_ed25519.specs.Accepts.{accepts};
 ghost use Rattle.nw_book.specs.declared.error.NoStep.{NoStep as Refusal};
@@ -19,7 +19,7 @@ use nw_ed25519::Ed25519;
 use std::alloc::Global;
 use std::mem;
 
-/// The command that hands in the checked block or certificate. Any other content comes back.
+/// The command that hands in the checked block or certificate. The error is the content, if it is anything else.
 fn command_of(content: Content) -> Result<Command<Ed25519>, Content>
     ensures command { IfOk result (IsCommandOf content) }
     ensures back { IfErr result (λ back. back ≡ content) }
@@ -33,7 +33,7 @@ fn command_of(content: Content) -> Result<Command<Ed25519>, Content>
     }
 }
 
-/// The checked block or certificate that the command hands in.
+/// The checked block or certificate that the command hands in. `Room` for any other command.
 fn content_of(command: Command<Ed25519>) -> Content
     ensures { (content : Held) → IsCommandOf content command → result ≡ content }
 {
@@ -45,8 +45,9 @@ fn content_of(command: Command<Ed25519>) -> Content
     }
 }
 
-/// Writes the checked block, or hands in the checked certificate, as the session's call of this number. The checked value stays open, and
-/// may be handed to other books. Returns `NW_OTHER_KIND` if it is neither block nor certificate.
+/// Writes the checked block, or certifies the digest of the checked certificate. `number` must be that of the session's next call. The
+/// handle of the checked text stays open, and the text may be handed to other books. Returns `NW_OTHER_KIND` if the text is neither a valid
+/// block nor a valid certificate.
 #[unsafe(no_mangle)]
 pub extern "C" fn nw_book_take(
     alloc: Global,

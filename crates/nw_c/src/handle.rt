@@ -1,4 +1,4 @@
-//! Handles: contents behind a pointer that C keeps.
+//! Handles: a C caller keeps a pointer to the content.
 ghost use Rattle.std.specs.Prelude.{Bool};
 ghost use Rattle.nw_c.specs.declared.content.Content.{Content};
 ghost use Rattle.nw_c.specs.Held.{content_coded};
@@ -11,7 +11,7 @@ mod put;
 
 pub(crate) use put::put;
 
-/// What C keeps: one pointer, which is null while the handle is closed.
+/// A handle as C sees it: one pointer, which is null while the handle is closed.
 #[repr(C)]
 #[derive(Drop)]
 pub struct Handle {
@@ -32,11 +32,11 @@ impl Model for Handle {
 pub type CommitteeHandle = Handle;
 /// A checked text: a block, a certificate, a vote, or the rule that the text breaks.
 pub type CheckedHandle = Handle;
-/// Votes that are gathered for one block.
+/// The votes gathered for one block.
 pub type GatherHandle = Handle;
-/// A book: the stored blocks and certificates, and the history of calls that explains them.
+/// A book: the stored blocks and certificates, and the history of the calls that led to them.
 pub type BookHandle = Handle;
-/// Room for an answer, an answer, or a ticket, which answers a causal read whose list can be walked.
+/// Room for an answer, an answer, or a ticket. A ticket is the answer to a causal read whose list can be walked.
 pub type AnswerHandle = Handle;
 /// The list of blocks of a walk.
 pub type ListHandle = Handle;

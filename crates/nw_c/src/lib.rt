@@ -1,7 +1,7 @@
 //! The block store as a C library: handles of one pointer each, and functions that return codes.
 //!
-//! Each export carries the clause of the function beneath it, restated over the contents of its handles. No export has a `requires`: a
-//! closed handle, a handle of another kind, a buffer that is too small and a number out of range are codes.
+//! Each export restates the contract of the function that it calls, over the contents of its handles. No export has a precondition. A
+//! closed handle, a handle of another kind, a buffer that is too small and a number out of range give a code.
 #![tactic(auto)]
 
 mod answers;

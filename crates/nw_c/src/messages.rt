@@ -11,15 +11,15 @@ use nw_ed25519::Ed25519;
 pub(crate) const BLOCK: i32 = 1;
 /// A valid certificate.
 pub(crate) const CERTIFICATE: i32 = 2;
-/// A vote. Its signature is checked when it is added to a gathering.
+/// A vote. Its signature is not checked until it is added to the gathered votes.
 pub(crate) const VOTE: i32 = 3;
 /// The text ends too early.
 pub(crate) const TEXT_SHORT: i32 = 10;
 /// Bytes follow the message.
 pub(crate) const TEXT_TRAILING: i32 = 11;
-/// The first byte is no kind of message.
+/// The first byte is not that of a message.
 pub(crate) const TEXT_TAG: i32 = 12;
-/// The block has another version than 1.
+/// The version of the block is not 1.
 pub(crate) const TEXT_VERSION: i32 = 13;
 /// The block has more than 100 parents.
 pub(crate) const TEXT_MANY_PARENTS: i32 = 14;
@@ -51,11 +51,11 @@ pub(crate) const CERT_AUTHOR: i32 = 40;
 pub(crate) const CERT_SIGNER: i32 = 41;
 /// The signers do not reach a quorum.
 pub(crate) const CERT_FEW_VOTES: i32 = 42;
-/// The signature of the member `signer` is not its own, and no earlier one is wrong.
+/// The signature of `signer` is not that member's. All signatures before it are correct.
 pub(crate) const CERT_SIGNATURE: i32 = 43;
 
-/// What a checked text is: its kind, the slot of a block, certificate or vote, and the signer of a vote or of a wrong signature. What the
-/// kind does not have is 0.
+/// What a checked text is: its kind, the slot of a block, certificate or vote, and the signer of a vote or of a wrong signature. Fields
+/// that the kind does not use are 0.
 #[repr(C)]
 #[derive(Clone, Copy)]
 pub struct CMessage {
@@ -64,7 +64,7 @@ pub struct CMessage {
     pub slot: CSlot,
 }
 
-/// The kind of a text that is no message. A checked text never has the fault `NoMemory`.
+/// The kind of a text that is not a message. A checked text never has the fault `NoMemory`.
 fn kind_of_text(fault: DecodeError) -> i32
     ensures { result ≡ text_kind fault }
 {
@@ -111,7 +111,7 @@ fn kind_of_cert(fault: &CertFault) -> i32
     }
 }
 
-/// A message of this kind, with neither slot nor signer.
+/// A message of this kind and signer, without a slot.
 fn faulty(kind: i32, signer: u16) -> CMessage
     ensures kind { result.kind ≡ kind }
     ensures signer { result.signer ≡ signer }

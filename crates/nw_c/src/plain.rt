@@ -18,7 +18,7 @@ pub struct CSignature {
     pub bytes: [u8; 64],
 }
 
-/// The digest of a block with the block's round and author.
+/// The digest of a block with the block's round and author. In docs/MODEL.md, a slot is the round and the author only.
 #[repr(C)]
 #[derive(Clone, Copy)]
 pub struct CSlot {
@@ -27,7 +27,8 @@ pub struct CSlot {
     pub author: u16,
 }
 
-/// What an answer or an event says: a kind, and the number or digest that the kind's comment names. Both are 0 otherwise.
+/// What a call or a reply is: its kind, and the number or digest that the kind's comment names. A number or digest that it does not name is
+/// 0.
 #[repr(C)]
 #[derive(Clone, Copy)]
 pub struct CTold {
@@ -37,7 +38,7 @@ pub struct CTold {
 }
 
 impl CDigest {
-    /// What C sees of the digest.
+    /// The digest as C sees it.
     pub fn of(digest: &Digest) -> CDigest
         ensures { digest_in result ≡ digest.now }
     {
@@ -45,7 +46,7 @@ impl CDigest {
         CDigest { bytes }
     }
 
-    /// The digest.
+    /// The digest as a value of the store.
     pub fn get(&self) -> Digest
         ensures { result ≡ digest_in self.now }
     {
@@ -64,14 +65,14 @@ pub(crate) fn slot(digest: Digest, round: Round, author: u16) -> CSlot
     }
 }
 
-/// What has this kind alone.
+/// A call or reply of this kind, with neither a number nor a digest.
 pub(crate) fn plain(kind: i32) -> CTold
     ensures { result.kind ≡ kind }
 {
     numbered(kind, 0)
 }
 
-/// What has this kind and a number.
+/// A call or reply of this kind with a number.
 pub(crate) fn numbered(kind: i32, number: u64) -> CTold
     ensures kind { result.kind ≡ kind }
     ensures number { result.number ≡ number }
@@ -83,7 +84,7 @@ pub(crate) fn numbered(kind: i32, number: u64) -> CTold
     }
 }
 
-/// What has this kind and a digest.
+/// A call or reply of this kind with a digest.
 pub(crate) fn named(kind: i32, digest: &Digest) -> CTold
     ensures kind { result.kind ≡ kind }
     ensures digest { digest_in result.digest ≡ digest.now }

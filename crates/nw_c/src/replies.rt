@@ -1,4 +1,4 @@
-//! Replies, as C is told them.
+//! Replies as C sees them.
 ghost use Rattle.std.specs.Prelude.{◌≡◌, pos, true};
 ghost use Rattle.nw_model.specs.declared.reply.Reply.TheVariants as Reply;
 ghost use Rattle.nw_c.specs.Replies.{IsReplyTold, IsToldAs};
@@ -11,33 +11,33 @@ use crate::handle::AnswerHandle;
 use crate::plain::{CTold, named, numbered, plain};
 use nw_model::{CausalReply, CertifyReply, CollectReply, Reply, WriteReply};
 
-/// Write: the block is stored now, and is the first of its round and author. Vote for it.
+/// Write: the block is now stored, and it is the first of its round and author. Vote for it.
 pub(crate) const STORED_VOTE: i32 = 1;
-/// Write: the block is stored now, without a vote: another block of its round and author came first, and this one is certified.
+/// Write: the block is now stored, without a vote: another block of its round and author came first, but this one is certified.
 pub(crate) const STORED: i32 = 2;
-/// Write: the same block was stored before.
+/// Write: the same block is already stored.
 pub(crate) const HELD: i32 = 3;
 /// Write: another block is stored under the digest.
 pub(crate) const CLASH: i32 = 4;
-/// Write: another block of this author and round came first, which `digest` names.
+/// Write: another block of this round and author came first. `digest` is the digest of that block.
 pub(crate) const EQUIVOCATES: i32 = 5;
-/// Certificate: it is stored now.
+/// Certificate: it is now stored.
 pub(crate) const CERTIFIED: i32 = 6;
-/// Certificate: the digest was certified before, for the same round and author.
+/// Certificate: the digest is already certified for the same round and author.
 pub(crate) const ALREADY: i32 = 7;
-/// Certificate: another digest is certified for the round and author, which `digest` names.
+/// Certificate: another digest is certified for the round and author. `digest` is that digest.
 pub(crate) const CONFLICT: i32 = 8;
-/// Write or certificate: the round is below the garbage round, which is `number`.
+/// Write or certificate: the round is below the garbage round. `number` is the garbage round.
 pub(crate) const COLLECTED: i32 = 9;
-/// Write or certificate: the round is not below the garbage round plus the window. Hand it in again later.
+/// Write or certificate: the round is at or above the garbage round plus the window. Hand it in again later.
 pub(crate) const TOO_FAR: i32 = 10;
-/// Write or certificate: the certificate and the block of the digest differ in round or author.
+/// Write or certificate: the block and the certificate of this digest have different rounds or authors.
 pub(crate) const MISFIT: i32 = 11;
-/// Write or certificate: the book stores as many as its limit. Hand it in again after a collection.
+/// Write or certificate: the book has reached its limit on blocks or on certificates. Hand it in again after a collection.
 pub(crate) const FULL: i32 = 12;
-/// Read, or call for a certificate: it is stored.
+/// Read or call for a certificate: it was found.
 pub(crate) const FOUND: i32 = 13;
-/// Read, causal read, or call for a certificate: it is not stored.
+/// Read, causal read or call for a certificate: no block or certificate of this digest is stored.
 pub(crate) const UNKNOWN: i32 = 14;
 /// Causal read: the digest is not certified.
 pub(crate) const UNCERTIFIED: i32 = 15;
@@ -47,14 +47,14 @@ pub(crate) const INCOMPLETE: i32 = 16;
 pub(crate) const READY: i32 = 17;
 /// Collection: the garbage round was raised, and `number` blocks were dropped.
 pub(crate) const RAISED: i32 = 18;
-/// Collection: the garbage round, which is `number`, was as high before.
+/// Collection: the garbage round was already as high. `number` is the garbage round.
 pub(crate) const NOT_HIGHER: i32 = 19;
 /// Call for missing parents: `number` of them are listed.
 pub(crate) const MISSING: i32 = 20;
 /// Call for the status.
 pub(crate) const STATUS: i32 = 21;
 
-/// The reply to a write.
+/// The reply to a write as C sees it.
 fn write_told(reply: WriteReply) -> CTold
     ensures { IsToldAs (Reply.Write reply) result }
 {
@@ -71,7 +71,7 @@ fn write_told(reply: WriteReply) -> CTold
     }
 }
 
-/// The reply to a certificate.
+/// The reply to a certificate as C sees it.
 fn certify_told(reply: CertifyReply) -> CTold
     ensures { IsToldAs (Reply.Certify reply) result }
 {
@@ -86,7 +86,7 @@ fn certify_told(reply: CertifyReply) -> CTold
     }
 }
 
-/// Any reply.
+/// Any reply as C sees it.
 pub(crate) fn reply_told(reply: &Reply) -> CTold
     ensures { IsToldAs reply.now result }
 {

@@ -37,7 +37,7 @@ pub extern "C" fn nw_digest_of(bytes: &[u8], out: &mut CDigest)
     *out = CDigest::of(&digest_of(bytes));
 }
 
-/// Writes the text that the author of the block of this digest signs.
+/// Writes the text that the author of a block with this digest signs.
 #[unsafe(no_mangle)]
 pub extern "C" fn nw_text_of_block(digest: &CDigest, out: &mut CBlockText)
     ensures { out.new.bytes ≡ text_of_block (digest_in digest.now) }
@@ -47,7 +47,8 @@ pub extern "C" fn nw_text_of_block(digest: &CDigest, out: &mut CBlockText)
     };
 }
 
-/// Writes the text that a member signs to vote for the block of this slot. Returns `NW_BAD_ROUND` if the round is not below 2^48.
+/// Writes the text that a member signs to vote for the block of this digest, round and author. Returns `NW_BAD_ROUND` if the round is not
+/// below 2^48.
 #[unsafe(no_mangle)]
 pub extern "C" fn nw_text_of_vote(slot: &CSlot, out: &mut CVoteText) -> i32
     ensures text { result ≡ pos 0 → out.new.bytes
@@ -63,8 +64,8 @@ pub extern "C" fn nw_text_of_vote(slot: &CSlot, out: &mut CVoteText) -> i32
     DONE
 }
 
-/// Writes the message of the signer's vote for the block of this slot: 107 bytes. Its size goes to `needed`; `NW_SMALL` if the buffer is
-/// smaller. Returns `NW_BAD_ROUND` if the round is not below 2^48. The signature is not checked.
+/// Writes the message of the signer's vote for the block of this digest, round and author: 107 bytes. Writes this size to `needed`. Returns
+/// `NW_SMALL` if the buffer is smaller, and `NW_BAD_ROUND` if the round is not below 2^48. It does not check the signature.
 #[unsafe(no_mangle)]
 pub extern "C" fn nw_vote_message(
     alloc: Global,

@@ -1,4 +1,4 @@
-//! Texts that are copied into a buffer of the caller's.
+//! Copying texts into the caller's buffer.
 ghost use Rattle.std.specs.Prelude.{◌≡◌, ◌<◌, pos, take, length, IfOk, MatchResult, IsErrOf};
 ghost use Rattle.nw_codec.specs.declared.error.EncodeError.TheVariants as EncodeError;
 ghost use Rattle.nw_codec.specs.Fits.{CertificateFits};
@@ -11,7 +11,7 @@ use nw_codec::{Certificate, EncodeError, Message, encode_message};
 use nw_digest::Sequence;
 use std::alloc::Global;
 
-/// Writes the size of the text to `needed`, and copies the text to the start of the buffer if it fits.
+/// Writes the size of the text to `needed`, and copies the text to the start of the buffer if it fits. Returns `SMALL` if it does not.
 pub(crate) fn hand_out(text: &[u8], buffer: &mut [u8], needed: &mut usize) -> i32
     ensures copied { result ≡ pos 0 → take needed.new buffer.new ≡ text.now }
     ensures unchanged { (result ≡ pos 0 → ⊥) → buffer.new ≡ buffer.old }
@@ -27,7 +27,7 @@ pub(crate) fn hand_out(text: &[u8], buffer: &mut [u8], needed: &mut usize) -> i3
     DONE
 }
 
-/// The same for a text that was encoded, or the code of what it was not encoded for.
+/// Does the same for the result of an encoding. If the encoding failed, it returns the code of the error.
 pub(crate) fn hand_out_encoded(
     text: Result<Vec<u8>, EncodeError>,
     buffer: &mut [u8],
@@ -46,7 +46,7 @@ pub(crate) fn hand_out_encoded(
     }
 }
 
-/// The text of the certificate's message.
+/// The encoded message of the certificate.
 pub(crate) fn certificate_text(
     alloc: Global,
     certificate: &Certificate,

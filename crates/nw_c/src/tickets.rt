@@ -16,7 +16,7 @@ use nw_digest::Sequence;
 use nw_ed25519::Ed25519;
 use std::alloc::Global;
 
-/// Writes the digest that the ticket is for, and the garbage round at the call that opened it.
+/// Writes the digest that the ticket is for, and the garbage round at the call that gave the ticket.
 #[unsafe(no_mangle)]
 pub extern "C" fn nw_ticket_about(
     ticket: &mut AnswerHandle,
@@ -41,7 +41,7 @@ pub extern "C" fn nw_ticket_about(
     }
 }
 
-/// Whether the lists of both tickets are equal, or the code of why that is not known.
+/// Whether the lists of both tickets are equal. The error is the code to return.
 fn agree(alloc: Global, one: &Ticket<Ed25519>, other: &Ticket<Ed25519>) -> Result<bool, i32>
     ensures agrees { IfOk result (λ same. IsTrue same ↔ HaveOneList one.now other.now) }
     ensures apart { IfErr result (IsWhyApart one.now other.now) }
@@ -56,8 +56,8 @@ fn agree(alloc: Global, one: &Ticket<Ed25519>, other: &Ticket<Ed25519>) -> Resul
     }
 }
 
-/// Walks both tickets, which are for one digest and one garbage round, and writes whether the lists are equal. They may be tickets of two
-/// books. If they differ, two different blocks have one digest. Returns `NW_APART` if the digests or garbage rounds differ.
+/// Walks both tickets and writes whether their lists are equal. The tickets may come from two books. If the lists differ, two different
+/// blocks have the same digest. Returns `NW_APART` if the tickets have different digests or garbage rounds.
 #[unsafe(no_mangle)]
 pub extern "C" fn nw_ticket_agree(
     alloc: Global,
@@ -87,8 +87,8 @@ pub extern "C" fn nw_ticket_agree(
     }
 }
 
-/// Walks the ticket and opens a list: the block and all its certified ancestors not below the garbage round, as they were at the call that
-/// opened the ticket. They ascend by round and author. A ticket can be walked at any time and any number of times, without a lock.
+/// Walks the ticket and opens the list of its block and all ancestors from the garbage round on. The list is as of the call that gave the
+/// ticket, and ascends by round and author. A ticket can be walked any number of times, at any time, without a lock.
 #[unsafe(no_mangle)]
 pub extern "C" fn nw_ticket_walk(
     alloc: Global,
@@ -138,7 +138,7 @@ pub extern "C" fn nw_list_len(list: &mut ListHandle, out: &mut usize) -> i32
     }
 }
 
-/// Opens a handle of the block at the index, from 0. Returns `NW_ABSENT` past the last.
+/// Opens a handle of the block at the index, counted from 0. Returns `NW_ABSENT` if the list has no such block.
 #[unsafe(no_mangle)]
 pub extern "C" fn nw_list_block(
     alloc: Global,

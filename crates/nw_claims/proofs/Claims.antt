@@ -21,7 +21,7 @@ module _ {E : Type 0} where
   begins_itself [] = ([], refl)
   begins_itself (x ∷ xs) = let r = begins_itself xs in (r.0, ap (λ l. x ∷ l) r.1)
 
-  -- if one seat's knowledge changes to a fitting one, all seats still fit
+  -- if one seat's new knowledge fits the log, the knowledge of all seats still fits it
   fits_set : (seat : ℕ) (log : List E) (views : List (Knowledge E)) (by : ℕ) (w : Knowledge E)
       → ((j : ℕ) (u : Knowledge E) → j ≢ by → get_elem? views j ≡ some u → FitsLog seat log j u) → FitsLog seat log by w
       → (j : ℕ) (u : Knowledge E) → get_elem? (slice_set views by w) j ≡ some u → FitsLog seat log j u
@@ -65,7 +65,7 @@ module _ {E : Type 0} where
             (at_snoc (slice_set s.views id (keeper_knows all)) (claim_knows all) u j there),
       )
 
-  -- a copy of a claim is the same beginning
+  -- a copy of a claim claims the same beginning
   copies : (id : ℕ) (seen : List E) → Splits IsOneLog id (claim_knows seen) (claim_knows seen) (claim_knows seen)
   copies id seen s h at =
       let mine = h.2 id (claim_knows seen) at in (

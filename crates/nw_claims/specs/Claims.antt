@@ -29,11 +29,11 @@ module _ {E : Type 0} where
   abbrev pub knows_nothing : Knowledge E
   knows_nothing = record { keeps = false; all = []; claims = false; seen = [] }
 
-  -- the knowledge v of the seat `by` fits the log: only the keeper, at `seat`, knows the log, and a claim is a beginning of it
+  -- the knowledge v of the seat `by` fits the log: only the keeper's seat, `seat`, knows the log. A claim is a beginning of it
   abbrev pub FitsLog : ℕ → List E → ℕ → Knowledge E → Type 0
   FitsLog seat log by v = (v.keeps ≡ true → (by ≡ seat) × (v.all ≡ log)) × (v.claims ≡ true → IsPrefix v.seen log)
 
-  -- there is one log, which at most one seat knows, and which begins with each claim
+  -- there is one log. At most one seat knows it, and it begins with each claim
   abbrev pub IsOneLog : State E (Knowledge E) → Type 0
   IsOneLog s = (seat : ℕ) × (log : List E) × ((by : ℕ) (v : Knowledge E) → get_elem? s.views by ≡ some v → FitsLog seat log by v)
 

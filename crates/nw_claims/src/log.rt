@@ -9,9 +9,9 @@ use std::marker::{Brand, Model, PhantomData};
 use std::mem;
 use std::sync::ledger::Ledger;
 
-/// The name of one log and its ledger, as a type. It keeps keepers and claims of different logs apart.
+/// The name of one log and its ledger, as a type. It keeps apart the keepers and claims of different logs.
 ///
-/// A program calls a function that is generic in such a name with `Brand`. The proof of the call says which log it names.
+/// If a function is generic in such a name, a program calls it with `Brand`. The proof of the call says which log it names.
 pub trait LogName: Ledger + Send + Sync {
     ghost use Rattle.nw_claims.specs.Claims.{LogId};
 
@@ -26,7 +26,7 @@ impl LogName for Brand {
 
 type Log<E> = Table<E, Knowledge<E>, (), OneLog, Global>;
 
-/// A new log, which no type names yet. It has no events. Contracts see which log it is.
+/// A new log without events, which no type names yet. Contracts see which log it is.
 #[derive(Drop)]
 pub struct NewLog<E> {
     table: Log<E>,
@@ -52,7 +52,7 @@ impl<E> NewLog<E> {
         Ok(NewLog { table, seat })
     }
 
-    /// The only keeper of the log. From here on, `L` names the log.
+    /// The only keeper of the log. From now on, `L` names the log.
     pub fn keeper<L: LogName>(self) -> Keeper<E, L>
         requires { self ≡ L.log }
         ensures { result ≡ [] }
@@ -90,7 +90,7 @@ impl<E, L: LogName> Model for Keeper<E, L> {
 
 /// A beginning of the log that `L` names. Contracts see its events in order.
 ///
-/// A claim has no bytes, and may move to another thread. Dropping one has no effect on the log.
+/// A claim is zero-sized, and may move to another thread. Dropping a claim has no effect on the log.
 #[derive(Drop)]
 pub struct Claim<E, L: LogName> {
     claimant: Seat<E, Knowledge<E>>,
@@ -132,7 +132,7 @@ impl<E, L: LogName> Keeper<E, L> {
         }
     }
 
-    /// Shows that the log begins with the claim, however much it has grown since. It consumes the claim, and compares no event.
+    /// Shows that the log begins with the claim, however much it has grown since. It consumes the claim. It compares no events.
     pub fn check(&mut self, claim: Claim<E, L>)
         ensures begins { IsPrefix claim self.old }
         ensures same { self.new ≡ self.old }
@@ -143,7 +143,7 @@ impl<E, L: LogName> Keeper<E, L> {
         table.shared.load::<Checks>(seat, 0);
     }
 
-    /// The same as `check`, but the claim stays.
+    /// The same as `check`, but does not consume the claim.
     pub fn check_in_place(&mut self, claim: &mut Claim<E, L>)
         ensures begins { IsPrefix claim.old self.old }
         ensures claim { claim.new ≡ claim.old }
@@ -156,7 +156,7 @@ impl<E, L: LogName> Keeper<E, L> {
         });
     }
 
-    /// Exchanges an earlier claim, which begins the log, for a claim of the whole log.
+    /// Shows that the log begins with the claim, and replaces the claim with one of the whole log as it is now.
     pub fn renew(&mut self, claim: &mut Claim<E, L>)
         ensures begins { IsPrefix claim.old self.old }
         ensures claim { claim.new ≡ self.old }

@@ -6,15 +6,15 @@ use std::collections::LinkedList;
 pub(crate) struct Knowledge<E> {
     /// Whether this is the keeper's seat.
     keeps: bool,
-    /// The whole log, if it is.
+    /// The whole log, if this is the keeper's seat.
     all: LinkedList<E>,
     /// Whether the seat claims a beginning of the log.
     claims: bool,
-    /// The claimed beginning, if it does.
+    /// The claimed beginning, if the seat claims one.
     seen: LinkedList<E>,
 }
 
-/// The rule of the table: there is one log, which at most one seat knows. It begins with each claim.
+/// The rule of the table: there is one log. At most one seat knows it, and it begins with each claim.
 pub(crate) struct OneLog;
 
 impl<E> TableRule<E, Knowledge<E>, ()> for OneLog {
@@ -35,7 +35,7 @@ impl<E> Play<E, Knowledge<E>> for Appends {
     ghost then = { Appended };
 }
 
-/// The step that compares a claim with the log.
+/// The step that shows that a claim is a beginning of the log.
 pub(crate) struct Checks;
 
 impl<E> Play<E, Knowledge<E>> for Checks {

@@ -34,7 +34,7 @@ shared true false w = omega arith
 shared false true w = omega arith
 shared false false w = omega arith
 
--- the weights that pass one test and those that pass another add up to those that pass either and those that pass both
+-- the weight that passes one test, plus the weight that passes another, is the weight that passes either plus the weight that passes both
 pub either_and_both : (s t u v : ℕ → Bool) → ((n : ℕ) → u n ≡ (s n || t n)) → ((n : ℕ) → v n ≡ (s n && t n)) → (ps : List (ℕ × Member))
     → weight_where s ps + weight_where t ps ≡ weight_where u ps + weight_where v ps
 either_and_both s t u v either both [] = refl

@@ -9,7 +9,7 @@ use Rattle.nw_committee.specs.Committee.{IsCommittee, total}
 pub total_of_weights-le : (members : List Member) → All (λ m. m.weight ≤ 1000000) members → total members ≤ length members * 1000000
 total_of_weights-le members light = sum_by-le (λ m. m.weight) 1000000 members light
 
--- a committee weighs at most a hundred million
+-- the total weight of a committee is at most a hundred million
 pub total-le : (members : List Member) → IsCommittee members → total members ≤ 100000000
 total-le members ok =
     let light : All (λ (m : Member). m.weight ≤ 1000000) members = λ k d h. (ok.weights k d h).1 in

@@ -43,9 +43,10 @@ same_member_decides a b = (
 pub same_members_decides : (a b : List Member) → (same_members a b ≡ true → a ≡ b) × (a ≡ b → same_members a b ≡ true)
 same_members_decides = pointwise_decides same_member_decides
 
--- so it is an equivalence, also as a partial one
+-- so `same_members` is an equivalence relation
 pub same_members-equiv : IsEquivalence same_members
 same_members-equiv = decided same_members same_members_decides
 
+-- and a partial equivalence relation
 pub same_members-per : IsPartialEquivalence same_members
 same_members-per = partial_equiv_from_equiv same_members-equiv

@@ -65,7 +65,7 @@ impl Committee {
         Ok(Committee::of(equal_members(alloc, &keys)?))
     }
 
-    /// The committee of these members, in this order. It takes no memory.
+    /// The committee of these members, in this order. Allocates nothing.
     ///
     /// Errors, in the order in which they are tested:
     ///
@@ -94,7 +94,7 @@ impl Committee {
         Ok(Committee::of(members))
     }
 
-    /// The committee of these members, which are known to be one.
+    /// The committee of these members, which must be valid.
     fn of(members: Vec<Member>) -> Committee
         requires { IsCommittee members.items }
         ensures { result ≡ members.items }
@@ -150,8 +150,8 @@ impl Committee {
             .map(|member| member.weight)
     }
 
-    /// Whether the members with these strictly ascending numbers reach the quorum. A number without a member weighs nothing.
-    /// It takes no memory.
+    /// Whether the members with these strictly ascending numbers reach the quorum. A number that no member has adds no weight.
+    /// Allocates nothing.
     pub fn reaches_quorum(&self, listed: &[u16]) -> bool
         requires { IsStrictlyIncreasing listed.now }
         ensures reached { IsTrue result ↔ ReachesQuorum self.now listed.now }
@@ -160,7 +160,7 @@ impl Committee {
         self.listed_weight(listed) >= self.quorum()
     }
 
-    /// The sum of the weights of the members with these strictly ascending numbers.
+    /// The sum of the weights of the members with these strictly ascending numbers. A number that no member has adds no weight.
     fn listed_weight(&self, listed: &[u16]) -> u32
         requires { IsStrictlyIncreasing listed.now }
         ensures { result ≡ listed_weight self.now listed.now }

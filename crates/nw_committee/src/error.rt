@@ -2,7 +2,7 @@
 use std::alloc::AllocError;
 use thiserror::Error;
 
-/// Why a constructor refused to make a committee. If several faults apply, it returns the one that its docs name first.
+/// Why a constructor made no committee. If several errors apply, the constructor returns the one that its documentation lists first.
 #[derive(Clone, Copy, Debug, PartialEq, Eq, Error)]
 pub enum CommitteeFault {
     /// The constructor does not accept this number of members.

@@ -1,4 +1,4 @@
-//! Laws of the quorum. Each law is the contract of a function that does nothing, and is proved.
+//! Laws of the quorum. Each law is the contract of a function with an empty body, and is proved.
 ghost use Rattle.nw_committee.specs.Laws.{EqualMembersHaveTheClassicQuorum, QuorumsIntersect};
 
 /// 3f + 1 members of weight 1 have the quorum 2f + 1.

@@ -16,7 +16,8 @@ is_odd n = n % 2 == 1
 unfoldable pub root_of_minus_one : ℕ
 root_of_minus_one = 19681161376707505956807079304988542015446066515923890162744021073123829784752
 
--- a square root of u / v: the candidate u v^3 (u v^7)^((p - 5) / 8), or that times the root of -1, or None if neither is a root
+-- a square root of u / v. The candidate is u v^3 (u v^7)^((p - 5) / 8). If it is not a root, that times the root of -1 may be one. None if
+-- neither is a root
 unfoldable pub root : ℕ → ℕ → Option ℕ
 root u v =
     let r = times (times u (power v 3)) (power (times u (power v 7)) ((prime - 5) / 8)) in

@@ -9,7 +9,7 @@ use crate::Point;
 use crate::constants::twice_d;
 use nw_field::Number;
 
-/// A point as E, F, G and H of RFC 8032, section 5.1.4: the last four numbers before the coordinates, which are products of two each.
+/// A point as the numbers E, F, G and H of RFC 8032, section 5.1.4. Each coordinate of the point is the product of two of them.
 #[derive(Debug, Drop)]
 pub struct CompletedPoint {
     pub e: Number,

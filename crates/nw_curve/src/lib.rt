@@ -1,7 +1,7 @@
 //! Points of the twisted Edwards curve of Ed25519 (RFC 8032, section 5.1): sums, multiples, and points as 32 bytes.
 //!
-//! Its contract: sums and multiples in extended coordinates are the standard's, number by number. Points are decoded from 32 bytes and
-//! encoded by the standard's rules. Nothing is allocated.
+//! Its contract: the extended coordinates of sums and multiples are exactly those of the standard's formulas. Points are decoded from 32
+//! bytes and encoded by the standard's rules. Nothing is allocated.
 #![tactic(auto)]
 
 mod coding;

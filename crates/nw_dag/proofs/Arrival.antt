@@ -20,7 +20,7 @@ pub record Arrives (s t : State) (d : Digest) : Type 0 where
   pub absent : Stands s d → ⊥
   pub others : (x : Digest) (b : Block) → (x ≡ d → ⊥) → IsStanding t x b ↔ IsStanding s x b
 
--- each block lacks the parents that it names in t, as they stand in s
+-- each block lacks the parents that it names in t and that are not met or not ready in s, and only d's pairs changed
 pub record AreLackingSince (s t : State) (d : Digest) (old new : Pairs) : Type 0 where
   pub each : (h : Digest) (w : Wanted) → ReferencesParent t h w → Lacks new h w ⊎ (IsMet s w × IsReady s old w.digest)
   pub only : (h : Digest) (w : Wanted) → Lacks new h w → ReferencesParent t h w × (IsMet s w → IsReady s old w.digest → ⊥)
@@ -82,7 +82,7 @@ module _ (s t : State) (d : Digest) (arrives : Arrives s t d) where
     λ (names, unmet). (since h w).1 (names, λ met. unmet (met_still w met, λ same. arrives.absent (subst (λ q. Stands s q) same (met.0, met.1)))),
   )
 
--- d stands, and no block lacks it any longer
+-- d stands, and no block lacks it from now on
 pub met_now : (t : State) (d : Digest) (b : Block) (old new : Pairs) → IsStanding t d b → AreUnmetWithout t d old → new ≡ without_wanted old (name_of d b) → AreUnmet t new
 met_now t d b old new stands since is h w = (
   λ lacks.

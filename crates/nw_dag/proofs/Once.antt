@@ -64,7 +64,7 @@ once_both xs (y ∷ ys) one two apart =
       | inr here ↦ elim (contains_cases y [] x here) [ inl is ↦ first_once y ys two (subst (Contains ys) (sym is) later) | inr none ↦ contains_none x none ]
     ]))
 
--- the end of such a list has no repeated digests
+-- the end of a list without repeated digests has none either
 pub once_back : (xs ys : List Digest) → IsOnce (xs ++ ys) → IsOnce ys
 once_back [] ys once = once
 once_back (x ∷ xs) ys once = once_back xs ys (IsDistinct-tail same x (xs ++ ys) once)
@@ -90,7 +90,7 @@ rising (e ∷ es) h = let two = conj (below_all digest_cmp e.0 es) (is_sorted di
 pub once_keys : {X : Type 0} (m : FinMap digest_cmp X) → IsOnce (keys m)
 once_keys m = rising (entries m) (entries_sorted m)
 
--- it is not longer than a list with all its digests
+-- a list without repeated digests is not longer than a list with all its digests
 pub no_longer : (xs ys : List Digest) → IsOnce xs → ((x : Digest) → Contains xs x → Contains ys x) → length xs ≤ length ys
 no_longer xs ys once within = length-le_from_is_member (eq_by_cmp_equiv digests_total) xs ys once
     (λ q any. list_any-from_Contains (eq_by_cmp_equiv digests_total) q ys (within q (Contains-from_any same_digest q xs any)))

@@ -66,7 +66,7 @@ module _ (s : State) (round : ℕ) (sound : IsSound s) (higher : s.floor < round
   met_still : (w : Wanted) → round ≤ w.round → IsMet s w → IsMet t w
   met_still w high (b, stands, author, at) = (b, still_stands w.digest b stands (omega (arith, at, high)), author, at)
 
-  -- a holder is of a round up to the new garbage round
+  -- the block of a holder belongs to a round up to the new garbage round
   low_holder : (d : Digest) (b : Block) → get s.blocks d ≡ Some b → Contains holders d → b.round ≤ round
   low_holder d b at among = are.only d b among at
 

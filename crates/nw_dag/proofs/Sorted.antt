@@ -21,7 +21,7 @@ use Rattle.nw_model.proofs.Listed.{contains_cases, contains_first, contains_late
 use Rattle.nw_model.proofs.Maps.{digests_total, digests_apart, lookup_put, put_entries, get_lookup, len_sorted}
 use Rattle.nw_state.proofs.Opening.{ordered_none}
 
--- the same digests, as keys in order
+-- the digests of the list, as the keys of sorted entries
 record InOrder (xs : List Digest) : Type 0 where
   entries : List (Digest × Unit {0})
   sorted : IsStrictlySortedBy digest_cmp (keys_of entries)

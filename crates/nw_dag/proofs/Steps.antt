@@ -64,7 +64,7 @@ promotes s e old new v complete more holders name are is adds =
       );
     }
 
--- the holders that lacked it are not among the listed ones
+-- the holders that lacked the promoted block are not listed
 pub tally_fewer : (s : State) (old new : Pairs) (v : Wanted) (pending : ℕ) (holders : List Digest) → new ≡ without_wanted old v → AreHolders old v holders → IsTally s old [] pending → IsTally s new holders pending
 tally_fewer s old new v pending holders is are tally = record {
   complete = tally.complete;
@@ -171,7 +171,7 @@ met_by_name s d v old new name stands but is =
     let (b, held, same) = name_is d (get s.blocks d) v name in
     met_now s d b old new (held, stands.1.1) but (is ∙ ap (without_wanted old) same)
 
--- it does not stand, or lacks a parent
+-- d does not stand, or lacks a parent
 pub not_standing : (s : State) (d : Digest) (unmet lacking : Pairs) (pending : ℕ) → (Stands s d → ⊥) → IsSettledWithout s d unmet lacking pending → IsSettled s unmet lacking pending
 not_standing s d unmet lacking pending never far = record {
   complete = far.complete;
@@ -196,7 +196,7 @@ not_ready s d unmet met lacking pending never standing far = record {
   counts = far.counts;
 }
 
--- nothing grew
+-- if d is not ready, no digest became ready
 pub grown_none : (s : State) (d : Digest) (lacking : Pairs) (fresh : List Digest) → (IsReady s lacking d → ⊥) → Grows s (λ x. IsReady s lacking x × (x ≡ d → ⊥)) lacking lacking fresh fresh
 grown_none s d lacking fresh never = record {
   still = λ x ready. ready;
@@ -204,7 +204,7 @@ grown_none s d lacking fresh never = record {
   listed = λ x ready. inl (ready, λ same. never (subst (λ q. IsReady s lacking q) same ready));
 }
 
--- it is ready, and due
+-- d is ready, and due
 pub pending_but : (s : State) (d : Digest) (unmet lacking : Pairs) (pending : ℕ) → IsSettledWithout s d unmet lacking pending → IsReady s lacking d → 0 < pending
 pending_but s d unmet lacking pending far ready = pending_left s lacking (d ∷ []) pending d (record {
   complete = far.complete;

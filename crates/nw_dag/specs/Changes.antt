@@ -16,7 +16,7 @@ use Rattle.nw_dag.specs.Lacking.{IsReady}
 abbrev pub AreSameExcept : Digest → Pairs → Pairs → Type 0
 AreSameExcept holder old new = (h : Digest) (w : Wanted) → (h ≡ holder → ⊥) → Lacks new h w ↔ Lacks old h w
 
--- the holder now also lacks the named parents without Q, and nothing else changes
+-- the holder now also lacks the named parents that do not have Q, and nothing else changes
 pub record LacksAlso (Q named : Wanted → Type 0) (holder : Digest) (old new : Pairs) : Type 0 where
   -- the holder lacks each named parent, unless the parent has Q
   pub each : (w : Wanted) → named w → Lacks new holder w ⊎ Q w
@@ -25,7 +25,7 @@ pub record LacksAlso (Q named : Wanted → Type 0) (holder : Digest) (old new : 
   -- each old pair is still there
   pub still : (h : Digest) (w : Wanted) → Lacks old h w → Lacks new h w
 
--- new is old, followed by those of the digests that have P
+-- new is old, followed by exactly those of the digests that have P
 pub record AppendsThose (P : Digest → Type 0) (digests old new : List Digest) : Type 0 where
   -- the added digests
   pub added : List Digest
@@ -36,7 +36,7 @@ pub record AppendsThose (P : Digest → Type 0) (digests old new : List Digest) 
   -- they are exactly the digests with P
   pub exactly : (x : Digest) → Contains added x ↔ (Contains digests x × P x)
 
--- the digest e is promoted: no block lacks e's block any longer, and the blocks that thereby became ready are added to the list
+-- the digest e is promoted: no block lacks e's block from now on. The blocks that become ready as a result are added to the list
 pub record Promotes (s : State) (e : Digest) (old new : Pairs) (fresh more : List Digest) : Type 0 where
   -- the block under e
   pub block : Block

@@ -22,7 +22,7 @@ AreReleased holders old new = (h : Digest) (w : Wanted) → Lacks new h w ↔ (L
 abbrev pub StandsButLacks : State → Pairs → Digest → Type 0
 StandsButLacks s lacking d = Stands s d × LacksSomething lacking d
 
--- d is ready, and its block is of a round below this one
+-- d is ready, and its block belongs to a round below this one
 abbrev pub IsCompleteBelow : State → Pairs → ℕ → Digest → Type 0
 IsCompleteBelow s lacking round d = IsReady s lacking d × ((b : Block) × (get s.blocks d ≡ Some b) × (b.round < round))
 

@@ -3,15 +3,15 @@
 -- A write or a certificate for the digest d goes through these records, in this order:
 --
 -- 1. IsSettled: as between any two calls, the sets of missing parents, the list of ready digests and the count of pending blocks are right.
--- 2. IsSettledWithout: the block or the certificate of d is added to the state, but the sets and the list do not count d as standing yet.
---    This record adds the digest d. `Waits::arrive` starts here. If d does not stand even now, or still lacks a parent, stage 5 follows.
+-- 2. IsSettledWithout: the block or the certificate of d is in the state, but the sets and the list do not count d as standing yet.
+--    This record adds the digest d. `Waits::arrive` starts here. If d still does not stand, or still lacks a parent, stage 5 follows.
 -- 3. IsCascading: d is ready, listed, and due for promotion. This record adds the list of due digests. `Waits::cascade` starts here.
--- 4. IsTally: a due digest is promoted, and the digests that become ready by this are listed one by one. This record has only the list and
---    the count, without the sets. After each promotion, IsCascading holds again, with these digests due too.
+-- 4. IsTally: a due digest is promoted, and the digests that become ready as a result are listed one by one. This record has only the list
+--    and the count, without the sets. After each promotion, IsCascading holds again, with these digests due too.
 -- 5. IsSettled: no digest is due any longer.
 --
--- A collection starts from IsSettled of the earlier state (IsCollecting), releases holders under IsTally, and continues with stage 3: the
--- digests that became ready by this are due.
+-- A collection starts from IsSettled of the earlier state (IsCollecting), releases holders under IsTally, and continues with stage 3. The
+-- digests that became ready as a result are due.
 --
 -- IsSettling is the part that IsCascading and IsSettled share. Each stage has AreListed and ArePending.
 use Rattle.std.specs.Prelude.{◌≡◌, ℕ, ◌+◌, List, [], ◌∷◌, ◌++◌, All, Contains, length}
@@ -31,7 +31,7 @@ pub record AreListed (s : State) (lacking : Pairs) (complete : List Digest) : Ty
   -- no digest is listed twice
   pub once : IsDistinct (eq_by_cmp digest_cmp) complete
 
--- the number of pending blocks is right: all held blocks but the listed ones are pending
+-- the number of pending blocks is right: all held blocks except the listed ones are pending
 abbrev pub ArePending : State → List Digest → ℕ → Type 0
 ArePending s complete pending = length complete + pending ≡ len s.blocks
 

@@ -1,4 +1,4 @@
-//! Completions: the digests of the blocks that became complete last, and the number of blocks that are not complete.
+//! Completions: the digests of the blocks that became complete since the last view, and the number of blocks that are not complete.
 ghost use Rattle.std.specs.Prelude.{◌≡◌, ◌↔◌, ◌+◌, ◌-◌, ◌<◌, ◌≤◌, [], ◌∷◌, ◌++◌};
 ghost use Rattle.std.specs.Prelude.{OnOk, MatchOption, IsTrue, false, length, get_or, Contains};
 ghost use Rattle.std.specs.Vec.{vec_capacity};
@@ -40,7 +40,7 @@ impl Completions {
         self.fresh.len()
     }
 
-    /// The digest at this place of the list, or `None` after its end.
+    /// The digest at this place of the list, or `None` if the list is shorter.
     pub(crate) fn get(&self, place: usize) -> Option<Digest>
         ensures { MatchOption result (length self.now.fresh.items ≤ place) (λ digest. (place
             < length self.now.fresh.items) × (digest ≡ get_or self.now.fresh.items place digest)) }
@@ -48,15 +48,15 @@ impl Completions {
         self.fresh.get(place).copied()
     }
 
-    /// The largest length that the list can reach: that with all pending blocks listed.
+    /// The largest length that the list can reach: its length if all pending blocks were listed.
     pub(crate) fn most(&self) -> usize
         ensures { result ≡ length self.now.fresh.items + self.now.pending }
     {
         self.fresh.len() + self.pending
     }
 
-    /// Makes room for one more pending block. If the room is used up, the list grows by as many places as blocks are listed or pending.
-    /// Before that, if more blocks are listed or pending than are held, collected blocks are removed from the list.
+    /// Makes room for one more pending block. Let n be the number of listed or pending blocks. If the list has no room left, it allocates
+    /// room for n + 1 more entries. Before that, it removes collected blocks if n is above the number of held blocks.
     ///
     /// `NoMemory` if allocation fails. Then only collected blocks may have been removed.
     pub(crate) fn reserve(
@@ -92,7 +92,7 @@ impl Completions {
         self.pending += 1;
     }
 
-    /// Counts this many pending blocks less.
+    /// Subtracts this number of blocks from the count of pending blocks.
     pub(crate) fn drop_pending(&mut self, blocks: usize)
         requires { blocks ≤ self.old.pending }
         ensures fresh { self.new.fresh ≡ self.old.fresh }
@@ -101,7 +101,7 @@ impl Completions {
         self.pending -= blocks;
     }
 
-    /// Lists a pending block, which became complete.
+    /// Adds a pending block to the list, because it became complete.
     pub(crate) fn add(&mut self, digest: Digest)
         requires { 0 < self.old.pending }
         ensures fresh { self.new.fresh.items ≡ self.old.fresh.items ++ digest ∷ [] }
@@ -111,7 +111,7 @@ impl Completions {
         let _added = self.fresh.push(digest);
     }
 
-    /// Removes the blocks from the list that are not complete (any longer).
+    /// Removes the blocks from the list that are no longer complete, because they were collected.
     pub(crate) fn drop_stale(&mut self, held: &StateTables, lacking: &Waiting<Global>)
         ensures fresh { (d : Digest) → Contains self.new.fresh.items d
             ↔ (Contains self.old.fresh.items d × IsReady held.now.state lacking.now d) }

@@ -28,7 +28,7 @@ pub struct DagLimits {
     pub window: u32,
 }
 
-/// The tables of a store. Contracts see its state and its bounds.
+/// The tables of a store: its state, the missing parents, and the frozen blocks, all in memory. Contracts see the state and the bounds.
 #[derive(Drop)]
 pub struct Dag {
     held: StateTables,
@@ -66,7 +66,7 @@ impl Dag {
         }
     }
 
-    /// Whether the digest is complete: it stands, and each ancestor above the garbage round has all its references satisfied. This looks
+    /// Whether the digest is complete: it stands, and each ancestor above the garbage round has all its references satisfied. It looks
     /// up no other digest.
     pub fn is_complete(&self, digest: &Digest) -> bool
         ensures { IsTrue result ↔ IsComplete self.now.state digest.now }
@@ -99,8 +99,8 @@ impl Dag {
         Ok(Sequence::new(self.waits.unmet.first_wanted(alloc, most)?))
     }
 
-    /// The garbage round, and how many blocks, certificates, complete blocks and wanted parents there are. Allocates nothing, and goes
-    /// through no blocks.
+    /// The garbage round, and how many blocks, certificates, complete blocks and wanted parents there are. Allocates nothing, and
+    /// visits no blocks.
     pub fn status(&self) -> Counts
         ensures { AreCounts self.now.state result }
     {

@@ -13,7 +13,7 @@ use nw_trie::Trie;
 use std::alloc::Global;
 
 /// Freezes the blocks that became complete since the last view as one more generation, and empties their list. If there are no such
-/// blocks, no generation is added. If there are [`MAX_GENERATIONS`] generations already, some of them become one first.
+/// blocks, it adds no generation. If there are [`MAX_GENERATIONS`] generations already, it first joins some of them into one.
 ///
 /// `NoMemory` if allocation fails. Then only collected blocks may have been removed from the list.
 pub(crate) fn freeze(
@@ -49,7 +49,7 @@ pub(crate) fn freeze(
     Ok(())
 }
 
-/// The blocks of the generations, in fewer generations. If all become one, blocks below the round are left out.
+/// The blocks of the generations, in fewer generations. If all are joined into one, blocks below the round are left out.
 fn fewer(generations: &Generations, alloc: Global, round: Round) -> Result<Generations, NoMemory>
     requires { 2 ≤ generations.now.parts }
     ensures blocks { IfOk result
@@ -62,7 +62,7 @@ fn fewer(generations: &Generations, alloc: Global, round: Round) -> Result<Gener
     }
 }
 
-/// The blocks of the generations from this round on, as one generation. The cost grows with the frozen blocks only.
+/// The blocks of the generations from this round on, as one generation. The cost depends only on the number of frozen blocks.
 pub(crate) fn as_one(
     generations: &Generations,
     alloc: Global,

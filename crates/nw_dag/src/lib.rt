@@ -1,8 +1,8 @@
-//! This crate is the certified DAG of a store: it tracks which blocks are complete and which parents are missing, and freezes complete
-//! blocks for views.
+//! This crate is the certified DAG of a store, in memory only. It tracks which blocks are complete and which parents are missing, and
+//! freezes complete blocks for views.
 //!
-//! Its contract: each call of [`Dag`] takes the step of the table of `nw_model`. It keeps the state with `nw_state`, the missing parents
-//! with `nw_waiting`, and the frozen blocks with `nw_trie` and `nw_generation`.
+//! Its contract: each call of [`Dag`] takes the step that the step table of `nw_model` gives. It keeps the state with `nw_state`, the
+//! missing parents with `nw_waiting`, and the frozen blocks with `nw_trie` and `nw_generation`.
 #![tactic(auto)]
 
 mod completions;

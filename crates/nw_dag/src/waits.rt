@@ -25,12 +25,12 @@ pub(crate) struct Waits {
     pub(crate) unmet: Waiting<Global>,
     /// The parents that are not complete, and the blocks that name them.
     pub(crate) lacking: Waiting<Global>,
-    /// The blocks that became complete last, and the number of those that are not complete.
+    /// The blocks that became complete since the last view, and the number of blocks that are not complete.
     pub(crate) completions: Completions,
 }
 
 impl Waits {
-    /// No block lacks a parent. Allocates nothing.
+    /// Empty sets: no block lacks a parent. Allocates nothing.
     pub(crate) fn new(alloc: Global) -> Waits
         ensures unmet { result.unmet ≡ set.empty }
         ensures lacking { result.lacking ≡ set.empty }
@@ -46,7 +46,7 @@ impl Waits {
 
     /// Records that the holder lacks the parent, if the parent does not stand or is not complete.
     ///
-    /// `NoMemory` if allocation fails. Then the holder may lack it in one set only.
+    /// `NoMemory` if allocation fails. Then one of the two sets may have the pair.
     fn want(&mut self, held: &StateTables, wanted: Wanted, holder: Digest) -> Result<(), NoMemory>
         ensures unmet { OnOk result
             (LacksAlso (IsMet held.now.state) (λ w. w ≡ wanted) holder
@@ -69,7 +69,7 @@ impl Waits {
         }
     }
 
-    /// Records which parents the holder lacks: those that these references name in this round, and that do not stand or are not complete.
+    /// Records which parents the holder lacks: those that these references name in this round and that do not stand or are not complete.
     ///
     /// `NoMemory` if allocation fails. Then only some of them may be recorded.
     fn want_each(
@@ -134,7 +134,7 @@ impl Waits {
         Ok(())
     }
 
-    /// Forgets which parents the holder lacks: it lacks nothing from now on.
+    /// Forgets which parents the holder lacks. From now on it lacks nothing.
     pub(crate) fn forget(&mut self, holder: Digest)
         ensures unmet { self.new.unmet ≡ without_holder self.old.unmet holder }
         ensures lacking { self.new.lacking ≡ without_holder self.old.lacking holder }

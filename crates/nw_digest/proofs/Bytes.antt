@@ -15,7 +15,7 @@ use Rattle.std.proofs.lemmas.List.{ext_get_or}
 pub same_bytes : (xs ys : List ℕ) → length xs ≡ 32 → length ys ≡ 32 → ((k : ℕ) → k < 32 → get_or xs k 0 ≡ get_or ys k 0) → xs ≡ ys
 same_bytes xs ys lx ly same = ext_get_or 0 xs ys (lx ∙ sym ly) (λ k h. same k (omega (arith, lx)))
 
--- a test that decides whether the lists are equal gives what `bytes_eq` gives
+-- a test that decides whether the lists are equal has the same result as `bytes_eq`
 pub test_is_bytes_eq : (same : Bool) (xs ys : List ℕ) → MatchBool same (xs ≡ ys) (xs ≡ ys → ⊥) → same ≡ bytes_eq xs ys
 test_is_bytes_eq true xs ys one = sym ((bytes_decides xs ys).1 one)
 test_is_bytes_eq false xs ys apart =
@@ -27,7 +27,7 @@ test_is_bytes_eq false xs ys apart =
 equal : (x : ℕ) → nat_cmp x x ≡ Equal
 equal x = sym (nat_cmp_is x x Equal refl)
 
--- if the numbers differ, the rest of a comparison does not count
+-- if the first numbers differ, the rest of a comparison does not matter
 decides : (x y : ℕ) (rest : Ordering) → (x ≡ y → ⊥) → ordering_then (nat_cmp x y) rest ≡ nat_cmp x y
 decides x y rest apart =
     elim (nat_cmp x y) as (λ o. nat_cmp x y ≡ o → ordering_then o rest ≡ o) [

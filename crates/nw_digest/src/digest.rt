@@ -18,7 +18,7 @@ impl PartialEq for Digest {
 
     ghost laws = { on_per (λ d. d.0) (partial_equiv_from_equiv nat_list_eq_equiv) };
 
-    /// Compares all bytes, also after the first difference, so that a compiler can compare many at once.
+    /// Compares all bytes, even after the first difference, so that the compiler can vectorize the loop.
     fn eq(&self, other: &Digest) -> bool {
         let mut same = true;
         for index in 0..32 {
@@ -64,7 +64,7 @@ impl Ord for Digest {
 
     ghost matches_eq = { λ a b. texts_ties a.0 b.0 };
 
-    /// The order of the first bytes that differ.
+    /// The order of the first two bytes that differ, or `Equal` if none do.
     fn cmp(&self, other: &Digest) -> Ordering {
         for index in 0..32 {
             let (one, two) = (self.0[index], other.0[index]);
@@ -76,7 +76,7 @@ impl Ord for Digest {
     }
 }
 
-/// The SHA-256 digest (FIPS 180-4) of the bytes. It takes no memory.
+/// The SHA-256 digest (FIPS 180-4) of the bytes. Allocates nothing.
 pub fn digest_of(bytes: &[u8]) -> Digest
     ensures { result.0 ≡ sha256 bytes.now }
 {

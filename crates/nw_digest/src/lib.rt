@@ -1,7 +1,7 @@
 //! This crate defines digests, rounds, and the small types that the other crates share.
 //!
-//! Its contract: a digest is SHA-256 of the bytes, and a round is in range.
-//! It uses the kit's `sha2` and `thiserror`.
+//! Its contract: [`digest_of`] returns SHA-256 of the given bytes, and a [`Round`] is below 2^48. It uses the kit's `sha2` and
+//! `thiserror`.
 #![tactic(auto)]
 
 mod digest;

@@ -2,7 +2,7 @@
 use std::alloc::{AllocError, AllocFailed};
 use thiserror::Error;
 
-/// Out of memory: a collection could not grow, or a shared value could not be made or get one more owner.
+/// Out of memory: a collection could not grow, or a shared value could not be made or could not get one more owner.
 #[derive(Clone, Copy, Debug, PartialEq, Eq, Error)]
 #[error("out of memory")]
 pub struct NoMemory;

@@ -1,9 +1,9 @@
-//! A list for a field of another type.
+//! Lists that contracts see as plain lists of elements.
 ghost use Rattle.std.specs.Prelude.{◌≡◌};
 
 use std::marker::Model;
 
-/// A list for a field of another type. Contracts see the elements in order, but not their addresses.
+/// A list of values. Contracts see the elements in order, but neither their addresses nor a capacity.
 #[derive(Debug, Drop)]
 pub struct Sequence<T: Drop> {
     items: Vec<T>,
@@ -18,7 +18,7 @@ impl<T: Drop> Model for Sequence<T> {
 }
 
 impl<T: Drop> Sequence<T> {
-    /// The list of the vector's elements. It takes no memory.
+    /// The list of the vector's elements. Allocates nothing.
     pub fn new(items: Vec<T>) -> Sequence<T>
         ensures { result ≡ items.items }
     {

@@ -6,7 +6,7 @@ use std::alloc::{AllocError, Global};
 use std::marker::Model;
 use std::sync::Arc;
 
-/// One owner of a shared value that never changes. Contracts see the value.
+/// One owner of a shared value, which never changes. Contracts see the value.
 #[derive(Debug, Drop)]
 pub struct Shared<T: Drop> {
     owner: Arc<T>,
@@ -19,7 +19,7 @@ impl<T: Drop> Model for Shared<T> {
 }
 
 impl<T: Drop> Shared<T> {
-    /// The first owner of the value. If the allocation fails, `NoMemory` comes and the value is dropped.
+    /// The first owner of the value. `NoMemory` if allocation fails. Then the value is dropped.
     pub fn new(alloc: Global, value: T) -> Result<Shared<T>, NoMemory>
         ensures { IfOk result (λ s. s ≡ value) }
     {
@@ -35,7 +35,7 @@ impl<T: Drop> Shared<T> {
         &self.owner
     }
 
-    /// One more owner of the same value. It takes no memory, but `NoMemory` comes if the count of owners is at its limit.
+    /// One more owner of the same value. Allocates nothing. `NoMemory` if the number of owners is at its limit.
     pub fn try_clone(&self) -> Result<Shared<T>, NoMemory>
         ensures { IfOk result (λ s. s ≡ self.now) }
     {

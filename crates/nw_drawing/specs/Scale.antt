@@ -1,11 +1,11 @@
 -- The positions of a picture's boxes.
 use Rattle.std.specs.Prelude.{ℕ, ◌+◌, ◌*◌, max}
 
--- the left of a column, which begins with the gap left of its boxes
+-- the left edge of a column; a column begins with the gap before its boxes
 abbrev pub column_start : ℕ → ℕ → ℕ → ℕ
 column_start width gap column = 64 + column * (width + gap)
 
--- the left of a column's boxes
+-- the left edge of a column's boxes
 abbrev pub left_of : ℕ → ℕ → ℕ → ℕ
 left_of width gap column = column_start width gap column + gap
 

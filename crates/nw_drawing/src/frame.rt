@@ -6,16 +6,16 @@ use crate::scale::{GROUND_HEIGHT, Scale};
 use crate::shapes::{Point, write_box, write_count, write_line, write_text};
 use std::io::{self, Write};
 
-// The height of the rounds' numbers.
+// The vertical position of the round numbers.
 const ROUNDS_TOP: u64 = 40;
 
-// The height of the garbage round's words.
+// The vertical position of the garbage round's label.
 const GARBAGE_TOP: u64 = 18;
 
-// The left of the rows.
+// The left edge of the rows.
 const ROWS_LEFT: u64 = 8;
 
-// The left of the authors' words.
+// The left edge of the author labels.
 const AUTHORS_LEFT: u64 = 16;
 
 /// The upper left corner of the legend.
@@ -23,7 +23,7 @@ pub(crate) fn legend_corner(grid: &Grid) -> Point {
     Point::new(24, bottom_edge(grid).saturating_add(24))
 }
 
-// The bottom of the lanes.
+// The bottom edge of the lanes.
 fn bottom_edge(grid: &Grid) -> u64 {
     Scale::top(grid.lanes())
 }
@@ -47,13 +47,13 @@ pub(crate) fn write_rounds<W: Write>(out: &mut W, grid: &Grid, scale: Scale) -> 
     Ok(())
 }
 
-/// The right of the rows.
+/// The right edge of the rows.
 pub(crate) fn right_edge(grid: &Grid, scale: Scale) -> u64 {
     let half = u64::from(scale.gap) / 2;
     scale.column(grid.columns()).saturating_add(half)
 }
 
-/// Writes the authors, each on the ground of its row.
+/// Writes the authors, each on the background of its row.
 pub(crate) fn write_authors<W: Write>(out: &mut W, grid: &Grid, scale: Scale) -> io::Result<()> {
     let width = right_edge(grid, scale).saturating_sub(ROWS_LEFT);
     for (row, author) in (0..=u16::MAX).zip(&grid.authors) {

@@ -6,7 +6,7 @@ use crate::legend;
 use crate::scale::Scale;
 use std::io::{self, Write};
 
-// The width of the garbage round's words.
+// The width of the garbage round's label.
 const GARBAGE_WORDS: u64 = 216;
 // The margin at the right and at the bottom.
 const MARGIN: u64 = 16;
@@ -74,7 +74,7 @@ pub(crate) fn write_tail<W: Write>(out: &mut W) -> io::Result<()> {
     out.write_all(b"</svg>\n")
 }
 
-// The width of the picture, which contains the columns, the legend and the garbage round's words.
+// The width of the picture. The columns, the legend and the garbage round's label fit into it.
 fn width_of(grid: &Grid, scale: Scale, garbage_round: u64) -> u64 {
     let columns = right_edge(grid, scale).max(legend::WIDTH);
     let words = match garbage_line(grid, scale, garbage_round) {

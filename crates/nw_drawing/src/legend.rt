@@ -13,10 +13,10 @@ pub(crate) const WIDTH: u64 = 660;
 /// The height of the legend.
 pub(crate) const HEIGHT: u64 = 334;
 
-// The left of the second column.
+// The left edge of the second column.
 const SECOND_COLUMN: u64 = 250;
 
-// The height of each of the two twins.
+// The height of each of the two boxes that show twins.
 const TWIN_HEIGHT: u64 = 11;
 
 // The distance from one note to the next.
@@ -36,10 +36,10 @@ const ENTRY_STEP: u64 = 34;
 // The width of a box.
 const SAMPLE_WIDTH: u64 = 40;
 
-// The distance from a box's left to that of its words.
+// The distance from the left edge of a box to its words.
 const WORDS_LEFT: u64 = 52;
 
-// The distance from a box's top to its words.
+// The distance from the top of a box to its words.
 const WORDS_TOP: u64 = 17;
 
 /// Writes the legend with its upper left corner at this point.

@@ -1,4 +1,4 @@
-//! Pictures, before they are drawn.
+//! The contents of pictures.
 
 /// The state of a block in a store.
 #[derive(Clone, Copy)]
@@ -56,7 +56,7 @@ impl State {
 /// A block in a picture, drawn as a box.
 #[derive(Drop)]
 pub struct Tile {
-    /// Letters and digits, which XML needs not escape. A box has room for 64.
+    /// Letters and digits, which need no escapes in XML. A box has room for 64.
     pub name: String,
     pub round: u64,
     pub author: u16,

@@ -8,13 +8,13 @@ pub(crate) const BOX_HEIGHT: u64 = 26;
 /// The distance from one lane to the next.
 pub(crate) const LANE_STEP: u64 = 40;
 
-/// The height of the ground of a lane.
+/// The height of a lane's background.
 pub(crate) const GROUND_HEIGHT: u64 = 38;
 
-// The distance from the top of a lane's ground to that of its boxes.
+// The distance from the top of a lane's background to the top of its boxes.
 const GROUND_MARGIN: u64 = 6;
 
-// The left of the first column.
+// The left edge of the first column.
 const FIRST_COLUMN: u64 = 64;
 
 // The top of the first lane.
@@ -32,7 +32,7 @@ const MAX_LETTERS: u16 = 64;
 // The width of a gap before `GAP_PER_LANE` is added for each lane.
 const MIN_GAP: u16 = 44;
 
-// The additional width of the gap for each lane, since more lanes make the arrows steeper.
+// The width that the gap gains for each lane, because more lanes make the arrows steeper.
 const GAP_PER_LANE: u16 = 4;
 
 // The largest number of lanes that widen the gap.
@@ -55,14 +55,14 @@ impl Scale {
         }
     }
 
-    /// The left of the column, which begins with the gap left of its boxes.
+    /// The left edge of the column. A column begins with the gap before its boxes.
     pub fn column(&self, column: u16) -> u64
         ensures { result ≡ column_start self.now.width self.now.gap column }
     {
         FIRST_COLUMN + u64::from(column) * (u64::from(self.width) + u64::from(self.gap))
     }
 
-    /// The left of the column's boxes.
+    /// The left edge of the column's boxes.
     pub fn left(&self, column: u16) -> u64
         ensures { result ≡ left_of self.now.width self.now.gap column }
     {
@@ -76,7 +76,7 @@ impl Scale {
         FIRST_LANE + LANE_STEP * u64::from(lane)
     }
 
-    /// The top of the lane's ground.
+    /// The top of the lane's background.
     pub(crate) fn ground(lane: u32) -> u64 {
         Scale::top(lane).saturating_sub(GROUND_MARGIN)
     }
@@ -90,7 +90,8 @@ pub fn lane_below(row: u16, above: u32) -> u32
     u32::from(row).max(above + 1)
 }
 
-/// Boxes, which are 26 high, do not overlap if their columns differ, or if their lanes do. The lane of `lane_below` is a lower one.
+/// Boxes, which are 26 pixels high, do not overlap if their columns or their lanes differ. `lane_below` gives a lower lane than that of the
+/// box above.
 pub fn boxes_do_not_overlap()
     ensures columns { (width gap one other : ℕ) → one < other
         → left_of width gap one + width ≤ left_of width gap other }

@@ -104,7 +104,7 @@ impl Whole {
         }
     }
 
-    /// The number of the lower 255 bits.
+    /// The number that the lower 255 bits form.
     pub fn without_top_bit(&self) -> Whole
         ensures { result ≡ self.now % 2 ^ 255 }
     {

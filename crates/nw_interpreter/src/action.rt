@@ -1,4 +1,4 @@
-//! From the requests of a script to calls of a store.
+//! Turns the requests of a script into calls of a store.
 
 use crate::fault::LineFault;
 use crate::interpreter::Interpreter;
@@ -39,8 +39,8 @@ pub enum Action<'a> {
 impl<'a> Interpreter<'a> {
     /// Does the part of the request that needs no store, and returns the rest.
     ///
-    /// `Bad` if the request can't be played: a name is unbound or bound already, or a message does not decode. `NoMemory` if an
-    /// allocation fails.
+    /// `Bad` if the request can't be played: a name is unbound or already bound, or a message does not decode. `NoMemory` if an allocation
+    /// fails.
     pub fn action_for(
         &mut self,
         alloc: Global,
@@ -59,7 +59,7 @@ impl<'a> Interpreter<'a> {
         }
     }
 
-    // The answer to a request that needs no store. Any other is `Bad`.
+    // The answer to a request that needs no store. `Bad` for any other request.
     fn answer(&mut self, alloc: Global, request: &Request<'a>) -> Result<Answer<'a>, LineFault> {
         match request {
             Request::Block(line) => self.block(alloc, line),
@@ -73,7 +73,7 @@ impl<'a> Interpreter<'a> {
         }
     }
 
-    // The call of a request that hands in neither a block nor a certificate. Any other is `Bad`.
+    // The call of a request that hands in neither a block nor a certificate. `Bad` for any other request.
     fn call(&self, request: &Request<'a>) -> Result<Action<'a>, LineFault> {
         let (name, command) = match request {
             Request::Certificate(name) => {

@@ -1,4 +1,4 @@
-//! Why a line is not played.
+//! Faults of lines.
 
 use nw_book::BookError;
 use nw_codec::EncodeError;

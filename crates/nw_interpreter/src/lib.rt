@@ -1,10 +1,10 @@
-//! The part of a script line that needs no store: names and numbers, messages, and answers in words.
+//! Interprets the lines of a script, as far as they need no store: names, numbers, messages, and the printed answers.
 //!
 //! An `Interpreter` holds the committee and the names of a script. It turns a request into an `Action`: an answer to print, or a
 //! call to make. It turns the reply of a call into an `Answer`, which writes itself. No function of this crate takes a lock or waits.
 //!
-//! It is proved that a committee has the members or weights of its line (`committee`). Scripts show what is printed. Loads (`nw_load`)
-//! take their committee and messages from here too.
+//! It is proved that a committee has the members or weights of its line (`committee`). Worked scripts test the printed answers. Loads
+//! (`nw_load`) take their committee and messages from here too.
 #![tactic(auto)]
 
 mod action;

@@ -108,7 +108,7 @@ pub(crate) fn vote(member: u16, digest: Digest, block: &Block) -> Vote {
     }
 }
 
-/// A certificate for the block with this digest, with the members' votes in the given order. It may break every rule of certificates.
+/// A certificate for the block with this digest, with the members' votes in the given order. It may be invalid.
 pub(crate) fn certificate(
     alloc: Global,
     members: &[u16],

@@ -6,7 +6,7 @@ use nw_model::{Counts, Wanted};
 use nw_script::Name;
 use std::io::{self, Write};
 
-/// The answer to a request, printed on a line of its own. `words` contain the spaces between them and a name or number beside them.
+/// The answer to a request, printed on a line of its own. `words` include the spaces next to a name or a number.
 #[derive(Drop)]
 pub enum Answer<'a> {
     /// Words only.

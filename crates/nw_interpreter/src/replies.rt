@@ -14,8 +14,8 @@ use std::alloc::Global;
 impl<'a> Interpreter<'a> {
     /// The reply of a call in words. `name` is the block of the call, if it has one.
     ///
-    /// `Bad` if the reply is a list or `Ready`, or does not belong to a call with (or without) a name, or has a digest without a name.
-    /// `NoMemory` if an allocation fails.
+    /// `Bad` if the reply is a list or `Ready`, or does not fit a call with or without a name. `Bad` also if one of its digests has no
+    /// name. `NoMemory` if an allocation fails.
     pub fn answer_to(
         &self,
         alloc: Global,

@@ -31,7 +31,7 @@ impl<'a> Interpreter<'a> {
         within_limits(text)
     }
 
-    /// The answer whether a certificate for the block, with the signers' votes in the given order, is valid.
+    /// The answer that says whether a certificate for the block, with the signers' votes in the given order, is valid.
     pub(crate) fn valid(
         &self,
         alloc: Global,
@@ -46,7 +46,7 @@ impl<'a> Interpreter<'a> {
         Ok(Answer::Named { name, words })
     }
 
-    /// Gathers the signers' votes for the block in the given order: the answer with the result of each.
+    /// Gathers the signers' votes for the block in the given order. Returns the answer with the result of each.
     pub(crate) fn gather(
         &self,
         alloc: Global,

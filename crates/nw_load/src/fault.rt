@@ -41,12 +41,12 @@ pub(crate) enum End {
     GateShut,
     Causal { node: u32, round: u32 },
     Unsettled { node: u32 },
-    /// Another thread ended early, so the channel that this one waits on is closed. Also stands for errors that no load can cause.
+    /// Another thread ended early, so the channel that this one waits on is closed. Also used for errors that no load can cause.
     CutOff,
 }
 
 impl End {
-    /// The one of two ends whose kind comes first in the order of kinds. If both have one kind, it is this one.
+    /// The one of the two ends whose kind comes first in the order of `LoadFault`. If both are of one kind, it is this one.
     pub(crate) fn first_of(self, other: End) -> End {
         if other.rank() < self.rank() {
             other

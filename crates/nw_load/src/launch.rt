@@ -116,7 +116,7 @@ fn start_all<'s, 'e, G: Gate + Sync, R: Threads + Wait + Sync>(
     Ok(handles)
 }
 
-/// Waits for the threads and returns the reports of all nodes. If a node has none, it returns the first end in the order of kinds.
+/// Waits for the threads and returns the reports of all nodes. If a node has none, it returns the end whose kind comes first.
 fn join_all<G: Gate, R: Threads>(
     context: &LoadContext<'_, R, G>,
     handles: Vec<NodeThread>,

@@ -36,9 +36,9 @@ pub(crate) struct Link<'a, L: Home, G: Gate> {
     gather: Option<Gather<DemoScheme>>,
     /// The number of blocks that the node made.
     made: u32,
-    /// The number of blocks written to its store.
+    /// The number of blocks written to the node's store.
     written: u32,
-    /// The number of certificates handed to its store.
+    /// The number of certificates handed to the node's store.
     certified: u32,
 }
 
@@ -67,8 +67,8 @@ impl<'a, L: Home, G: Gate> Link<'a, L, G> {
         }
     }
 
-    /// Makes the block of each round and handles the messages of other nodes, until its store has all blocks of all nodes written
-    /// and certified.
+    /// Makes the block of each round and handles the messages of other nodes, until the node's store has all blocks of all nodes
+    /// written and certified.
     pub(crate) fn run<R: Wait>(&mut self, rt: &R) -> Result<(), End> {
         self.table.add_rounds(self.alloc, self.rounds, self.nodes)?;
         let none = Vec::new(self.alloc);
@@ -84,7 +84,7 @@ impl<'a, L: Home, G: Gate> Link<'a, L, G> {
         Err(End::CutOff)
     }
 
-    /// Whether its store has all blocks of all nodes written and certified.
+    /// Whether the node's store has all blocks of all nodes written and certified.
     fn is_done(&self) -> bool {
         let all = u64::from(self.nodes) * u64::from(self.rounds);
         u64::from(self.written) >= all && u64::from(self.certified) >= all
@@ -100,7 +100,7 @@ impl<'a, L: Home, G: Gate> Link<'a, L, G> {
         }
     }
 
-    /// Makes the node's next block, if one is left and its store has all blocks of the preceding round written and certified.
+    /// Makes the node's next block, if one is left and the node's store has all blocks of the preceding round written and certified.
     fn make_next<R: Wait>(&mut self, rt: &R) -> Result<(), End> {
         if self.made >= self.rounds {
             return Ok(());

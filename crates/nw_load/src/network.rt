@@ -8,7 +8,7 @@ use std::sync::{RwLock, Wait};
 /// The inbox of a node, from which its link receives encoded messages.
 pub(crate) type Inbox = Receiver<Vec<u8>>;
 
-/// All senders to the nodes' inboxes. After they are dropped, each inbox ends after the messages sent before.
+/// All senders to the nodes' inboxes. After they are dropped, each inbox ends when the messages already sent have been received.
 #[derive(Drop)]
 pub(crate) struct Network {
     senders: RwLock<Option<Vec<Sender<Vec<u8>>>>>,

@@ -18,8 +18,8 @@ const BAD_WORDS: u8 = 2;
 /// The exit status if the load has no report.
 const REFUSED: u8 = 3;
 
-/// Runs the load that the words name, prints its report or fault, and returns the exit status: 2 if the words are not `load`,
-/// a number of nodes and a number of rounds, else that of `print_outcome`.
+/// Runs the load that the words name, prints its report or fault, and returns the exit status. The status is 2 if the words are not `load`,
+/// a number of nodes and a number of rounds. Otherwise it is that of `print_outcome`.
 pub fn run<R: Threads + Wait + Sync, W: Write>(
     rt: &R,
     alloc: Global,
@@ -32,8 +32,7 @@ pub fn run<R: Threads + Wait + Sync, W: Write>(
     print_outcome(&load(rt, alloc, nodes, rounds, &FreeGate), out)
 }
 
-/// Prints the report or the fault of a load, and returns the exit status: 0 for a report, 3 for a fault, and 1 if the output
-/// cannot be written.
+/// Prints the report or the fault of a load. Returns the exit status: 0 for a report, 3 for a fault, and 1 if the output cannot be written.
 pub fn print_outcome<W: Write>(outcome: &Result<Vec<NodeReport>, LoadFault>, out: &mut W) -> u8 {
     let (written, status) = match outcome {
         Ok(reports) => (print_reports(reports, out), DONE),

@@ -45,14 +45,14 @@ module _ (accepts : Meaning) (members : List Member) where
   admitted_after_collect s round (collect.Raised dropped) are = λ d b at. are d b (was_there (λ (x : Block). x.round) round s.blocks d b at).0
   admitted_after_collect s round (collect.NotHigher floor) are = are
 
-  -- an admitted call keeps this
+  -- after an admitted call, each held block was admitted if each was before
   pub admitted_after : (bounds : Bounds) (s : State) (asked : Call) → IsAdmitted accepts members asked → AreAdmitted s → AreAdmitted (after bounds s asked)
   admitted_after bounds s (call.Write d b) this are = admitted_after_write s d b (write_reply bounds s d b) this are
   admitted_after bounds s (call.Certify c) this are = admitted_after_certify s c (certify_reply bounds s c) are
   admitted_after bounds s (call.Collect round) this are = admitted_after_collect s round (collect_reply s round) are
   admitted_after bounds s other this are = are
 
-  -- so do the admitted calls of these events
+  -- after events with admitted calls, each held block was admitted if each was before
   pub admitted_replay : (bounds : Bounds) (s : State) (es : List Event) → All (λ e. IsAdmitted accepts members e.call) es → AreAdmitted s → AreAdmitted (replay bounds s es)
   admitted_replay bounds s [] each are = are
   admitted_replay bounds s (e ∷ es) each are =
@@ -62,12 +62,12 @@ module _ (accepts : Meaning) (members : List Member) where
   admitted_opening : AreAdmitted opening
   admitted_opening d b at = absurd (some_none b (sym at ∙ get-empty digest_cmp d))
 
--- it holds of a base
+-- each block of a base was admitted
 pub admitted_base : (accepts : Meaning) (terms : Terms) (base : State) → IsBase accepts terms base → AreAdmitted accepts terms.committee base
 admitted_base accepts terms base based =
     subst (AreAdmitted accepts terms.committee) (sym based.left)
     (admitted_replay accepts terms.committee terms.bounds opening based.earlier based.admitted (admitted_opening accepts terms.committee))
 
--- and of the state that a legal history leaves
+-- each block of the state that a legal history leaves was admitted
 pub admitted_left : (accepts : Meaning) (terms : Terms) (base : State) (es : List Event) → IsLegal accepts terms base es → AreAdmitted accepts terms.committee (replay terms.bounds base es)
 admitted_left accepts terms base es legal = admitted_replay accepts terms.committee terms.bounds base es legal.admitted (admitted_base accepts terms base legal.based)

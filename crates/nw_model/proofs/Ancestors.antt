@@ -146,7 +146,7 @@ reaches_floor v d found frontier counter end now done = all_found v d found fron
     let above : v.floor < parent.0.round = parent.3 in
     omega (arith, done, round, above, ap (λ (x : Block). x.round) one))
 
--- and when the frontier is empty
+-- all ancestors are found when the frontier is empty
 pub reaches_early : (v : Frozen) (d : Digest) (found : FinMap slot_cmp Digest) (frontier : List Digest) (counter end : ℕ) → Explores v d found frontier counter end → length frontier ≡ 0 → FindsAncestors v d found
 reaches_early v d found frontier counter end now empty = all_found v d found frontier counter end now (λ e f (k, lt, at) parent. omega (arith, lt, empty))
 

@@ -90,14 +90,14 @@ carries_after_collect s round (collect.Raised dropped) is = record {
 }
 carries_after_collect s round (collect.NotHigher floor) is = carries_itself s
 
--- each call carries its entries over to the next state
+-- each call carries entries over to the next state
 pub carries_after : (bounds : Bounds) (s : State) (asked : Call) → Carries s (after bounds s asked)
 carries_after bounds s (call.Write d b) = carries_after_write bounds s d b (write_reply bounds s d b) refl
 carries_after bounds s (call.Certify c) = carries_after_certify bounds s c (certify_reply bounds s c) refl
 carries_after bounds s (call.Collect round) = carries_after_collect s round (collect_reply s round) refl
 carries_after bounds s other = carries_itself s
 
--- so do the calls of these events
+-- the calls of these events carry entries over to the state after them
 pub carries_replay : (bounds : Bounds) (s : State) (es : List Event) → Carries s (replay bounds s es)
 carries_replay bounds s [] = carries_itself s
 carries_replay bounds s (e ∷ es) = carries_on s (after bounds s e.call) (replay bounds (after bounds s e.call) es) (carries_after bounds s e.call) (carries_replay bounds (after bounds s e.call) es)

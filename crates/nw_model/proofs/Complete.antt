@@ -152,7 +152,7 @@ complete_there s blocks d are there = by (get blocks d) refl there
     by (Some b) at e = ((are d b).0 at).1
     by None at e = absurd cc
 
--- and any other digest is not
+-- a digest that the complete blocks do not have is not complete
 pub complete_not_there : (s : State) (blocks : FinMap digest_cmp Block) (d : Digest) → AreComplete s blocks → is_some (get blocks d) ≡ false → IsComplete s d → ⊥
 complete_not_there s blocks d are lacks whole =
     let there : get blocks d ≡ Some whole.stands.0 = (are d whole.stands.0).1 (whole.stands.1.0, whole) in

@@ -54,7 +54,7 @@ module _ {K : Type 0} {R : K → K → Ordering} (o : IsTotalOrder R) where
       by Equal is rest = sorted
       by Greater is rest = (put_each (λ z. R y z ≡ Less) x ys (o.antisymm y x ∙ ap ordering_reverse is) sorted.0, rest)
 
-  -- and adds the key, if no other key ties with it
+  -- inserting a key adds it, if no other key compares as equal to it
   put_contains : (x : K) (ys : List K) → ((y : K) → Contains ys y → R x y ≡ Equal → x ≡ y) → (z : K) → Contains (insert_key R ys x) z ↔ Contains (x ∷ ys) z
   put_contains x [] alone z = (λ among. among, λ among. among)
   put_contains x (y ∷ ys) alone z = by (R x y) refl (put_contains x ys (λ w among. alone w (contains_later y ys w among)) z)
@@ -86,7 +86,7 @@ module _ {K : Type 0} {R : K → K → Ordering} (o : IsTotalOrder R) where
         ],
       )
 
-  -- a list of keys can be sorted if no two of them tie
+  -- a list of keys can be sorted if no two of them compare as equal
   in_order : (xs : List K) → ((x y : K) → Contains xs x → Contains xs y → R x y ≡ Equal → x ≡ y) → (ys : List K) × IsStrictlySortedBy R ys × ((z : K) → Contains ys z ↔ Contains xs z)
   unfolding IsStrictlySortedBy
   in_order [] apart = ([], tt, λ z. (λ among. among, λ among. among))
@@ -203,7 +203,7 @@ causal_list_exists s d sound =
     let under = blocks_under s.blocks sorted.0 (λ a among. let of_a = stands a ((sorted.2 a).0 among) in (of_a.0, of_a.1.0)) in
     (under.0, lists s.blocks (IsAncestor s d) sorted.0 under.0 (λ a. (λ among. (listed.1 a).0 ((sorted.2 a).0 among), λ ancestor. (sorted.2 a).1 ((listed.1 a).1 ancestor))) sorted.1 under.1)
 
--- and it has only one
+-- a complete digest of a sound state has only one causal list
 pub one_causal_list : CompleteDigestsHaveOneCausalList
 one_causal_list s d sound whole =
     let there = causal_list_exists s d sound in

@@ -25,7 +25,7 @@ use Rattle.nw_model.proofs.Replayed.{past, past_found, is_stored, not_below}
 use Rattle.nw_model.proofs.Raised.{slot_is_kept}
 use Rattle.nw_model.proofs.Kept.{at_slot}
 
--- a look-up after an insertion
+-- a lookup after an insertion
 some_put : {X : Type 0} (here : Bool) (v : X) (found : Option X) → IsSome found → IsSome (cond here (Some v) found)
 some_put true v found h = refl
 some_put false v found h = h

@@ -41,7 +41,7 @@ module _ {K : Type 0} {R : K → K → Ordering} (o : IsTotalOrder R) where
   above_first : (x : K) (xs : List K) (z : K) → IsStrictlySortedBy R (x ∷ xs) → Contains xs z → R x z ≡ Less
   above_first x xs z sorted among = All-contains (λ y. R x y ≡ Less) xs z (All-from_recursion (λ y. R x y ≡ Less) xs (sorted_head R x xs sorted)) among
 
-  -- the first elements of two lists with the same elements
+  -- two lists in order with the same elements have the same first element
   same_first : (x y : K) (xs ys : List K) → IsStrictlySortedBy R (x ∷ xs) → IsStrictlySortedBy R (y ∷ ys) → Contains (y ∷ ys) x → Contains (x ∷ xs) y → x ≡ y
   same_first x y xs ys sorted_x sorted_y x_in y_in =
       elim (contains_cases y ys x x_in) [
@@ -52,7 +52,7 @@ module _ {K : Type 0} {R : K → K → Ordering} (o : IsTotalOrder R) where
         ]
       ]
 
-  -- an element after the first is after the first of the other list
+  -- an element after the first of one list is after the first of the other list
   later_in : (x y : K) (xs ys : List K) (z : K) → x ≡ y → IsStrictlySortedBy R (x ∷ xs) → Contains xs z → Contains (y ∷ ys) z → Contains ys z
   later_in x y xs ys z same sorted here there =
       elim (contains_cases y ys z there) [

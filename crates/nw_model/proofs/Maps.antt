@@ -1,4 +1,4 @@
--- A finite map answers as the ordered map of its entries does.
+-- Lookups, lengths and insertions are the same for a finite map and for the ordered map of its entries.
 use Rattle.std.proofs.Common.{◌≡◌, ℕ, ◌+◌, Bool, true, false, List, [], ◌∷◌, length, Option, Some, None, cond, is_some, refl, ap, sym, ◌∙◌, add-one}
 use Rattle.std.specs.declared.cmp.Ordering.{Ordering}
 use Rattle.std.specs.declared.cmp.Ordering.TheVariants.{Less, Equal, Greater}
@@ -64,7 +64,7 @@ module _ {K X : Type 0} {R : K → K → Ordering} (o : IsTotalOrder R) where
       ∙ ap (λ n. n + 1) (len_sorted es (sorted_tail R e.0 (keys_of es) s))
       ∙ add-one (length es)
 
-  -- a look-up after an insertion at a key
+  -- if lookups in n find v at k, and otherwise what lookups in m find, then n is m with v inserted at k
   pub inserted : IsAntisymmetric R → (m n : List (K × X)) (k : K) (v : X)
       → ((q : K) → lookup (is_at (R q)) n ≡ cond (is_at (R k) q) (Some v) (lookup (is_at (R q)) m)) → from_entries {R = R} n ≡ insert (from_entries m) k v
   inserted same m n k v is = same_map o same _ _ (λ q.
@@ -73,7 +73,7 @@ module _ {K X : Type 0} {R : K → K → Ordering} (o : IsTotalOrder R) where
       ∙ ap (cond (eq_by_cmp R q k) (Some v)) (sym (get_lookup m q))
       ∙ sym (get-insert o (from_entries m) k v q))
 
-  -- a look-up after an insertion into the entries
+  -- a lookup after an insertion into the entries
   pub lookup_put : IsAntisymmetric R → (es : List (K × X)) (k : K) (v : X) (q : K)
       → lookup (is_at (R q)) (insert_entry R es k v) ≡ cond (is_at (R k) q) (Some v) (lookup (is_at (R q)) es)
   lookup_put same [] k v q = ap (λ b. cond b (Some v) None) ((eq_by_cmp_equiv o).symm q k)

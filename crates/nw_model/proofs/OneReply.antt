@@ -22,7 +22,7 @@ use Rattle.nw_model.specs.declared.reply.Reply.TheVariants as reply
 use Rattle.nw_model.proofs.Maps.{digests_total}
 use Rattle.nw_model.proofs.Listed.{same_lists, same_in_order}
 
--- equal replies are one reply
+-- equal replies are the same reply
 equal_replies : (one other : Reply) → one ≡ other → AreSameReply one other
 equal_replies one other same = record {
   short = ap recorded same;
@@ -87,7 +87,7 @@ reason_or_list s d reply.Ready is = inr (is, refl)
 reason_or_list s d (reply.List blocks) is = inr (is.0, refl)
 reason_or_list s d other is = absurd is
 
--- two replies to a causal read are one
+-- two replies to a causal read are the same reply
 to_causal : (s : State) (d : Digest) (one other : Reply) → IsCausalReply s d one → IsCausalReply s d other → AreSameReply one other
 to_causal s d one other is was = record {
   short = elim (reason_or_list s d one is) [

@@ -93,7 +93,7 @@ module _ (accepts : Meaning) (members : List Member) (s : State) (admitted : Are
   parents_reach : (d : Digest) (b : Block) → get s.blocks d ≡ Some b → 0 < b.round → ReachesQuorum members (authors b.parents)
   parents_reach d b at above = (admitted d b at).1.1.parents above
 
-  -- so it has a parent
+  -- a block whose parents reach the quorum has a parent
   some_parent : (b : Block) → ReachesQuorum members (authors b.parents) → (r : Ref) × Contains b.parents r
   some_parent b reaches = by b.parents refl
     where

@@ -57,7 +57,7 @@ module _ {X : Type 0} (round_of : X → ℕ) (round : ℕ) (m : FinMap digest_cm
       ∙ ap (λ found. cond (keeps found) found None) at
       ∙ ap (λ b. cond b (Some x) None) (is_low round (round_of x) high)
 
--- the same for slots
+-- the slots that a collection keeps
 module _ {X : Type 0} (round : ℕ) (m : FinMap slot_cmp X) where
   abbrev pub slots_from : FinMap slot_cmp X
   slots_from = retain_keys m (λ (slot : Slot). nat_le round slot.0)
@@ -106,7 +106,7 @@ kept_raised s index round kept = record {
   );
 }
 
--- ---- the same for entries
+-- ---- filtered entries, seen as finite maps
 
 option_kept : {X : Type 0} (p : X → Bool) (found : Option X) → option_filter p found ≡ cond (option_map_or p found false) found None
 option_kept p None = refl

@@ -24,7 +24,7 @@ use Rattle.nw_model.specs.declared.reply.CollectReply.TheVariants as collect
 use Rattle.nw_model.proofs.Kept.{sound_with_block, sound_with_certificate, kept_opening}
 use Rattle.nw_model.proofs.Raised.{sound_raised}
 
--- a value with this mark comes from the second branch, if the first branch has no such mark
+-- if the result has the mark and the first branch does not, the result is the second branch
 pub past : {X : Type 0} (mark : X → Bool) (test : Bool) (x rest r : X) → mark x ≡ false → mark r ≡ true → cond test x rest ≡ r → (test ≡ false) × (rest ≡ r)
 past mark true x rest r unmarked marked is = let same = ap mark is in absurd cc
 past mark false x rest r unmarked marked is = (refl, is)
@@ -88,7 +88,7 @@ sound_after bounds s (call.Certify c) sound = sound_after_certify bounds s c (ce
 sound_after bounds s (call.Collect round) sound = sound_after_collect s round (collect_reply s round) sound
 sound_after bounds s other sound = sound
 
--- so do the calls of these events
+-- the calls of these events keep a sound state sound
 pub sound_replay : (bounds : Bounds) (s : State) (es : List Event) → IsSound s → IsSound (replay bounds s es)
 sound_replay bounds s [] sound = sound
 sound_replay bounds s (e ∷ es) sound = sound_replay bounds (after bounds s e.call) es (sound_after bounds s e.call sound)

@@ -121,10 +121,10 @@ no_certificates s e = ap (λ (x : State). len x.certificates) e ∙ len-empty di
 pub no_firsts : (s : State) → s ≡ opening → len s.firsts ≡ 0
 no_firsts s e = ap (λ (x : State). len x.firsts) e ∙ len-empty slot_cmp Digest
 
--- the result false, if the opening state leads to a contradiction
+-- if the state is not the opening state, `false` decides whether it is
 pub not_opening : (s : State) → (s ≡ opening → ⊥) → Decides false (s ≡ opening)
 not_opening s other = (λ yes. absurd cc, λ e. absurd (other e))
 
--- a number that is 0 exactly if a statement holds
+-- if a number is 0 exactly if a statement holds, a test for 0 decides the statement
 pub zero_decides : {P : Type 0} (n : ℕ) → (n ≡ 0 → P) → (P → n ≡ 0) → Decides (nat_eq n 0) P
 zero_decides n to from = by_parts (nat_eq n 0) to from (Decides-eqb n 0)

@@ -28,7 +28,7 @@ abbrev pub AreNumbered : ℕ → List Event → Type 0
 AreNumbered n [] = Unit {0}
 AreNumbered n (e ∷ es) = (e.number ≡ n) × AreNumbered (n + 1) es
 
--- a call is admitted if what it hands in passes the checks: a block is well formed and written under its own digest, and a certificate
+-- a call is admitted if its block or certificate passes the checks. A block is well formed, and written under its own digest. A certificate
 -- is valid
 abbrev pub IsAdmitted : Meaning → List Member → Call → Type 0
 IsAdmitted accepts members (call.Write d b) = (d ≡ digest_of b) × IsWellFormed accepts members b
@@ -41,9 +41,9 @@ pub record Terms : Type 0 where
   pub committee : List Member
   -- the bounds of the store
   pub bounds : Bounds
-  -- how many events the history may have
+  -- the largest number of events
   pub events : ℕ
-  -- the numbers of sessions are below this
+  -- each session's number is below this
   pub sessions : ℕ
 
 -- the state is a base: some events with admitted calls lead to it from the opening state

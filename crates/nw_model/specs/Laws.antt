@@ -59,7 +59,7 @@ FirstsOfABaseGetNoVote =
     (accepts : Meaning) (terms : Terms) (base : State) (es : List Event) → IsLegal accepts terms base es
     → (slot : Slot) → IsSome (get base.firsts slot) → (i : ℕ) (e : Event) → slice_get es i ≡ Some e → IsVotingEvent slot e → ⊥
 
--- s and t are states of one legal history, s not later than t
+-- s and t are states of one legal history, and s is not later than t
 pub record LeadsOn (accepts : Meaning) (terms : Terms) (s t : State) : Type 0 where
   -- the base of the history
   pub base : State
@@ -74,8 +74,8 @@ pub record LeadsOn (accepts : Meaning) (terms : Terms) (s t : State) : Type 0 wh
   -- t is the state after all of them
   pub later : t ≡ replay terms.bounds s more
 
--- take a complete digest, and a later state whose garbage round is not above the block's round: the digest is complete then too, and its
--- causal list is the earlier one without the blocks below that garbage round
+-- take a complete digest, and a later state with a garbage round that is not above the block's round. The digest is complete in the later
+-- state too. Its causal list there is the earlier one without the blocks below that garbage round
 abbrev pub CausalListsStay : Type 0
 CausalListsStay =
     (accepts : Meaning) (terms : Terms) (s t : State) → LeadsOn accepts terms s t
@@ -86,8 +86,8 @@ CausalListsStay =
 abbrev pub authors_in : ℕ → List Block → List ℕ
 authors_in round blocks = map (λ b. b.author) (filter (λ b. b.round == round) blocks)
 
--- after a legal history, take the causal list of a complete digest and a round from the garbage round up to the round before the block's:
--- the authors of the listed blocks of that round reach the quorum
+-- after a legal history, take the causal list of a complete digest. In each round from the garbage round up to the round before the
+-- block's, the authors of the listed blocks reach the quorum
 abbrev pub CausalListsReachQuorums : Type 0
 CausalListsReachQuorums =
     (accepts : Meaning) (terms : Terms) (base : State) (es : List Event) → IsLegal accepts terms base es → (s : State) → s ≡ replay terms.bounds base es
@@ -115,8 +115,8 @@ pub record AreCollision (d : Digest) (b c : Block) : Type 0 where
   -- d is the digest of c
   pub second : digest_of c ≡ d
 
--- two reads of a digest in a legal history give the same block, or a collection between them raised the garbage round above the first
--- block's round, and the two are different blocks with that digest
+-- two reads of a digest in a legal history give the same block, with one exception. If a collection between them raised the garbage round
+-- above the first block's round, they may give two different blocks with that digest
 abbrev pub ReadsAgree : Type 0
 ReadsAgree =
     (accepts : Meaning) (terms : Terms) (base : State) (es : List Event) → IsLegal accepts terms base es

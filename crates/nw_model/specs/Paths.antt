@@ -17,8 +17,7 @@ block_cmp a b = slot_cmp (block_slot a) (block_slot b)
 abbrev pub IsStanding : State → Digest → Block → Type 0
 IsStanding s d b = (get s.blocks d ≡ Some b) × IsSome (get s.certificates d)
 
--- a reference r of a block of this round is satisfied: the digest that r names stands, and its block has the named author and the
--- preceding round
+-- a reference r of a block of this round is satisfied: r's digest stands, with a block of the named author and the preceding round
 abbrev pub IsSatisfied : State → ℕ → Ref → Type 0
 IsSatisfied s round r = (parent : Block) × IsStanding s r.digest parent × (parent.author ≡ r.author) × (parent.round + 1 ≡ round)
 

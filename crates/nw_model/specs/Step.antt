@@ -30,69 +30,69 @@ pub record Bounds : Type 0 where
   -- the number of rounds, from the garbage round on, whose blocks and certificates the store accepts
   pub window : ℕ
 
--- the tables of a store
+-- a state with the bounds of its store
 pub record BoundedState : Type 0 where
   -- the bounds under which the store takes its steps
   pub bounds : Bounds
   -- its state
   pub state : State
 
--- the code of tables
+-- the code of a state with its bounds
 abbrev pub coded_bounded_state : Coded BoundedState
 coded_bounded_state =
     code_by (ℕ × (ℕ × State)) (coded× coded_ℕ (coded× coded_ℕ coded_state))
     (λ t. (t.bounds.blocks, (t.bounds.window, t.state)))
     (λ p. record { bounds = record { blocks = p.0; window = p.1.0 }; state = p.1.1 }) (λ _. refl)
 
--- the two slots are equal
+-- whether the two slots are equal
 abbrev pub is_slot : Slot → Slot → Bool
 is_slot a b = (a.0 == b.0) && (a.1 == b.1)
 
--- the two digests are equal
+-- whether the two digests are equal
 abbrev pub is_digest : Digest → Digest → Bool
 is_digest a b = same_bytes a.0 b.0
 
--- there is a value, and it has another slot than this one
+-- whether there is a value, and it has another slot than this one
 abbrev pub is_elsewhere : {X : Type 0} → (X → Slot) → Option X → Slot → Bool
 is_elsewhere slot_of found slot = option_map_or (λ x. not (is_slot (slot_of x) slot)) found false
 
--- the first digest of the slot, if it is another than d and d is not certified
+-- the first digest of the slot, if there is one, it is not d, and d is not certified
 abbrev pub rival : State → Digest → Slot → Option Digest
 rival s d slot = if is_some (get s.certificates d) then None else option_and_then (λ first. if is_digest first d then None else Some first) (get s.firsts slot)
 
--- the round is below the garbage round
+-- whether the round is below the garbage round
 abbrev pub is_collected : State → ℕ → Bool
 is_collected s round = nat_lt round s.floor
 
--- the round is at or above the garbage round plus the window
+-- whether the round is at or above the garbage round plus the window
 abbrev pub is_too_far : Bounds → State → ℕ → Bool
 is_too_far bounds s round = nat_le (s.floor + bounds.window) round
 
--- some block is held under d
+-- whether some block is held under d
 abbrev pub is_held : State → Digest → Bool
 is_held s d = is_some (get s.blocks d)
 
--- the block b is held under d
+-- whether the block b is held under d
 abbrev pub is_held_block : State → Digest → Block → Bool
 is_held_block s d b = option_map_or (same_block b) (get s.blocks d) false
 
--- d is certified
+-- whether d is certified
 abbrev pub is_certified : State → Digest → Bool
 is_certified s d = is_some (get s.certificates d)
 
--- d is certified for another slot than this one
+-- whether d is certified for another slot than this one
 abbrev pub is_certified_elsewhere : State → Digest → Slot → Bool
 is_certified_elsewhere s d slot = is_elsewhere certificate_slot (get s.certificates d) slot
 
--- a block of another slot than this one is held under d
+-- whether a block of another slot than this one is held under d
 abbrev pub is_held_elsewhere : State → Digest → Slot → Bool
 is_held_elsewhere s d slot = is_elsewhere block_slot (get s.blocks d) slot
 
--- so many entries have reached the bound
+-- whether this number of entries has reached the bound
 abbrev pub is_full : Bounds → ℕ → Bool
 is_full bounds entries = nat_le bounds.blocks entries
 
--- the slot has no first digest
+-- whether the slot has no first digest
 abbrev pub is_open : State → Slot → Bool
 is_open s slot = not (is_some (get s.firsts slot))
 
@@ -104,7 +104,7 @@ write_reply bounds s d b =
     else if is_held_block s d b then write.Held
     else if is_held s d then write.Clash
     else if is_certified_elsewhere s d (block_slot b) then write.Misfit
-    -- Equivocates with the rival if there is one; otherwise the last line
+    -- Equivocates with the rival if there is one; otherwise the next line
     else option_map_or write.Equivocates (rival s d (block_slot b))
     (if is_full bounds (len s.blocks) then write.Full else write.Stored (is_open s (block_slot b)))
 
@@ -120,7 +120,7 @@ abbrev pub after_write : State → Digest → Block → WriteReply → State
 after_write s d b (write.Stored vote) = with_block s d b vote
 after_write s d b other = s
 
--- the digest is certified for this slot
+-- whether the digest is certified for this slot
 abbrev pub is_certified_for : State → Slot → Digest → Bool
 is_certified_for s slot d = option_map_or (λ c. is_slot (certificate_slot c) slot) (get s.certificates d) false
 
@@ -136,7 +136,7 @@ certify_reply bounds s c =
     else if is_certified_for s (certificate_slot c) c.digest then certify.Already
     else if is_certified s c.digest then certify.Misfit
     else if is_held_elsewhere s c.digest (certificate_slot c) then certify.Misfit
-    -- Conflict with the slot's certified digest if there is one; otherwise the last line
+    -- Conflict with the slot's certified digest if there is one; otherwise the next line
     else option_map_or certify.Conflict (certified_digest s (certificate_slot c))
     (if is_full bounds (len s.certificates) then certify.Full else certify.Certified)
 

@@ -14,7 +14,7 @@ use Rattle.nw_model.specs.Paths.{IsComplete, Lists}
 pub record Frozen : Type 0 where
   -- the blocks, by digest
   pub blocks : FinMap digest_cmp Block
-  -- the round down to which the view is used; blocks of lower rounds do not count
+  -- the floor: blocks of lower rounds do not count
   pub floor : ℕ
 
 -- the code of a view
@@ -40,7 +40,7 @@ HasBlock v d b = (get v.blocks d ≡ Some b) × (v.floor ≤ b.round)
 abbrev pub IsParentIn : Frozen → Digest → Digest → Type 0
 IsParentIn v d e = (b : Block) × (r : Ref) × (get v.blocks d ≡ Some b) × (v.floor < b.round) × Contains b.parents r × (r.digest ≡ e)
 
--- a path in the view leads by these digests from one digest to another: each step leads to a parent, and the last block is not below
+-- a path in the view leads by these digests from one digest to another. Each step leads to a parent, and the last block is not below
 -- the floor
 abbrev pub IsPathIn : Frozen → Digest → List Digest → Digest → Type 0
 IsPathIn v from [] to = ((b : Block) × HasBlock v from b) × (from ≡ to)

@@ -15,7 +15,7 @@ pub enum Call {
     Certificate(Digest),
     /// Find the block that is held under the digest.
     Read(Digest),
-    /// List the ancestors of the digest: its block, and all blocks below it that satisfied references lead to.
+    /// List the ancestors of the digest: its block, and all blocks to which satisfied references lead from it.
     Causal(Digest),
     /// Make this the garbage round, and drop everything of lower rounds.
     Collect(Round),

@@ -65,8 +65,8 @@ pub fn causal_lists_reach_quorums()
     ensures { CausalListsReachQuorums }
 {}
 
-/// Two reads of a digest in a legal history give the same block, with one exception: a collection between them raised the garbage
-/// round above the first block's round, and the two are different blocks with the same digest.
+/// Two reads of a digest in a legal history give the same block, with one exception. If a collection between them raised the
+/// garbage round above the first block's round, they may give two different blocks with the same digest.
 pub fn reads_agree()
     ensures { ReadsAgree }
 {}

@@ -1,7 +1,8 @@
 //! This crate defines what a store means: its state, its calls, the reply to each call, and which histories are legal.
 //!
 //! Its contract: the step table in `specs/Step.antt` gives each call exactly one reply in a state, and every legal history leaves a
-//! sound state. It takes blocks and certificates from `nw_codec`, and digests and rounds from `nw_digest`.
+//! sound state. It takes blocks and certificates from `nw_codec`, and digests and rounds from `nw_digest`. Only its definitions use
+//! `nw_committee`, `nw_sig` and `sha2`.
 #![tactic(auto)]
 
 mod call;

@@ -49,7 +49,7 @@ pub enum CertifyReply {
     Certified,
 }
 
-/// The reply to a causal read that gets no list: the reason.
+/// The reason why a causal read gets no list.
 #[derive(Clone, Copy, Debug, PartialEq, Eq)]
 pub enum CausalReply {
     /// No block is held under the digest.
@@ -72,7 +72,7 @@ pub enum CollectReply {
     },
 }
 
-/// The reply to the call for the status: how much the store keeps, and how many parents it wants.
+/// The reply to `Status`: how much the store keeps, and how many parents it wants.
 #[derive(Clone, Copy, Debug, PartialEq, Eq)]
 pub struct Counts {
     /// The garbage round.
@@ -94,21 +94,21 @@ pub enum Reply {
     Write(WriteReply),
     /// To a certificate.
     Certify(CertifyReply),
-    /// To the call for a certificate: the one that is kept for the digest, if there is one.
+    /// To a call for a certificate: the one that is kept for the digest, if there is one.
     Certificate(Option<Shared<Certificate>>),
     /// To a read: the block that is held under the digest, if there is one.
     Read(Option<Shared<Block>>),
-    /// To a causal read that gets no list: why not.
+    /// To a causal read that gets no list: the reason.
     Causal(CausalReply),
-    /// To a causal read of a complete digest, in place of the list. A history always has it in place of the list.
+    /// To a causal read of a complete digest, in place of the list. Histories always record `Ready` and never the list.
     Ready,
     /// To a causal read of a complete digest: the blocks of its ancestors, strictly ascending by round and author.
     List(Sequence<Shared<Block>>),
     /// To a collection.
     Collect(CollectReply),
-    /// To the call for missing parents: the first wanted parents, strictly ascending by round, author and digest.
+    /// To a call for missing parents: the first wanted parents, strictly ascending by round, author and digest.
     Missing(Sequence<Wanted>),
-    /// To the call for the status.
+    /// To a call for the status.
     Status(Counts),
 }
 

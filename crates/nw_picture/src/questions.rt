@@ -1,4 +1,4 @@
-//! Questions after a script, whose answers show what it leaves.
+//! Questions to the store after a script. Their answers show the state that the script leaves.
 
 use crate::recorder::text_of;
 use crate::scene::Scene;

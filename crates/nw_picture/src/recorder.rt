@@ -55,7 +55,7 @@ fn is_answered(line: &Line<'_>) -> bool {
     matches!(line, Line::Settle | Line::Reopen | Line::Request(_))
 }
 
-// The first line of answers and those left, or "" and all of them if the line has no answer.
+// The first line of the answers and the rest. If the line has no answer, "" and all answers.
 fn split_answer(text: &str, is_answered: bool) -> (&str, &str) {
     if is_answered {
         text.split_once('\n').unwrap_or((text, ""))

@@ -1,4 +1,4 @@
-//! The blocks of a script, and what its answers say of each. If two answers differ, the last one counts.
+//! The blocks of a script, and what its answers say about each. If two answers differ, the last one counts.
 
 use nw_script::{BlockLine, Name};
 use std::alloc::{AllocError, Global};
@@ -34,7 +34,7 @@ pub struct Scene<'a> {
     pub digests: BTreeMap<&'a str, usize>,
     /// The blocks that the store voted for.
     pub voted: Vec<Name<'a>>,
-    /// The wanted parents.
+    /// The wanted parents in the last answer to `missing`.
     pub wanted: Vec<Name<'a>>,
     /// The blocks that the last walk listed.
     pub walked: Vec<Name<'a>>,

@@ -59,7 +59,7 @@ module _ {K : Type 0} (R : K → K → Ordering) (same : IsAntisymmetric R) wher
 
 -- ---- additions by the elements of a list
 
--- Q holds of x for some element of the list
+-- Q a x holds for some element a of the list
 abbrev pub Of : {A X : Type 0} → (A → X → Type 0) → List A → X → Type 0
 Of {A} Q xs x = (a : A) × Contains xs a × Q a x
 

@@ -26,7 +26,7 @@ impl Model for Base {
 }
 
 impl Base {
-    /// The base with the store's state and bounds. Allocates nothing.
+    /// A base with the store's state and bounds. Allocates nothing.
     pub fn of(plain: Plain) -> Base
         ensures { result ≡ plain }
     {

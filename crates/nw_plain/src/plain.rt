@@ -24,7 +24,7 @@ use std::collections::BTreeMap;
 use std::collections::btree_map::Entry;
 use std::marker::Model;
 
-/// A slow store over ordered maps. Contracts see its state and its bounds.
+/// A slow store over ordered maps, in memory only. Contracts see its state and its bounds.
 #[derive(Drop)]
 pub struct Plain {
     blocks: BTreeMap<Digest, Shared<Block>>,

@@ -9,8 +9,8 @@ use nw_digest::{Digest, Round, Shared};
 use std::collections::BTreeMap;
 use std::marker::Model;
 
-/// Blocks under their digests, and a floor. The view is closed: it has each parent of a block above the floor, with the named author
-/// and the preceding round, and no two blocks at or above the floor share a round and author.
+/// Blocks under their digests, and a floor. The view is closed. It has each parent of a block above the floor, with the named author
+/// and the preceding round. No two blocks at or above the floor share a round and author.
 #[derive(Drop)]
 pub(crate) struct View {
     blocks: BTreeMap<Digest, Shared<Block>>,

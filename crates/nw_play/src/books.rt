@@ -17,7 +17,7 @@ const DEFAULT_LIMITS: Limits = Limits {
     sessions: 16,
 };
 
-/// What a store of a script starts from.
+/// The book from which a store of a script starts, and whether the script may still change its limits.
 #[derive(Drop)]
 pub struct Start {
     pub book: Book<DemoScheme>,
@@ -35,7 +35,7 @@ impl Start {
     }
 }
 
-/// Reads the committee, which the first line that is not skipped must have. `BadLine` if it has none.
+/// Reads the committee from the first line that is not skipped. `BadLine` if that line names no committee.
 pub fn read_committee(
     alloc: Global,
     lines: &mut Lines<'_>,
@@ -49,7 +49,7 @@ pub fn read_committee(
     }
 }
 
-/// The start of a script: an empty book under the default limits. `number` is that of the line to blame.
+/// The start of a script: an empty book under the default limits. `number` is the line number for a `BadLine` error.
 pub fn default_start(
     alloc: Global,
     committee: &Shared<Committee>,
@@ -61,7 +61,7 @@ pub fn default_start(
     })
 }
 
-/// The start after a `limits` line, which has this number: an empty book under its limits. `BadLine` if one is out of range.
+/// The start after the `limits` line with this number: an empty book under its limits. `BadLine` if a limit is out of range.
 pub fn start_with_limits(
     alloc: Global,
     committee: &Shared<Committee>,
@@ -81,7 +81,7 @@ fn shared_committee(alloc: Global, line: &CommitteeLine) -> Result<Shared<Commit
     Ok(Shared::new(alloc, committee(alloc, line)?)?)
 }
 
-// An empty book with these limits. `number` is that of the line to blame.
+// An empty book with these limits. `number` is the line number for a `BadLine` error.
 fn new_book(
     alloc: Global,
     committee: &Shared<Committee>,

@@ -26,7 +26,7 @@ pub enum PlayFault {
     /// An allocation failed.
     #[error("out of memory")]
     NoMemory,
-    /// The sessions of a store do not settle: the least stray id (docs/MODEL.md). No script causes it.
+    /// The sessions of a store do not settle. `session` is the least stray id (docs/MODEL.md). No script causes it.
     #[error("differs {session} 0")]
     Differs { session: u16 },
 }
@@ -55,7 +55,7 @@ impl From<AllocError> for PlayFault {
 }
 
 impl PlayFault {
-    /// The fault of a script whose line of this number has the given fault.
+    /// The fault of a play, for the fault of the line with this number.
     pub(crate) fn at(line: usize, fault: LineFault) -> PlayFault {
         match fault {
             LineFault::Bad => PlayFault::BadLine { line },
@@ -63,7 +63,8 @@ impl PlayFault {
         }
     }
 
-    /// The fault of a script whose `settle` line, of this number, is refused. The player gives all sessions, so `Unfinished` never comes.
+    /// The fault of a play, for a refused settlement at the `settle` line with this number. The player gives all sessions, so `Unfinished`
+    /// never comes.
     pub(crate) fn unsettled(line: usize, fault: SettleFault) -> PlayFault {
         match fault {
             SettleFault::Unfinished { .. } => PlayFault::BadLine { line },

@@ -7,8 +7,7 @@ use nw_interpreter::LineFault;
 use nw_script::{Line, parse_line};
 use std::alloc::Global;
 
-/// The lines of a script that are still to come, each with its number, counted from 1. A script has at least one line, which may be
-/// empty.
+/// The unread lines of a script, each with its number, counted from 1. A script has at least one line, which may be empty.
 #[derive(Drop)]
 pub struct Lines<'a> {
     rest: Option<&'a [u8]>,

@@ -23,7 +23,7 @@ pub struct Player<L: Home> {
 }
 
 impl<L: Home> Player<L> {
-    /// A player without sessions, of a new store over the book of the start. `Bad` if the book's history is not empty.
+    /// A player without sessions, with a new store that continues from the book of the start. `Bad` if the book's history is not empty.
     pub fn new(
         alloc: Global,
         opening: Opening<DemoScheme>,
@@ -150,8 +150,8 @@ impl<L: Home> Player<L> {
         Ok(Answer::Words("compacted"))
     }
 
-    // Makes this session the current one. The next unused id makes a new session, unless the store has its limit of them. `Bad` if
-    // the id is larger.
+    // Makes this session the current one. If its id is the next unused one, this makes a new session, unless the store has reached its
+    // limit on sessions. `Bad` if the id is larger.
     fn select_session<'a, R: Wait>(
         &mut self,
         rt: &R,
@@ -197,8 +197,8 @@ fn answer_of<'a>(
     answer
 }
 
-// A full history is an answer; any other refusal ends the play. The last two never come: each call has its session's next
-// number, and each handed in value was checked under the store's committee.
+// A full history is an answer, and any other refusal ends the play. The last two refusals never come: each call has its session's next
+// number, and each block and certificate was checked under the store's committee.
 fn answer_to_refusal<'a>(refusal: NoStep) -> Result<Answer<'a>, LineFault> {
     match refusal {
         NoStep::HistoryFull => Ok(Answer::Words("refused history full")),

@@ -22,8 +22,8 @@ use std::sync::Wait;
 /// text after the answers before them. A script of more than 1,048,576 bytes gives `TooLong`, unless the reader or an allocation
 /// fails first. It locks its own stores only, so no other thread holds their locks.
 ///
-/// It does not free the script's names and tickets, and after success not its last store either: the end of the process frees
-/// them at once.
+/// It does not free the script's names and tickets. After success it does not free the last store either. The end of the process frees them
+/// at once.
 pub fn play<Rt: Wait, R: Read + Drop, W: Write + Drop>(
     rt: &Rt,
     alloc: Global,

@@ -28,7 +28,7 @@ pub fn settle_store<L: Home, W: Write>(
     }
 }
 
-// Prints the counts of the settlement, and returns the start of the reopened store, if the script reopens.
+// Prints the counts of the settlement. Returns the start of the reopened store if the next line is `reopen`.
 fn finish<L: Home, W: Write>(
     alloc: Global,
     settled: Settled<DemoScheme, L>,
@@ -63,7 +63,7 @@ fn is_reopened<L: Home, W: Write>(
     }
 }
 
-// Reopens the settled store: the start of the next one.
+// Reopens the settled store. Returns the start of the next store.
 fn reopen<L: Home, W: Write>(
     alloc: Global,
     settled: Settled<DemoScheme, L>,

@@ -17,7 +17,7 @@ use std::io::Write;
 use std::mem::forget;
 use std::sync::Wait;
 
-/// Why no more lines are played on a store.
+/// Why a store plays no further lines.
 enum End {
     /// The script ended.
     Script,
@@ -47,7 +47,7 @@ pub fn play_store<'a, L: Home, R: Wait, W: Write>(
     }
 }
 
-// Plays lines on the store until it ends, and then settles, replaces or forgets it.
+// Plays lines on the store until it ends, and then settles, replaces or leaks it.
 fn play_to_end<'a, L: Home, R: Wait, W: Write>(
     rt: &R,
     alloc: Global,
@@ -109,7 +109,7 @@ fn play_lines<'a, L: Home, R: Wait, W: Write>(
     Ok(End::Script)
 }
 
-// The end that the line causes, which is not a request. `number` is that of the line.
+// How the line, which is not a request, ends the store. `number` is the line's number.
 fn end_of(line: Line<'_>, may_set_limits: bool, number: usize) -> Result<End, PlayFault> {
     match line {
         Line::Limits(line) if may_set_limits => Ok(End::Limits(line)),

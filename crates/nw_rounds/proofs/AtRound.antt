@@ -95,7 +95,7 @@ at_table : (es : List (Place × Digest)) (slot : Slot) (t : Table) → get (tabl
 at_table es slot First = get_in First slot es
 at_table es slot Certified = get_in Certified slot es
 
--- the entries rs from the first place of `from` on, before the first place of `to`
+-- rs has the entries from the first place of `from` on, before the first place of `to`
 module _ (es rs : List (Place × Digest)) (from to : ℕ) (sorted : IsStrictlySortedBy place_cmp (keys_of es))
     (part : rs ≡ filter (λ e. range_contains place_cmp (Included ((from, 0), First)) (Excluded ((to, 0), First)) e.0) es) where
   there : rs ≡ filter (λ e. is_between from to e.0.0.0) es
@@ -137,7 +137,7 @@ module _ (t : Tables) (from to : ℕ) (rs : List (Place × Digest)) (are : ArePl
       by r author First found = (author, inl found)
       by r author Certified found = (author, inr found)
 
-  -- and each digest of these rounds has a place
+  -- each digest of these rounds has a place
   at_place : (d : Digest) → IsDigestIn d → Contains (values_of rs) d
   at_place d (round, low, high, (author, inl is)) = Contains-values_of rs ((round, author), First) d ((are.exactly ((round, author), First) d).1 (low, high, is))
   at_place d (round, low, high, (author, inr is)) = Contains-values_of rs ((round, author), Certified) d ((are.exactly ((round, author), Certified) d).1 (low, high, is))

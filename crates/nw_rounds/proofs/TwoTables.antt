@@ -77,14 +77,14 @@ module _ (m n : List (Place × Digest)) where
         ∙ ap (cond (eq_by_cmp slot_cmp q k) (Some v)) (sym (get_in s q m))
         ∙ sym (get-insert slots_total (from_entries (in_table s m)) k v q))
 
-    -- and leaves the other table as it was
+    -- an insertion at a place does not change the other table
     pub put_elsewhere : (t : Table) → is_table s t ≡ false → from_entries {R = slot_cmp} (in_table t n) ≡ from_entries (in_table t m)
     put_elsewhere t other = same_map slots_total slots_apart _ _ (λ q.
         get_in t q n ∙ is (q, t)
         ∙ ap (λ b. cond b (Some v) (lookup (is_at (place_cmp (q, t))) m)) (place_tied k q s t ∙ ap (λ b. eq_by_cmp slot_cmp k q && b) other ∙ and_false _)
         ∙ sym (get_in t q m))
 
-  -- if the entries of lower rounds leave the map, they leave each table
+  -- if the entries of lower rounds are removed from the map, they are removed from each table
   pub kept_in : (round : ℕ) → n ≡ filter (λ e. nat_le round e.0.0.0) m → (t : Table) → from_entries {R = slot_cmp} (in_table t n) ≡ retain_keys (from_entries (in_table t m)) (λ slot. nat_le round slot.0)
   kept_in round is t = same_map slots_total slots_apart _ _ (λ q.
       get_in t q n ∙ ap (lookup (is_at (place_cmp (q, t)))) is

@@ -22,7 +22,7 @@ no_digests = record { firsts = empty; certified = empty }
 abbrev pub IsDigestAt : Tables → ℕ → Digest → Type 0
 IsDigestAt t round d = (author : ℕ) × ((get t.firsts (round, author) ≡ Some d) ⊎ (get t.certified (round, author) ≡ Some d))
 
--- the digests of the round, first ones and certified ones
+-- the digests of the round, first and certified
 pub record AreDigestsAt (t : Tables) (round : ℕ) (digests : List Digest) : Type 0 where
   -- exactly these
   pub exactly : (d : Digest) → Contains digests d ↔ IsDigestAt t round d

@@ -1,4 +1,4 @@
-//! The table of slots.
+//! The first and the certified digests of slots, in one ordered map.
 ghost use Rattle.std.specs.Prelude.{◌≡◌, ◌+◌, ◌<◌, ◌≤◌, ◌^◌};
 ghost use Rattle.std.specs.Prelude.{All, IfOk, OnOk, OnErr, IsNone, nat_le, length};
 ghost use Rattle.std.specs.Bool.{MatchBool};
@@ -14,13 +14,13 @@ use std::collections::btree_map::Range;
 use std::collections::{BTreeMap, BTreeSet};
 use std::marker::Model;
 
-// The number of a round, and an author. A `u64` has a number after that of the last round; a `Round` does not.
+// A round number and an author. The number is a `u64` because ranges end at the round after the last one, which no `Round` has.
 type Slot = (u64, u16);
 
 /// A slot, given by its round and author, and which of its two digests is meant.
 pub type Place = (Slot, Table);
 
-/// The first digest and the certified digest of each slot. The memory comes from one allocator.
+/// The first digest and the certified digest of each slot. All memory comes from one allocator.
 ///
 /// Contracts see two finite maps.
 #[derive(Drop)]
@@ -41,7 +41,7 @@ impl<A: Allocator> Model for Rounds<A> {
 }
 
 impl<A: Allocator> Rounds<A> {
-    /// A table without digests. It takes no memory.
+    /// A table without digests. Allocates nothing.
     pub fn new_in(alloc: A) -> Rounds<A>
         ensures { result ≡ no_digests }
     {
@@ -104,7 +104,7 @@ impl<A: Allocator> Rounds<A> {
         Ok(())
     }
 
-    /// All digests of the round, first ones and certified ones, ascending and each once. `NoMemory` if an allocation fails.
+    /// All digests of the round, first and certified, ascending and each once. `NoMemory` if an allocation fails.
     pub fn digests(&self, alloc: Global, round: Round) -> Result<Vec<Digest>, NoMemory>
         ensures { IfOk result (λ list. AreDigestsAt self.now round list.items) }
     {
@@ -112,8 +112,8 @@ impl<A: Allocator> Rounds<A> {
         Ok(found.into_iter().collect(alloc)?)
     }
 
-    /// All digests of this round and of lower ones, ascending and each once. `NoMemory` if an allocation fails. Its cost
-    /// depends on the number of these digests, not on that of higher rounds.
+    /// All digests of this round and of lower ones, ascending and each once. `NoMemory` if an allocation fails. The cost
+    /// depends on the number of these digests, not on how many digests higher rounds have.
     pub fn digests_up_to(&self, alloc: Global, round: Round) -> Result<Vec<Digest>, NoMemory>
         ensures { IfOk result (λ list. AreDigestsBetween self.now 0 (round + 1) list.items) }
     {
@@ -121,7 +121,7 @@ impl<A: Allocator> Rounds<A> {
         Ok(found.into_iter().collect(alloc)?)
     }
 
-    /// The digests of all lower rounds, with their places, in the order of the places. It takes no memory.
+    /// The digests of all lower rounds, with their places, in the order of the places. Allocates nothing.
     pub fn places_below(&self, round: Round) -> Range<'_, Place, Digest>
         ensures places { ArePlacesBetween self.now 0 round result }
         ensures fits { length result < 2 ^ 63 }
@@ -129,7 +129,7 @@ impl<A: Allocator> Rounds<A> {
         places_between(&self.digests, 0, round.get())
     }
 
-    /// Drops the digests of all lower rounds. It takes no memory. Its cost depends on the number of dropped digests.
+    /// Drops the digests of all lower rounds. Allocates nothing. The cost depends on the number of dropped digests.
     pub fn drop_below(&mut self, round: Round)
         ensures firsts { self.new.firsts
             ≡ map.retain_keys self.old.firsts (λ slot. nat_le round slot.0) }
@@ -186,7 +186,7 @@ fn places_between<A: Allocator>(
     digests.range(((from, 0), Table::First)..((to, 0), Table::First))
 }
 
-/// Whether the first place belongs to a lower round. If it does not, no place does.
+/// Whether the first place belongs to a lower round. If not, no place does.
 fn begins_below<A: Allocator>(digests: &BTreeMap<Place, Digest, A>, round: u64) -> bool
     ensures { MatchBool result (BeginsBelow round digests.now.entries)
         (All (λ place. round ≤ place.0.0) (keys digests.now)) }

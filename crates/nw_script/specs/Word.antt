@@ -14,14 +14,14 @@ pub record IsWord (most : ℕ) (word : List ℕ) : Type 0 where
   pub not_empty : 1 ≤ length word
   -- it has at most `most` bytes
   pub short : length word ≤ most
-  -- each byte is a small letter or a digit
+  -- each byte is a lowercase letter or a digit
   pub letters_and_digits : AllPass is_word_byte word
 
 -- the word is a name
 pub record IsName (word : List ℕ) : Type 0 where
   -- it is a word of at most `LONGEST_NAME` bytes
   pub short_word : IsWord LONGEST_NAME word
-  -- its first byte is a small letter
+  -- its first byte is a lowercase letter
   pub letter_first : is_ascii_lowercase (slice_index word 0) ≡ true
 
 -- the word has neither a plus sign nor leading zeros

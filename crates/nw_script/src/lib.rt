@@ -1,6 +1,6 @@
 //! Parses the lines of a script.
 //!
-//! It is proved that names, transactions, numbers and lists of these are exactly as docs/FORMATS.md says. Tests show how whole lines
+//! It is proved that names, transactions, numbers and lists of these are parsed exactly as docs/FORMATS.md says. Tests show how whole lines
 //! are parsed.
 #![tactic(auto)]
 

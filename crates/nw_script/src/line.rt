@@ -64,7 +64,7 @@ pub enum Request<'a> {
     Body(Name<'a>),
     /// `digest <name>`
     Digest(Name<'a>),
-    /// `hash <word>`; the empty text in place of `-`
+    /// `hash <word>`: the word, or the empty text if the line has `-`
     Hash(&'a str),
     /// `write <name> [<signer>]`; without a signer the author signs
     Write { name: Name<'a>, signer: Option<u16> },

@@ -5,7 +5,7 @@ ghost use Rattle.nw_script.specs.List.{AreElements, HasNonElement, parts_of};
 use crate::LineFault;
 use std::alloc::{AllocError, Global};
 
-/// Parses a list: each part between its commas is an element by the function `element`. `-` is the empty list.
+/// Parses a list, with the function `element` for each part between its commas. `-` is the empty list.
 ///
 /// `Bad` if some part is not an element. `NoMemory` if an allocation fails, which may come before such a part is found.
 pub fn list<'a, T: Drop, F: Fn(&'a str) -> Option<T>>(

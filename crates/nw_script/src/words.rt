@@ -18,7 +18,7 @@ impl<'a> Words<'a> {
         Words { rest: Some(line) }
     }
 
-    /// The next word. `Bad` if there is none. The methods below are also `Bad` if it is not of their kind.
+    /// The next word. `Bad` if there is none. The methods below also return `Bad` if the word is not of their kind.
     pub fn next(&mut self) -> Result<&'a [u8], LineFault> {
         let rest = self.rest.take().ok_or(LineFault::Bad)?;
         match rest.iter().position(|byte| *byte == b' ') {

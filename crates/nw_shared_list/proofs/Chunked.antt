@@ -82,7 +82,7 @@ get_by_tail c i place h is =
     let all : length (flat_map (λ y. y) c.chunks) ≡ 256 * length c.chunks = chunks_length c.chunks h in
     sym (slice_get-append-add (flat_map (λ y. y) c.chunks) c.tail place) ∙ (let at : length (flat_map (λ y. y) c.chunks) + place ≡ i = omega (arith, all, is) in ap (slice_get (items_of c)) at)
 
--- the number of items, by the tail in either order
+-- the number of items. Reversing the tail does not change it
 pub items_count : {H T : Type 0} (head : H) (chunks : List (List T)) (tail : List T) → AreChunked (chunked head chunks tail) → 256 * length chunks + length tail ≡ length (items_of (chunked head chunks tail))
 items_count head chunks tail h = omega (arith, items_length (chunked head chunks tail) h.whole, length-reverse tail)
 

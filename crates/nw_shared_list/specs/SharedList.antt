@@ -23,7 +23,7 @@ coded_chunked {H} {T} head code =
 abbrev pub items_of : {H T : Type 0} → Chunked H T → List T
 items_of c = flat_map (λ chunk. chunk) c.chunks ++ c.tail
 
--- the list with this head, these chunks, and this tail, whose last item comes first
+-- the list with this head, these chunks, and this tail, which is given with its last item first
 abbrev pub chunked : {H T : Type 0} → H → List (List T) → List T → Chunked H T
 chunked head chunks tail = record { head = head; chunks = chunks; tail = reverse tail }
 

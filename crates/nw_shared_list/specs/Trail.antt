@@ -1,4 +1,4 @@
--- Lists of linked nodes. Their items are given with the last one first.
+-- Lists of linked nodes. Definitions give their items with the last one first.
 use Rattle.std.specs.Prelude.{List, [], ◌∷◌, Option}
 use Rattle.std.specs.declared.sync.Arc.{Arc}
 use Rattle.std.specs.declared.alloc.Global.{Global}

@@ -1,4 +1,4 @@
-//! SharedList of a list.
+//! Chunks: 256 items of a list.
 ghost use Rattle.std.specs.Prelude.{◌≡◌, ◌<◌, length, slice_get, Some};
 
 use crate::trail::Link;
@@ -7,7 +7,7 @@ use std::marker::Model;
 /// The number of items in a chunk.
 pub const CHUNK: usize = 256;
 
-/// 256 items of a list, which never change. Contracts see the items.
+/// A link to each of 256 items, which never change. Contracts see the items.
 #[derive(Drop)]
 pub(crate) struct Chunk<T: Drop> {
     items: Vec<Link<T>>,
@@ -25,7 +25,7 @@ impl<T: Drop> Model for Chunk<T> {
 }
 
 impl<T: Drop> Chunk<T> {
-    /// The chunk of these items. It takes no memory.
+    /// The chunk of these items. Allocates nothing.
     pub(crate) fn new(items: Vec<Link<T>>) -> Chunk<T>
         requires { length items.items ≡ CHUNK }
         ensures { result ≡ items.items }

@@ -1,4 +1,4 @@
-//! Lists of chunks.
+//! Immutable lists of full chunks and a tail.
 ghost use Rattle.std.specs.Prelude.{◌≡◌, ◌+◌, ◌-◌, ◌^◌, ◌<◌, ◌==◌, ◌++◌, ◌∷◌, []};
 ghost use Rattle.std.specs.Prelude.{IfOk, length, reverse, slice_get};
 ghost use Rattle.std.specs.Option.{option_copied};
@@ -17,9 +17,9 @@ struct Root<H: Drop, T: Drop> {
     full: Vec<Shared<Chunk<T>>>,
 }
 
-/// An immutable list with a head. Adding an item makes another list, which shares the head and all earlier items: full chunks
-/// of 256 items, and the tail (the items after them). Contracts see the head, the chunks and the tail; `items_of` gives all
-/// items in order.
+/// An immutable list with a head. Its items are in full chunks of 256 items, and in the tail after them. Adding an item makes another
+/// list, which shares the head and all earlier items. Contracts see the head, the chunks and the tail; `items_of` gives all items
+/// in order.
 #[derive(Drop)]
 pub struct SharedList<H: Drop, T: Drop> {
     root: Shared<Root<H, T>>,
@@ -116,7 +116,7 @@ impl<H: Drop, T: Drop> SharedList<H, T> {
     }
 
     /// The item at the index, counted from 0, or `None` if there is none. It takes a constant number of steps in a full
-    /// chunk, and at most 255 in the tail.
+    /// chunk, and at most 255 steps in the tail.
     pub fn get(&self, index: usize) -> Option<&T>
         ensures { option_copied result ≡ slice_get (items_of self.now) index }
     {
@@ -138,7 +138,7 @@ impl<H: Drop, T: Drop> SharedList<H, T> {
         self.tail.items(alloc, self.count)
     }
 
-    /// The same as `get`, in a constant number of steps, by the links that `tail_links` returned.
+    /// The same as `get`, in a constant number of steps. `tail` must be what `tail_links` returned for this list.
     pub fn get_with_links<'a>(&'a self, tail: &'a [Link<T>], index: usize) -> Option<&'a T>
         requires { tail.now ≡ self.now.tail }
         ensures { option_copied result ≡ slice_get (items_of self.now) index }

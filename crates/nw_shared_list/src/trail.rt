@@ -1,4 +1,4 @@
-//! Lists that share all but their last item.
+//! Linked lists that share all but their last item with earlier lists.
 ghost use Rattle.std.specs.Prelude.{◌≡◌, ◌∷◌, [], IfOk, slice_get, reverse};
 ghost use Rattle.std.specs.Option.{option_copied};
 
@@ -14,7 +14,7 @@ struct Node<T: Drop> {
     before: Option<Arc<Node<T>>>,
 }
 
-/// A link to an item of a list, which it owns together with others. Contracts see the item.
+/// A link to an item of a list, which shares ownership of the item. Contracts see the item.
 #[derive(Drop)]
 pub struct Link<T: Drop> {
     node: Arc<Node<T>>,
@@ -54,7 +54,7 @@ impl<T: Drop> Model for Trail<T> {
 }
 
 impl<T: Drop> Trail<T> {
-    /// No items. It takes no memory.
+    /// An empty list. Allocates nothing.
     pub(crate) fn new() -> Trail<T>
         ensures { result ≡ [] }
     {
@@ -94,7 +94,7 @@ impl<T: Drop> Trail<T> {
         node.map(|node| &node.item)
     }
 
-    /// A link to each item, in order. `room` is the number of items; memory for that many links is allocated at once.
+    /// A link to each item, in order. `room` is the number of items: it allocates memory for that many links at once.
     pub(crate) fn items(&self, alloc: Global, room: usize) -> Result<Vec<Link<T>>, NoMemory>
         ensures { IfOk result (λ items. items.items ≡ reverse self.now) }
     {

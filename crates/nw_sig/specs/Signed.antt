@@ -14,6 +14,6 @@ Meaning = Key → List ℕ → Signature → Bool
 unfoldable pub text_of_block : Digest → List ℕ
 text_of_block digest = codes "NWBK" ++ digest.0
 
--- the text that a vote signs: the letters NWVT, and the block's digest, round and author
+-- the text that a member signs to vote for a block: the letters NWVT, and the block's digest, round and author
 unfoldable pub text_of_vote : Digest → ℕ → ℕ → List ℕ
 text_of_vote digest round author = codes "NWVT" ++ digest.0 ++ round_bytes round ++ to_be_bytes w16 author

@@ -1,4 +1,4 @@
-//! A scheme for tests and demonstrations. It is not secure: keys are public, and everyone who knows a key can sign with it.
+//! A scheme for tests and demonstrations. It is not secure: keys are public, and anyone who knows a key can sign with it.
 ghost use Rattle.std.specs.Prelude.{◌≡◌, ◌++◌};
 ghost use Rattle.sha2.specs.Sha256.{sha256};
 ghost use Rattle.nw_sig.specs.Demo.{demo_signature, demo_accepts};

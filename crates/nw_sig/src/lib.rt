@@ -1,6 +1,6 @@
 //! This crate defines the interface of a signature scheme, the texts that are signed, and a scheme for demonstrations.
 //!
-//! Its contract: `verify` returns what the meaning of the scheme's type says, and the scheme accepts its signers' signatures.
+//! Its contract: `verify` returns what the scheme's meaning says, and a scheme accepts the signatures of its signers.
 //! It uses `nw_digest`, `nw_codec` for signatures, `nw_committee` for keys, and `sha2` for the demonstration scheme.
 #![tactic(auto)]
 

@@ -6,17 +6,17 @@ ghost use Rattle.nw_codec.specs.declared.certificate.Signature.{Signature};
 use nw_codec::Signature;
 use nw_committee::Key;
 
-/// A signature scheme. Its meaning belongs to the type: under which key it accepts which signature for which text.
+/// A signature scheme. The type fixes its meaning: under which key it accepts which signature for which text.
 pub trait Scheme {
     /// The meaning of the scheme: whether it accepts this signature for this text under this key.
     ghost accepts: { Key → List ℕ → Signature → Bool };
 
-    /// Whether the scheme accepts the signature for the text under the key. It takes no memory.
+    /// Whether the scheme accepts the signature for the text under the key. Allocates nothing.
     fn verify(key: &Key, text: &[u8], signature: &Signature) -> bool
         ensures { result ≡ accepts key.now text.now signature.now };
 }
 
-/// A member that signs. Its scheme accepts each of its signatures under its key.
+/// A value that signs texts for one member. Its scheme accepts each of its signatures under its key.
 pub trait Signer {
     /// The scheme that accepts the signatures.
     type Scheme: Scheme;
@@ -31,7 +31,7 @@ pub trait Signer {
     fn key(&self) -> Key
         ensures { result ≡ key self.now };
 
-    /// A signature for the text. It takes no memory.
+    /// A signature for the text. Allocates nothing.
     fn sign(&self, text: &[u8]) -> Signature
         ensures { signs self.now text.now result };
 

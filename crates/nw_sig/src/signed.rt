@@ -1,4 +1,4 @@
-//! The texts that are signed. They are arrays, so they take no memory.
+//! The texts that are signed. They are arrays, so making them allocates nothing.
 ghost use Rattle.std.specs.Prelude.{◌≡◌, ◌++◌};
 ghost use Rattle.std.specs.Int.{to_be_bytes, w16};
 ghost use Rattle.nw_codec.specs.Grammar.{round_bytes};
@@ -16,8 +16,8 @@ pub fn text_of_block(digest: &Digest) -> [u8; 36]
     text
 }
 
-/// The 44 bytes that a vote for a block signs (docs/FORMATS.md): `NWVT`, the block's digest, its round in six bytes, and its
-/// author in two. Both numbers are big-endian.
+/// The 44 bytes that a member signs to vote for a block: `NWVT`, the block's digest, its round in six bytes, and its author in
+/// two (docs/FORMATS.md). Both numbers are big-endian.
 pub fn text_of_vote(digest: &Digest, round: Round, author: u16) -> [u8; 44]
     ensures { result ≡ text_of_vote digest.now round author }
 {

@@ -59,7 +59,7 @@ not_certified (Some c) e = cc
 
 -- ---- the digests of places
 
--- a value that no other entry has does not compare equal to theirs
+-- if no entry has the value, the value does not compare as equal to any entry's value
 no_other : (d : Digest) (es : List (Place × Digest)) → ((p : Place) → Contains es (p, d) → ⊥) → AllByRecursion (λ y. eq_by_cmp digest_cmp d y ≡ false) (values_of es)
 no_other d [] none = tt
 no_other d (e ∷ es) none = (
@@ -119,7 +119,7 @@ module _ (blocks : List (Digest × Block)) (certificates : List (Digest × Certi
       let (c, kept, at) = (held.kept.indexed slot d).0 is.2 in
       (b, there, omega (arith, is.1, ap (λ (q : Slot). q.0) here), λ i. (sym here i, table_for (sym kept i)))
 
-  -- and the converse
+  -- the digest of a dropped block is counted at its block's place
   home_counted : (d : Digest) (b : Block) → get s.blocks d ≡ Some b → b.round < round → Contains counted (home d b, d)
   home_counted d b there low = by (get s.certificates d) refl
     where
@@ -158,7 +158,7 @@ module _ (blocks : List (Digest × Block)) (certificates : List (Digest × Certi
       let lower : nat_lt b.round round ≡ true = is_lower b.round round below in
       subst IsSome (sym (at_dropped q ∙ ap (option_filter is_dropped) (sym (get_lookup digests_total blocks q) ∙ at) ∙ ap (λ t. cond t (Some b) None) lower)) refl
 
-  -- and the converse
+  -- the digest of a dropped block is counted
   dropped_listed : (q : Digest) → IsSome (lookup (is_at (digest_cmp q)) dropped) → Contains low q
   dropped_listed q some = by (lookup (is_at (digest_cmp q)) blocks) refl (subst IsSome (at_dropped q) some)
     where

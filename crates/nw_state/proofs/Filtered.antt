@@ -21,7 +21,7 @@ module _ {X : Type 0} (p : X → Bool) where
       ]
       by false is here rest = let both = rest here in (contains_later y ys x both.0, both.1)
 
-  -- and the converse
+  -- each element of the list that passes is in the rest
   pub filter_has : (xs : List X) (x : X) → Contains xs x → p x ≡ true → Contains (filter p xs) x
   filter_has [] x among passes = absurd (contains_none x among)
   filter_has (y ∷ ys) x among passes = by (p y) refl (filter_has ys x)
@@ -44,7 +44,7 @@ module _ {X : Type 0} (p : X → Bool) where
       by true rest = (all.0, rest)
       by false rest = rest
 
-  -- a list without repetition stays so if some elements are removed
+  -- a list without repetition still has none after some elements are removed
   pub distinct_filter : (e : X → X → Bool) (xs : List X) → IsDistinct e xs → IsDistinct e (filter p xs)
   distinct_filter e [] once = once
   distinct_filter e (y ∷ ys) once = by (p y) (distinct_filter e ys (IsDistinct-tail e y ys once))

@@ -62,7 +62,7 @@ module _ (blocks : List (Digest × Block)) (certificates : List (Digest × Certi
   pub certified_slot : (slot : Slot) (d : Digest) (b : Block) → get slots.certified slot ≡ Some d → get (from_entries {R = digest_cmp} blocks) d ≡ Some b → block_slot b ≡ slot
   certified_slot slot d b at there = let (c, is, here) = (held.kept.indexed slot d).0 at in held.kept.sound.one_slot d b c there is ∙ here
 
-  -- so do a first digest and the block under it
+  -- the block under a first digest has the digest's slot
   voted_slot : (slot : Slot) (d : Digest) (b : Block) → get slots.firsts slot ≡ Some d → get (from_entries {R = digest_cmp} blocks) d ≡ Some b → block_slot b ≡ slot
   voted_slot slot d b at there = let (x, is, here) = held.voted slot d at in ap block_slot (one_block b x there is) ∙ here
 

@@ -1,4 +1,4 @@
--- The digests that a collection goes through.
+-- The digests that a collection visits.
 use Rattle.std.specs.Prelude.{◌≡◌, ℕ, ◌≤◌, List, Some, Bool, not, is_some, Contains}
 use Rattle.std.specs.List.{IsDistinct}
 use Rattle.std.specs.Ordering.{eq_by_cmp}
@@ -11,8 +11,8 @@ use Rattle.nw_rounds.specs.declared.table.Table.TheVariants.{First, Certified}
 use Rattle.nw_digest.specs.Order.{digest_cmp}
 use Rattle.nw_model.specs.State.{State}
 
--- a digest that is listed in this table counts as a block there: a first digest if it is not certified, and a certified digest if its block
--- is held
+-- whether a digest that is listed in this table counts as a block there. A first digest counts if it is not certified. A certified digest
+-- counts if its block is held. So each held block counts once
 abbrev pub counts_at : State → Table → Digest → Bool
 counts_at s First d = not (is_some (get s.certificates d))
 counts_at s Certified d = is_some (get s.blocks d)

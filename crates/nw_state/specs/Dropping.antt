@@ -13,7 +13,7 @@ module _ {V : Type 0} (round_of : V → ℕ) (round : ℕ) where
 
   -- new is old without some values below the round, and without all such values of these digests
   pub record DropsBelow (digests : List Digest) (old new : List (Digest × V)) : Type 0 where
-    -- each digest has its old value, or that was below the round and is dropped
+    -- each digest has its old value, or its old value was below the round and is dropped
     pub stays : (d : Digest) → (lookup (is_at (digest_cmp d)) new ≡ lookup (is_at (digest_cmp d)) old) ⊎ ((lookup (is_at (digest_cmp d)) new ≡ None) × IsBelowRound (lookup (is_at (digest_cmp d)) old))
     -- no value left under these digests is below the round
     pub gone : (d : Digest) → Contains digests d → IsBelowRound (lookup (is_at (digest_cmp d)) new) → ⊥

@@ -1,4 +1,4 @@
--- How the tables of a store represent its state.
+-- How the tables of a store represent a state.
 use Rattle.std.specs.Prelude.{◌≡◌, ℕ, ◌⊎◌, List, Some}
 use Rattle.std.specs.List.Sorted.{IsStrictlySortedBy}
 use Rattle.std.specs.Map.{keys_of}

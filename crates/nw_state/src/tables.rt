@@ -134,7 +134,7 @@ impl StateTables {
     }
 
     /// The name of the block under the digest, if the digest stands: its block is held, and it is certified. Otherwise `None`. If the
-    /// digest is not certified, this takes one look-up.
+    /// digest is not certified, this takes one lookup.
     pub fn standing(&self, digest: &Digest) -> Option<Wanted>
         ensures stands { IsSome result ↔ Stands self.now.state digest.now }
         ensures name { IfSome result (λ name. Some name
@@ -145,8 +145,8 @@ impl StateTables {
         self.name(*digest)
     }
 
-    /// Whether the wanted digest stands, with a block of the wanted round and author. This looks up the slot. It looks up the block only
-    /// if the digest is not the first of its slot.
+    /// Whether the wanted digest stands, with a block of the wanted round and author. It looks up the slot, and the block only if the
+    /// digest is not the first of its slot.
     pub fn is_met(&self, wanted: &Wanted) -> bool
         ensures { IsTrue result ↔ IsMet self.now.state wanted.now }
     {
@@ -200,7 +200,7 @@ impl StateTables {
         Ok(())
     }
 
-    /// Adds the certificate, for one whose reply is `Certified`.
+    /// Adds a certificate whose reply is `Certified`.
     ///
     /// `NoMemory` if allocation fails. Then nothing changes.
     pub fn put_certificate(&mut self, certificate: Shared<Certificate>) -> Result<(), NoMemory>

@@ -84,7 +84,7 @@ module _ {V : Type 0} where
             rw (below x.0 e.0 less) (after_next k es e rest sorted.1 h)
       ] is
 
-  -- an iterator begins with all entries
+  -- at first, an iterator has all entries
   pub from_first : (es : List (Digest × V)) (next : Option (Bor Digest × Bor V)) → option_map deref_pair next ≡ first_entry es → AreEntries es → (entries_from es next ≡ es) × IsNextIn es next
   from_first [] None is all = (refl, tt)
   from_first [] (Some p) is all = cc
@@ -105,6 +105,6 @@ module _ {V : Type 0} where
       let following : after p.0.now es ≡ rest = after_next k es (deref_pair p) rest all.ascending there in
       ((λ i. same i ∷ following i), (has_after k es (deref_pair p) rest there, all))
 
-  -- and goes on with the entries after the last one
+  -- after an entry, an iterator has the entries that follow it
   pub from_after : (k : Digest) (es : List (Digest × V)) (next : Option (Bor Digest × Bor V)) → option_map deref_pair next ≡ first_entry (after k es) → AreEntries es → (entries_from es next ≡ after k es) × IsNextIn es next
   from_after k es next is all = from_rest k es (after k es) refl next is all

@@ -15,7 +15,7 @@ parity n m e =
       | false ↦ λ even same. omega (arith, eqb-false (n % 2) 1 even, eqb-false (m % 2) 1 (sym same))
     ] refl e
 
--- x / 2^m is the front of a byte, its first 8 - m bits; the front with one bit less is half of it
+-- x / 2^m is the front of a byte: its first 8 - m bits. The front with one bit fewer is half of it
 longer_front : (x p : ℕ) → x / (p * 2) ≡ x / p / 2
 longer_front x p = sym (div-div-eq-div-mul x p 2)
 

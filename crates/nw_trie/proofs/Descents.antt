@@ -1,4 +1,4 @@
--- The way of a digest down to its value.
+-- How a lookup descends to the value of a digest.
 use Rattle.std.proofs.Common.{Bor, suc, ◌≡◌, ◌∙◌, inl, inr, ℕ, ◌+◌, ◌<◌, Bool, true, false, cond, List, Option, Some, None, [], ◌∷◌, ◌++◌, Box, length, refl, sym, ap, subst, arith}
 use Rattle.std.specs.Map.{keys_of, lookup}
 use Rattle.std.specs.Prelude.{is_some}

@@ -1,4 +1,4 @@
--- The way of a digest down to its place, and the entries after an insertion there.
+-- How a digest descends to its place, and the entries after an insertion there.
 use Rattle.std.proofs.Common.{◌≡◌, ◌∙◌, inl, inr, ℕ, ◌+◌, ◌<◌, ◌≤◌, Bool, true, false, cond, List, [], ◌∷◌, ◌++◌, Option, Some, None, Box, length, refl, sym, ap, subst, arith, length-append}
 use Rattle.std.specs.Ordering.{is_eq, match_ordering}
 use Rattle.std.specs.declared.cmp.Ordering.TheVariants.{Equal}
@@ -42,7 +42,7 @@ pub branch_leaf : {V : Type 0} (k x : Digest) (v : V) (o : Option ℕ) → Match
 branch_leaf k x v None h = inl (sym h)
 branch_leaf k x v (Some bit) h = record { near = inl h.same; apart = ((λ agree. h.differ (agree bit (omega arith))), tt) }
 
--- both sides of a fork after an entry is inserted in one of them; before, their entries were d
+-- both sides of a fork after an entry is inserted in one of them; d has the entries before the insertion
 pub record Grown {V : Type 0} (d : List (Digest × V)) (bit : ℕ) (l r : List (Digest × V)) (k : Digest) (v : V) : Type 0 where
   pub is : l ++ r ≡ insert_entry digest_cmp d k v
   pub fork : IsFork bit l r

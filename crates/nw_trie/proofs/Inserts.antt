@@ -38,7 +38,7 @@ module _ {V : Type 0} where
   insert_past d v [] r h = refl
   insert_past d v (e ∷ l) r h = rw h.0 (ap (λ es. e ∷ es) (insert_past d v l r h.1))
 
-  -- and before the entries with greater digests
+  -- an entry is inserted before the entries with greater digests
   pub insert_before : (d : Digest) (v : V) (l r : List (Digest × V)) → EachKey (λ k. digest_cmp d k ≡ Less) r → insert_entry digest_cmp (l ++ r) d v ≡ insert_entry digest_cmp l d v ++ r
   insert_before d v [] [] h = refl
   insert_before d v [] (e ∷ r) h = rw h.0 refl

@@ -63,7 +63,7 @@ module _ {V : Type 0} where
         | false ↦ omega (arith, length_remove test es)
       ]
 
--- the same, with the value that the removal returned
+-- the number of entries after a removal, given the value that it returned
 pub removed : {V : Type 0} (test : Digest → Bool) (d es new : List (Digest × V)) (value : Option V) → es ≡ d → value ≡ lookup test es → new ≡ remove_entry test es → length new + cond (is_some value) 1 0 ≡ length d
 removed test d es new value is found left = rw (left, found, ← is) (length_remove test es)
 

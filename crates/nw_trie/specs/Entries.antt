@@ -31,13 +31,13 @@ pub record AreEntries {V : Type 0} (es : List (Digest × V)) : Type 0 where
 pub record IsFork {V : Type 0} (bit : ℕ) (left right : List (Digest × V)) : Type 0 where
   -- the left side has entries
   pub left_nonempty : 0 < length left
-  -- and so has the right side
+  -- the right side has entries
   pub right_nonempty : 0 < length right
   -- on the left the bit is not set
   pub unset : EachKey (λ d. bit_of d bit ≡ false) left
   -- on the right it is set
   pub set : EachKey (λ d. bit_of d bit ≡ true) right
-  -- a digest that has the common bits
+  -- a digest with the bits that all entries share before the fork's bit
   pub front : Digest
   -- before the bit, all digests have the same bits
   pub agree : EachKey (λ d. AgreeBelow bit front d) (left ++ right)
@@ -46,12 +46,12 @@ pub record IsFork {V : Type 0} (bit : ℕ) (left right : List (Digest × V)) : T
 pub record BranchesAt {V : Type 0} (d : Digest) (bit : ℕ) (es : List (Digest × V)) : Type 0 where
   -- some entry shares all bits of d before this one
   pub near : SomeKey (AgreeBelow bit d) es
-  -- no entry shares these bits and this one too
+  -- no entry shares these bits and also this bit
   pub apart : EachKey (λ k. AgreeBelow (bit + 1) d k → ⊥) es
 
 -- the entries are the two sides of a fork at this bit
 pub record ForksAt {V : Type 0} (bit : ℕ) (es : List (Digest × V)) : Type 0 where
-  -- a digest has this bit
+  -- it is one of the 256 bits of a digest
   pub low : bit < 256
   -- the entries with the bit unset
   pub left : List (Digest × V)

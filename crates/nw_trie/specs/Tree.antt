@@ -19,7 +19,7 @@ module _ {V A : Type 0} where
   IsTree (Leaf leaf) = AreEntries ((leaf.value.digest, leaf.value.value) ∷ [])
   IsTree (Fork bit sides) = IsFork bit sides.value.left sides.value.right × AreEntries (sides.value.left ++ sides.value.right)
 
-  -- the same, except that one side of the first fork may be empty
+  -- the same, except that a side of the first fork may be empty
   abbrev pub IsNearlyTree : Link V A → Type 0
   IsNearlyTree Empty = Unit {0}
   IsNearlyTree (Leaf leaf) = AreEntries ((leaf.value.digest, leaf.value.value) ∷ [])
@@ -30,7 +30,7 @@ module _ {V A : Type 0} where
   side_of s true = s.right
   side_of s false = s.left
 
-  -- the same sides, with w in place of the one for this value of the bit
+  -- the sides, with w in place of the side for this value of the bit
   abbrev pub with_side : Sides V A → Bool → List (Digest × V) → Sides V A
   with_side s true w = record { left = s.left; right = w }
   with_side s false w = record { left = w; right = s.right }

@@ -6,7 +6,7 @@ ghost use Rattle.nw_trie.specs.Bits.{AreBytes, DifferFirst, bit_of, byte_bit, li
 
 use nw_digest::Digest;
 
-/// Whether the bit of the digest is set.
+/// Whether this bit of the digest is set.
 pub(crate) fn is_set(digest: &Digest, bit: u8) -> bool
     ensures bit { result ≡ bit_of digest.now bit }
     ensures bytes { AreBytes digest.now.0 }
@@ -28,7 +28,7 @@ fn note_list(bytes: &[u8])
     let _ = bytes;
 }
 
-/// Whether the bit of the bytes is set.
+/// Whether this bit of the bytes is set.
 fn list_is_set(bytes: &[u8], bit: u8) -> bool
     requires { length bytes.now ≡ 32 }
     ensures bit { result ≡ list_bit bytes.now bit }
@@ -37,7 +37,7 @@ fn list_is_set(bytes: &[u8], bit: u8) -> bool
     byte_is_set(bytes[(bit / 8) as usize], bit % 8)
 }
 
-/// Whether the bit of the byte is set. Bit 0 is the highest.
+/// Whether this bit of the byte is set. Bit 0 is the highest.
 fn byte_is_set(byte: u8, bit: u8) -> bool
     requires { bit < 8 }
     ensures { result ≡ byte_bit byte bit }

@@ -9,8 +9,8 @@ use nw_digest::Digest;
 use std::alloc::Allocator;
 use std::marker::Model;
 
-/// The remaining entries of a trie, ascending by digest. Contracts see the list of these entries. The iterator takes no
-/// memory, and each step goes down the trie once.
+/// The remaining entries of a trie, ascending by digest. Contracts see the list of these entries. The iterator
+/// allocates nothing. Each step descends the trie once, from the root.
 #[derive(Drop)]
 pub struct Iter<'a, V: Drop, A: Allocator> {
     tree: &'a Tree<V, A>,

@@ -30,8 +30,8 @@ pub(crate) struct Tree<V: Drop, A: Allocator> {
     link: Link<V, A>,
 }
 
-/// No digest, one digest with its value, or the digests on both sides of a bit. The bit lies beside the address of the
-/// fork, so a lookup reads only one side of a fork.
+/// Nothing, a leaf with one entry, or a fork: a bit, and a tree for each value of the bit. The bit is stored beside the address of
+/// the two sides, so a lookup reads only the side that it follows.
 #[cycle(tree)]
 #[derive(Drop)]
 pub(crate) enum Link<V: Drop, A: Allocator> {
@@ -75,14 +75,14 @@ impl<V: Drop, A: Allocator> Model for Tree<V, A> {
 }
 
 impl<V: Drop, A: Allocator> Tree<V, A> {
-    /// No digests.
+    /// An empty tree.
     pub(crate) fn empty() -> Tree<V, A>
         ensures { result ≡ [] }
     {
         Tree { link: Link::Empty }
     }
 
-    /// A tree with this one entry. If an allocation fails, the value comes back.
+    /// A tree with this one entry. If an allocation fails, returns the value.
     pub(crate) fn leaf(alloc: &A, digest: Digest, value: V) -> Result<Tree<V, A>, V>
     where
         A: Clone,
@@ -152,7 +152,7 @@ impl<V: Drop, A: Allocator> Tree<V, A> {
         Some((digest, value))
     }
 
-    /// The entry after that of the digest, or `None` if that is the last one.
+    /// The entry after the digest's own, or `None` if the digest is the last one.
     pub(crate) fn after(&self, digest: &Digest) -> Option<(&Digest, &V)>
         requires { HasKey digest.now self.now }
         ensures { option_map deref_pair result ≡ first_entry (after digest.now self.now) }
@@ -212,7 +212,7 @@ impl<V: Drop, A: Allocator> Tree<V, A> {
         }
     }
 
-    /// Puts the leaf into its place, at a new fork at this bit. `branch` gave the bit.
+    /// Inserts the leaf at a new fork at this bit, which must be the result of `branch` for the digest.
     pub(crate) fn graft(
         &mut self,
         digest: &Digest,
@@ -236,7 +236,8 @@ impl<V: Drop, A: Allocator> Tree<V, A> {
         self.split(digest, bit, fork, leaf);
     }
 
-    /// Puts the leaf beside all other entries. Its digest first differs from each of theirs at this bit.
+    /// Makes a fork at this bit, with the leaf on one side and all other entries on the other. This must be the first bit at
+    /// which the leaf's digest differs from each of theirs.
     fn split(&mut self, digest: &Digest, bit: u8, fork: Box<Sides<V, A>, A>, leaf: Tree<V, A>)
         requires differ { EachKey (λ k. DifferFirst bit digest.now k) self.old }
         requires full { 0 < length self.old }
@@ -254,7 +255,7 @@ impl<V: Drop, A: Allocator> Tree<V, A> {
         };
     }
 
-    /// A fork at this bit with these sides, in a box that was made before.
+    /// A fork at this bit with these sides, in the given box.
     fn forked(
         mut sides: Box<Sides<V, A>, A>,
         bit: u8,
@@ -272,7 +273,7 @@ impl<V: Drop, A: Allocator> Tree<V, A> {
 }
 
 impl<V: Drop, A: Allocator> Sides<V, A> {
-    /// The side of the digests with the bit set, or the other side.
+    /// The side of the digests with the bit set if `set` is true; otherwise the other side.
     fn side_mut(&mut self, set: bool) -> &mut Tree<V, A>
         ensures* writes_back { sem 𝓛 (follows (sides.the_row V.row A.row A.Allocator)
             (tree.the_row V.row A.row A.Allocator) self.entry.ghost_name result.ghost_name

@@ -16,7 +16,7 @@ use nw_digest::{Digest, InRound, NoMemory, Round};
 use std::alloc::Allocator;
 use std::marker::Model;
 
-/// A map from digests to values, whose memory comes from one allocator. Contracts see the entries, ascending by digest.
+/// A map from digests to values. It takes all its memory from one allocator. Contracts see the entries, ascending by digest.
 #[derive(Drop)]
 pub struct Trie<V: Drop, A: Allocator> {
     tree: Tree<V, A>,
@@ -36,7 +36,7 @@ impl<V: Drop, A: Allocator> Model for Trie<V, A> {
 }
 
 impl<V: Drop, A: Allocator> Trie<V, A> {
-    /// An empty trie. It takes no memory.
+    /// An empty trie. Allocates nothing.
     pub fn new_in(alloc: A) -> Trie<V, A>
         ensures { result ≡ [] }
     {
@@ -61,14 +61,14 @@ impl<V: Drop, A: Allocator> Trie<V, A> {
         self.len == 0
     }
 
-    /// The value of the digest, or `None` if it has none. A lookup passes at most 256 forks, and compares one whole digest.
+    /// The value of the digest, or `None` if it has none. A lookup passes at most 256 forks and compares one digest.
     pub fn get(&self, digest: &Digest) -> Option<&V>
         ensures value { option_copied result ≡ lookup (is_at (digest_cmp digest.now)) self.now }
     {
         self.tree.get(digest)
     }
 
-    /// The value of the digest, for changes in place, or `None` if it has none. All other entries stay.
+    /// The value of the digest, to be changed in place, or `None` if it has none. All other entries stay.
     pub fn get_mut(&mut self, digest: &Digest) -> Option<&mut V>
         ensures* writes_back { sem 𝓛 (trie_follows_value V.row A.row A.Allocator self.entry
             digest.now result) }
@@ -88,10 +88,10 @@ impl<V: Drop, A: Allocator> Trie<V, A> {
         Iter::new(&self.tree)
     }
 
-    /// Sets the value of the digest, and returns its old value if it had one. Replacing a value takes no memory.
+    /// Sets the value of the digest, and returns its old value if it had one. Replacing a value allocates nothing.
     ///
-    /// `NoMemory` comes with the new value if an allocation fails, or if there are `usize::MAX` entries already, which no
-    /// memory has room for. Then the trie stays as it was.
+    /// `NoMemory`, with the new value, if an allocation fails, or if there are `usize::MAX` entries already (more than any
+    /// memory can hold). Then the trie is unchanged.
     pub fn insert(&mut self, digest: Digest, value: V) -> Result<Option<V>, (NoMemory, V)>
     where
         A: Clone,
@@ -101,7 +101,7 @@ impl<V: Drop, A: Allocator> Trie<V, A> {
         ensures len { IfOk result
             (λ old. length self.new ≡ length self.old + (if is_some old then 0 else 1)) }
 
-        // On failure the value comes back and the entries stay. Only a new digest can fail.
+        // On failure the value is returned and the entries stay. Only inserting a new digest can fail.
         ensures value_returned { IfErr result (λ refused. refused.1 ≡ value) }
         ensures absent { OnErr result (lookup (is_at (digest_cmp digest)) self.old ≡ None) }
         ensures unchanged { OnErr result (self.new ≡ self.old) }
@@ -130,7 +130,7 @@ impl<V: Drop, A: Allocator> Trie<V, A> {
 
     /// Sets the value of the digest, and drops its old value if it had one.
     ///
-    /// `NoMemory` comes when `insert` refuses. Then the new value is dropped, and the trie stays as it was.
+    /// `NoMemory` if `insert` fails. Then the new value is dropped, and the trie is unchanged.
     pub fn put(&mut self, digest: Digest, value: V) -> Result<(), NoMemory>
     where
         A: Clone,

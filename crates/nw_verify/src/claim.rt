@@ -30,7 +30,7 @@ pub struct Claim {
 }
 
 impl Claim {
-    /// Parses a line, or gives `None` if it is not a claim. The message is `-`, or an even number of hex digits.
+    /// Parses a line, or returns `None` if it is not a claim. The message is `-` or an even number of hex digits.
     pub fn parse(alloc: Global, line: &[u8]) -> Result<Option<Claim>, VerifyFault> {
         if line.len() < MIN_LINE || line.len() > MAX_LINE {
             return Ok(None);

@@ -85,7 +85,7 @@ module _ {L : Type 0} (holders : L → List Digest) where
       → contains (from_list {R = pair_cmp} (pairs_in holders es)) (w, h) ≡ list_any (eq_by_cmp digest_cmp h) (list_of holders (lookup (is_at (wanted_cmp w)) es))
   contains_in es sorted w h = contains-from_list pairs_total (pairs_in holders es) (w, h) ∙ any_in es sorted w h
 
-  -- and any set with exactly these pairs is that set
+  -- any set with exactly the pairs of the lists is that set
   pub view_is : (es : List (Wanted × L)) → IsStrictlySortedBy wanted_cmp (keys_of es) → (s : Pairs)
       → ((w : Wanted) (h : Digest) → list_any (eq_by_cmp digest_cmp h) (list_of holders (lookup (is_at (wanted_cmp w)) es)) ≡ contains s (w, h)) → from_list (pairs_in holders es) ≡ s
   view_is es sorted s is = same_set pairs_total pairs_apart _ s (λ p. contains_in es sorted p.0 p.1 ∙ is p.0 p.1)

@@ -13,7 +13,7 @@ use std::collections::BTreeMap;
 /// The capacity of a new list.
 const ROOM: usize = 4;
 
-/// Appends the value to the list of the key. If an allocation fails, each list has the values that it had.
+/// Appends the value to the list of the key. If an allocation fails, each list keeps the values that it had.
 pub fn add<K: Ord + Copy, V: Copy, A: Allocator + Copy>(
     lists: &mut BTreeMap<K, Vec<V, A>, A>,
     alloc: A,
@@ -37,7 +37,7 @@ pub fn add<K: Ord + Copy, V: Copy, A: Allocator + Copy>(
     Ok(())
 }
 
-/// Removes the value from the list of the key, and drops a list that is then empty.
+/// Removes the value from the list of the key. If the list is then empty, drops it.
 fn remove<K: Ord + Drop, V: Ord + Drop, A: Allocator>(
     lists: &mut BTreeMap<K, Vec<V, A>, A>,
     key: &K,

@@ -12,8 +12,8 @@ use std::alloc::{AllocError, Allocator, Global};
 use std::collections::BTreeMap;
 use std::marker::Model;
 
-/// Wanted parents, and the holders (digests of blocks) that are missing them. The memory comes from one allocator. Contracts
-/// see the set of these pairs.
+/// Wanted parents, and the holders (digests of blocks) that are missing them. All memory comes from one allocator.
+/// Contracts see the set of these pairs.
 #[derive(Drop)]
 pub struct Waiting<A: Allocator> {
     alloc: A,
@@ -40,7 +40,7 @@ impl<A: Allocator> Model for Waiting<A> {
 }
 
 impl<A: Allocator + Copy> Waiting<A> {
-    /// The empty table. It takes no memory.
+    /// The empty table. Allocates nothing.
     pub fn new_in(alloc: A) -> Waiting<A>
         ensures { result ≡ set.empty }
     {
@@ -66,7 +66,7 @@ impl<A: Allocator + Copy> Waiting<A> {
         Ok(())
     }
 
-    /// Removes the parent from the table, and returns the holders that were missing it, each once. It takes no memory.
+    /// Removes the parent from the table, and returns the holders that were missing it, each once. Allocates nothing.
     pub fn satisfy(&mut self, wanted: &Wanted) -> Vec<Digest, A>
         ensures holders { AreHolders self.old wanted.now result.items }
         ensures rest { self.new ≡ without_wanted self.old wanted.now }
@@ -78,7 +78,7 @@ impl<A: Allocator + Copy> Waiting<A> {
         holders
     }
 
-    /// Removes all missing parents of the holder. It takes no memory.
+    /// Removes all missing parents of the holder. Allocates nothing.
     pub fn unwant(&mut self, holder: Digest)
         ensures { self.new ≡ without_holder self.old holder }
     {
@@ -87,7 +87,7 @@ impl<A: Allocator + Copy> Waiting<A> {
         }
     }
 
-    /// The number of the holder's missing parents. It takes no memory.
+    /// The number of the holder's missing parents. Allocates nothing.
     pub fn lacks(&self, holder: Digest) -> usize
         ensures { LacksCount self.now holder result }
     {
@@ -97,7 +97,7 @@ impl<A: Allocator + Copy> Waiting<A> {
         }
     }
 
-    /// The number of different wanted parents. It takes no memory.
+    /// The number of different wanted parents. Allocates nothing.
     pub fn count(&self) -> usize
         ensures { WantedCount self.now result }
     {

@@ -1,4 +1,4 @@
-//! Tests loads: the report of each node, bad arguments, and that a client walks beside the link without the lock.
+//! Tests loads: the report of each node, bad arguments, and that a client walks without the lock while the link writes.
 //!
 //! It has only tests, and no crate uses it.
 #![tactic(auto)]

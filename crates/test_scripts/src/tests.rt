@@ -78,8 +78,8 @@ fn empty_page(lines: usize) -> Page {
     }
 }
 
-/// The number of bytes that the reader gives before it fails, and of lines that the writer takes; the outcome; and the numbers of
-/// reads, of bytes written, and of failed writes.
+/// A case. First comes the number of bytes that the reader gives before it fails, and the number of lines that the writer takes. Then come
+/// the outcome, and the numbers of reads, of bytes written, and of failed writes.
 type Case = (usize, usize, Result<(), PlayFault>, usize, usize, usize);
 
 #[test]

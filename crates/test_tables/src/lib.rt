@@ -1,4 +1,4 @@
-//! Tests of tables: worked examples for small stores, and comparisons of a `Dag` with a `Plain`.
+//! This crate tests the tables of a store: it has worked examples, floods and crowded digests, and compares a `Dag` with a `Plain`.
 //!
 //! It has only tests, and no crate uses it.
 #![tactic(auto)]

@@ -19,7 +19,7 @@ type Slot = (u64, u16);
 /// The name of a block: its round, its author, and a number for the author's blocks of this round.
 type Name = (u64, u16, u8);
 
-/// The round with this number. Refused if the number is 2^48 or more.
+/// The round with this number. Fails if the number is 2^48 or more.
 fn round(number: u64) -> Result<Round, NoMemory> {
     Round::new(number).ok_or(NoMemory)
 }
@@ -88,7 +88,7 @@ fn certify(dag: &mut Dag, alloc: Global, name: Name) -> Result<(), NoMemory> {
     Ok(())
 }
 
-/// The walk of a view from the digest. Refused if the view lacks the block, or has it below its floor.
+/// The walk of a view from the digest. Fails if the view lacks the block or has it below its floor.
 fn walked(alloc: Global, view: &View, digest: Digest) -> Result<Vec<Shared<Block>>, NoMemory> {
     let start = view.get(&digest).ok_or(NoMemory)?.get();
     if start.round.get() < view.floor().get() {

@@ -3,7 +3,7 @@
 use std::ffi::c_void;
 use std::ptr;
 
-/// What the library's allocator answers: whether there is room, and where.
+/// The result of an allocation: whether there is room, and where.
 #[repr(C)]
 pub struct Allocated {
     is_there: bool,
@@ -11,8 +11,8 @@ pub struct Allocated {
 }
 
 impl Allocated {
-    /// What the C library allocates for `n` bytes. It gets a size that is not 0, and the library of
-    /// the store gets a pointer that is not null.
+    /// Allocates `n` bytes with a function of the C library. That function gets a size that is not
+    /// 0, and the library of the store gets a pointer that is not null.
     fn by(allocate: impl FnOnce(usize) -> *mut c_void, n: usize, align: usize) -> Allocated {
         #[cfg(test)]
         let allocate = crate::refusals::refusing(allocate);
@@ -39,8 +39,8 @@ pub extern "C" fn rattle_alloc(n: usize, align: usize) -> Allocated {
     Allocated::by(|size| unsafe { malloc(size) }, n, align)
 }
 
-/// Resizes what `rattle_alloc` gave to `n` bytes. The library calls it with a pointer that is not
-/// yet freed.
+/// Resizes an allocation of `rattle_alloc` to `n` bytes. The library calls it with a pointer that
+/// is not yet freed.
 // SAFETY: as for `rattle_alloc`.
 #[unsafe(no_mangle)]
 pub unsafe extern "C" fn rattle_realloc(
@@ -49,11 +49,11 @@ pub unsafe extern "C" fn rattle_realloc(
     n: usize,
     align: usize,
 ) -> Allocated {
-    // SAFETY: `at` is from malloc or realloc. If there is no room it stays as it is.
+    // SAFETY: `at` is from malloc or realloc. If realloc fails, the allocation stays as it is.
     Allocated::by(|size| unsafe { realloc(at, size) }, n, align)
 }
 
-/// Frees what `rattle_alloc` gave. The library calls it once for each pointer.
+/// Frees an allocation of `rattle_alloc`. The library calls it once for each pointer.
 // SAFETY: as for `rattle_alloc`.
 #[unsafe(no_mangle)]
 pub unsafe extern "C" fn rattle_dealloc(at: *mut c_void) {

@@ -31,7 +31,7 @@ pub fn honest_messages(file: &[u8]) -> (Committee, Vec<&[u8]>) {
     let (_, keys) = records.next().expect("a committee");
     let records = records.take_while(|(kind, _)| *kind != b'M');
     let messages = records.filter_map(|(kind, record)| match kind {
-        b'B' => record.get(32..), // behind the digest
+        b'B' => record.get(32..), // after the digest
         b'C' => Some(record),
         _ => None,
     });

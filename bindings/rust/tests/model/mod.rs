@@ -58,7 +58,7 @@ pub enum Reply {
     Uncertified,
     Incomplete,
     List(Vec<Rc<Block>>),
-    /// Stands for the list in the answer that opens a ticket.
+    /// Stands for the list in an answer that opens a ticket.
     Ready,
     Raised {
         dropped: u64,
@@ -253,7 +253,7 @@ impl Model {
         complete
     }
 
-    /// The wanted parents: what the references of blocks above the garbage round name that are not satisfied.
+    /// The wanted parents: those named by the references of blocks above the garbage round that are not satisfied.
     fn wanted(&self) -> BTreeSet<(Slot, Digest)> {
         let mut wanted = BTreeSet::new();
         for block in self

@@ -28,7 +28,7 @@ impl Explained for Ticket {
     }
 }
 
-/// What a call gave.
+/// The result of a call.
 pub struct Heard {
     pub reply: Reply,
     pub explained: Rc<dyn Explained>,

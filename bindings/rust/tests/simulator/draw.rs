@@ -1,4 +1,4 @@
-//! Random numbers, and a tally of what they led to.
+//! Random numbers, and a tally of events.
 
 use std::cell::RefCell;
 use std::collections::BTreeMap;
@@ -37,7 +37,7 @@ impl Draw {
     }
 }
 
-/// Counts what happened.
+/// Counts the events of each name.
 #[derive(Default)]
 pub struct Tally(RefCell<BTreeMap<String, u64>>);
 
@@ -46,7 +46,7 @@ impl Tally {
         *self.0.borrow_mut().entry(what).or_default() += 1;
     }
 
-    /// The counts, by what happened.
+    /// The counts by name.
     pub fn into_rows(self) -> BTreeMap<String, u64> {
         self.0.into_inner()
     }

@@ -18,7 +18,7 @@ use std::rc::Rc;
 /// From this time on nothing is sent again. Each round takes 10 units of time.
 const LAST: u64 = 600;
 
-/// What a seed decides before its run.
+/// The choices of a seed before its run.
 pub struct Plan<'a> {
     pub seen: &'a Tally,
     pub limits: Limits,
@@ -44,7 +44,7 @@ impl<'a> Plan<'a> {
             true => small as u32,
             false => large,
         };
-        // A store that collects garbage comes along with the small limits, but it meets them.
+        // A store that collects garbage gets by with the small limits, but it meets them.
         let blocks = small_or(25, (lag + slack) * size, Limits::MAX.blocks);
         let window = small_or(25, lag + slack, Limits::MAX.window);
         let events = small_or(40, 0, Limits::MAX.events);
@@ -261,7 +261,7 @@ impl<'a> World<'a> {
         }
     }
 
-    /// Moves the garbage round up behind the newest round. Sometimes the round is too low, or far too high.
+    /// Moves the garbage round closer to the newest round. Sometimes the round is too low, or far too high.
     fn collect(&mut self, node: usize) {
         let Some(lag) = self.plan.lag else { return };
         let (floor, newest) = (self.nodes[node].model.floor(), self.nodes[node].newest);

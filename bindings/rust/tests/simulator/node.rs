@@ -57,7 +57,7 @@ pub struct Node<'a> {
 
 impl<'a> Node<'a> {
     pub fn new(case: &Case, plan: &'a Plan<'a>, draw: &mut Draw) -> Node<'a> {
-        // Committees are compared by their members. So the store takes what was checked under an equal one.
+        // Committees are compared by their members. So the store takes messages that were checked under an equal committee.
         let committee = match draw.chance(50) {
             true => case.committee.clone(),
             false => committee(&case.keys),
@@ -86,7 +86,7 @@ impl<'a> Node<'a> {
         node
     }
 
-    /// Opens a session, unless there are as many as the limit.
+    /// Opens a session, unless the store has reached its limit on sessions.
     pub fn open_session(&mut self) {
         match self.store.session() {
             Ok(session) => {

@@ -1,4 +1,4 @@
-//! Blocks that are made from their parts.
+//! Making blocks from their parts.
 ghost use Rattle.std.specs.Prelude.{◌≡◌, ◌^◌, ◌≤◌, pos, map, IfOk, IfErr, true};
 ghost use Rattle.nw_c.specs.Blocks.{AreCutFrom, CannotBeCut, IsMadeBlock, IsNoBlock, parent_in};
 ghost use Rattle.nw_c.specs.Kinds.{IsAsBefore};
@@ -12,7 +12,7 @@ use nw_codec::{Block, EncodeError, Ref, Transactions};
 use nw_digest::{Digest, NoMemory, Round, Sequence, Shared};
 use std::alloc::Global;
 
-/// The parents that C lists.
+/// The parents in the caller's array.
 fn parents_of(alloc: Global, listed: &[CParent]) -> Result<Vec<Ref>, NoMemory>
     ensures { IfOk result (λ parents. parents.items ≡ map parent_in listed.now) }
 {
@@ -27,7 +27,7 @@ fn parents_of(alloc: Global, listed: &[CParent]) -> Result<Vec<Ref>, NoMemory>
     )
 }
 
-/// The transactions of these lengths, which the bytes are in order, or the code of the refusal.
+/// Cuts the bytes into transactions of these lengths, in order. The error is the code to return.
 fn transactions_of(alloc: Global, bytes: &[u8], lengths: &[u32]) -> Result<Transactions, i32>
     ensures made { IfOk result (AreCutFrom bytes.now lengths.now) }
     ensures refused { IfErr result (λ why. (why ≡ pos 0 → ⊥) × (why ≡ OPEN → ⊥) × (why ≡ BAD_ROUND → ⊥)) }
@@ -52,10 +52,10 @@ fn transactions_of(alloc: Global, bytes: &[u8], lengths: &[u32]) -> Result<Trans
     Ok(transactions)
 }
 
-/// Makes a block of this author and round. `transactions` is all transactions, one after another, and `lengths` the size of each. Parents
-/// ascend strictly by author. A block has at most 100 parents, 1,024 transactions of at most 65,536 bytes each, and a body of 1,048,576
-/// bytes. Returns `NW_BAD_ROUND` if the round is not below 2^48, and `NW_OVER_LIMIT` if one of these limits is broken or the sizes do not
-/// add up. Nothing is checked under a committee.
+/// Makes a block of this author and round. `transactions` has the bytes of all transactions, one after another, and `lengths` has the size
+/// of each. Parents must ascend strictly by author. A block has at most 100 parents, 1,024 transactions of at most 65,536 bytes each, and a
+/// body of 1,048,576 bytes. Returns `NW_BAD_ROUND` if the round is not below 2^48. Returns `NW_OVER_LIMIT` if the parents do not ascend, a
+/// limit is exceeded, or the sizes do not add up to the number of bytes. It checks nothing against a committee.
 #[unsafe(no_mangle)]
 pub extern "C" fn nw_block_new(
     alloc: Global,

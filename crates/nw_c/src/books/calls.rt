@@ -1,4 +1,4 @@
-//! The calls of a book that hand nothing in.
+//! The calls of a book that hand in neither a block nor a certificate.
 ghost use Rattle.std.specs.Prelude.{◌≡◌, ◌^◌, ◌≤◌, pos, None, true};
 ghost use Rattle.nw_ed25519.specs.Accepts.{accepts};
 ghost use Rattle.nw_model.specs.declared.call.Call.TheVariants as Call;
@@ -18,7 +18,7 @@ use nw_book::Command;
 use nw_digest::Round;
 use std::alloc::Global;
 
-/// Asks for the certificate of the digest, as the session's call of this number.
+/// Asks for the certificate of the digest. `number` must be that of the session's next call.
 #[unsafe(no_mangle)]
 pub extern "C" fn nw_book_certificate(
     alloc: Global,
@@ -43,7 +43,7 @@ pub extern "C" fn nw_book_certificate(
     take(alloc, book, answer, session, number, &command)
 }
 
-/// Asks for the block of the digest, as the session's call of this number.
+/// Asks for the block of the digest. `number` must be that of the session's next call.
 #[unsafe(no_mangle)]
 pub extern "C" fn nw_book_read(
     alloc: Global,
@@ -68,7 +68,7 @@ pub extern "C" fn nw_book_read(
     take(alloc, book, answer, session, number, &command)
 }
 
-/// Raises the garbage round to this one and drops everything of the rounds below it, as the session's call of this number. Returns
+/// Raises the garbage round to this round and drops everything of lower rounds. `number` must be that of the session's next call. Returns
 /// `NW_BAD_ROUND` if the round is not below 2^48.
 #[unsafe(no_mangle)]
 pub extern "C" fn nw_book_collect(
@@ -98,7 +98,8 @@ pub extern "C" fn nw_book_collect(
     take(alloc, book, answer, session, number, &command)
 }
 
-/// Asks for the first missing parents, at most so many, as the session's call of this number. They ascend by round, author and digest.
+/// Asks for the first `most` missing parents, or for all if there are fewer. They ascend by round, author and digest. `number` must be that
+/// of the session's next call.
 #[unsafe(no_mangle)]
 pub extern "C" fn nw_book_missing(
     alloc: Global,
@@ -123,7 +124,7 @@ pub extern "C" fn nw_book_missing(
     take(alloc, book, answer, session, number, &command)
 }
 
-/// Asks how much is stored, as the session's call of this number.
+/// Asks for the counts of the book. `number` must be that of the session's next call.
 #[unsafe(no_mangle)]
 pub extern "C" fn nw_book_status(
     alloc: Global,
@@ -146,8 +147,9 @@ pub extern "C" fn nw_book_status(
     take(alloc, book, answer, session, number, &Command::Status)
 }
 
-/// Opens a causal read of the digest, as the session's call of this number. The answer becomes a ticket if the block is complete: it and its
-/// ancestors, down to the garbage round, are stored and certified. Otherwise it is an answer whose reply says why there is no ticket.
+/// Opens a causal read of the digest. `number` must be that of the session's next call. The answer is a ticket if the digest is complete:
+/// the block and its ancestors, down to the garbage round, are stored and certified. Otherwise the reply of the answer says why there is no
+/// ticket.
 #[unsafe(no_mangle)]
 pub extern "C" fn nw_book_open(
     alloc: Global,

@@ -1,4 +1,4 @@
-//! The parts of a handle.
+//! Making handles, and access to their content.
 ghost use Rattle.std.specs.Prelude.{◌≡◌, true, false};
 ghost use types.Logic.{sem};
 ghost use Rattle.nw_c.specs.Lent.{handle_follows};
@@ -31,7 +31,7 @@ impl Handle {
         }
     }
 
-    /// The content, taken out of the handle.
+    /// Takes the content out of the handle.
     pub fn into_parts(self) -> Parts<Content, Global>
         requires { self.held ≡ true }
         ensures { result.value ≡ self.value }
@@ -43,7 +43,7 @@ impl Handle {
         }
     }
 
-    /// Whether the handle holds anything.
+    /// Whether the handle is open: it has a content.
     pub fn is_open(&mut self) -> bool
         ensures held { result ≡ self.old.held }
         ensures same { self.new ≡ self.old }

@@ -1,4 +1,4 @@
-//! Contents that are put into handles.
+//! Opening and closing handles.
 ghost use Rattle.std.specs.Prelude.{◌≡◌, true, false, pos};
 ghost use Rattle.nw_c.specs.Kinds.{IsAsBefore};
 ghost use Rattle.nw_c.specs.declared.codes.TheConstants.{NO_MEMORY};
@@ -9,7 +9,7 @@ use crate::content::Content;
 use nw_parts::Parts;
 use std::alloc::Global;
 
-/// Puts the content into a closed handle, which stays closed if memory runs out.
+/// Opens a closed handle with this content. If memory runs out, it drops the content and the handle stays closed.
 pub(crate) fn put(alloc: Global, out: &mut Handle, content: Content) -> i32
     requires { out.old.held ≡ false }
     ensures held { result ≡ pos 0 → out.new.held ≡ true }
@@ -29,7 +29,7 @@ pub(crate) fn put(alloc: Global, out: &mut Handle, content: Content) -> i32
     }
 }
 
-/// Closes a handle and frees what only it holds. A closed handle stays closed.
+/// Closes the handle and frees everything that no other handle shares. A closed handle stays closed.
 #[unsafe(no_mangle)]
 pub extern "C" fn nw_free(alloc: Global, handle: &mut Handle)
     ensures { handle.new.held ≡ false }

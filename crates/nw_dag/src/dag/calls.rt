@@ -10,7 +10,7 @@ use nw_model::{Call, CertifyReply, CollectReply, Reply, WriteReply};
 use std::alloc::Global;
 
 impl Dag {
-    /// Takes the step of the call that gets this reply. [`Dag::reply`] finds the reply; what it says is not looked up again.
+    /// Takes the step of the call. `reply` must be the reply that [`Dag::reply`] finds in the same state; it is not looked up again.
     ///
     /// `NoMemory` if allocation fails. Then the store is unchanged.
     pub fn take(&mut self, call: &Call, reply: &Reply) -> Result<(), NoMemory>
@@ -71,7 +71,7 @@ impl Dag {
         Ok(reply)
     }
 
-    /// Takes the step of handing in the certificate, and returns its reply.
+    /// Takes the step of `Certify` for the certificate, and returns its reply.
     ///
     /// `NoMemory` if allocation fails. Then the store is unchanged.
     pub fn certify(&mut self, certificate: &Shared<Certificate>) -> Result<CertifyReply, NoMemory>

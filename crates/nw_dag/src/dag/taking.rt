@@ -1,4 +1,4 @@
-//! The changes of the tables that each reply calls for.
+//! The changes that each reply makes to the tables.
 ghost use Rattle.std.specs.Prelude.{◌≡◌, OnOk, OnErr};
 ghost use Rattle.nw_model.specs.Step.{after_write, after_certify, after_collect};
 ghost use Rattle.nw_model.specs.Step.{write_reply, certify_reply, collect_reply};
@@ -59,7 +59,7 @@ impl Dag {
         Ok(())
     }
 
-    /// Takes the step of a collection that gets this reply. All allocation comes before the first change.
+    /// Takes the step of a collection that gets this reply. All allocations come before the first change.
     pub(super) fn take_collect(
         &mut self,
         round: Round,

@@ -1,4 +1,4 @@
-//! The cascade: the blocks that become complete when a digest comes to stand.
+//! The cascade: when a digest becomes ready, blocks that lack its block may become ready too, and so on.
 ghost use Rattle.std.specs.Prelude.{◌≡◌, ◌+◌, ◌<◌, [], ◌∷◌, drop, length};
 ghost use Rattle.std.specs.List.{IsDistinct};
 ghost use Rattle.std.specs.Ordering.{eq_by_cmp};
@@ -48,7 +48,7 @@ impl Waits {
         }
     }
 
-    /// Promotes the digest: no block lacks its block any longer, and the blocks that became ready by this are listed.
+    /// Promotes the digest: no block lacks its block from now on, and the blocks that become ready as a result are listed.
     fn promote(&mut self, held: &StateTables, digest: Digest)
         requires tally { IsTally held.now.state self.old.lacking [] self.old.completions.pending }
         requires stands { Stands held.now.state digest }
@@ -64,7 +64,7 @@ impl Waits {
         }
     }
 
-    /// Promotes the listed digests from this place on, and those that become ready by this. Allocates nothing.
+    /// Promotes the listed digests from this place on, and those that become ready as a result. Allocates nothing.
     pub(super) fn cascade(&mut self, held: &StateTables, first: usize)
         requires due { IsCascading held.now.state self.old.unmet self.old.lacking
             (drop first self.old.completions.fresh.items) self.old.completions.pending }
@@ -83,7 +83,7 @@ impl Waits {
     }
 
     /// Updates the sets after the block or the certificate of the digest was added. If the digest stands now, it is no longer unmet. If it
-    /// is complete, it is listed and promoted, with all blocks that become complete by this. Allocates nothing.
+    /// is complete, it is listed and promoted, with all blocks that become complete as a result. Allocates nothing.
     pub(crate) fn arrive(&mut self, held: &StateTables, digest: Digest)
         requires { IsSettledWithout held.now.state digest self.old.unmet self.old.lacking
             self.old.completions.pending }

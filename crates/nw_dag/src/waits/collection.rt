@@ -17,7 +17,7 @@ use nw_digest::{Digest, Round};
 use nw_state::StateTables;
 
 impl Waits {
-    /// Whether the digest is complete, and its block is of a round below this one.
+    /// Whether the digest is complete, and its block belongs to a round below this one.
     fn is_complete_below(&self, held: &StateTables, digest: Digest, round: Round) -> bool
         ensures { IsTrue result ↔ IsCompleteBelow held.now.state self.now.lacking round digest }
     {
@@ -27,7 +27,7 @@ impl Waits {
         }
     }
 
-    /// How many of the digests are complete, with blocks of rounds below this one.
+    /// How many of the digests are complete and have blocks in rounds below this one.
     pub(crate) fn complete_below(
         &self,
         held: &StateTables,
@@ -46,7 +46,7 @@ impl Waits {
         count
     }
 
-    /// Releases the holder: it lacks nothing from now on, and is listed if it became ready by this.
+    /// Releases the holder: it lacks nothing from now on, and is listed if it becomes ready as a result.
     fn release(&mut self, held: &StateTables, holder: Digest)
         requires tally { IsTally held.now.state self.old.lacking [] self.old.completions.pending }
         ensures unmet { self.new.unmet ≡ without_holder self.old.unmet holder }
@@ -63,7 +63,7 @@ impl Waits {
         }
     }
 
-    /// Releases the holders: they lack nothing from now on, and those that became ready by this are listed.
+    /// Releases the holders: they lack nothing from now on, and those that become ready as a result are listed.
     fn release_each(&mut self, held: &StateTables, holders: &[Digest])
         requires tally { IsTally held.now.state self.old.lacking [] self.old.completions.pending }
         requires once { IsDistinct (eq_by_cmp digest_cmp) holders.now }
@@ -80,7 +80,7 @@ impl Waits {
     }
 
     /// Updates the sets after the garbage round was raised. The holders are the digests of rounds up to it, and `dropped` is the number of
-    /// dropped blocks that were not complete. Blocks that become complete by this are listed and promoted. Allocates nothing.
+    /// dropped blocks that were not complete. Blocks that become complete as a result are listed and promoted. Allocates nothing.
     pub(crate) fn collect(&mut self, held: &StateTables, holders: &[Digest], dropped: usize)
         requires { IsCollecting held.now.state self.old.unmet self.old.lacking
             self.old.completions.pending holders.now dropped }

@@ -15,7 +15,7 @@ use nw_model::{CausalReply, Reply};
 use std::collections::BTreeMap;
 
 impl Plain {
-    /// A view of the complete blocks if the digest is complete; otherwise the reason why it is not.
+    /// A view of the complete blocks if the digest is complete; otherwise the reason why there is none.
     fn freeze_for(&self, digest: Digest) -> Result<Result<View, CausalReply>, NoMemory>
         ensures { IfOk result (λ frozen. MatchResult frozen
             (λ view. IsComplete self.now.state digest × Shows view self.now.state)
@@ -34,7 +34,7 @@ impl Plain {
         Ok(Ok(View::new(complete, self.floor)))
     }
 
-    /// The complete blocks. Certified digests are taken in the order of their rounds, so a block's parents come before it.
+    /// The complete blocks. It tests certified digests in the order of their rounds, so it tests a block's parents before the block.
     pub(super) fn complete_blocks(&self) -> Result<BTreeMap<Digest, Shared<Block>>, NoMemory>
         ensures { IfOk result
             (λ complete. AreComplete self.now.state (map.from_entries complete.entries)) }
@@ -46,8 +46,7 @@ impl Plain {
         Ok(complete)
     }
 
-    /// Adds the block that is held under the digest if it is not above the garbage round, or if its parents are among the complete
-    /// blocks.
+    /// Adds the block held under the digest if it is not above the garbage round, or if its parents are among the complete blocks.
     fn add_if_complete(
         &self,
         complete: &mut BTreeMap<Digest, Shared<Block>>,

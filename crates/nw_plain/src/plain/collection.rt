@@ -24,7 +24,7 @@ impl Plain {
         }
     }
 
-    /// How many held blocks are of rounds below this one.
+    /// How many held blocks belong to rounds below this one.
     fn blocks_below(&self, round: Round) -> u64
         ensures { result
             ≡ map.len self.now.state.blocks - map.len (raised self.now.state round).blocks }
@@ -45,7 +45,7 @@ impl Plain {
     }
 }
 
-/// How many blocks are of rounds below this one.
+/// How many blocks belong to rounds below this one.
 fn count_below(blocks: &BTreeMap<Digest, Shared<Block>>, round: Round) -> usize
     ensures ordered { IsOrdered digest_cmp blocks.now }
     ensures below { result ≡ length (filter (λ b. nat_lt b.round round) (values blocks.now)) }

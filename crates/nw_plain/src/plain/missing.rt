@@ -22,7 +22,7 @@ impl Plain {
         Ok(Sequence::new(first))
     }
 
-    /// The counts of the state.
+    /// The garbage round, and how many blocks, certificates, complete blocks and wanted parents there are.
     pub(super) fn counts(&self) -> Result<Counts, NoMemory>
         ensures { IfOk result (AreCounts self.now.state) }
     {
@@ -47,7 +47,7 @@ impl Plain {
         Ok(wanted)
     }
 
-    /// IsUnionWith the parents that the block wants.
+    /// Adds the parents that the block wants.
     fn add_wanted(&self, wanted: &mut BTreeSet<Wanted>, block: &Block) -> Result<(), NoMemory>
         ensures added { OnOk result
             (IsUnionWith (Wants self.now.state block.now) wanted.old.keys wanted.new.keys) }
@@ -62,7 +62,7 @@ impl Plain {
         }
     }
 
-    /// IsUnionWith the parents that the block's unsatisfied references name. `before` is the round before the block's.
+    /// Adds the parents that the block's unsatisfied references name. `before` is the round before the block's.
     fn add_unsatisfied(
         &self,
         wanted: &mut BTreeSet<Wanted>,
@@ -82,7 +82,7 @@ impl Plain {
         Ok(())
     }
 
-    /// IsUnionWith the parent that the reference of a block of this round names, if the reference is not satisfied. `before` is the preceding
+    /// Adds the parent that the reference of a block of this round names, if the reference is not satisfied. `before` is the preceding
     /// round.
     fn add_if_unsatisfied(
         &self,

@@ -1,4 +1,4 @@
-//! Collections: what one counts, and what it drops.
+//! Collections: which blocks a collection counts, and what it drops.
 ghost use Rattle.std.specs.Prelude.{◌≡◌, ◌-◌, ◌≤◌, IfOk};
 ghost use Rattle.std.specs.FinMap as map;
 ghost use Rattle.nw_model.specs.Sound.{IsSound};
@@ -12,8 +12,8 @@ use nw_model::CollectReply;
 use nw_rounds::Table;
 
 impl StateTables {
-    /// The reply that a collection would get now. This goes only through the entries of lower rounds, and through none if the round is
-    /// not above the garbage round. Allocates nothing.
+    /// The reply that a collection would get now. It visits only the entries of lower rounds, and none if the round is not above the
+    /// garbage round. Allocates nothing.
     pub fn collect_reply(&self, round: Round) -> CollectReply
         ensures { result ≡ collect_reply self.now.state round }
     {
@@ -25,7 +25,7 @@ impl StateTables {
         }
     }
 
-    /// How many held blocks are of rounds below this one.
+    /// How many held blocks belong to rounds below this one.
     fn blocks_below(&self, round: Round) -> usize
         ensures { result
             ≡ map.len self.now.state.blocks - map.len (raised self.now.state round).blocks }
@@ -40,7 +40,7 @@ impl StateTables {
     }
 
     /// Whether a digest that is listed in this table counts as a block there. A certified digest counts in the table of certified
-    /// digests, if its block is held. Any other digest counts in the table of first digests.
+    /// digests, if its block is held. Any other digest counts in the table of first digests. So each held block counts once.
     fn counts_at(&self, table: Table, digest: &Digest) -> bool
         ensures { result ≡ counts_at self.now.state table digest.now }
     {
@@ -58,8 +58,8 @@ impl StateTables {
         self.slots.digests_up_to(self.alloc, round)
     }
 
-    /// Makes this the garbage round, and drops everything of lower rounds. `digests` are those that [`Held::digests_up_to`] gives for this round.
-    /// Allocates nothing.
+    /// Makes this the garbage round, and drops everything of lower rounds. `digests` must be what [`StateTables::digests_up_to`] returns
+    /// for this round. Allocates nothing.
     pub fn raise(&mut self, round: Round, digests: &[Digest])
         requires { AreDigestsUpTo self.old.state round digests.now }
         ensures state { self.new.state ≡ raised self.old.state round }

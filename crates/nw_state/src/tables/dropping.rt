@@ -1,4 +1,4 @@
-//! Tries of values that have a round: dropping those of lower rounds.
+//! Dropping the values of lower rounds from a trie.
 ghost use Rattle.std.specs.Prelude.{◌↔◌, IsTrue, [], ◌∷◌};
 ghost use Rattle.std.specs.List.Sorted.{IsStrictlySortedBy};
 ghost use Rattle.std.specs.Map.{keys_of, lookup};
@@ -10,7 +10,7 @@ use nw_digest::{Digest, InRound, Round};
 use nw_trie::Trie;
 use std::alloc::Global;
 
-/// Drops the values of these digests that are of rounds below this one.
+/// Drops the values of these digests that belong to rounds below this one.
 pub(super) fn drop_below<V: InRound + Drop>(
     entries: &mut Trie<V, Global>,
     digests: &[Digest],
@@ -24,7 +24,7 @@ pub(super) fn drop_below<V: InRound + Drop>(
     }
 }
 
-/// Drops the value of the digest if it is of a round below this one.
+/// Drops the value of the digest if it belongs to a round below this one.
 fn drop_if_below<V: InRound + Drop>(entries: &mut Trie<V, Global>, digest: &Digest, round: Round)
     requires { IsStrictlySortedBy digest_cmp (keys_of entries.old) }
     ensures { DropsBelow V.round_of round (digest.now ∷ []) entries.old entries.new }

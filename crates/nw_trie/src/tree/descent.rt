@@ -1,7 +1,7 @@
-//! The way down to a value that the caller may change.
+//! The descent to a value that the caller may change.
 //!
 //! The kit generates no proof for a `&mut` that a recursive function returns. So no function here calls itself: the number of
-//! steps that are left is part of a type.
+//! remaining steps is part of a type.
 ghost use Rattle.std.specs.Prelude.{◌≡◌, ◌+◌, ◌<◌, ℕ, Some, length};
 ghost use Rattle.std.specs.Option.{MatchOption};
 ghost use Rattle.std.specs.Borrow.{sem, follows};
@@ -47,7 +47,7 @@ pub(crate) trait Steps {
         ensures value { lookup (is_at (digest_cmp digest.now)) tree.old ≡ Some result.now };
 }
 
-/// The end of the way: no fork is left.
+/// The end of a way: there are no more forks.
 pub(crate) struct End;
 
 /// First these steps, then the rest of the way.

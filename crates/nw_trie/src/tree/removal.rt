@@ -31,7 +31,7 @@ impl<V: Drop, A: Allocator> Tree<V, A> {
         value
     }
 
-    /// The same, for a tree without forks.
+    /// The same as `remove`, for a tree without forks.
     fn remove_leaf(&mut self, digest: &Digest) -> Option<V>
         requires { length self.old < 2 }
         ensures value { result ≡ lookup (is_at (digest_cmp digest.now)) self.old }
@@ -76,7 +76,7 @@ impl<V: Drop, A: Allocator> Tree<V, A> {
     }
 }
 
-/// Replaces a fork that lost one side by its other side.
+/// If one side of the fork is empty, replaces the fork with the other side.
 fn drop_empty_side<V: Drop, A: Allocator>(link: &mut Link<V, A>)
     requires { IsNearlyTree link.old }
     ensures tree { IsTree link.new }

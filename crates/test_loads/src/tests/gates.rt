@@ -6,8 +6,8 @@ use std::sync::atomic::Ordering::SeqCst;
 use std::test::Fail;
 use std::thread::yield_now;
 
-/// A gate that lets the second write start after the first walk was reached, and the first walk after the second write was done.
-/// It yields before it refuses.
+/// A gate that holds the second write until the first walk was reached, and the first walk until the second write was done. It yields
+/// before it refuses.
 #[derive(Drop)]
 struct Interlocked {
     walk_reached: AtomicBool,
@@ -15,7 +15,7 @@ struct Interlocked {
 }
 
 impl Interlocked {
-    /// Nothing is reached yet.
+    /// A gate before any point is reached.
     fn new() -> Interlocked {
         Interlocked {
             walk_reached: AtomicBool::new(false),
@@ -56,7 +56,7 @@ fn a_walk_starts_before_a_write_and_ends_after_it(rt: HostRuntime) -> Result<(),
     Ok(())
 }
 
-// Fails only if the gate is shut. Then one thread waited for the other, as on one thread or under one lock.
+// Fails only if the gate refuses a start. Then one thread waited for the other, as on one thread or under one lock.
 #[test]
 fn neither_thread_of_a_node_blocks_the_other(rt: HostRuntime) {
     let reports = load(&rt, rt.alloc(), 1, 2, &Interlocked::new());

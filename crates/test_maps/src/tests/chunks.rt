@@ -1,4 +1,4 @@
-//! Lists that share their earlier items.
+//! Lists in chunks, which share their earlier items.
 use super::*;
 use nw_digest::Shared;
 use nw_shared_list::SharedList;
@@ -39,17 +39,17 @@ fn has_numbers(alloc: Global, list: &SharedList<u32, u32>, count: u32) -> Result
 #[test]
 fn lists_around_full_chunks_have_their_items_and_few_parts(rt: HostRuntime) {
     for (count, parts) in [(0, 0), (255, 255), (256, 1), (257, 2), (513, 3)] {
-        let list = numbers(rt.alloc(), count).expect(&rt, "there is memory");
-        let copy = list.try_clone().expect(&rt, "there is memory");
+        let list = numbers(rt.alloc(), count).expect(&rt, "allocation succeeds");
+        let copy = list.try_clone().expect(&rt, "allocation succeeds");
         drop(list);
-        let has = has_numbers(rt.alloc(), &copy, count).expect(&rt, "there is memory");
+        let has = has_numbers(rt.alloc(), &copy, count).expect(&rt, "allocation succeeds");
         assert!(rt; has && copy.parts() == parts, "{count}");
     }
 }
 
 #[test]
 fn a_list_of_65536_items_is_dropped_chunk_by_chunk(rt: HostRuntime) {
-    let list = numbers(rt.alloc(), 65_536).expect(&rt, "there is memory");
+    let list = numbers(rt.alloc(), 65_536).expect(&rt, "allocation succeeds");
     assert_eq!(rt; list.parts(), 256);
     drop(list);
 }

@@ -1,4 +1,4 @@
-//! The digests of slots.
+//! Slots and their digests.
 use super::*;
 use nw_rounds::Rounds;
 use std::collections::{BTreeMap, BTreeSet};
@@ -29,7 +29,7 @@ fn put_certified(
     Ok(true)
 }
 
-/// Digests by round, author, and whether they are certified ones or first ones.
+/// Digests by round, author, and whether they are certified or first digests.
 type Slots = BTreeMap<(u64, u16, bool), Digest>;
 
 /// Whether the table lists the map's digests of the round, ascending and each once.

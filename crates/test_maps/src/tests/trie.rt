@@ -17,7 +17,7 @@ fn entries<A: Allocator>(
     Ok(seen)
 }
 
-/// Whether one of three inserts is refused in this heap. If so, it must return its value and leave the entries as they were.
+/// Whether one of three inserts runs out of memory in this heap. If so, it must return its value and leave the entries unchanged.
 fn is_refused(rt: &impl Abort, alloc: Global, heap: &LocalHeap) -> Result<bool, NoMemory> {
     let all = [(digest(0, 0), 1), (digest(0, 1), 2), (digest(128, 0), 3)];
     let mut trie = Trie::new_in(heap);
@@ -37,8 +37,8 @@ fn is_refused(rt: &impl Abort, alloc: Global, heap: &LocalHeap) -> Result<bool, 
 #[test]
 fn a_trie_of_three_keys_in_small_regions(rt: HostRuntime) {
     for step in 1..=64usize {
-        let heap = LocalHeap::new(rt.alloc(), 64 * step).expect(&rt, "there is memory");
-        let refused = is_refused(&rt, rt.alloc(), &heap).expect(&rt, "there is memory");
+        let heap = LocalHeap::new(rt.alloc(), 64 * step).expect(&rt, "allocation succeeds");
+        let refused = is_refused(&rt, rt.alloc(), &heap).expect(&rt, "allocation succeeds");
         assert!(rt; refused || step > 1, "refused in 64 bytes");
         assert!(rt; !refused || step < 64, "taken in 4,096 bytes");
     }
@@ -76,7 +76,7 @@ fn a_trie_matches_an_ordered_map_over_random_steps(rt: HostRuntime) {
         let same = step(&mut trie, &mut map, random.next_word(), number);
         assert!(rt; matches!(same, Ok(true)));
     }
-    let in_order = entries(rt.alloc(), &trie).expect(&rt, "there is memory");
+    let in_order = entries(rt.alloc(), &trie).expect(&rt, "allocation succeeds");
     for (entry, (key, value)) in in_order.iter().zip(&map) {
         assert!(rt; *entry == (*key, *value));
     }

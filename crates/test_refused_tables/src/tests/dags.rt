@@ -12,7 +12,7 @@ const ROOM: DagLimits = DagLimits {
     window: 64,
 };
 
-/// A block of author 0 for the round, with these parents.
+/// A block of author 0 in the round, with these parents.
 fn block_of(alloc: Global, round: Round, parents: &[Ref]) -> Result<Shared<Block>, NoMemory> {
     block(alloc, (round, 0), parents.to_vec(alloc)?, b"x")
 }

@@ -54,7 +54,7 @@ fn words(reply: &Reply) -> &'static str {
     }
 }
 
-/// Makes a copy of the call, and names a copy of its reply.
+/// Makes the call on the store, through a copy of the call. Returns the name of a copy of the reply.
 fn reply_to(
     plain: &mut Plain,
     alloc: Global,

@@ -5,7 +5,7 @@ use nw_rounds::Rounds;
 use nw_trie::Trie;
 use nw_waiting::Waiting;
 
-/// Inserts the value. If memory runs out, inserts the value that was handed back.
+/// Inserts the value. If memory runs out, inserts the value that the first attempt returned.
 fn insert(trie: &mut Trie<u64, Global>, key: Digest, value: u64) -> Result<Option<u64>, NoMemory> {
     match trie.insert(key, value) {
         Ok(old) => Ok(old),
@@ -65,7 +65,7 @@ pub(super) fn put_certified(
     Ok(true)
 }
 
-/// Whether round 3 has exactly these digests, and so have all rounds up to it.
+/// Whether round 3 has exactly these digests, and all rounds up to it together have the same ones.
 fn is_listed(rounds: &Rounds<Global>, alloc: Global, digests: &[Digest]) -> Result<bool, NoMemory> {
     let own = retry!(NoMemory, rounds.digests(alloc, round(3)))?;
     let lower = retry!(NoMemory, rounds.digests_up_to(alloc, round(3)))?;
@@ -132,7 +132,7 @@ pub(super) fn missing_counts(waiting: &Waiting<Global>) -> [usize; 3] {
 #[test]
 fn holders_of_a_wanted_parent(rt: HostRuntime) {
     let mut waiting = Waiting::new_in(rt.alloc());
-    let first = want_thrice(&mut waiting, rt.alloc()).expect(&rt, "there is memory");
+    let first = want_thrice(&mut waiting, rt.alloc()).expect(&rt, "allocation succeeds");
     assert_eq!(rt; first.as_slice(), [wanted(0, 1)].as_slice());
     assert_eq!(rt; missing_counts(&waiting), [2, 2, 1]);
     let holders = waiting.satisfy(&wanted(0, 1));

@@ -4,7 +4,7 @@ use nw_causal::{Agreement, agree, walk};
 use nw_generation::{Generation, View, freeze};
 use sample_blocks::{Blocks, older, view_of_both, view_of_one};
 
-/// Freezes the blocks, and returns one more owner of their generation. A refused freeze hands the blocks back.
+/// Freezes the blocks, and returns one more owner of their generation. If the freeze runs out of memory, it returns the blocks.
 fn frozen(alloc: Global, trie: Blocks) -> Result<Generation, NoMemory> {
     let generation = match freeze(alloc, trie) {
         Ok(generation) => generation,
@@ -18,15 +18,15 @@ fn frozen(alloc: Global, trie: Blocks) -> Result<Generation, NoMemory> {
 
 #[test]
 fn a_refused_freeze_hands_its_blocks_back(rt: HostRuntime) {
-    let trie = retry!(NoMemory, older(rt.alloc(), 3, b"x")).expect(&rt, "there is memory");
-    let generation = frozen(rt.alloc(), trie).expect(&rt, "there is memory");
+    let trie = retry!(NoMemory, older(rt.alloc(), 3, b"x")).expect(&rt, "allocation succeeds");
+    let generation = frozen(rt.alloc(), trie).expect(&rt, "allocation succeeds");
     let found = [name(0, 2), name(1, 0)].map(|digest: Digest| generation
         .get(None, &digest)
         .is_some());
     assert_eq!(rt; found, [true, false]);
 }
 
-/// Whether the walk from the digest lists blocks with these slots. Refused if the view lacks the block, or has it below its floor.
+/// Whether the walk from the digest lists blocks with these slots. Fails if the view lacks the block or has it below its floor.
 fn walks(
     alloc: Global,
     view: &View,
@@ -55,7 +55,7 @@ fn a_walk_over_two_generations(rt: HostRuntime) {
     assert_eq!(rt; lists(rt.alloc(), 1, &four[3..]), Ok(true));
 }
 
-/// Compares the walks from the digest in both views. Refused if the floors differ, or if a view lacks the block or has it below its floor.
+/// Compares the walks from the digest in both views. Fails if the floors differ, or if a view lacks the block or has it below its floor.
 fn compared(
     alloc: Global,
     one: &View,
@@ -94,8 +94,8 @@ fn is_same(
     }
 }
 
-/// Whether the walks agree in two views of two generations with this floor. The first blocks of one view have "x", and of the other
-/// `text`.
+/// Whether the walks agree in two views of two generations with this floor. The blocks of the older generation have "x" in one view, and
+/// `text` in the other.
 fn agree_in_both(alloc: Global, floor: u8, digest: Digest, text: &[u8]) -> Result<bool, NoMemory> {
     let one = retry!(NoMemory, view_of_both(alloc, b"x", round(floor)))?;
     let other = retry!(NoMemory, view_of_both(alloc, text, round(floor)))?;

@@ -32,7 +32,7 @@ fn listed_in(trie: &Blocks) -> usize {
     count
 }
 
-/// Whether the reading calls of a trie of three blocks are right. Its first block is of round 1.
+/// Whether the calls that read a trie of three blocks are right. Its first block must be of round 1.
 fn is_read(trie: &Blocks) -> bool {
     let is_newer = match trie.get(&name(0, 0)) {
         Some(first) => first.get().round == round(1),
@@ -42,7 +42,7 @@ fn is_read(trie: &Blocks) -> bool {
     is_newer && listed && trie.get(&name(1, 0)).is_none()
 }
 
-/// Whether a trie of three blocks lends and removes one, and drops the one below round 1.
+/// Whether a trie of three blocks gives access to one, removes it, and drops the one below round 1.
 fn is_thinned(trie: &mut Blocks) -> bool {
     let (second, third) = (name(0, 1), name(0, 2));
     let lent = trie.get_mut(&second).is_some();
@@ -84,7 +84,7 @@ fn slots_pass(alloc: Global) -> Result<bool, NoMemory> {
     Ok(are_new && is_right && none == after)
 }
 
-/// Whether wanted parents are counted, satisfied and given up without an allocation.
+/// Whether wanted parents are counted, satisfied and removed without an allocation.
 fn holders_pass(alloc: Global) -> Result<bool, NoMemory> {
     let mut waiting = Waiting::new_in(alloc);
     want_thrice(&mut waiting, alloc)?;

@@ -1,8 +1,8 @@
 //! Words that no script prints. They need two blocks with one digest, a vote signed with another member's key, or a settlement with
 //! sessions of another store.
 use nw_check::CertFault;
-use nw_interpreter::{Answer, Interpreter, committee};
 use nw_digest::Shared;
+use nw_interpreter::{Answer, Interpreter, committee};
 use nw_model::{CertifyReply, Reply, WriteReply};
 use nw_play::PlayFault;
 use nw_script::{CommitteeLine, Name};
@@ -53,7 +53,7 @@ fn line_for(
     }
 }
 
-/// A interpreter of one member, without names.
+/// An interpreter with one member and no names.
 fn interpreter_of_one_member(alloc: Global) -> Result<Interpreter<'static>, Fail> {
     match committee(alloc, &CommitteeLine::Equal { members: 1 }) {
         Ok(one) => Ok(Interpreter::new(alloc, Shared::new(alloc, one)?)),

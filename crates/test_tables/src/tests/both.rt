@@ -71,7 +71,7 @@ impl Both {
     }
 }
 
-/// Whether the replies are equal. It is `false` for lists.
+/// Whether the replies are equal. For lists it is always `false`.
 fn is_same(one: &Reply, other: &Reply) -> bool {
     match (one, other) {
         (Reply::Write(one), Reply::Write(other)) => one == other,

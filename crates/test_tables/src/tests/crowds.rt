@@ -39,7 +39,7 @@ fn has(view: &View, author: u16) -> bool {
     }
 }
 
-/// The numbers of searches that found a block, and of those that found none. One digest of the searched ones has no block.
+/// The number of searches that found a block, and the number of those that did not. Only the last digest has no block.
 fn count(view: &View) -> (u32, u32) {
     let (mut found, mut missed) = (0u32, 0u32);
     for _time in 0..TIMES {
@@ -54,10 +54,10 @@ fn count(view: &View) -> (u32, u32) {
     (found, missed)
 }
 
-// Each search looks at some hundred entries. Linear searches would look at some 270,000,000 entries together, which is too slow for the
-// interpreter of `rt try --test`.
+// Each search looks at about a hundred entries. Linear searches would look at about 270,000,000 entries in total, which is too slow for
+// the interpreter of `rt try --test`.
 #[test]
 fn searches_among_8192_crowded_digests_end_soon(rt: HostRuntime) {
-    let view = view_of_all(rt.alloc()).expect(&rt, "there is memory");
+    let view = view_of_all(rt.alloc()).expect(&rt, "allocation succeeds");
     assert_eq!(rt; count(&view), (65_536, 8));
 }

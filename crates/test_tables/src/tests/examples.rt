@@ -1,4 +1,4 @@
-//! Worked examples of calls on small stores, for both stores.
+//! Worked examples of calls on small stores. A `Dag` and a `Plain` must both give the expected replies.
 use super::both::Both;
 use super::words::words;
 use super::*;

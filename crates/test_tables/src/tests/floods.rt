@@ -28,7 +28,8 @@ fn are_too_far(dag: &mut Dag, alloc: Global, number: u16) -> Result<bool, NoMemo
     )
 }
 
-/// Floods a store whose window has four rounds. Returns how many of 1,000 pairs of calls got `TooFar` before one changed something.
+/// Floods a store whose window has four rounds with 1,000 pairs of calls. Returns the number of pairs before the first that changed
+/// something or did not get `TooFar`.
 fn flooded(dag: &mut Dag, alloc: Global) -> Result<u16, NoMemory> {
     write(dag, alloc, (0, 0, 0), &[])?;
     certify(dag, alloc, (0, 0, 0))?;

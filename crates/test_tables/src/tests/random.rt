@@ -12,11 +12,11 @@ const CALLS: u32 = 20_000;
 
 /// The window of the stores, in rounds.
 const WINDOW: u32 = 7;
-/// The most blocks that a store holds: fewer than the blocks of four authors in the window.
+/// The bound on held blocks. It is below the number of slots of four authors in the window, so the stores become full.
 const ROOM: u32 = 24;
 
-/// The name of a block, drawn from the word. Each of four authors has two blocks a round, of which the first is drawn mostly. The round is
-/// mostly in the window.
+/// The name of a block, drawn from the word. Each of four authors has two blocks in a round; the first is drawn far more often. The round
+/// is usually in the window.
 fn named(word: u32, floor: Round) -> Name {
     let round = (floor.get() + u64::from(word % 9)).saturating_sub(1);
     let fork = if word / 64 % 16 == 0 { 1 } else { 0 };
@@ -42,7 +42,7 @@ fn reference(word: u32, round: u64, author: u16) -> Ref {
     }
 }
 
-/// The references of the named block. They are the same each time for one name and variant.
+/// The references of the named block. The same name and variant always get the same references.
 fn drawn_references(alloc: Global, name: Name, variant: u8) -> Result<Vec<Ref>, NoMemory> {
     let stream = (u64::from(name.1) * 256 + u64::from(name.2)) * 256 + u64::from(variant);
     let mut random = Pcg32::new(name.0, stream);
@@ -108,7 +108,7 @@ fn make_next_call(
     }
 }
 
-/// Makes random calls, with a `compact` after each 512. Returns the number of kinds of replies, or `None` if the stores differ.
+/// Makes random calls, with a `compact` after every 512 calls. Returns the number of kinds of replies, or `None` if the stores differ.
 fn count_replies(alloc: Global, both: &mut Both, calls: u32) -> Result<Option<usize>, NoMemory> {
     let seen = &mut BTreeSet::new(alloc);
     let mut random = Pcg32::new(1, 1);
@@ -123,7 +123,7 @@ fn count_replies(alloc: Global, both: &mut Both, calls: u32) -> Result<Option<us
     Ok(Some(seen.len()))
 }
 
-/// The same for new stores. It is also `None` if memory runs out.
+/// The same as `count_replies`, for new stores. It is also `None` if memory runs out.
 fn replies_of(alloc: Global, calls: u32) -> Option<usize> {
     let mut both = Both::new(alloc, ROOM, WINDOW);
     let counted = count_replies(alloc, &mut both, calls);

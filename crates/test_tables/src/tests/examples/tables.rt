@@ -1,5 +1,5 @@
-//! The worked examples. A block's name is a letter for its round, and its author. K, L, M, N and U are the rounds 0 to 4, and Z is the last
-//! round. An `X` follows the name of the slot's other block.
+//! The worked examples. A block's name is a letter for its round, followed by its author. K, L, M, N and U are the rounds 0 to 4, and Z is
+//! the last round. If the slot has another block, that block's name ends with `X`.
 use super::*;
 
 mod parents;

@@ -1,4 +1,4 @@
--- `is_open` compares the pointer with null, which what the handle owns allows.
+-- `is_open` compares the pointer with null. What the handle owns allows this comparison.
 use mathlib.Core.Path.{◌≡◌, refl, sym, subst}
 use mathlib.Core.Bool.{Bool, true, false, not}
 use mathlib.Core.List.{List, [], ◌∷◌}
@@ -51,7 +51,7 @@ use Rattle.nw_c.proofs.handle.Handle.is_open.Code as code
 abbrev stayed : Stays F.ended.signature.params F.ended.kept
 stayed = (stay_ref (0 ∷ []) tt (plain (λ _. Handle)), tt)
 
--- the pointer may be compared with null, and it is null exactly where the handle holds nothing
+-- the pointer may be compared with null, and it is null exactly when the handle is closed
 abbrev Answers : Ptr → Bool → Type 0
 Answers p k = Testable p × (op2_val ptr_eq (ptr_val p) vnull ≡ vbool (not k))
 

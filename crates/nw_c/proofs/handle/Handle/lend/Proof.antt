@@ -1,4 +1,4 @@
--- `lend` lends the counter behind the pointer, and the handle follows it.
+-- `lend` lends the content behind the pointer, and the handle follows it.
 use mathlib.Core.Path.{◌≡◌, refl, sym}
 use Prim.Native.Nat.{ℕ}
 use mathlib.Core.Bool.{Bool, true}
@@ -59,7 +59,7 @@ module _ {M : Type 1} {𝓤 : Ura M} (𝓛 : Logic 𝓤) (at_mem : Memory → SP
   abbrev Post : Val → SProp 𝓤
   Post = (walk_of 𝓛 F.ended stayed (F.clauses 𝓛 at_mem run)).post bound
 
-  -- the handle as a box, and the handle with another answer to whether it holds a counter
+  -- the handle as a box, and the handle as open or closed
   abbrev boxed : Content → D E
   boxed xs = record { ptr = h.at; alloc = h.alloc; value = xs }
 
@@ -67,7 +67,7 @@ module _ {M : Type 1} {𝓤 : Ura M} (𝓛 : Logic 𝓤) (at_mem : Memory → SP
   held_as xs vs k = ‵ (Handle.own_val (record { at = h.at; alloc = h.alloc; held = k; value = xs }) vs)
 
   module _ (b o : ℕ) (hv : Val) where
-    -- all of the handle but its counter
+    -- all of the handle but its content
     abbrev Rest : Fml
     Rest = fsep (fsep (token E.al h.alloc (bare (τ E)) (block_ptr b o)) (handle E h.alloc hv)) (cell_at full_share Handle.mir (word E hv b o ∷ []) rb ro)
 
