@@ -19,7 +19,7 @@ pub record DoneView : Type 0 where
   -- the history up to and including the event
   pub front : Story
 
--- the session's call with this number is taken after the old history, which makes the new one
+-- the session's call with this number is taken after the old history, which gives the new one
 pub record Takes (accepts : Meaning) (old new : Story) (session number : ℕ) (call : Call) (reply : Reply) (front : Story) : Type 0 where
   -- the new history is the old one with this event
   pub history : new ≡ with_event old (event session number call reply)

@@ -28,7 +28,7 @@ pub struct Book<S: Scheme> {
     history: History<S>,
     /// The state after the history.
     tables: Dag,
-    /// The number of calls of each session that the limits allow.
+    /// For each session that the limits allow, the number of its calls in the history.
     calls: Vec<u32>,
 }
 

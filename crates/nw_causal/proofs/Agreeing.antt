@@ -1,4 +1,4 @@
--- Two views have one walk of a digest exactly if no two blocks collide at its ancestors.
+-- The walks of a digest in two views are equal exactly if no two blocks collide at its ancestors.
 use Rattle.std.proofs.Common.{◌≡◌, ◌⊎◌, ◌+◌, ◌<◌, ◌≤◌, List, [], ◌∷◌, Some, map, refl, ap, sym, ◌∙◌, subst, arith, inl, inr}
 use Rattle.std.specs.Prelude.{Contains}
 use Rattle.std.specs.FinMap.{FinMap, get}
@@ -65,7 +65,7 @@ IsOne v w e = (p q : Block) → HasBlock v e p → HasBlock w e q → block_slot
 abbrev pub AreOne : Frozen → Frozen → Digest → Type 0
 AreOne v w d = (e : Digest) → IsAncestorIn v d e → IsAncestorIn w d e → IsOne v w e
 
--- both views have one block under the digest
+-- both views have the same block under the digest
 abbrev pub IsShared : Frozen → Frozen → Digest → Type 0
 IsShared v w e = (b : Block) × HasBlock v e b × HasBlock w e b
 
@@ -85,7 +85,7 @@ both_parents v w d e b closed_v closed_w floor at_v at_w parent =
     let authors : p.0.author ≡ q.0.author = p.2 ∙ sym q.2 in
     (p.0, q.0, p.1, q.1, λ i. (rounds i, authors i), (b, r, at_w, above_w, named.1, named.2))
 
--- a path in the first view is a path in the other, and leads to one block
+-- a path in the first view is a path in the other, and leads to the same block
 same_path : (v w : Frozen) (d : Digest) (path : List Digest) (a : Digest) → IsClosed v → IsClosed w → v.floor ≡ w.floor → IsShared v w d → AreOne v w d → IsPathIn v d path a
     → IsPathIn w d path a × IsShared v w a
 same_path v w d [] a closed_v closed_w floor (b, in_v, in_w) one on = (((b, in_w), on.1), subst (λ q. IsShared v w q) on.1 (b, in_v, in_w))
@@ -101,7 +101,7 @@ same_path v w d (e ∷ path) a closed_v closed_w floor (b, in_v, in_w) one (pare
     (λ f one_way other_way. one f (e ∷ one_way.0, (parent, one_way.1)) (e ∷ other_way.0, (in_other, other_way.1))) on in
     ((in_other, below.0), below.1)
 
--- both views have the same ancestors, each with one block
+-- both views have the same ancestors, each with the same block
 record HaveSame (v w : Frozen) (d : Digest) : Type 0 where
   to : (a : Digest) → IsAncestorIn v d a → IsAncestorIn w d a
   from : (a : Digest) → IsAncestorIn w d a → IsAncestorIn v d a
@@ -127,7 +127,7 @@ same_under m n (a ∷ digests) agree =
     let rest : map (get m) digests ≡ map (get n) digests = same_under m n digests (λ e among. agree e (contains_later a digests e among)) in
     cc
 
--- if the blocks match at each ancestor, the views have one walk
+-- if the blocks match at each ancestor, the walks in both views are equal
 pub one_walk : (v w : Frozen) (d : Digest) (blocks : List Block) → IsClosed v → IsClosed w → v.floor ≡ w.floor → (b : Block) × HasBlock v d b → (b : Block) × HasBlock w d b
     → IsWalk v d blocks → ((a : Digest) → IsAncestorIn v d a → MatchAt v w a) → HaveOneWalk v w d
 one_walk v w d blocks closed_v closed_w floor (b, in_v) (c, in_w) walk at = (

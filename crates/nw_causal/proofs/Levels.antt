@@ -131,7 +131,7 @@ walk_of v d found are = record {
 
 -- ---- one more block of a round
 
--- levels of no ancestor and of one
+-- the level without ancestors, and a level with one ancestor
 pub level_none : (v : Frozen) (round : ℕ) → IsLevel v round []
 unfolding IsStrictlySortedBy
 level_none v round = record { at = All-nil _; rounds = All-nil _; order = tt }

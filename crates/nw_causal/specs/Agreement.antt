@@ -6,7 +6,7 @@ use Rattle.nw_model.specs.View.{Frozen, HasBlock, IsWalk}
 use Rattle.nw_causal.specs.declared.agreement.Agreement.{Agreement}
 use Rattle.nw_causal.specs.declared.agreement.Agreement.TheVariants as agreements
 
--- one list is the walk of the digest in both views
+-- the same list is the walk of the digest in both views
 abbrev pub HaveOneWalk : Frozen → Frozen → Digest → Type 0
 HaveOneWalk one other d = (blocks : List Block) × IsWalk one d blocks × IsWalk other d blocks
 
@@ -30,7 +30,7 @@ IsRival other d b c = (other.floor ≤ b.round) × HasBlock other d c × (b ≢ 
 abbrev pub IsMatched : Frozen → Digest → Block → Type 0
 IsMatched other d b = other.floor ≤ b.round → (c : Block) → HasBlock other d c → b ≡ c
 
--- the answer is `Same` if one list is both walks; if there is no such list, it is `Collision` with two blocks that collide
+-- the answer is `Same` if the walks are the same list; otherwise it is `Collision` with two blocks that collide
 abbrev pub IsAgreement : Frozen → Frozen → Digest → Agreement → Type 0
 IsAgreement one other d agreements.Same = HaveOneWalk one other d
 IsAgreement one other d (agreements.Collision b c) = (HaveOneWalk one other d → ⊥) × Collide one other b c

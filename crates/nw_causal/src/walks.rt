@@ -56,7 +56,8 @@ pub(crate) fn ancestors<'a>(
     Ok(found)
 }
 
-/// Finds the parents of all blocks of one level. The parents are of this round, and the level is of the following one.
+/// Finds the parents of all blocks of a level, which has the ancestors of one round. The parents are of this round, and the level is of
+/// the following one.
 fn find_parents_of_all<'a>(
     view: &'a View,
     round: Round,

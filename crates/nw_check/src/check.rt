@@ -71,7 +71,7 @@ fn block_fault<S: Scheme>(
     }
 }
 
-/// Checks the certificate and the signature of each vote, including votes beyond the quorum. Returns it with the committee.
+/// Checks the certificate and the signature of each vote, including votes beyond the quorum. Returns the certificate and committee.
 ///
 /// On error the certificate is dropped. The error is the first of these that applies:
 ///

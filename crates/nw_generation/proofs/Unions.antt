@@ -55,7 +55,7 @@ get_here left older latest d b is here = ap (λ gs. get (union gs) d) is ∙ get
 pub get_older : (left older : List (FinMap digest_cmp Block)) (latest : FinMap digest_cmp Block) (d : Digest) → left ≡ older ++ latest ∷ [] → None ≡ get latest d → get (union older) d ≡ get (union left) d
 get_older left older latest d is lacks = ap (λ found. option_or found (get (union older) d)) lacks ∙ sym (get_latest older latest d) ∙ ap (λ gs. get (union gs) d) (sym is)
 
--- if the block of all generations is of the slot's round, so is that of the latest generation
+-- if the block under the digest in all generations is of the slot's round, so is that in the latest generation
 pub of_latest : (left older : List (FinMap digest_cmp Block)) (latest : FinMap digest_cmp Block) (slot : Option (ℕ × ℕ)) (d : Digest) → left ≡ older ++ latest ∷ [] → IsOfRound slot (get (union left) d) → IsOfRound slot (get latest d)
 of_latest left older latest None d is of = tt
 of_latest left older latest (Some (round, author)) d is of = by (get latest d) (subst (λ o. IfSome o (λ (b : Block). b.round ≡ round)) (ap (λ gs. get (union gs) d) is ∙ get_latest older latest d) of)
@@ -64,7 +64,7 @@ of_latest left older latest (Some (round, author)) d is of = by (get latest d) (
     by None h = tt
     by (Some b) h = h
 
--- entries of other rounds only have no block of this round
+-- if all entries are of other rounds, none has a block of this round
 pub none_of : (es : List (Digest × Block)) (rounds : Option (ℕ × ℕ)) (round author : ℕ) (d : Digest) → All (λ (e : Digest × Block). IsWithin rounds e.1.round) es → (IsWithin rounds round → ⊥) → IsOfRound (Some (round, author)) (under es d) → None ≡ under es d
 none_of es rounds round author d within out of = by (under es d) (look es (recursion_from_All (λ (e : Digest × Block). IsWithin rounds e.1.round) es within)) of
   where
@@ -85,7 +85,7 @@ pub get_from_none : (left : List (FinMap digest_cmp Block)) (d : Digest) → len
 get_from_none [] d none = get-empty digest_cmp d
 get_from_none (g ∷ left) d none = absurd (omega arith)
 
--- joining the later generations to one keeps the union
+-- joining the later generations into one keeps the union
 pub union_joined : (older later : List (FinMap digest_cmp Block)) (joined : FinMap digest_cmp Block) → joined ≡ union later → union (older ++ joined ∷ []) ≡ union (older ++ later)
 union_joined older later joined is = same_map digests_total digests_apart (union (older ++ joined ∷ [])) (union (older ++ later)) (λ d.
     get_latest older joined d ∙ ap (λ (m : FinMap digest_cmp Block). option_or (get m d) (get (union older) d)) is ∙ sym (get_later older later d))

@@ -101,7 +101,7 @@ impl Generations {
         first.min(last)
     }
 
-    /// The same blocks in `first` + 1 generations: the first ones stay, and the others are joined to one. The blocks are shared.
+    /// The same blocks in `first` + 1 generations: the first ones stay, and the others are joined into one. The blocks are shared.
     ///
     /// `NoMemory`: an allocation failed.
     pub fn joined_from(&self, alloc: Global, first: usize) -> Result<Generations, NoMemory>

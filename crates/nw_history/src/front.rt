@@ -31,7 +31,7 @@ pub struct Front<S: Scheme> {
     scheme: PhantomData<S>,
 }
 
-/// The history of a book: its latest front. Each event replaces it by another front.
+/// The history of a book: its latest front. Each event replaces it with another front.
 pub type History<S> = Front<S>;
 
 impl<S: Scheme> Model for Front<S> {

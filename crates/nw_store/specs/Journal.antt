@@ -81,6 +81,6 @@ AreAnswers id n (a ∷ others) = AnswersCall id n a × AreAnswers id (n + 1) oth
 abbrev pub next_number : Journal → ℕ
 next_number j = length j.answers + 1
 
--- the journal with one more answer, whose session now knows of these histories
+-- the journal with one more answer; its session now knows of these histories
 abbrev pub with_answer : Journal → Event → Story → List Story → Journal
 with_answer j e front known = record { id = j.id; answers = j.answers ++ record { event = e; front = front } ∷ []; known = known }

@@ -85,7 +85,7 @@ impl<S: Scheme, L: Home> Settled<S, L> {
     }
 }
 
-/// Settles the sessions with the value that was under the lock. Succeeds exactly if they are all sessions that the store made, in any
+/// Settles the sessions with the value that was under the lock. Succeeds exactly if they are all that the store made, each once, in any
 /// order. Compares no events, and allocates nothing.
 ///
 /// The error returns everything unchanged, with the first of these faults that applies:
@@ -181,8 +181,8 @@ fn check_all_journals<S: Scheme, L: Home>(locked: &mut Locked<S, L>, sessions: &
     }
 }
 
-/// Counts the parts of the ledger. If there are at least as many sessions as parts outside `gathered`, this proves that there are exactly
-/// as many, and that the sessions and `gathered` together count all calls. Each session lends its part and gets it back.
+/// Counts the parts of the ledger. There must be at least as many sessions as parts outside `gathered`. Proves that there are exactly as
+/// many, and that the sessions and `gathered` together count all calls. Each session lends its part and gets it back.
 fn add_up<S: Scheme, L: Home>(
     calls: &mut ledger::Book<L>,
     sessions: &mut [Session<S, L>],

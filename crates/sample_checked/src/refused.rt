@@ -1,4 +1,4 @@
-//! Makes committees, blocks, votes and certificates, and returns an allocation failure as an error of its own.
+//! Makes committees, blocks, votes and certificates, and returns an allocation failure as a distinct error.
 use crate::signing::seal;
 pub use crate::signing::signature;
 use crate::values::key;

@@ -9,7 +9,7 @@ use nw_digest::digest_of;
 use nw_sig::{DemoScheme, DemoSigner, Scheme, Signer, text_of_block, text_of_vote};
 use sample_checked::refused::{checked_block, checked_certificate, vote};
 
-/// A text and its fault. The text is a list of bytes, each with the number of times that it stands there.
+/// A text and its fault. The text is a list of bytes, each with a repeat count.
 type Text = (&'static [(u8, usize)], DecodeError);
 
 /// A text for each fault except `BodyTooLong`.
@@ -32,7 +32,7 @@ const TEXTS: [Text; 10] = [
     (&[(2, 1), (0, 41), (2, 1), (0, 68)], DecodeError::VoteOrder),
 ];
 
-/// The text with these bytes, each as often as its number says.
+/// The text with these bytes, each repeated as its count says.
 fn text_of(alloc: Global, bytes: &[(u8, usize)]) -> Result<Vec<u8>, NoMemory> {
     let mut text = Vec::new(alloc);
     for (byte, times) in bytes {
@@ -143,7 +143,7 @@ fn is_signed(alloc: Global, four: &Committee) -> Result<bool, Fail> {
     Ok(is_its_digest && is_verified)
 }
 
-/// Whether committees tell of their members, and are compared, without an allocation.
+/// Whether the methods and comparisons of committees give the right results without an allocation.
 fn committees_answer(alloc: Global, four: &Committee) -> Result<bool, Fail> {
     let same = retry!(NoMemory, committee(alloc, &[0, 1, 2, 3]))?;
     let other = retry!(NoMemory, committee(alloc, &[0, 1, 2, 4]))?;

@@ -20,7 +20,7 @@ pub(super) const LIMITS: Limits = Limits {
     sessions: 3,
 };
 
-/// What a store leaves behind.
+/// What a store leaves after its sessions are settled.
 #[derive(Drop)]
 pub(super) struct Outcome {
     /// The number of rows before the first one with another reply.

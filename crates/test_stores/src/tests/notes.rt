@@ -11,7 +11,7 @@ use nw_store::{Block, Note};
 use std::thread;
 use std::thread::Threads;
 
-/// A session that comes back from its thread, and the number of blocks for which the thread got the expected replies.
+/// A session that its thread returned, and the number of blocks for which the thread got the expected replies.
 type Worked<L> = (Session<DemoScheme, L>, usize);
 
 /// Writes and certifies the block. Returns whether it is certified.
@@ -164,7 +164,7 @@ const TWO: Limits = Limits {
     ..LIMITS
 };
 
-// Without a note there is no promise: this read finds no block, even if its thread learned by other means that the block was about
+// Without a note there is no promise. This read finds no block, even if its thread learned by other means that the block was about
 // to be written. A note of the write can only be taken after the write, so a session that hears it reads after the write.
 #[test]
 fn without_a_note_a_read_may_come_before_the_write(rt: HostRuntime) -> Result<(), Fail> {

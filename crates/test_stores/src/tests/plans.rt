@@ -17,9 +17,9 @@ pub(super) enum Task {
     Collect,
     /// Opens, reads and walks fifty blocks of the chain, each a few links after it was certified.
     Read,
-    /// Writes and certifies the chain beside other sessions, and opens, reads and walks each block.
+    /// Writes and certifies the chain at the same time as other sessions, and opens, reads and walks each block.
     Follow,
-    /// Asks the rows of a walk beside a collection.
+    /// Asks the session's rows of `BESIDE`: a walk in one thread, after a collection in another.
     Beside,
     /// Reads the first block before it is written. Then the session that waits for this read writes the block.
     Early,

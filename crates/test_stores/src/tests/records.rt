@@ -123,8 +123,8 @@ fn has_parts(front: &History<DemoScheme>) -> bool {
     parts == length / 256 + length % 256
 }
 
-/// Whether the front of each entry ends with the session's call at that place, and has one part for each full chunk of 256 events
-/// and one for each later event. So no front copies the events of a full chunk.
+/// Whether the front of each entry ends with the session's call at that place. The front must have one part for each full chunk of 256
+/// events and one for each later event, because no front copies the events of a full chunk.
 pub(super) fn are_fronts(journal: &[Entry<DemoScheme>], session: u16) -> bool {
     for (answer, number) in journal.iter().zip(1u32..) {
         let Some(last) = answer.front().last() else {

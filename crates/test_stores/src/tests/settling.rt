@@ -15,8 +15,8 @@ pub(super) struct Seen {
     pub(super) recorded: usize,
 }
 
-/// Whether the session's journal has exactly the session's calls of the scene, in order, each with its answer and its front, and
-/// the history has them in the same order.
+/// Whether the session's journal has exactly the session's calls of the scene, in order, each with its reply and its front. The history
+/// must have these calls in the same order.
 fn is_exact<L: Home>(
     alloc: Global,
     settled: &Settled<DemoScheme, L>,

@@ -83,8 +83,8 @@ impl Crew {
     }
 }
 
-/// The crew is the gate of its sessions. A session may pass a start point when a counter has reached the number of the point: `steps` for
-/// a check, `walks` for a write, and `writes` for a walk. `may_pass` yields before it returns `false`.
+/// The crew is the gate of its sessions. A session may pass a start point when a counter has reached the number of the point. The counter
+/// is `steps` for a check, `walks` for a write, and `writes` for a walk. `may_pass` yields before it returns `false`.
 impl Gate for Crew {
     ghost says = { λ _ _ _. Unit {0} };
 
