@@ -1,6 +1,6 @@
 //! Making and reading committees.
 ghost use Rattle.std.specs.Prelude.{◌≡◌, pos, map, IfOk, IfErr, true};
-ghost use Rattle.nw_committee.specs.Committee.{HoldsCommittee as IsValid};
+ghost use Rattle.nw_committee.specs.Committee.{IsCommittee as IsValid};
 ghost use Rattle.nw_c.specs.Committees.{AreOneCommittee, HasMember, HasQuorum, HasSize, IsCommitteeOf, LacksMember, member_in};
 ghost use Rattle.nw_c.specs.Kinds.{IsAsBefore, HoldsCommittee};
 ghost use Rattle.nw_c.specs.declared.codes.TheConstants.{ABSENT, BAD_COMMITTEE, CLOSED, OPEN, OTHER_KIND};

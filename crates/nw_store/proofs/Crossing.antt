@@ -1,6 +1,6 @@
 -- A closure's captures, or a tuple, may be sent to another thread if each part may be sent, and shared between threads if each part may
 -- be shared.
--- `captures_send` and `taken_sync` find the parts by unification; `along_send` and `along_sync` take a proof for each part, in order.
+-- `captures_send` and `captures_sync` find the parts by unification; `along_send` and `along_sync` take a proof for each part, in order.
 use mathlib.Core.List.{List, [], ◌∷◌}
 use Prim.Native.Nat.{ℕ}
 use mir.Syntax.{Sym, Ty}
@@ -25,8 +25,8 @@ module _ (i : ℕ) (δ : Ty) (ν : Sym) (Ts : List RattleType) where
   pub captures_send : AllSend Ts → IsSend (param i (arg δ no (TupleAt ν Ts)))
   captures_send s = param_send i (arg δ no (TupleAt ν Ts)) (arg_send δ no (TupleAt ν Ts) (declared_send (type_at ν Ts) (parts_send Ts s)))
 
-  pub taken_sync : AllSync Ts → IsSync (param i (arg δ no (TupleAt ν Ts)))
-  taken_sync s = param_sync i (arg δ no (TupleAt ν Ts)) (arg_sync δ no (TupleAt ν Ts) (declared_sync (type_at ν Ts) (parts_sync Ts s)))
+  pub captures_sync : AllSync Ts → IsSync (param i (arg δ no (TupleAt ν Ts)))
+  captures_sync s = param_sync i (arg δ no (TupleAt ν Ts)) (arg_sync δ no (TupleAt ν Ts) (declared_sync (type_at ν Ts) (parts_sync Ts s)))
 
 -- values of each type may be sent; values of each type may be shared
 pub data Sends : List RattleType → Type 1 where
@@ -49,4 +49,4 @@ pub along_send : (i : ℕ) (δ : Ty) (ν : Sym) (Ts : List RattleType) → Sends
 along_send i δ ν Ts s = captures_send i δ ν Ts (all_send Ts s)
 
 pub along_sync : (i : ℕ) (δ : Ty) (ν : Sym) (Ts : List RattleType) → Syncs Ts → IsSync (param i (arg δ no (TupleAt ν Ts)))
-along_sync i δ ν Ts s = taken_sync i δ ν Ts (all_sync Ts s)
+along_sync i δ ν Ts s = captures_sync i δ ν Ts (all_sync Ts s)

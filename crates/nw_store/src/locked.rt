@@ -6,7 +6,7 @@ ghost use Rattle.nw_history.specs.Limits.{AreInRange};
 ghost use Rattle.nw_history.specs.declared.limits.TheConstants.{MAX_EVENTS, MAX_SESSIONS};
 ghost use Rattle.nw_history.specs.Story.{IsLegalStory, reopened};
 ghost use Rattle.nw_store.specs.Journal.{AreBegun, AreComparable, AreAnswers, origin_of};
-ghost use Rattle.nw_store.specs.Guarded.{parts_of_a_ledger};
+ghost use Rattle.nw_store.specs.Lock.{parts_of_a_ledger};
 
 use crate::opening::Opening;
 use crate::session::Session;
@@ -83,7 +83,7 @@ impl<S: Scheme, L: Home> Model for Locked<S, L> {
     ghost use Rattle.std.specs.Coded.{codes};
     ghost use Rattle.nw_model.specs.State.{coded_state};
     ghost use Rattle.nw_store.specs.Journal.{Guarded, origin_of};
-    ghost use Rattle.nw_store.specs.Guarded.{IsKept, parts_of_a_ledger};
+    ghost use Rattle.nw_store.specs.Lock.{IsLockInvariant, parts_of_a_ledger};
 
     ghost Value = { Guarded };
 
@@ -92,7 +92,7 @@ impl<S: Scheme, L: Home> Model for Locked<S, L> {
     ghost view = { λ l. record { history = l.book; made = l.made } };
 
     ghost invariant = { λ l. (L.parts ≡ parts_of_a_ledger)
-        × IsKept S.accepts (record { history = l.book; made = l.made }) l.tally.calls.total
+        × IsLockInvariant S.accepts (record { history = l.book; made = l.made }) l.tally.calls.total
         l.spare.parts l.spare.amount l.tally.keeper × (origin_of l.book ≡ L.origin) };
 }
 

@@ -8,7 +8,7 @@ use Rattle.nw_book.specs.Turn.{event}
 use Rattle.nw_store.specs.Journal.{Guarded, Journal, next_number}
 use Rattle.nw_store.specs.Answered.{IsAnswered}
 use Rattle.nw_store.proofs.Begun.{begun_claimed, begun_known, claimed_logged}
-use Rattle.nw_store.proofs.Guarded.{kept_more, starts_so, session_more, answer_is, logged_last}
+use Rattle.nw_store.proofs.Kept.{kept_more, starts_so, session_more, answer_is, logged_last}
 use Rattle.nw_store.proofs.Answered.{answered}
 use Rattle.nw_store.proofs.calls.take_open.Goals as goal
 

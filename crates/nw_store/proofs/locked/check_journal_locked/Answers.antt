@@ -1,7 +1,7 @@
 use Rattle.std.proofs.Common.{List, sym, subst}
 use Rattle.nw_history.specs.Story.{Story}
 use Rattle.nw_store.specs.Journal.{Guarded, Journal, AreBegun}
-use Rattle.nw_store.specs.Guarded.{IsSession}
+use Rattle.nw_store.specs.Lock.{IsSession}
 use Rattle.nw_store.proofs.Begun.{begun_claimed}
 use Rattle.nw_store.proofs.locked.check_journal_locked.Goals as goal
 

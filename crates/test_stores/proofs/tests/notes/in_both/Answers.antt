@@ -9,7 +9,7 @@ use Rattle.nw_sig.specs.contracts.demo.DemoScheme as demo
 use Rattle.nw_sig.specs.contracts.demo.DemoSchemeScheme.TheImpl as demo_is
 use Rattle.nw_store.specs.contracts.notes.Note as notes
 use Rattle.nw_store.proofs.Send.{note_send, session_send, store_sync}
-use Rattle.nw_store.proofs.Crossing.{taken_send, along_send}
+use Rattle.nw_store.proofs.Crossing.{captures_send, along_send}
 use Rattle.nw_store.proofs.Crossing.Sends.{none, also}
 use Rattle.test_stores.proofs.tests.chains.Link.TheSendSync as link
 use Rattle.test_stores.proofs.tests.notes.in_both.Goals as goal
@@ -24,4 +24,4 @@ join-requires-send-F g c κs within =
 
 -- what the writer returns: the session and a count
 pub join-requires-send-A : goal.join-requires-send-A
-join-requires-send-A g c κs within = search (taken_send, sendable, session_send) depth 20
+join-requires-send-A g c κs within = search (captures_send, sendable, session_send) depth 20
