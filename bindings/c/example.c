@@ -44,7 +44,7 @@ static void tell(const char *what, int32_t code)
 
 static void tell_reply(const char *what, int32_t code, nw_answer *answer)
 {
-	nw_told reply;
+	nw_tagged reply;
 	tell(what, code);
 	if (code == NW_DONE && nw_answer_reply(answer, &reply) == NW_DONE)
 		printf("  reply %d number %llu\n", (int)reply.kind, (unsigned long long)reply.number);
@@ -77,14 +77,14 @@ int main(void)
 	tell("room for a ticket", nw_answer_new(&ticket));
 	tell("check of the block", nw_check(&committee, text, bytes_of(BLOCK, text), &block));
 	tell("check of the certificate", nw_check(&committee, text, bytes_of(CERTIFICATE, text), &certificate));
-	tell("what the certificate is", nw_checked_told(&certificate, &message));
+	tell("what the certificate is", nw_checked_kind(&certificate, &message));
 	printf("  kind %d round %llu author %d\n", (int)message.kind, (unsigned long long)message.slot.round, (int)message.slot.author);
 
-	tell_reply("write", nw_book_take(&book, 0, 1, &block, &answer), &answer);
-	tell_reply("write out of turn", nw_book_take(&book, 0, 1, &block, &answer), &answer);
-	tell_reply("write again", nw_book_take(&book, 0, 2, &block, &answer), &answer);
+	tell_reply("write", nw_book_hand_in(&book, 0, 1, &block, &answer), &answer);
+	tell_reply("write out of turn", nw_book_hand_in(&book, 0, 1, &block, &answer), &answer);
+	tell_reply("write again", nw_book_hand_in(&book, 0, 2, &block, &answer), &answer);
 	tell_reply("causal read", nw_book_open(&book, 0, 3, &message.slot.digest, &ticket), &ticket);
-	tell_reply("certify", nw_book_take(&book, 0, 4, &certificate, &answer), &answer);
+	tell_reply("certify", nw_book_hand_in(&book, 0, 4, &certificate, &answer), &answer);
 	tell_reply("causal read", nw_book_open(&book, 0, 5, &message.slot.digest, &ticket), &ticket);
 	tell_reply("collect", nw_book_collect(&book, 0, 6, 1, &answer), &answer);
 	tell_reply("read", nw_book_read(&book, 0, 7, &message.slot.digest, &answer), &answer);

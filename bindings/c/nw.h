@@ -65,7 +65,7 @@ enum {
 	/* The counted votes do not reach the quorum. */
 	NW_FEW_VOTES = 18,
 	/* The two tickets have different digests or garbage rounds, so their lists cannot be compared. */
-	NW_APART = 19,
+	NW_NOT_COMPARABLE = 19,
 };
 
 /* The kinds of checked texts. */
@@ -240,7 +240,7 @@ typedef struct {
 	int32_t kind;
 	uint64_t number;
 	nw_digest digest;
-} nw_told;
+} nw_tagged;
 
 /* A member of a committee: an Ed25519 public key of 32 bytes and a weight from 1 to 1,000,000. */
 typedef struct {
@@ -298,8 +298,8 @@ typedef struct {
 typedef struct {
 	uint16_t session;
 	uint32_t number;
-	nw_told call;
-	nw_told reply;
+	nw_tagged call;
+	nw_tagged reply;
 } nw_event;
 
 /* Makes a committee of 1 to 100 members. A member's number is its index in the array. Returns
@@ -367,11 +367,11 @@ int32_t nw_block_body(nw_block *block, uint8_t *buffer, size_t buffer_len, size_
 int32_t nw_block_message(nw_block *block, const nw_signature *signature, uint8_t *buffer, size_t buffer_len, size_t *needed);
 
 /* Decodes the text and checks its message under the committee. It also returns NW_DONE for a text that is
-   not a message, and for a block or certificate that breaks a rule. nw_checked_told says what the text is. */
+   not a message, and for a block or certificate that breaks a rule. nw_checked_kind says what the text is. */
 int32_t nw_check(nw_committee *committee, const uint8_t *text, size_t text_len, nw_checked *out);
 
 /* Writes what the checked text is: a block, a certificate, a vote, or the first rule that it breaks. */
-int32_t nw_checked_told(nw_checked *checked, nw_message *out);
+int32_t nw_checked_kind(nw_checked *checked, nw_message *out);
 
 /* Opens a handle of the checked block. Returns NW_OTHER_KIND if the text is not a valid block. */
 int32_t nw_checked_block(nw_checked *checked, nw_block *out);
@@ -412,7 +412,7 @@ int32_t nw_book_restart(nw_book *book);
 /* Writes the checked block, or certifies the digest of the checked certificate. number must be that of the
    session's next call. The handle of the checked text stays open, and the text may be handed to other books.
    Returns NW_OTHER_KIND if the text is neither a valid block nor a valid certificate. */
-int32_t nw_book_take(nw_book *book, uint16_t session, uint32_t number, nw_checked *checked, nw_answer *answer);
+int32_t nw_book_hand_in(nw_book *book, uint16_t session, uint32_t number, nw_checked *checked, nw_answer *answer);
 
 /* Asks for the certificate of the digest. number must be that of the session's next call. */
 int32_t nw_book_certificate(nw_book *book, uint16_t session, uint32_t number, const nw_digest *digest, nw_answer *answer);
@@ -458,7 +458,7 @@ int32_t nw_answer_missing(nw_answer *answer, size_t index, nw_slot *out);
 int32_t nw_answer_status(nw_answer *answer, nw_status *out);
 
 /* Writes the reply of the answer. The reply of a ticket is NW_READY. */
-int32_t nw_answer_reply(nw_answer *answer, nw_told *out);
+int32_t nw_answer_reply(nw_answer *answer, nw_tagged *out);
 
 /* Writes the number of events in the history of the answer or ticket. The last event is its own call. */
 int32_t nw_answer_events(nw_answer *answer, size_t *out);
@@ -473,11 +473,11 @@ int32_t nw_answer_event(nw_answer *answer, size_t index, nw_event *out);
 int32_t nw_answer_begins(nw_answer *answer, nw_answer *other, bool *out);
 
 /* Writes the digest that the ticket is for, and the garbage round at the call that gave the ticket. */
-int32_t nw_ticket_about(nw_answer *ticket, nw_digest *digest, uint64_t *floor);
+int32_t nw_ticket_scope(nw_answer *ticket, nw_digest *digest, uint64_t *floor);
 
 /* Walks both tickets and writes whether their lists are equal. The tickets may come from two books. If the
-   lists differ, two different blocks have the same digest. Returns NW_APART if the tickets have different
-   digests or garbage rounds. */
+   lists differ, two different blocks have the same digest. Returns NW_NOT_COMPARABLE if the tickets have
+   different digests or garbage rounds. */
 int32_t nw_ticket_agree(nw_answer *ticket, nw_answer *other, bool *out);
 
 /* Walks the ticket and opens the list of its block and all ancestors from the garbage round on. The list is

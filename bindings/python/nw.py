@@ -123,8 +123,8 @@ class Committee(Handle):
 class Checked(Handle):
     """The result of a message's check. `kind` is BLOCK, CERTIFICATE, VOTE, or the rule that the message breaks."""
 
-    kind = property(lambda self: KINDS[self.read("checked_told", Message).kind])
-    slot = property(lambda self: place(self.read("checked_told", Message).slot))
+    kind = property(lambda self: KINDS[self.read("checked_kind", Message).kind])
+    slot = property(lambda self: place(self.read("checked_kind", Message).slot))
 
 
 class Block(Handle):
@@ -147,7 +147,7 @@ class Store(Handle):
 
     def take(self, checked):
         """Writes a checked block, or certifies with a checked certificate."""
-        return self.make("book_take", checked.ref)
+        return self.make("book_hand_in", checked.ref)
 
     def read_block(self, digest):
         found = self.make("book_read", byref(Digest(octets(digest, 32)))) == "FOUND"

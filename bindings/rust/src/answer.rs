@@ -1,7 +1,7 @@
 //! Answers to calls.
 
+use crate::raw::{reply, tagged};
 use crate::room::Room;
-use crate::told::{reply, told};
 use crate::{CausalFault, History, Ticket};
 use std::cell::OnceCell;
 use std::fmt;
@@ -88,10 +88,10 @@ pub enum Causal {
 
 impl Causal {
     pub(crate) fn of(mut room: Room) -> Causal {
-        match told(&mut room).kind {
+        match tagged(&mut room).kind {
             reply::READY => Causal::Ready(Ticket::new(room)),
             _ => Causal::NotReady(Answer::new(room, |answer, _| {
-                CausalFault::of(&told(answer))
+                CausalFault::of(&tagged(answer))
             })),
         }
     }

@@ -4,8 +4,8 @@ use crate::body::Body;
 use crate::code::Code;
 use crate::error::error_texts;
 use crate::ffi::{self, Handle};
+use crate::raw::{RawEvent, RawParent};
 use crate::room::Room;
-use crate::told::{EventTold, ParentTold};
 use crate::{Digest, Signature, Slot, Transactions, text_of_block};
 use std::fmt;
 use std::sync::{Arc, Mutex, MutexGuard, OnceLock, PoisonError};
@@ -75,8 +75,8 @@ impl Block {
         parents: &[(u16, Digest)],
         transactions: &[impl AsRef<[u8]>],
     ) -> Result<Block, BlockError> {
-        let told = |&(author, digest)| ParentTold { author, digest };
-        let parents: Vec<_> = parents.iter().map(told).collect();
+        let raw = |&(author, digest)| RawParent { author, digest };
+        let parents: Vec<_> = parents.iter().map(raw).collect();
         let mut lengths = Vec::with_capacity(transactions.len());
         let mut together = Vec::new();
         for transaction in transactions {
@@ -227,7 +227,7 @@ impl Inner {
 
     /// The block that a read found. It has the digest that the read asked for.
     fn found(answer: &mut Handle) -> Inner {
-        let (mut events, mut last) = (0, EventTold::EMPTY);
+        let (mut events, mut last) = (0, RawEvent::EMPTY);
         ffi::nw_answer_events(answer, &mut events).or_abort();
         ffi::nw_answer_event(answer, events - 1, &mut last).or_abort();
         Inner {

@@ -2,7 +2,7 @@
 
 use crate::block::opened;
 use crate::ffi::{self, Handle};
-use crate::told::MessageTold;
+use crate::raw::RawMessage;
 use crate::{Block, Slot};
 use std::cell::RefCell;
 use std::fmt;
@@ -66,11 +66,11 @@ pub struct CheckedCertificate {
 impl CheckedCertificate {
     /// The certificate of a handle.
     pub(crate) fn of(mut handle: Handle) -> CheckedCertificate {
-        let mut told = MessageTold::EMPTY;
-        ffi::nw_checked_told(&mut handle, &mut told).or_abort();
+        let mut raw = RawMessage::EMPTY;
+        ffi::nw_checked_kind(&mut handle, &mut raw).or_abort();
         CheckedCertificate {
             handle: RefCell::new(handle),
-            slot: told.slot,
+            slot: raw.slot,
         }
     }
 

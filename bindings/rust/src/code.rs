@@ -25,7 +25,7 @@ impl Code {
     pub(crate) const REPEATED: Code = Code(16);
     pub(crate) const BAD_SIGNATURE: Code = Code(17);
     pub(crate) const FEW_VOTES: Code = Code(18);
-    pub(crate) const APART: Code = Code(19);
+    pub(crate) const NOT_COMPARABLE: Code = Code(19);
 
     /// `Ok` if the call succeeded, and otherwise its code.
     #[inline]

@@ -1,7 +1,7 @@
 //! The events of histories.
 
 use crate::Digest;
-use crate::told::{EventTold, Told, call, reply, unexpected_kind};
+use crate::raw::{RawEvent, RawTagged, call, reply, unexpected_kind};
 
 /// One call of a session, with its reply.
 #[derive(Clone, Copy, Debug, PartialEq, Eq)]
@@ -100,26 +100,26 @@ pub enum Reply {
 }
 
 impl Event {
-    pub(crate) fn of(told: &EventTold) -> Event {
+    pub(crate) fn of(raw: &RawEvent) -> Event {
         Event {
-            session: told.session,
-            number: told.number,
-            call: Call::of(&told.call),
-            reply: Reply::of(&told.reply),
+            session: raw.session,
+            number: raw.number,
+            call: Call::of(&raw.call),
+            reply: Reply::of(&raw.reply),
         }
     }
 }
 
 impl Call {
-    fn of(told: &Told) -> Call {
-        match told.kind {
-            call::WRITE => Call::Write(told.digest),
-            call::CERTIFY => Call::Certify(told.digest),
-            call::CERTIFICATE => Call::Certificate(told.digest),
-            call::READ => Call::Read(told.digest),
-            call::CAUSAL => Call::Causal(told.digest),
-            call::COLLECT => Call::Collect(told.number),
-            call::MISSING => Call::Missing(told.number as u16),
+    fn of(raw: &RawTagged) -> Call {
+        match raw.kind {
+            call::WRITE => Call::Write(raw.digest),
+            call::CERTIFY => Call::Certify(raw.digest),
+            call::CERTIFICATE => Call::Certificate(raw.digest),
+            call::READ => Call::Read(raw.digest),
+            call::CAUSAL => Call::Causal(raw.digest),
+            call::COLLECT => Call::Collect(raw.number),
+            call::MISSING => Call::Missing(raw.number as u16),
             call::STATUS => Call::Status,
             other => unexpected_kind(other),
         }
@@ -127,10 +127,10 @@ impl Call {
 }
 
 impl Reply {
-    fn of(told: &Told) -> Reply {
-        let (number, digest) = (told.number, told.digest);
+    fn of(raw: &RawTagged) -> Reply {
+        let (number, digest) = (raw.number, raw.digest);
         let garbage_round = number;
-        match told.kind {
+        match raw.kind {
             reply::STORED_VOTE => Reply::Stored { vote: true },
             reply::STORED => Reply::Stored { vote: false },
             reply::HELD => Reply::Held,

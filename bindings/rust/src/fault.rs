@@ -2,7 +2,7 @@
 
 use crate::NoMemory;
 use crate::error::error_texts;
-use crate::told::{MessageTold, message, unexpected_kind};
+use crate::raw::{RawMessage, message, unexpected_kind};
 use std::error::Error;
 use std::fmt;
 
@@ -153,11 +153,11 @@ impl From<NoMemory> for CheckError {
 
 impl CheckError {
     /// The fault that the library reported.
-    pub(crate) fn of(told: &MessageTold) -> CheckError {
+    pub(crate) fn of(raw: &RawMessage) -> CheckError {
         let text = |fault| CheckError::Text(fault);
         let block = |fault| CheckError::Block(fault);
         let certificate = |fault| CheckError::Certificate(fault);
-        match told.kind {
+        match raw.kind {
             message::TEXT_SHORT => text(TextFault::Short),
             message::TEXT_TRAILING => text(TextFault::Trailing),
             message::TEXT_TAG => text(TextFault::Tag),
@@ -177,9 +177,9 @@ impl CheckError {
             message::CERT_AUTHOR => certificate(CertificateFault::Author),
             message::CERT_SIGNER => certificate(CertificateFault::Signer),
             message::CERT_FEW_VOTES => certificate(CertificateFault::FewVotes),
-            message::CERT_SIGNATURE => certificate(CertificateFault::Signature {
-                signer: told.signer,
-            }),
+            message::CERT_SIGNATURE => {
+                certificate(CertificateFault::Signature { signer: raw.signer })
+            }
             other => unexpected_kind(other),
         }
     }

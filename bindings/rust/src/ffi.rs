@@ -6,7 +6,7 @@
 mod allocator;
 
 use crate::code::Code;
-use crate::told::{EventTold, MessageTold, ParentTold, Told};
+use crate::raw::{RawEvent, RawMessage, RawParent, RawTagged};
 use crate::{Digest, Limits, Member, Signature, Slot, Status};
 use std::ffi::c_void;
 use std::mem::{self, MaybeUninit};
@@ -111,7 +111,7 @@ exports! {
     nw_text_of_vote(slot: &Slot, out: &mut [u8; 44]);
 
     nw_block_slot(block: At, out: &mut Slot);
-    nw_checked_told(checked: At, out: &mut MessageTold);
+    nw_checked_kind(checked: At, out: &mut RawMessage);
     nw_checked_block(checked: At, out: At);
 
     nw_gather_new(committee: At, slot: &Slot, out: At);
@@ -122,7 +122,7 @@ exports! {
     nw_book_events(book: At, out: &mut usize);
     nw_book_compact(book: At);
     nw_book_restart(book: At);
-    nw_book_take(book: At, session: u16, number: u32, checked: At, answer: At);
+    nw_book_hand_in(book: At, session: u16, number: u32, checked: At, answer: At);
     nw_book_certificate(book: At, session: u16, number: u32, digest: &Digest, answer: At);
     nw_book_read(book: At, session: u16, number: u32, digest: &Digest, answer: At);
     nw_book_open(book: At, session: u16, number: u32, digest: &Digest, answer: At);
@@ -131,15 +131,15 @@ exports! {
     nw_book_status(book: At, session: u16, number: u32, answer: At);
 
     nw_answer_new(out: At);
-    nw_answer_reply(answer: At, out: &mut Told);
+    nw_answer_reply(answer: At, out: &mut RawTagged);
     nw_answer_status(answer: At, out: &mut Status);
     nw_answer_block(answer: At, out: At);
     nw_answer_missing(answer: At, index: usize, out: &mut Slot);
     nw_answer_events(answer: At, out: &mut usize);
-    nw_answer_event(answer: At, index: usize, out: &mut EventTold);
+    nw_answer_event(answer: At, index: usize, out: &mut RawEvent);
     nw_answer_begins(answer: At, other: At, out: &mut bool);
 
-    nw_ticket_about(ticket: At, digest: &mut Digest, floor: &mut u64);
+    nw_ticket_scope(ticket: At, digest: &mut Digest, floor: &mut u64);
     nw_ticket_walk(ticket: At, out: At);
     nw_ticket_agree(ticket: At, other: At, same: &mut bool);
     nw_list_len(list: At, out: &mut usize);
@@ -158,7 +158,7 @@ unsafe extern "C" {
     fn nw_block_new(
         author: u16,
         round: u64,
-        parents: *const ParentTold,
+        parents: *const RawParent,
         parents_len: usize,
         transactions: *const u8,
         transactions_len: usize,
@@ -240,11 +240,11 @@ pub(crate) fn check(committee: &mut Handle, text: &[u8]) -> Result<Handle, Code>
 pub(crate) fn block_new(
     author: u16,
     round: u64,
-    parents: &[ParentTold],
+    parents: &[RawParent],
     transactions: &[u8],
     lengths: &[u32],
 ) -> Result<Handle, Code> {
-    // SAFETY: each pointer is followed by the length of its slice. `ParentTold` has the layout of
+    // SAFETY: each pointer is followed by the length of its slice. `RawParent` has the layout of
     // `nw_parent`.
     Handle::opened(|out| unsafe {
         nw_block_new(

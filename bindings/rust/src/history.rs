@@ -3,8 +3,8 @@
 use crate::Event;
 use crate::code::Code;
 use crate::ffi;
+use crate::raw::RawEvent;
 use crate::room::Room;
-use crate::told::EventTold;
 use std::cell::RefCell;
 use std::fmt;
 use std::iter::FusedIterator;
@@ -65,9 +65,9 @@ impl History {
     /// Returns the event at the index, counted from 0, or `None` past the last one.
     #[must_use]
     pub fn event(&self, index: usize) -> Option<Event> {
-        let mut told = EventTold::EMPTY;
-        match ffi::nw_answer_event(&mut self.room.borrow_mut(), index, &mut told) {
-            Code::DONE => Some(Event::of(&told)),
+        let mut raw = RawEvent::EMPTY;
+        match ffi::nw_answer_event(&mut self.room.borrow_mut(), index, &mut raw) {
+            Code::DONE => Some(Event::of(&raw)),
             Code::ABSENT => None,
             refused => refused.abort(),
         }

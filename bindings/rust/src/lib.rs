@@ -103,6 +103,7 @@ mod history;
 mod intake;
 mod limits;
 mod message;
+mod raw;
 #[cfg(test)]
 mod refusals;
 mod reply;
@@ -111,7 +112,6 @@ mod session;
 mod slot;
 mod store;
 mod ticket;
-mod told;
 mod walk;
 
 pub use answer::{Answer, Causal};

@@ -2,7 +2,7 @@
 
 use crate::code::Code;
 use crate::ffi::{self, Handle};
-use crate::told::{MessageTold, message};
+use crate::raw::{RawMessage, message};
 use crate::{CheckError, Checked, CheckedBlock, CheckedCertificate, CheckedVote, Committee};
 use std::cell::RefCell;
 
@@ -61,17 +61,17 @@ impl Message {
 /// Checks a message under the committee of the handle.
 pub(crate) fn check_with(committee: &mut Handle, message: &[u8]) -> Result<Checked, CheckError> {
     let mut handle = ffi::check(committee, message).map_err(Code::no_memory)?;
-    let mut told = MessageTold::EMPTY;
-    ffi::nw_checked_told(&mut handle, &mut told).or_abort();
-    let (handle, slot) = (RefCell::new(handle), told.slot);
-    match told.kind {
+    let mut raw = RawMessage::EMPTY;
+    ffi::nw_checked_kind(&mut handle, &mut raw).or_abort();
+    let (handle, slot) = (RefCell::new(handle), raw.slot);
+    match raw.kind {
         message::BLOCK => Ok(Checked::Block(CheckedBlock { handle, slot })),
         message::CERTIFICATE => Ok(Checked::Certificate(CheckedCertificate { handle, slot })),
         message::VOTE => Ok(Checked::Vote(CheckedVote {
             handle,
             slot,
-            signer: told.signer,
+            signer: raw.signer,
         })),
-        _ => Err(CheckError::of(&told)),
+        _ => Err(CheckError::of(&raw)),
     }
 }

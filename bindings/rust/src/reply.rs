@@ -2,7 +2,7 @@
 
 use crate::Digest;
 use crate::error::error_texts;
-use crate::told::{Told, reply, unexpected_kind};
+use crate::raw::{RawTagged, reply, unexpected_kind};
 
 /// The reply to [`Session::write`](crate::Session::write).
 ///
@@ -136,15 +136,15 @@ impl Status {
 
 impl WriteReply {
     #[inline]
-    pub(crate) fn of(told: &Told) -> WriteReply {
-        let garbage_round = told.number;
-        match told.kind {
+    pub(crate) fn of(raw: &RawTagged) -> WriteReply {
+        let garbage_round = raw.number;
+        match raw.kind {
             reply::STORED_VOTE => WriteReply::Stored { vote: true },
             reply::STORED => WriteReply::Stored { vote: false },
             reply::HELD => WriteReply::Held,
             reply::CLASH => WriteReply::Clash,
             reply::MISFIT => WriteReply::Misfit,
-            reply::EQUIVOCATES => WriteReply::Equivocates(told.digest),
+            reply::EQUIVOCATES => WriteReply::Equivocates(raw.digest),
             reply::COLLECTED => WriteReply::Collected { garbage_round },
             reply::TOO_FAR => WriteReply::TooFar,
             reply::FULL => WriteReply::Full,
@@ -155,13 +155,13 @@ impl WriteReply {
 
 impl CertifyReply {
     #[inline]
-    pub(crate) fn of(told: &Told) -> CertifyReply {
-        let garbage_round = told.number;
-        match told.kind {
+    pub(crate) fn of(raw: &RawTagged) -> CertifyReply {
+        let garbage_round = raw.number;
+        match raw.kind {
             reply::CERTIFIED => CertifyReply::Certified,
             reply::ALREADY => CertifyReply::Already,
             reply::MISFIT => CertifyReply::Misfit,
-            reply::CONFLICT => CertifyReply::Conflict(told.digest),
+            reply::CONFLICT => CertifyReply::Conflict(raw.digest),
             reply::COLLECTED => CertifyReply::Collected { garbage_round },
             reply::TOO_FAR => CertifyReply::TooFar,
             reply::FULL => CertifyReply::Full,
@@ -171,13 +171,13 @@ impl CertifyReply {
 }
 
 impl CollectReply {
-    pub(crate) fn of(told: &Told) -> CollectReply {
-        match told.kind {
+    pub(crate) fn of(raw: &RawTagged) -> CollectReply {
+        match raw.kind {
             reply::RAISED => CollectReply::Raised {
-                dropped: told.number,
+                dropped: raw.number,
             },
             reply::NOT_HIGHER => CollectReply::NotHigher {
-                garbage_round: told.number,
+                garbage_round: raw.number,
             },
             other => unexpected_kind(other),
         }
@@ -185,8 +185,8 @@ impl CollectReply {
 }
 
 impl CausalFault {
-    pub(crate) fn of(told: &Told) -> CausalFault {
-        match told.kind {
+    pub(crate) fn of(raw: &RawTagged) -> CausalFault {
+        match raw.kind {
             reply::UNKNOWN => CausalFault::Unknown,
             reply::UNCERTIFIED => CausalFault::Uncertified,
             reply::INCOMPLETE => CausalFault::Incomplete,

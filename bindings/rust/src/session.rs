@@ -4,9 +4,9 @@ use crate::answer::Answer;
 use crate::block::Source;
 use crate::code::Code;
 use crate::ffi::{self, Handle};
+use crate::raw::{reply, tagged};
 use crate::room::Room;
 use crate::store::Inner;
-use crate::told::{reply, told};
 use crate::{Block, Causal, CertifyReply, CheckedBlock, CheckedCertificate, CollectReply, Digest};
 use crate::{Slot, Status, StepError, WriteReply};
 use std::fmt;
@@ -81,7 +81,7 @@ impl Session {
     pub fn write(&self, block: &CheckedBlock) -> Result<Answer<WriteReply>, StepError> {
         let answer = self.hand_in(&mut block.handle.borrow_mut())?;
         Ok(Answer::new(answer, |answer, _| {
-            WriteReply::of(&told(answer))
+            WriteReply::of(&tagged(answer))
         }))
     }
 
@@ -100,7 +100,7 @@ impl Session {
     ) -> Result<Answer<CertifyReply>, StepError> {
         let answer = self.hand_in(&mut certificate.handle.borrow_mut())?;
         Ok(Answer::new(answer, |answer, _| {
-            CertifyReply::of(&told(answer))
+            CertifyReply::of(&tagged(answer))
         }))
     }
 
@@ -190,7 +190,7 @@ impl Session {
             ffi::nw_book_collect(book, session, number, round, answer)
         })?;
         Ok(Answer::new(answer, |answer, _| {
-            CollectReply::of(&told(answer))
+            CollectReply::of(&tagged(answer))
         }))
     }
 
@@ -225,7 +225,7 @@ impl Session {
     /// Writes a block, or hands in a certificate.
     fn hand_in(&self, checked: &mut Handle) -> Result<Room, StepError> {
         self.step(|book, session, number, answer| {
-            ffi::nw_book_take(book, session, number, checked, answer)
+            ffi::nw_book_hand_in(book, session, number, checked, answer)
         })
     }
 
@@ -255,7 +255,7 @@ fn certificate_of(answer: &mut Handle) -> Option<Vec<u8>> {
 
 /// The block that was found. If this is the answer's last use, the block takes the answer.
 fn block_of(answer: &mut Room, is_last: bool) -> Option<Block> {
-    let is_found = told(answer).kind == reply::FOUND;
+    let is_found = tagged(answer).kind == reply::FOUND;
     is_found.then(|| match is_last {
         true => Block::at(Source::Answer(answer.take())),
         false => Block::found(answer),
@@ -264,7 +264,7 @@ fn block_of(answer: &mut Room, is_last: bool) -> Option<Block> {
 
 /// The listed missing parents.
 fn slots_of(answer: &mut Handle) -> Vec<Slot> {
-    let listed = told(answer).number as usize;
+    let listed = tagged(answer).number as usize;
     let slot = |index| {
         let mut slot = Slot::EMPTY;
         ffi::nw_answer_missing(answer, index, &mut slot).or_abort();

@@ -50,7 +50,7 @@ impl Ticket {
     fn about(&self) -> (Digest, u64) {
         let (mut digest, mut floor) = (Digest::ZERO, 0);
         let handle = &mut self.history.room.borrow_mut();
-        ffi::nw_ticket_about(handle, &mut digest, &mut floor).or_abort();
+        ffi::nw_ticket_scope(handle, &mut digest, &mut floor).or_abort();
         (digest, floor)
     }
 
@@ -105,7 +105,7 @@ impl Ticket {
     ///
     /// # Errors
     ///
-    /// - [`AgreeError::Apart`] if the tickets are for two digests, or have two garbage rounds.
+    /// - [`AgreeError::NotComparable`] if the tickets are for two digests, or have two garbage rounds.
     /// - [`AgreeError::NoMemory`] if the library could not allocate memory.
     pub fn agrees(&self, other: &Ticket) -> Result<bool, AgreeError> {
         if ptr::eq(self, other) {
@@ -116,7 +116,7 @@ impl Ticket {
         let mut same = false;
         match ffi::nw_ticket_agree(this, other, &mut same) {
             Code::DONE => Ok(same),
-            Code::APART => Err(AgreeError::Apart),
+            Code::NOT_COMPARABLE => Err(AgreeError::NotComparable),
             other => Err(other.no_memory().into()),
         }
     }
@@ -144,13 +144,13 @@ impl fmt::Debug for Ticket {
 #[non_exhaustive]
 pub enum AgreeError {
     /// The tickets are for two digests, or have two garbage rounds.
-    Apart,
+    NotComparable,
     /// The library could not allocate memory.
     NoMemory,
 }
 
 error_texts!(AgreeError {
-    AgreeError::Apart => "the tickets are for two digests or have two garbage rounds",
+    AgreeError::NotComparable => "the tickets are for two digests or have two garbage rounds",
     AgreeError::NoMemory => "out of memory",
 });
 

@@ -26,9 +26,9 @@ IsSpelledIn (reply.Certificate (Some c)) text = Spells text (messages.Certificat
 IsSpelledIn other text = ⊥
 
 -- it is the answer to a call for a certificate, and the text is the certificate's message
-abbrev pub IsCertificateTold : Content → List ℕ → Type 0
-IsCertificateTold (kind.Answer told) text = IsSpelledIn told.event.reply text
-IsCertificateTold other text = ⊥
+abbrev pub EncodesCertificate : Content → List ℕ → Type 0
+EncodesCertificate (kind.Answer told) text = IsSpelledIn told.event.reply text
+EncodesCertificate other text = ⊥
 
 -- the option has a missing parent, and it has this slot
 abbrev pub IsSlotOf : Option Wanted → CSlot → Type 0
@@ -50,9 +50,9 @@ abbrev pub counts_of : CStatus → Counts
 counts_of s = record { floor = s.floor; blocks = s.blocks; certificates = s.certificates; complete = s.complete; wanted = s.wanted }
 
 -- it is the answer to a call for the status, with these counts
-abbrev pub IsStatusTold : Content → CStatus → Type 0
-IsStatusTold (kind.Answer told) s = told.event.reply ≡ reply.Status (counts_of s)
-IsStatusTold other s = ⊥
+abbrev pub EncodesStatus : Content → CStatus → Type 0
+EncodesStatus (kind.Answer told) s = told.event.reply ≡ reply.Status (counts_of s)
+EncodesStatus other s = ⊥
 
 -- the reply lists missing parents, and none at the index
 abbrev pub ListsNoneAt : Reply → ℕ → Type 0

@@ -17,9 +17,9 @@ IsCheckOf accepts (kind.Committee members) text (kind.Checked c) = IsChecked acc
 IsCheckOf accepts committee text other = ⊥
 
 -- m is what the checked text is
-abbrev pub IsToldOf : Content → CMessage → Type 0
-IsToldOf (kind.Checked c) m = IsMessageOf c m
-IsToldOf other m = ⊥
+abbrev pub EncodesMessageOf : Content → CMessage → Type 0
+EncodesMessageOf (kind.Checked c) m = IsMessageOf c m
+EncodesMessageOf other m = ⊥
 
 -- it is the checked block
 abbrev pub IsBlockOf : Content → Content → Type 0

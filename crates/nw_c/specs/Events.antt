@@ -6,27 +6,27 @@ use Rattle.nw_model.specs.declared.event.Event.{Event}
 use Rattle.nw_history.specs.Prefix.{IsPrefixOf}
 use Rattle.nw_history.specs.Story.{Story}
 use Rattle.nw_c.specs.Plain.{digest_in}
-use Rattle.nw_c.specs.Replies.{IsToldAs}
-use Rattle.nw_c.specs.declared.plain.CTold.{CTold}
+use Rattle.nw_c.specs.Replies.{EncodesReplyTo}
+use Rattle.nw_c.specs.declared.plain.CTagged.{CTagged}
 use Rattle.nw_c.specs.declared.events.CEvent.{CEvent}
 use Rattle.nw_c.specs.declared.events.TheConstants.{CALL_WRITE, CALL_CERTIFY, CALL_CERTIFICATE, CALL_READ, CALL_CAUSAL, CALL_COLLECT, CALL_MISSING, CALL_STATUS}
 use Rattle.nw_c.specs.declared.content.Content.{Content}
 use Rattle.nw_c.specs.declared.content.Content.TheVariants as kind
 
 -- t has the kind of the call, and its digest or number if it has one
-abbrev pub IsCallTold : Call → CTold → Type 0
-IsCallTold (call.Write d b) t = (t.kind ≡ CALL_WRITE) × (digest_in t.digest ≡ d)
-IsCallTold (call.Certify c) t = (t.kind ≡ CALL_CERTIFY) × (digest_in t.digest ≡ c.digest)
-IsCallTold (call.Certificate d) t = (t.kind ≡ CALL_CERTIFICATE) × (digest_in t.digest ≡ d)
-IsCallTold (call.Read d) t = (t.kind ≡ CALL_READ) × (digest_in t.digest ≡ d)
-IsCallTold (call.Causal d) t = (t.kind ≡ CALL_CAUSAL) × (digest_in t.digest ≡ d)
-IsCallTold (call.Collect round) t = (t.kind ≡ CALL_COLLECT) × (t.number ≡ round)
-IsCallTold (call.Missing most) t = (t.kind ≡ CALL_MISSING) × (t.number ≡ most)
-IsCallTold call.Status t = t.kind ≡ CALL_STATUS
+abbrev pub EncodesCall : Call → CTagged → Type 0
+EncodesCall (call.Write d b) t = (t.kind ≡ CALL_WRITE) × (digest_in t.digest ≡ d)
+EncodesCall (call.Certify c) t = (t.kind ≡ CALL_CERTIFY) × (digest_in t.digest ≡ c.digest)
+EncodesCall (call.Certificate d) t = (t.kind ≡ CALL_CERTIFICATE) × (digest_in t.digest ≡ d)
+EncodesCall (call.Read d) t = (t.kind ≡ CALL_READ) × (digest_in t.digest ≡ d)
+EncodesCall (call.Causal d) t = (t.kind ≡ CALL_CAUSAL) × (digest_in t.digest ≡ d)
+EncodesCall (call.Collect round) t = (t.kind ≡ CALL_COLLECT) × (t.number ≡ round)
+EncodesCall (call.Missing most) t = (t.kind ≡ CALL_MISSING) × (t.number ≡ most)
+EncodesCall call.Status t = t.kind ≡ CALL_STATUS
 
 -- t is the event: its session, its number, its call and its reply
-abbrev pub IsEventTold : Event → CEvent → Type 0
-IsEventTold e t = (t.session ≡ e.session) × (t.number ≡ e.number) × IsCallTold e.call t.call × IsToldAs e.reply t.reply
+abbrev pub EncodesEvent : Event → CEvent → Type 0
+EncodesEvent e t = (t.session ≡ e.session) × (t.number ≡ e.number) × EncodesCall e.call t.call × EncodesReplyTo e.reply t.reply
 
 -- the history of an answer or a ticket
 abbrev pub front_in : Content → Option Story
@@ -40,13 +40,13 @@ HasLength (Some s) n = n ≡ length s.events
 HasLength None n = ⊥
 
 -- there is an event, and t is that event
-abbrev pub IsSomeTold : Option Event → CEvent → Type 0
-IsSomeTold (Some e) t = IsEventTold e t
-IsSomeTold None t = ⊥
+abbrev pub EncodesSomeEvent : Option Event → CEvent → Type 0
+EncodesSomeEvent (Some e) t = EncodesEvent e t
+EncodesSomeEvent None t = ⊥
 
 -- there is a history, and t is its event at the index
 abbrev pub HasEventAt : Option Story → ℕ → CEvent → Type 0
-HasEventAt (Some s) index t = IsSomeTold (slice_get s.events index) t
+HasEventAt (Some s) index t = EncodesSomeEvent (slice_get s.events index) t
 HasEventAt None index t = ⊥
 
 -- there are two histories, and b says whether the first begins the second

@@ -16,8 +16,8 @@ use Rattle.nw_c.specs.declared.content.Content.TheVariants as kind
 use Rattle.nw_c.specs.declared.handle.Handle.{Handle}
 
 -- the handle is as open as before, and has the same content
-abbrev pub IsAsBefore : Handle → Handle → Type 0
-IsAsBefore old new = (new.held ≡ old.held) × (new.value ≡ old.value)
+abbrev pub IsUnchanged : Handle → Handle → Type 0
+IsUnchanged old new = (new.held ≡ old.held) × (new.value ≡ old.value)
 
 -- it is a committee
 abbrev pub HoldsCommittee : Content → Type 0

@@ -7,7 +7,7 @@ use Rattle.nw_history.specs.Story.{bounds_of, state_of}
 use Rattle.nw_book.specs.Ticket.{TicketView, HaveOneList}
 use Rattle.nw_c.specs.Plain.{digest_in}
 use Rattle.nw_c.specs.declared.plain.CDigest.{CDigest}
-use Rattle.nw_c.specs.declared.codes.TheConstants.{APART, CLOSED, OTHER_KIND}
+use Rattle.nw_c.specs.declared.codes.TheConstants.{NOT_COMPARABLE, CLOSED, OTHER_KIND}
 use Rattle.nw_c.specs.declared.content.Content.{Content}
 use Rattle.nw_c.specs.declared.content.Content.TheVariants as kind
 
@@ -37,8 +37,8 @@ pub record IsWhyApart (one other : TicketView) (code : ℤ) : Type 0 where
   pub not_closed : code ≡ CLOSED → ⊥
   -- it is not that of another kind of content
   pub not_other_kind : code ≡ OTHER_KIND → ⊥
-  -- it is APART only if the tickets have different digests or garbage rounds
-  pub apart : code ≡ APART → DifferInScope one other
+  -- it is NOT_COMPARABLE only if the tickets have different digests or garbage rounds
+  pub apart : code ≡ NOT_COMPARABLE → DifferInScope one other
 
 -- both are tickets, with different digests or different garbage rounds
 abbrev pub AreApart : Content → Content → Type 0

@@ -1,8 +1,8 @@
 //! The replies that answers have: blocks, certificates, missing parents and counts.
 ghost use Rattle.std.specs.Prelude.{◌≡◌, ◌<◌, pos, take, true, length, None};
 ghost use Rattle.nw_model.specs.declared.reply.Reply.TheVariants as Reply;
-ghost use Rattle.nw_c.specs.Answers.{AnswersCertificate, AnswersMissing, AnswersOverLimit, AnswersRead, AnswersStatus, HasNoMissingAt, HasReply, IsCertificateTold, FindsBlock, IsMissingAt, IsStatusTold};
-ghost use Rattle.nw_c.specs.Kinds.{IsAsBefore};
+ghost use Rattle.nw_c.specs.Answers.{AnswersCertificate, AnswersMissing, AnswersOverLimit, AnswersRead, AnswersStatus, HasNoMissingAt, HasReply, EncodesCertificate, FindsBlock, IsMissingAt, EncodesStatus};
+ghost use Rattle.nw_c.specs.Kinds.{IsUnchanged};
 ghost use Rattle.nw_c.specs.declared.codes.TheConstants.{ABSENT, CLOSED, OPEN, OTHER_KIND, OVER_LIMIT, SMALL};
 
 use crate::codes::{ABSENT, CLOSED, DONE, NO_MEMORY, OPEN, OTHER_KIND};
@@ -28,7 +28,7 @@ pub struct CStatus {
 /// be used again: a new answer replaces the old one. A refused call leaves the old one in place.
 #[unsafe(no_mangle)]
 pub extern "C" fn nw_answer_new(alloc: Global, out: &mut AnswerHandle) -> i32
-    ensures unchanged { (result ≡ pos 0 → ⊥) → IsAsBefore out.old out.new }
+    ensures unchanged { (result ≡ pos 0 → ⊥) → IsUnchanged out.old out.new }
     ensures opened { result ≡ pos 0 → out.new.held ≡ true }
     ensures occupied { result ≡ OPEN → out.old.held ≡ true }
 {
@@ -47,8 +47,8 @@ pub extern "C" fn nw_answer_block(
     out: &mut BlockHandle,
 ) -> i32
     ensures found { result ≡ pos 0 → FindsBlock answer.old.value out.new.value }
-    ensures same { IsAsBefore answer.old answer.new }
-    ensures unchanged { (result ≡ pos 0 → ⊥) → IsAsBefore out.old out.new }
+    ensures same { IsUnchanged answer.old answer.new }
+    ensures unchanged { (result ≡ pos 0 → ⊥) → IsUnchanged out.old out.new }
     ensures opened { result ≡ pos 0 → out.new.held ≡ true }
     ensures occupied { result ≡ OPEN → out.old.held ≡ true }
     ensures closed { result ≡ CLOSED → answer.old.held ≡ true → ⊥ }
@@ -84,8 +84,8 @@ pub extern "C" fn nw_answer_message(
     needed: &mut usize,
 ) -> i32
     ensures certificate { result ≡ pos 0
-        → IsCertificateTold answer.old.value (take needed.new buffer.new) }
-    ensures same { IsAsBefore answer.old answer.new }
+        → EncodesCertificate answer.old.value (take needed.new buffer.new) }
+    ensures same { IsUnchanged answer.old answer.new }
     ensures closed { result ≡ CLOSED → answer.old.held ≡ true → ⊥ }
     ensures other_kind { result ≡ OTHER_KIND → AnswersCertificate answer.old.value → ⊥ }
     ensures absent { result ≡ ABSENT → HasReply answer.old.value (Reply.Certificate None) }
@@ -114,7 +114,7 @@ pub extern "C" fn nw_answer_message(
 #[unsafe(no_mangle)]
 pub extern "C" fn nw_answer_missing(answer: &mut AnswerHandle, index: usize, out: &mut CSlot) -> i32
     ensures missing { result ≡ pos 0 → IsMissingAt answer.old.value index out.new }
-    ensures same { IsAsBefore answer.old answer.new }
+    ensures same { IsUnchanged answer.old answer.new }
     ensures closed { result ≡ CLOSED → answer.old.held ≡ true → ⊥ }
     ensures other_kind { result ≡ OTHER_KIND → AnswersMissing answer.old.value → ⊥ }
     ensures absent { result ≡ ABSENT → HasNoMissingAt answer.old.value index }
@@ -140,8 +140,8 @@ pub extern "C" fn nw_answer_missing(answer: &mut AnswerHandle, index: usize, out
 /// Writes the counts of a call for the status. Returns `NW_OTHER_KIND` if the answer is to another call.
 #[unsafe(no_mangle)]
 pub extern "C" fn nw_answer_status(answer: &mut AnswerHandle, out: &mut CStatus) -> i32
-    ensures status { result ≡ pos 0 → IsStatusTold answer.old.value out.new }
-    ensures same { IsAsBefore answer.old answer.new }
+    ensures status { result ≡ pos 0 → EncodesStatus answer.old.value out.new }
+    ensures same { IsUnchanged answer.old answer.new }
     ensures closed { result ≡ CLOSED → answer.old.held ≡ true → ⊥ }
     ensures other_kind { result ≡ OTHER_KIND → AnswersStatus answer.old.value → ⊥ }
 {

@@ -2,7 +2,7 @@
 ghost use Rattle.std.specs.Prelude.{◌≡◌, ◌<◌, pos, take, slice_get, true, length};
 ghost use Rattle.std.specs.Option.{option_copied};
 ghost use Rattle.nw_c.specs.Blocks.{HasBody, HasCounts, HasMessage, HasNoParentAt, HasNoTransactionAt, HasParentAt, HasSlot, HasTransaction, IsBlockOverLimit};
-ghost use Rattle.nw_c.specs.Kinds.{IsAsBefore, HoldsBlock};
+ghost use Rattle.nw_c.specs.Kinds.{IsUnchanged, HoldsBlock};
 ghost use Rattle.nw_c.specs.declared.codes.TheConstants.{ABSENT, CLOSED, OTHER_KIND, OVER_LIMIT, SMALL};
 
 use crate::codes::{ABSENT, CLOSED, DONE, OTHER_KIND, OVER_LIMIT};
@@ -28,7 +28,7 @@ pub struct CParent {
 #[unsafe(no_mangle)]
 pub extern "C" fn nw_block_slot(block: &mut BlockHandle, out: &mut CSlot) -> i32
     ensures slot { result ≡ pos 0 → HasSlot block.old.value out.new }
-    ensures same { IsAsBefore block.old block.new }
+    ensures same { IsUnchanged block.old block.new }
     ensures closed { result ≡ CLOSED → block.old.held ≡ true → ⊥ }
     ensures other_kind { result ≡ OTHER_KIND → HoldsBlock block.old.value → ⊥ }
     ensures over_limit { result ≡ OVER_LIMIT → IsBlockOverLimit block.old.value }
@@ -55,7 +55,7 @@ pub extern "C" fn nw_block_counts(
     transactions: &mut usize,
 ) -> i32
     ensures counts { result ≡ pos 0 → HasCounts block.old.value parents.new transactions.new }
-    ensures same { IsAsBefore block.old block.new }
+    ensures same { IsUnchanged block.old block.new }
     ensures closed { result ≡ CLOSED → block.old.held ≡ true → ⊥ }
     ensures other_kind { result ≡ OTHER_KIND → HoldsBlock block.old.value → ⊥ }
 {
@@ -76,7 +76,7 @@ pub extern "C" fn nw_block_counts(
 #[unsafe(no_mangle)]
 pub extern "C" fn nw_block_parent(block: &mut BlockHandle, index: usize, out: &mut CParent) -> i32
     ensures parent { result ≡ pos 0 → HasParentAt block.old.value index out.new }
-    ensures same { IsAsBefore block.old block.new }
+    ensures same { IsUnchanged block.old block.new }
     ensures closed { result ≡ CLOSED → block.old.held ≡ true → ⊥ }
     ensures other_kind { result ≡ OTHER_KIND → HoldsBlock block.old.value → ⊥ }
     ensures absent { result ≡ ABSENT → HasNoParentAt block.old.value index }
@@ -123,7 +123,7 @@ pub extern "C" fn nw_block_transaction(
     needed: &mut usize,
 ) -> i32
     ensures transaction { result ≡ pos 0 → HasTransaction block.old.value index (take needed.new buffer.new) }
-    ensures same { IsAsBefore block.old block.new }
+    ensures same { IsUnchanged block.old block.new }
     ensures closed { result ≡ CLOSED → block.old.held ≡ true → ⊥ }
     ensures other_kind { result ≡ OTHER_KIND → HoldsBlock block.old.value → ⊥ }
     ensures absent { result ≡ ABSENT → HasNoTransactionAt block.old.value index }
@@ -152,7 +152,7 @@ pub extern "C" fn nw_block_body(
     needed: &mut usize,
 ) -> i32
     ensures body { result ≡ pos 0 → HasBody block.old.value (take needed.new buffer.new) }
-    ensures same { IsAsBefore block.old block.new }
+    ensures same { IsUnchanged block.old block.new }
     ensures closed { result ≡ CLOSED → block.old.held ≡ true → ⊥ }
     ensures other_kind { result ≡ OTHER_KIND → HoldsBlock block.old.value → ⊥ }
     ensures over_limit { result ≡ OVER_LIMIT → IsBlockOverLimit block.old.value }
@@ -182,7 +182,7 @@ pub extern "C" fn nw_block_message(
     needed: &mut usize,
 ) -> i32
     ensures message { result ≡ pos 0 → HasMessage block.old.value signature.now (take needed.new buffer.new) }
-    ensures same { IsAsBefore block.old block.new }
+    ensures same { IsUnchanged block.old block.new }
     ensures closed { result ≡ CLOSED → block.old.held ≡ true → ⊥ }
     ensures other_kind { result ≡ OTHER_KIND → HoldsBlock block.old.value → ⊥ }
     ensures over_limit { result ≡ OVER_LIMIT → IsBlockOverLimit block.old.value }

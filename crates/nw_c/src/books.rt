@@ -6,7 +6,7 @@ ghost use Rattle.nw_book.specs.declared.error.NoStep.{NoStep as Refusal};
 ghost use Rattle.nw_history.specs.Limits.{AreInRange};
 ghost use Rattle.nw_c.specs.Books.{HasEvents, IsEmptyBook, IsRefusedBy, IsRestarted, IsTaken, limits_in};
 ghost use Rattle.nw_c.specs.Codes.{step_code};
-ghost use Rattle.nw_c.specs.Kinds.{IsAsBefore, HoldsBook, HoldsCommittee, HoldsRoom};
+ghost use Rattle.nw_c.specs.Kinds.{IsUnchanged, HoldsBook, HoldsCommittee, HoldsRoom};
 ghost use Rattle.nw_c.specs.declared.codes.TheConstants.{BAD_LIMITS, BAD_ROUND, CLOSED, OPEN, OTHER_KIND};
 
 use crate::codes::{BAD_LIMITS, CLOSED, DONE, NO_MEMORY, OPEN, OTHER_KIND, code_of_step};
@@ -53,8 +53,8 @@ pub extern "C" fn nw_book_new(
     out: &mut BookHandle,
 ) -> i32
     ensures made { result ≡ pos 0 → IsEmptyBook committee.old.value limits.now out.new.value }
-    ensures same { IsAsBefore committee.old committee.new }
-    ensures unchanged { (result ≡ pos 0 → ⊥) → IsAsBefore out.old out.new }
+    ensures same { IsUnchanged committee.old committee.new }
+    ensures unchanged { (result ≡ pos 0 → ⊥) → IsUnchanged out.old out.new }
     ensures opened { result ≡ pos 0 → out.new.held ≡ true }
     ensures occupied { result ≡ OPEN → out.old.held ≡ true }
     ensures closed { result ≡ CLOSED → committee.old.held ≡ true → ⊥ }
@@ -84,7 +84,7 @@ pub extern "C" fn nw_book_new(
 #[unsafe(no_mangle)]
 pub extern "C" fn nw_book_events(book: &mut BookHandle, out: &mut usize) -> i32
     ensures events { result ≡ pos 0 → HasEvents book.old.value out.new }
-    ensures same { IsAsBefore book.old book.new }
+    ensures same { IsUnchanged book.old book.new }
     ensures closed { result ≡ CLOSED → book.old.held ≡ true → ⊥ }
     ensures other_kind { result ≡ OTHER_KIND → HoldsBook book.old.value → ⊥ }
 {
@@ -123,8 +123,8 @@ pub(crate) fn take(
         book.old.value book.new.value answer.new.value }
     ensures refused { (why : Refusal) → result ≡ step_code why
         → IsRefusedBy book.old.value session number (committee_of command.now) why }
-    ensures unchanged { (result ≡ pos 0 → ⊥) → IsAsBefore book.old book.new }
-    ensures answer { (result ≡ pos 0 → ⊥) → IsAsBefore answer.old answer.new }
+    ensures unchanged { (result ≡ pos 0 → ⊥) → IsUnchanged book.old book.new }
+    ensures answer { (result ≡ pos 0 → ⊥) → IsUnchanged answer.old answer.new }
     ensures stays { book.new.held ≡ book.old.held }
     ensures answer_stays { answer.new.held ≡ answer.old.held }
     ensures closed { result ≡ CLOSED → book.old.held ≡ true → answer.old.held ≡ true → ⊥ }
@@ -152,7 +152,7 @@ pub(crate) fn take(
 /// Rebuilds the tables that later tickets share, without the blocks of collected rounds. It changes nothing that a call can observe.
 #[unsafe(no_mangle)]
 pub extern "C" fn nw_book_compact(alloc: Global, book: &mut BookHandle) -> i32
-    ensures same { IsAsBefore book.old book.new }
+    ensures same { IsUnchanged book.old book.new }
     ensures closed { result ≡ CLOSED → book.old.held ≡ true → ⊥ }
     ensures other_kind { result ≡ OTHER_KIND → HoldsBook book.old.value → ⊥ }
 {
@@ -173,7 +173,7 @@ pub extern "C" fn nw_book_compact(alloc: Global, book: &mut BookHandle) -> i32
 #[unsafe(no_mangle)]
 pub extern "C" fn nw_book_restart(alloc: Global, book: &mut BookHandle) -> i32
     ensures restarted { result ≡ pos 0 → IsRestarted book.old.value book.new.value }
-    ensures unchanged { (result ≡ pos 0 → ⊥) → IsAsBefore book.old book.new }
+    ensures unchanged { (result ≡ pos 0 → ⊥) → IsUnchanged book.old book.new }
     ensures stays { book.new.held ≡ book.old.held }
     ensures closed { result ≡ CLOSED → book.old.held ≡ true → ⊥ }
     ensures other_kind { result ≡ OTHER_KIND → HoldsBook book.old.value → ⊥ }

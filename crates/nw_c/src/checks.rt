@@ -1,8 +1,8 @@
 //! Decoding and checking texts.
 ghost use Rattle.std.specs.Prelude.{◌≡◌, ◌⊎◌, ◌<◌, pos, take, true, length};
 ghost use Rattle.nw_ed25519.specs.Accepts.{accepts};
-ghost use Rattle.nw_c.specs.Checks.{IsBlockOf, IsCheckOf, IsCertificateOverLimit, IsSpelledBy, IsToldOf};
-ghost use Rattle.nw_c.specs.Kinds.{IsAsBefore, HoldsChecked, HoldsCheckedBlock, HoldsCheckedCert, HoldsCommittee, HoldsVote};
+ghost use Rattle.nw_c.specs.Checks.{IsBlockOf, IsCheckOf, IsCertificateOverLimit, IsSpelledBy, EncodesMessageOf};
+ghost use Rattle.nw_c.specs.Kinds.{IsUnchanged, HoldsChecked, HoldsCheckedBlock, HoldsCheckedCert, HoldsCommittee, HoldsVote};
 ghost use Rattle.nw_c.specs.declared.codes.TheConstants.{CLOSED, OPEN, OTHER_KIND, OVER_LIMIT, SMALL};
 
 use crate::codes::{CLOSED, DONE, NO_MEMORY, OPEN, OTHER_KIND};
@@ -16,7 +16,7 @@ use nw_ed25519::Ed25519;
 use std::alloc::Global;
 
 /// Decodes the text and checks its message under the committee. It also returns `NW_DONE` for a text that is not a message, and for a block
-/// or certificate that breaks a rule. `nw_checked_told` says what the text is.
+/// or certificate that breaks a rule. `nw_checked_kind` says what the text is.
 #[unsafe(no_mangle)]
 pub extern "C" fn nw_check(
     alloc: Global,
@@ -25,8 +25,8 @@ pub extern "C" fn nw_check(
     out: &mut CheckedHandle,
 ) -> i32
     ensures checked { result ≡ pos 0 → IsCheckOf accepts committee.old.value text.now out.new.value }
-    ensures same { IsAsBefore committee.old committee.new }
-    ensures unchanged { (result ≡ pos 0 → ⊥) → IsAsBefore out.old out.new }
+    ensures same { IsUnchanged committee.old committee.new }
+    ensures unchanged { (result ≡ pos 0 → ⊥) → IsUnchanged out.old out.new }
     ensures opened { result ≡ pos 0 → out.new.held ≡ true }
     ensures occupied { result ≡ OPEN → out.old.held ≡ true }
     ensures closed { result ≡ CLOSED → committee.old.held ≡ true → ⊥ }
@@ -49,9 +49,9 @@ pub extern "C" fn nw_check(
 
 /// Writes what the checked text is: a block, a certificate, a vote, or the first rule that it breaks.
 #[unsafe(no_mangle)]
-pub extern "C" fn nw_checked_told(checked: &mut CheckedHandle, out: &mut CMessage) -> i32
-    ensures told { result ≡ pos 0 → IsToldOf checked.old.value out.new }
-    ensures same { IsAsBefore checked.old checked.new }
+pub extern "C" fn nw_checked_kind(checked: &mut CheckedHandle, out: &mut CMessage) -> i32
+    ensures told { result ≡ pos 0 → EncodesMessageOf checked.old.value out.new }
+    ensures same { IsUnchanged checked.old checked.new }
     ensures closed { result ≡ CLOSED → checked.old.held ≡ true → ⊥ }
     ensures other_kind { result ≡ OTHER_KIND → HoldsChecked checked.old.value → ⊥ }
 {
@@ -75,8 +75,8 @@ pub extern "C" fn nw_checked_block(
     out: &mut BlockHandle,
 ) -> i32
     ensures block { result ≡ pos 0 → IsBlockOf checked.old.value out.new.value }
-    ensures same { IsAsBefore checked.old checked.new }
-    ensures unchanged { (result ≡ pos 0 → ⊥) → IsAsBefore out.old out.new }
+    ensures same { IsUnchanged checked.old checked.new }
+    ensures unchanged { (result ≡ pos 0 → ⊥) → IsUnchanged out.old out.new }
     ensures opened { result ≡ pos 0 → out.new.held ≡ true }
     ensures occupied { result ≡ OPEN → out.old.held ≡ true }
     ensures closed { result ≡ CLOSED → checked.old.held ≡ true → ⊥ }
@@ -107,7 +107,7 @@ pub extern "C" fn nw_checked_message(
     needed: &mut usize,
 ) -> i32
     ensures message { result ≡ pos 0 → IsSpelledBy checked.old.value (take needed.new buffer.new) }
-    ensures same { IsAsBefore checked.old checked.new }
+    ensures same { IsUnchanged checked.old checked.new }
     ensures closed { result ≡ CLOSED → checked.old.held ≡ true → ⊥ }
     ensures other_kind { result ≡ OTHER_KIND → (HoldsCheckedCert checked.old.value ⊎ HoldsVote checked.old.value) → ⊥ }
     ensures over_limit { result ≡ OVER_LIMIT → IsCertificateOverLimit checked.old.value }

@@ -45,7 +45,7 @@ pub(crate) const BAD_SIGNATURE: i32 = 17;
 /// The counted votes do not reach the quorum.
 pub(crate) const FEW_VOTES: i32 = 18;
 /// The two tickets have different digests or garbage rounds, so their lists cannot be compared.
-pub(crate) const APART: i32 = 19;
+pub(crate) const NOT_COMPARABLE: i32 = 19;
 
 /// The code of a refused step.
 pub(crate) fn code_of_step(why: NoStep) -> i32

@@ -2,7 +2,7 @@
 ghost use Rattle.std.specs.Prelude.{◌≡◌, pos, map, IfOk, IfErr, true};
 ghost use Rattle.nw_committee.specs.Committee.{IsCommittee as IsValid};
 ghost use Rattle.nw_c.specs.Committees.{AreOneCommittee, HasMember, HasQuorum, HasSize, IsCommitteeOf, LacksMember, member_in};
-ghost use Rattle.nw_c.specs.Kinds.{IsAsBefore, HoldsCommittee};
+ghost use Rattle.nw_c.specs.Kinds.{IsUnchanged, HoldsCommittee};
 ghost use Rattle.nw_c.specs.declared.codes.TheConstants.{ABSENT, BAD_COMMITTEE, CLOSED, OPEN, OTHER_KIND};
 
 use crate::codes::{ABSENT, BAD_COMMITTEE, CLOSED, DONE, NO_MEMORY, OPEN, OTHER_KIND};
@@ -63,7 +63,7 @@ pub extern "C" fn nw_committee_new(
     out: &mut CommitteeHandle,
 ) -> i32
     ensures made { result ≡ pos 0 → IsCommitteeOf members.now out.new.value }
-    ensures unchanged { (result ≡ pos 0 → ⊥) → IsAsBefore out.old out.new }
+    ensures unchanged { (result ≡ pos 0 → ⊥) → IsUnchanged out.old out.new }
     ensures opened { result ≡ pos 0 → out.new.held ≡ true }
     ensures occupied { result ≡ OPEN → out.old.held ≡ true }
     ensures bad_committee { result ≡ BAD_COMMITTEE → IsValid (map member_in members.now) → ⊥ }
@@ -85,8 +85,8 @@ pub extern "C" fn nw_committee_share(
     out: &mut CommitteeHandle,
 ) -> i32
     ensures shared { result ≡ pos 0 → AreOneCommittee committee.old.value out.new.value }
-    ensures same { IsAsBefore committee.old committee.new }
-    ensures unchanged { (result ≡ pos 0 → ⊥) → IsAsBefore out.old out.new }
+    ensures same { IsUnchanged committee.old committee.new }
+    ensures unchanged { (result ≡ pos 0 → ⊥) → IsUnchanged out.old out.new }
     ensures opened { result ≡ pos 0 → out.new.held ≡ true }
     ensures occupied { result ≡ OPEN → out.old.held ≡ true }
     ensures closed { result ≡ CLOSED → committee.old.held ≡ true → ⊥ }
@@ -111,7 +111,7 @@ pub extern "C" fn nw_committee_share(
 #[unsafe(no_mangle)]
 pub extern "C" fn nw_committee_size(committee: &mut CommitteeHandle, out: &mut usize) -> i32
     ensures size { result ≡ pos 0 → HasSize committee.old.value out.new }
-    ensures same { IsAsBefore committee.old committee.new }
+    ensures same { IsUnchanged committee.old committee.new }
     ensures closed { result ≡ CLOSED → committee.old.held ≡ true → ⊥ }
     ensures other_kind { result ≡ OTHER_KIND → HoldsCommittee committee.old.value → ⊥ }
 {
@@ -135,7 +135,7 @@ pub extern "C" fn nw_committee_member(
     out: &mut CMember,
 ) -> i32
     ensures member { result ≡ pos 0 → HasMember committee.old.value number out.new }
-    ensures same { IsAsBefore committee.old committee.new }
+    ensures same { IsUnchanged committee.old committee.new }
     ensures closed { result ≡ CLOSED → committee.old.held ≡ true → ⊥ }
     ensures other_kind { result ≡ OTHER_KIND → HoldsCommittee committee.old.value → ⊥ }
     ensures absent { result ≡ ABSENT → LacksMember committee.old.value number }
@@ -159,7 +159,7 @@ pub extern "C" fn nw_committee_member(
 #[unsafe(no_mangle)]
 pub extern "C" fn nw_committee_quorum(committee: &mut CommitteeHandle, out: &mut u32) -> i32
     ensures quorum { result ≡ pos 0 → HasQuorum committee.old.value out.new }
-    ensures same { IsAsBefore committee.old committee.new }
+    ensures same { IsUnchanged committee.old committee.new }
     ensures closed { result ≡ CLOSED → committee.old.held ≡ true → ⊥ }
     ensures other_kind { result ≡ OTHER_KIND → HoldsCommittee committee.old.value → ⊥ }
 {

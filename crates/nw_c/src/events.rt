@@ -1,14 +1,14 @@
 //! The histories of answers and tickets, and their events.
 ghost use Rattle.std.specs.Prelude.{◌≡◌, pos, true};
 ghost use Rattle.std.specs.Option.{option_copied};
-ghost use Rattle.nw_c.specs.Events.{ComparesHistories, HasEventAt, HasLength, HasNoEventAt, IsCallTold, IsEventTold, front_in};
-ghost use Rattle.nw_c.specs.Kinds.{HasHistory, IsAsBefore};
+ghost use Rattle.nw_c.specs.Events.{ComparesHistories, HasEventAt, HasLength, HasNoEventAt, EncodesCall, EncodesEvent, front_in};
+ghost use Rattle.nw_c.specs.Kinds.{HasHistory, IsUnchanged};
 ghost use Rattle.nw_c.specs.declared.codes.TheConstants.{ABSENT, CLOSED, OTHER_KIND};
 
 use crate::codes::{ABSENT, CLOSED, DONE, OTHER_KIND};
 use crate::content::Content;
 use crate::handle::AnswerHandle;
-use crate::plain::{CTold, named, numbered, plain};
+use crate::plain::{CTagged, named, numbered, plain};
 use crate::replies::reply_told;
 use nw_ed25519::Ed25519;
 use nw_history::Front;
@@ -37,13 +37,13 @@ pub(crate) const CALL_STATUS: i32 = 8;
 pub struct CEvent {
     pub session: u16,
     pub number: u32,
-    pub call: CTold,
-    pub reply: CTold,
+    pub call: CTagged,
+    pub reply: CTagged,
 }
 
 /// The call as C sees it.
-fn call_told(call: &Call) -> CTold
-    ensures { IsCallTold call.now result }
+fn call_told(call: &Call) -> CTagged
+    ensures { EncodesCall call.now result }
 {
     match call {
         Call::Write(digest, _) => named(CALL_WRITE, digest),
@@ -59,7 +59,7 @@ fn call_told(call: &Call) -> CTold
 
 /// The event as C sees it.
 fn event_told(event: &Event) -> CEvent
-    ensures { IsEventTold event.now result }
+    ensures { EncodesEvent event.now result }
 {
     CEvent {
         session: event.session,
@@ -84,7 +84,7 @@ fn front_of(content: &Content) -> Option<&Front<Ed25519>>
 #[unsafe(no_mangle)]
 pub extern "C" fn nw_answer_events(answer: &mut AnswerHandle, out: &mut usize) -> i32
     ensures events { result ≡ pos 0 → HasLength (front_in answer.old.value) out.new }
-    ensures same { IsAsBefore answer.old answer.new }
+    ensures same { IsUnchanged answer.old answer.new }
     ensures closed { result ≡ CLOSED → answer.old.held ≡ true → ⊥ }
     ensures other_kind { result ≡ OTHER_KIND → HasHistory answer.old.value → ⊥ }
 {
@@ -104,7 +104,7 @@ pub extern "C" fn nw_answer_events(answer: &mut AnswerHandle, out: &mut usize) -
 #[unsafe(no_mangle)]
 pub extern "C" fn nw_answer_event(answer: &mut AnswerHandle, index: usize, out: &mut CEvent) -> i32
     ensures event { result ≡ pos 0 → HasEventAt (front_in answer.old.value) index out.new }
-    ensures same { IsAsBefore answer.old answer.new }
+    ensures same { IsUnchanged answer.old answer.new }
     ensures closed { result ≡ CLOSED → answer.old.held ≡ true → ⊥ }
     ensures other_kind { result ≡ OTHER_KIND → HasHistory answer.old.value → ⊥ }
     ensures absent { result ≡ ABSENT → HasNoEventAt (front_in answer.old.value) index }
@@ -134,8 +134,8 @@ pub extern "C" fn nw_answer_begins(
     out: &mut bool,
 ) -> i32
     ensures begins { result ≡ pos 0 → ComparesHistories (front_in answer.old.value) (front_in other.old.value) out.new }
-    ensures same { IsAsBefore answer.old answer.new }
-    ensures other { IsAsBefore other.old other.new }
+    ensures same { IsUnchanged answer.old answer.new }
+    ensures other { IsUnchanged other.old other.new }
     ensures closed { result ≡ CLOSED → answer.old.held ≡ true → other.old.held ≡ true → ⊥ }
     ensures other_kind { result ≡ OTHER_KIND → HasHistory answer.old.value → HasHistory other.old.value → ⊥ }
 {

@@ -4,7 +4,7 @@ ghost use Rattle.nw_ed25519.specs.Accepts.{accepts};
 ghost use Rattle.nw_check.specs.declared.fault.GatherFault.{GatherFault as Fault};
 ghost use Rattle.nw_c.specs.Codes.{gather_code};
 ghost use Rattle.nw_c.specs.Gathers.{HasFewVotes, IsCertificateOf, IsCountedIn, IsNewGather, IsNotCounted, LacksAuthor};
-ghost use Rattle.nw_c.specs.Kinds.{IsAsBefore, HoldsCommittee, HoldsGather, HoldsVote};
+ghost use Rattle.nw_c.specs.Kinds.{IsUnchanged, HoldsCommittee, HoldsGather, HoldsVote};
 ghost use Rattle.nw_c.specs.declared.codes.TheConstants.{BAD_ROUND, CLOSED, FEW_VOTES, NO_MEMBER, OPEN, OTHER_KIND};
 
 use crate::codes::{
@@ -28,8 +28,8 @@ pub extern "C" fn nw_gather_new(
     out: &mut GatherHandle,
 ) -> i32
     ensures new { result ≡ pos 0 → IsNewGather committee.old.value slot.now out.new.value }
-    ensures same { IsAsBefore committee.old committee.new }
-    ensures unchanged { (result ≡ pos 0 → ⊥) → IsAsBefore out.old out.new }
+    ensures same { IsUnchanged committee.old committee.new }
+    ensures unchanged { (result ≡ pos 0 → ⊥) → IsUnchanged out.old out.new }
     ensures opened { result ≡ pos 0 → out.new.held ≡ true }
     ensures occupied { result ≡ OPEN → out.old.held ≡ true }
     ensures closed { result ≡ CLOSED → committee.old.held ≡ true → ⊥ }
@@ -69,8 +69,8 @@ pub extern "C" fn nw_gather_add(
         gather.new.value quorum.new }
     ensures refused { (why : Fault) → result ≡ gather_code why
         → IsNotCounted accepts gather.old.value vote.old.value why }
-    ensures unchanged { (result ≡ pos 0 → ⊥) → IsAsBefore gather.old gather.new }
-    ensures same { IsAsBefore vote.old vote.new }
+    ensures unchanged { (result ≡ pos 0 → ⊥) → IsUnchanged gather.old gather.new }
+    ensures same { IsUnchanged vote.old vote.new }
     ensures stays { gather.new.held ≡ gather.old.held }
     ensures closed { result ≡ CLOSED → gather.old.held ≡ true → vote.old.held ≡ true → ⊥ }
     ensures other_kind { result ≡ OTHER_KIND → HoldsGather gather.old.value → HoldsVote vote.old.value → ⊥ }
@@ -101,8 +101,8 @@ pub extern "C" fn nw_gather_certificate(
     out: &mut CheckedHandle,
 ) -> i32
     ensures certificate { result ≡ pos 0 → IsCertificateOf gather.old.value out.new.value }
-    ensures same { IsAsBefore gather.old gather.new }
-    ensures unchanged { (result ≡ pos 0 → ⊥) → IsAsBefore out.old out.new }
+    ensures same { IsUnchanged gather.old gather.new }
+    ensures unchanged { (result ≡ pos 0 → ⊥) → IsUnchanged out.old out.new }
     ensures opened { result ≡ pos 0 → out.new.held ≡ true }
     ensures occupied { result ≡ OPEN → out.old.held ≡ true }
     ensures closed { result ≡ CLOSED → gather.old.held ≡ true → ⊥ }

@@ -6,7 +6,7 @@ ghost use Rattle.nw_c.specs.declared.content.Content.{Content as Held};
 ghost use Rattle.nw_c.specs.Books.{IsRefusedBy};
 ghost use Rattle.nw_c.specs.Codes.{step_code};
 ghost use Rattle.nw_c.specs.Handed.{IsCommandOf, IsHandedIn, committee_checked_under};
-ghost use Rattle.nw_c.specs.Kinds.{IsAsBefore, HoldsBook, HoldsCheckedBlock, HoldsCheckedCert, HoldsRoom};
+ghost use Rattle.nw_c.specs.Kinds.{IsUnchanged, HoldsBook, HoldsCheckedBlock, HoldsCheckedCert, HoldsRoom};
 ghost use Rattle.nw_c.specs.declared.codes.TheConstants.{CLOSED, OTHER_KIND};
 
 use crate::books::take;
@@ -49,7 +49,7 @@ fn content_of(command: Command<Ed25519>) -> Content
 /// handle of the checked text stays open, and the text may be handed to other books. Returns `NW_OTHER_KIND` if the text is neither a valid
 /// block nor a valid certificate.
 #[unsafe(no_mangle)]
-pub extern "C" fn nw_book_take(
+pub extern "C" fn nw_book_hand_in(
     alloc: Global,
     book: &mut BookHandle,
     session: u16,
@@ -61,9 +61,9 @@ pub extern "C" fn nw_book_take(
         book.old.value book.new.value answer.new.value }
     ensures refused { (why : Refusal) → result ≡ step_code why
         → IsRefusedBy book.old.value session number (committee_checked_under checked.old.value) why }
-    ensures unchanged { (result ≡ pos 0 → ⊥) → IsAsBefore book.old book.new }
-    ensures answer { (result ≡ pos 0 → ⊥) → IsAsBefore answer.old answer.new }
-    ensures same { IsAsBefore checked.old checked.new }
+    ensures unchanged { (result ≡ pos 0 → ⊥) → IsUnchanged book.old book.new }
+    ensures answer { (result ≡ pos 0 → ⊥) → IsUnchanged answer.old answer.new }
+    ensures same { IsUnchanged checked.old checked.new }
     ensures stays { book.new.held ≡ book.old.held }
     ensures answer_stays { answer.new.held ≡ answer.old.held }
     ensures closed { result ≡ CLOSED → book.old.held ≡ true → checked.old.held ≡ true → answer.old.held ≡ true → ⊥ }

@@ -31,7 +31,7 @@ pub struct CSlot {
 /// 0.
 #[repr(C)]
 #[derive(Clone, Copy)]
-pub struct CTold {
+pub struct CTagged {
     pub kind: i32,
     pub number: u64,
     pub digest: CDigest,
@@ -66,18 +66,18 @@ pub(crate) fn slot(digest: Digest, round: Round, author: u16) -> CSlot
 }
 
 /// A call or reply of this kind, with neither a number nor a digest.
-pub(crate) fn plain(kind: i32) -> CTold
+pub(crate) fn plain(kind: i32) -> CTagged
     ensures { result.kind ≡ kind }
 {
     numbered(kind, 0)
 }
 
 /// A call or reply of this kind with a number.
-pub(crate) fn numbered(kind: i32, number: u64) -> CTold
+pub(crate) fn numbered(kind: i32, number: u64) -> CTagged
     ensures kind { result.kind ≡ kind }
     ensures number { result.number ≡ number }
 {
-    CTold {
+    CTagged {
         kind,
         number,
         digest: CDigest { bytes: [0; 32] },
@@ -85,11 +85,11 @@ pub(crate) fn numbered(kind: i32, number: u64) -> CTold
 }
 
 /// A call or reply of this kind with a digest.
-pub(crate) fn named(kind: i32, digest: &Digest) -> CTold
+pub(crate) fn named(kind: i32, digest: &Digest) -> CTagged
     ensures kind { result.kind ≡ kind }
     ensures digest { digest_in result.digest ≡ digest.now }
 {
-    CTold {
+    CTagged {
         kind,
         number: 0,
         digest: CDigest::of(digest),

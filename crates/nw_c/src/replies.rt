@@ -1,14 +1,14 @@
 //! Replies as C sees them.
 ghost use Rattle.std.specs.Prelude.{◌≡◌, pos, true};
 ghost use Rattle.nw_model.specs.declared.reply.Reply.TheVariants as Reply;
-ghost use Rattle.nw_c.specs.Replies.{IsReplyTold, IsToldAs};
-ghost use Rattle.nw_c.specs.Kinds.{HasHistory, IsAsBefore};
+ghost use Rattle.nw_c.specs.Replies.{EncodesReply, EncodesReplyTo};
+ghost use Rattle.nw_c.specs.Kinds.{HasHistory, IsUnchanged};
 ghost use Rattle.nw_c.specs.declared.codes.TheConstants.{CLOSED, OTHER_KIND};
 
 use crate::codes::{CLOSED, DONE, OTHER_KIND};
 use crate::content::Content;
 use crate::handle::AnswerHandle;
-use crate::plain::{CTold, named, numbered, plain};
+use crate::plain::{CTagged, named, numbered, plain};
 use nw_model::{CausalReply, CertifyReply, CollectReply, Reply, WriteReply};
 
 /// Write: the block is now stored, and it is the first of its round and author. Vote for it.
@@ -55,8 +55,8 @@ pub(crate) const MISSING: i32 = 20;
 pub(crate) const STATUS: i32 = 21;
 
 /// The reply to a write as C sees it.
-fn write_told(reply: WriteReply) -> CTold
-    ensures { IsToldAs (Reply.Write reply) result }
+fn write_told(reply: WriteReply) -> CTagged
+    ensures { EncodesReplyTo (Reply.Write reply) result }
 {
     match reply {
         WriteReply::Collected(round) => numbered(COLLECTED, round.get()),
@@ -72,8 +72,8 @@ fn write_told(reply: WriteReply) -> CTold
 }
 
 /// The reply to a certificate as C sees it.
-fn certify_told(reply: CertifyReply) -> CTold
-    ensures { IsToldAs (Reply.Certify reply) result }
+fn certify_told(reply: CertifyReply) -> CTagged
+    ensures { EncodesReplyTo (Reply.Certify reply) result }
 {
     match reply {
         CertifyReply::Collected(round) => numbered(COLLECTED, round.get()),
@@ -87,8 +87,8 @@ fn certify_told(reply: CertifyReply) -> CTold
 }
 
 /// Any reply as C sees it.
-pub(crate) fn reply_told(reply: &Reply) -> CTold
-    ensures { IsToldAs reply.now result }
+pub(crate) fn reply_told(reply: &Reply) -> CTagged
+    ensures { EncodesReplyTo reply.now result }
 {
     match reply {
         Reply::Write(reply) => write_told(*reply),
@@ -108,9 +108,9 @@ pub(crate) fn reply_told(reply: &Reply) -> CTold
 
 /// Writes the reply of the answer. The reply of a ticket is `NW_READY`.
 #[unsafe(no_mangle)]
-pub extern "C" fn nw_answer_reply(answer: &mut AnswerHandle, out: &mut CTold) -> i32
-    ensures reply { result ≡ pos 0 → IsReplyTold answer.old.value out.new }
-    ensures same { IsAsBefore answer.old answer.new }
+pub extern "C" fn nw_answer_reply(answer: &mut AnswerHandle, out: &mut CTagged) -> i32
+    ensures reply { result ≡ pos 0 → EncodesReply answer.old.value out.new }
+    ensures same { IsUnchanged answer.old answer.new }
     ensures closed { result ≡ CLOSED → answer.old.held ≡ true → ⊥ }
     ensures other_kind { result ≡ OTHER_KIND → HasHistory answer.old.value → ⊥ }
 {

@@ -3,10 +3,10 @@ ghost use Rattle.std.specs.Prelude.{◌≡◌, ◌↔◌, pos, IfOk, IfErr, IsTr
 ghost use Rattle.nw_book.specs.Ticket.{HaveOneList};
 ghost use Rattle.nw_c.specs.Tickets.{Agrees, AreApart, HasBlocks, HasNoBlockAt, IsAbout, IsBlockAt, IsWalkOf};
 ghost use Rattle.nw_c.specs.Tickets.{IsWhyApart};
-ghost use Rattle.nw_c.specs.Kinds.{IsAsBefore, HoldsList, HoldsTicket};
-ghost use Rattle.nw_c.specs.declared.codes.TheConstants.{ABSENT, APART, CLOSED, OPEN, OTHER_KIND};
+ghost use Rattle.nw_c.specs.Kinds.{IsUnchanged, HoldsList, HoldsTicket};
+ghost use Rattle.nw_c.specs.declared.codes.TheConstants.{ABSENT, NOT_COMPARABLE, CLOSED, OPEN, OTHER_KIND};
 
-use crate::codes::{ABSENT, APART, CLOSED, DONE, NO_MEMORY, OPEN, OTHER_KIND};
+use crate::codes::{ABSENT, CLOSED, DONE, NO_MEMORY, NOT_COMPARABLE, OPEN, OTHER_KIND};
 use crate::content::Content;
 use crate::handle::{AnswerHandle, BlockHandle, ListHandle, put};
 use crate::plain::CDigest;
@@ -18,13 +18,13 @@ use std::alloc::Global;
 
 /// Writes the digest that the ticket is for, and the garbage round at the call that gave the ticket.
 #[unsafe(no_mangle)]
-pub extern "C" fn nw_ticket_about(
+pub extern "C" fn nw_ticket_scope(
     ticket: &mut AnswerHandle,
     digest: &mut CDigest,
     floor: &mut u64,
 ) -> i32
     ensures about { result ≡ pos 0 → IsAbout ticket.old.value digest.new floor.new }
-    ensures same { IsAsBefore ticket.old ticket.new }
+    ensures same { IsUnchanged ticket.old ticket.new }
     ensures closed { result ≡ CLOSED → ticket.old.held ≡ true → ⊥ }
     ensures other_kind { result ≡ OTHER_KIND → HoldsTicket ticket.old.value → ⊥ }
 {
@@ -47,7 +47,7 @@ fn agree(alloc: Global, one: &Ticket<Ed25519>, other: &Ticket<Ed25519>) -> Resul
     ensures apart { IfErr result (IsWhyApart one.now other.now) }
 {
     if one.digest() != other.digest() || one.view().floor() != other.view().floor() {
-        return Err(APART);
+        return Err(NOT_COMPARABLE);
     }
     match one.agree(alloc, other) {
         Ok(Agreement::Same) => Ok(true),
@@ -57,7 +57,7 @@ fn agree(alloc: Global, one: &Ticket<Ed25519>, other: &Ticket<Ed25519>) -> Resul
 }
 
 /// Walks both tickets and writes whether their lists are equal. The tickets may come from two books. If the lists differ, two different
-/// blocks have the same digest. Returns `NW_APART` if the tickets have different digests or garbage rounds.
+/// blocks have the same digest. Returns `NW_NOT_COMPARABLE` if the tickets have different digests or garbage rounds.
 #[unsafe(no_mangle)]
 pub extern "C" fn nw_ticket_agree(
     alloc: Global,
@@ -66,9 +66,9 @@ pub extern "C" fn nw_ticket_agree(
     out: &mut bool,
 ) -> i32
     ensures agrees { result ≡ pos 0 → Agrees ticket.old.value other.old.value out.new }
-    ensures apart { result ≡ APART → AreApart ticket.old.value other.old.value }
-    ensures same { IsAsBefore ticket.old ticket.new }
-    ensures other { IsAsBefore other.old other.new }
+    ensures apart { result ≡ NOT_COMPARABLE → AreApart ticket.old.value other.old.value }
+    ensures same { IsUnchanged ticket.old ticket.new }
+    ensures other { IsUnchanged other.old other.new }
     ensures closed { result ≡ CLOSED → ticket.old.held ≡ true → other.old.held ≡ true → ⊥ }
     ensures other_kind { result ≡ OTHER_KIND → HoldsTicket ticket.old.value → HoldsTicket other.old.value → ⊥ }
 {
@@ -96,8 +96,8 @@ pub extern "C" fn nw_ticket_walk(
     out: &mut ListHandle,
 ) -> i32
     ensures list { result ≡ pos 0 → IsWalkOf ticket.old.value out.new.value }
-    ensures same { IsAsBefore ticket.old ticket.new }
-    ensures unchanged { (result ≡ pos 0 → ⊥) → IsAsBefore out.old out.new }
+    ensures same { IsUnchanged ticket.old ticket.new }
+    ensures unchanged { (result ≡ pos 0 → ⊥) → IsUnchanged out.old out.new }
     ensures opened { result ≡ pos 0 → out.new.held ≡ true }
     ensures occupied { result ≡ OPEN → out.old.held ≡ true }
     ensures closed { result ≡ CLOSED → ticket.old.held ≡ true → ⊥ }
@@ -122,7 +122,7 @@ pub extern "C" fn nw_ticket_walk(
 #[unsafe(no_mangle)]
 pub extern "C" fn nw_list_len(list: &mut ListHandle, out: &mut usize) -> i32
     ensures len { result ≡ pos 0 → HasBlocks list.old.value out.new }
-    ensures same { IsAsBefore list.old list.new }
+    ensures same { IsUnchanged list.old list.new }
     ensures closed { result ≡ CLOSED → list.old.held ≡ true → ⊥ }
     ensures other_kind { result ≡ OTHER_KIND → HoldsList list.old.value → ⊥ }
 {
@@ -147,8 +147,8 @@ pub extern "C" fn nw_list_block(
     out: &mut BlockHandle,
 ) -> i32
     ensures block { result ≡ pos 0 → IsBlockAt list.old.value index out.new.value }
-    ensures same { IsAsBefore list.old list.new }
-    ensures unchanged { (result ≡ pos 0 → ⊥) → IsAsBefore out.old out.new }
+    ensures same { IsUnchanged list.old list.new }
+    ensures unchanged { (result ≡ pos 0 → ⊥) → IsUnchanged out.old out.new }
     ensures opened { result ≡ pos 0 → out.new.held ≡ true }
     ensures occupied { result ≡ OPEN → out.old.held ≡ true }
     ensures closed { result ≡ CLOSED → list.old.held ≡ true → ⊥ }

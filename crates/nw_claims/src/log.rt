@@ -2,7 +2,7 @@
 ghost use Rattle.std.specs.Prelude.{◌≡◌, ◌++◌, ◌∷◌, []};
 ghost use mathlib.Core.List.{IsPrefix};
 
-use crate::rule::{Appends, Checks, Copies, Knowledge, OneLog, Whole};
+use crate::rule::{Appends, Checks, ClaimOfAll, Copies, Knowledge, OneLog};
 use atomic_table::{Seat, Table};
 use std::alloc::{AllocError, Global};
 use std::marker::{Brand, Model, PhantomData};
@@ -125,7 +125,7 @@ impl<E, L: LogName> Keeper<E, L> {
         ensures same { self.new ≡ self.old }
     {
         let Keeper { table, seat, of: _ } = self;
-        let claimant = table.shared.split_seat::<Whole>(seat);
+        let claimant = table.shared.split_seat::<ClaimOfAll>(seat);
         Claim {
             claimant,
             of: PhantomData,
@@ -139,7 +139,7 @@ impl<E, L: LogName> Keeper<E, L> {
     {
         let Keeper { table, seat, of: _ } = self;
         let Claim { claimant, of: _ } = claim;
-        table.shared.join_seat::<Whole>(seat, claimant);
+        table.shared.join_seat::<ClaimOfAll>(seat, claimant);
         table.shared.load::<Checks>(seat, 0);
     }
 

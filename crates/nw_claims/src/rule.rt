@@ -45,9 +45,9 @@ impl<E> Play<E, Knowledge<E>> for Checks {
 }
 
 /// How a claim of the whole log is made, and how a claim is shown to the keeper.
-pub(crate) struct Whole;
+pub(crate) struct ClaimOfAll;
 
-impl<E> Split<Knowledge<E>> for Whole {
+impl<E> Split<Knowledge<E>> for ClaimOfAll {
     ghost use Rattle.nw_claims.specs.Claims.{claim_of};
 
     ghost left = { λ v. v };
@@ -64,7 +64,7 @@ impl<E> Split<Knowledge<E>> for Copies {
     ghost right = { λ v. v };
 }
 
-impl<E> Join<Knowledge<E>> for Whole {
+impl<E> Join<Knowledge<E>> for ClaimOfAll {
     ghost use Rattle.nw_claims.specs.Claims.{with_claim, knows_nothing};
 
     ghost both = { with_claim };

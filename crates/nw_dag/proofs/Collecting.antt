@@ -24,7 +24,7 @@ use Rattle.nw_model.proofs.Raised.{was_there, is_kept}
 use Rattle.nw_dag.specs.Lacking.{IsReady}
 use Rattle.nw_dag.specs.Changes.{AppendsThose}
 use Rattle.nw_dag.specs.Frozen.{Grows}
-use Rattle.nw_dag.specs.Settled.{AreListed, IsTally, IsSettling, IsCascading, IsSettled}
+use Rattle.nw_dag.specs.Settled.{AreListed, HasPendingCount, IsSettling, IsCascading, IsSettled}
 use Rattle.nw_state.specs.Collection.{AreDigestsUpTo}
 use Rattle.nw_dag.specs.Collection.{AreReleased, StandsButLacks, IsCompleteBelow, HasCompleteBelow, IsCollecting}
 use Rattle.nw_state.proofs.Filtered.{filter_was, filter_has, distinct_filter}
@@ -178,8 +178,8 @@ module _ (s : State) (unmet lacking : Pairs) (pending : ℕ) (holders : List Dig
   pub dropped_fits : dropped ≤ pending
   dropped_fits = omega (arith, far.counts, far.settled.counts, counted, fits)
 
-  pub tally_kept : (left : ℕ) → left ≡ pending - dropped → IsTally s lacking [] left
-  tally_kept left is = subst (λ (t : State). IsTally t lacking [] left) (sym far.raised) (record {
+  pub tally_kept : (left : ℕ) → left ≡ pending - dropped → HasPendingCount s lacking [] left
+  tally_kept left is = subst (λ (t : State). HasPendingCount t lacking [] left) (sym far.raised) (record {
     complete = still;
     listed = listed;
     apart = λ x none. absurd (contains_none x none);

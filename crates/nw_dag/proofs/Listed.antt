@@ -16,7 +16,7 @@ use Rattle.nw_model.proofs.Maps.{digests_total}
 use Rattle.nw_model.proofs.Listed.{contains_cases, contains_first, contains_none}
 use Rattle.nw_dag.specs.Lacking.{IsReady}
 use Rattle.nw_dag.specs.Changes.{AppendsThose}
-use Rattle.nw_dag.specs.Settled.{AreListed, IsTally}
+use Rattle.nw_dag.specs.Settled.{AreListed, HasPendingCount}
 use Rattle.nw_dag.proofs.Once.{once_none, once_one, once_both}
 
 -- ---- numbers of listed digests
@@ -45,7 +45,7 @@ listed_one s lacking d ready = record { ready = λ k x lt. subst (IsReady s lack
     only d x (suc k) lt = absurd (omega (arith, lt))
 
 -- a ready block that is not listed is pending
-pub pending_left : (s : State) (lacking : Pairs) (but : List Digest) (pending : ℕ) (d : Digest) → IsTally s lacking but pending → Contains but d → IsReady s lacking d → 0 < pending
+pub pending_left : (s : State) (lacking : Pairs) (but : List Digest) (pending : ℕ) (d : Digest) → HasPendingCount s lacking but pending → Contains but d → IsReady s lacking d → 0 < pending
 pending_left s lacking but pending d tally among ready =
     let one : AreListed s lacking (d ∷ []) = listed_one s lacking d ready in
     let all = listed_both s lacking tally.complete (d ∷ []) tally.listed one (λ x is. elim (contains_cases d [] x is) [ inl here ↦ subst (λ y. Contains tally.complete y → ⊥) here (tally.apart d among) | inr none ↦ absurd (contains_none x none) ]) in
@@ -113,7 +113,7 @@ pub most_left : {P : Digest → Type 0} {digests old new : List Digest} (adds : 
 most_left {old = old} adds pending left most = omega (arith, most, ap (λ (xs : List Digest). length xs) adds.are, length-append old adds.added)
 
 -- the next digest is pending if it is ready
-pub pending_next : (s : State) (lacking : Pairs) (digests seen old new : List Digest) (pending left : ℕ) (d : Digest) → IsTally s lacking digests pending → AppendsThose (IsReady s lacking) seen old new → ((x : Digest) → Contains seen x → Contains digests x)
+pub pending_next : (s : State) (lacking : Pairs) (digests seen old new : List Digest) (pending left : ℕ) (d : Digest) → HasPendingCount s lacking digests pending → AppendsThose (IsReady s lacking) seen old new → ((x : Digest) → Contains seen x → Contains digests x)
     → length new + left ≡ length old + pending → Contains digests d → (Contains seen d → ⊥) → IsReady s lacking d → 0 < left
 pending_next s lacking digests seen old new pending left d tally adds within most among other ready =
     pending_left s lacking (d ∷ []) left d (record {

@@ -15,7 +15,7 @@ use Rattle.nw_model.proofs.Listed.{contains_cases, contains_first, contains_none
 use Rattle.nw_model.proofs.Maps.{digests_total}
 use Rattle.nw_dag.specs.Lacking.{LacksNothing, LacksSomething, IsReady}
 use Rattle.nw_dag.specs.Changes.{AppendsThose}
-use Rattle.nw_dag.specs.Settled.{AreListed, IsTally}
+use Rattle.nw_dag.specs.Settled.{AreListed, HasPendingCount}
 use Rattle.nw_dag.specs.Collection.{AreReleased, StandsButLacks}
 use Rattle.nw_dag.proofs.Pairs.{without_holder_lacks}
 use Rattle.nw_dag.proofs.Listed.{adds_more, listed_both, most_left, one_left, pending_left}
@@ -104,7 +104,7 @@ stuck_more s holders d old mid a b c without apart adds last = adds_more (Stands
 -- ---- numbers of pending blocks
 
 -- a holder that lacked a parent is pending
-pub stuck_pending : (s : State) (old new : Pairs) (holder : Digest) (pending : ℕ) → new ≡ without_holder old holder → LacksSomething old holder → IsTally s old [] pending → IsReady s new holder → 0 < pending
+pub stuck_pending : (s : State) (old new : Pairs) (holder : Digest) (pending : ℕ) → new ≡ without_holder old holder → LacksSomething old holder → HasPendingCount s old [] pending → IsReady s new holder → 0 < pending
 stuck_pending s old new holder pending is lacks tally ready = pending_left s new (holder ∷ []) pending holder (record {
   complete = tally.complete;
   listed = listed_without s old new holder tally.complete is tally.listed;
@@ -129,7 +129,7 @@ module _ (s : State) (old new : Pairs) (holders complete fresh more : List Diges
       (record { ready = λ k d lt. freed (get_or adds.added k d) (Contains-get_or adds.added k d lt); once = adds.once })
       (λ x among before. let lacks = ((adds.exactly x).0 among).1.1 in (All-contains (IsReady s old) complete x listed.ready before).1 lacks.0 lacks.1)
 
-pub tally_released : (s : State) (old new : Pairs) (holders fresh more : List Digest) (pending left : ℕ) → AreReleased holders old new → AppendsThose (StandsButLacks s old) holders fresh more → length more + left ≡ length fresh + pending → IsTally s old [] pending → IsTally s new [] left
+pub tally_released : (s : State) (old new : Pairs) (holders fresh more : List Digest) (pending left : ℕ) → AreReleased holders old new → AppendsThose (StandsButLacks s old) holders fresh more → length more + left ≡ length fresh + pending → HasPendingCount s old [] pending → HasPendingCount s new [] left
 tally_released s old new holders fresh more pending left without adds most tally = record {
   complete = tally.complete ++ adds.added;
   listed = released s old new holders tally.complete fresh more without adds tally.listed;

@@ -15,7 +15,7 @@ use Rattle.nw_state.specs.Standing.{Stands, name_of}
 use Rattle.nw_dag.specs.Lacking.{IsReady, AreUnmet, AreUnmetWithout}
 use Rattle.nw_dag.specs.Changes.{AppendsThose, Promotes}
 use Rattle.nw_dag.specs.Frozen.{Grows}
-use Rattle.nw_dag.specs.Settled.{AreListed, IsTally, IsSettling, IsCascading, IsSettled, IsSettledWithout}
+use Rattle.nw_dag.specs.Settled.{AreListed, HasPendingCount, IsSettling, IsCascading, IsSettled, IsSettledWithout}
 use Rattle.nw_dag.proofs.Pairs.{without_wanted_lacks, lacks_or_not, same_or_not}
 use Rattle.nw_dag.proofs.Cascade.{promoted}
 use Rattle.nw_dag.proofs.Arrival.{met_now, met_not_yet, not_ready_yet}
@@ -65,7 +65,7 @@ promotes s e old new v complete more holders name are is adds =
     }
 
 -- the holders that lacked the promoted block are not listed
-pub tally_fewer : (s : State) (old new : Pairs) (v : Wanted) (pending : ℕ) (holders : List Digest) → new ≡ without_wanted old v → AreHolders old v holders → IsTally s old [] pending → IsTally s new holders pending
+pub tally_fewer : (s : State) (old new : Pairs) (v : Wanted) (pending : ℕ) (holders : List Digest) → new ≡ without_wanted old v → AreHolders old v holders → HasPendingCount s old [] pending → HasPendingCount s new holders pending
 tally_fewer s old new v pending holders is are tally = record {
   complete = tally.complete;
   listed = listed_fewer s old new v tally.complete is tally.listed;
@@ -75,7 +75,7 @@ tally_fewer s old new v pending holders is are tally = record {
 
 -- ---- one place of the list
 
-pub tally_of : (s : State) (unmet lacking : Pairs) (due : List Digest) (pending : ℕ) → IsCascading s unmet lacking due pending → IsTally s lacking [] pending
+pub tally_of : (s : State) (unmet lacking : Pairs) (due : List Digest) (pending : ℕ) → IsCascading s unmet lacking due pending → HasPendingCount s lacking [] pending
 tally_of s unmet lacking due pending far = record { complete = far.front ++ due; listed = far.settling.listed; apart = λ x none. absurd (contains_none x none); counts = far.counts }
 
 pub stands_at : (s : State) (unmet lacking : Pairs) (fresh : List Digest) (pending place : ℕ) (d : Digest) → IsCascading s unmet lacking (drop place fresh) pending → place < length fresh → Stands s (get_or fresh place d)

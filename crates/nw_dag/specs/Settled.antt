@@ -6,11 +6,11 @@
 -- 2. IsSettledWithout: the block or the certificate of d is in the state, but the sets and the list do not count d as standing yet.
 --    This record adds the digest d. `Waits::arrive` starts here. If d still does not stand, or still lacks a parent, stage 5 follows.
 -- 3. IsCascading: d is ready, listed, and due for promotion. This record adds the list of due digests. `Waits::cascade` starts here.
--- 4. IsTally: a due digest is promoted, and the digests that become ready as a result are listed one by one. This record has only the list
+-- 4. HasPendingCount: a due digest is promoted, and the digests that become ready as a result are listed one by one. This record has only the list
 --    and the count, without the sets. After each promotion, IsCascading holds again, with these digests due too.
 -- 5. IsSettled: no digest is due any longer.
 --
--- A collection starts from IsSettled of the earlier state (IsCollecting), releases holders under IsTally, and continues with stage 3. The
+-- A collection starts from IsSettled of the earlier state (IsCollecting), releases holders under HasPendingCount, and continues with stage 3. The
 -- digests that became ready as a result are due.
 --
 -- IsSettling is the part that IsCascading and IsSettled share. Each stage has AreListed and ArePending.
@@ -36,7 +36,7 @@ abbrev pub ArePending : State → List Digest → ℕ → Type 0
 ArePending s complete pending = length complete + pending ≡ len s.blocks
 
 -- the number of pending blocks is right for some list that has none of the digests `but`
-pub record IsTally (s : State) (lacking : Pairs) (but : List Digest) (pending : ℕ) : Type 0 where
+pub record HasPendingCount (s : State) (lacking : Pairs) (but : List Digest) (pending : ℕ) : Type 0 where
   -- the listed digests
   pub complete : List Digest
   -- they are ready

@@ -7,7 +7,7 @@ use Rattle.nw_committee.specs.declared.member.Member.{Member}
 use Rattle.nw_sig.specs.Signed.{Meaning}
 use Rattle.nw_check.specs.declared.message.Checked.{Checked}
 use Rattle.nw_intake.specs.Answers.{AnswersText, IsDealt, turns_of}
-use Rattle.nw_intake.specs.Faults.{IsCrew}
+use Rattle.nw_intake.specs.Faults.{IsWorkerCount}
 use Rattle.nw_intake.specs.Shares.{AreShareResults, IsIntakeFault, IsJointFault, IsShareResult}
 use Rattle.nw_intake.specs.declared.point.Point.{Point}
 use Rattle.nw_intake.specs.declared.fault.ShareFault.{ShareFault}
@@ -33,7 +33,7 @@ module _ {S A B : Type 0} (accepts : Meaning) (members : List Member) (texts : L
 
 module _ {S A : Type 0} (accepts : Meaning) (members : List Member) (texts : List (Vec ℕ A)) (says : Point → Bool → Type 0) (workers : ℕ) where
   -- a fault of the workers' results is a fault of `check_all`
-  pub joint_fault : (results : List (Result (VecDeque (Checked S) Global) ShareFault)) (e : IntakeFault) → IsCrew workers → AreShareResults accepts members texts says workers results → IsJointFault workers results e
+  pub joint_fault : (results : List (Result (VecDeque (Checked S) Global) ShareFault)) (e : IntakeFault) → IsWorkerCount workers → AreShareResults accepts members texts says workers results → IsJointFault workers results e
       → IsIntakeFault S accepts members texts says workers e
   joint_fault results fault.BadWorkers crew all h = absurd h
   joint_fault results fault.NoMemory crew all h = (crew, (results, all, h))

@@ -7,8 +7,8 @@ use Rattle.nw_intake.specs.declared.fault.ShareFault.{ShareFault}
 use Rattle.nw_intake.specs.declared.fault.ShareFault.TheVariants as share
 
 -- the number of workers is in its range
-abbrev pub IsCrew : ℕ → Type 0
-IsCrew workers = (1 ≤ workers) × (workers ≤ MAX_WORKERS)
+abbrev pub IsWorkerCount : ℕ → Type 0
+IsWorkerCount workers = (1 ≤ workers) × (workers ≤ MAX_WORKERS)
 
 -- the gate may refuse the start of one of the checks at places below the count
 abbrev pub MayRefuseStart : (Point → Bool → Type 0) → ℕ → Type 0

@@ -7,7 +7,7 @@ use Rattle.nw_committee.specs.declared.member.Member.{Member}
 use Rattle.nw_sig.specs.Signed.{Meaning}
 use Rattle.nw_check.specs.declared.message.Checked.{Checked}
 use Rattle.nw_intake.specs.Answers.{AnswersText, turns_of}
-use Rattle.nw_intake.specs.Faults.{IsCrew, IsShareFault}
+use Rattle.nw_intake.specs.Faults.{IsWorkerCount, IsShareFault}
 use Rattle.nw_intake.specs.declared.point.Point.{Point}
 use Rattle.nw_intake.specs.declared.fault.ShareFault.{ShareFault}
 use Rattle.nw_intake.specs.declared.fault.ShareFault.TheVariants as share
@@ -42,7 +42,7 @@ RunFailsWith S accepts members texts says workers why = (results : List (Result 
 
 -- `check_all` may fail with this fault: `BadWorkers` if the number of workers is out of range, and otherwise a fault of a run
 abbrev pub IsIntakeFault : (S : Type 0) → {A : Type 0} → Meaning → List Member → List (Vec ℕ A) → (Point → Bool → Type 0) → ℕ → IntakeFault → Type 0
-IsIntakeFault S accepts members texts says workers fault.BadWorkers = IsCrew workers → ⊥
-IsIntakeFault S accepts members texts says workers fault.NoMemory = IsCrew workers × RunFailsWith S accepts members texts says workers fault.NoMemory
-IsIntakeFault S accepts members texts says workers fault.Spawn = IsCrew workers × RunFailsWith S accepts members texts says workers fault.Spawn
-IsIntakeFault S accepts members texts says workers fault.GateShut = IsCrew workers × RunFailsWith S accepts members texts says workers fault.GateShut
+IsIntakeFault S accepts members texts says workers fault.BadWorkers = IsWorkerCount workers → ⊥
+IsIntakeFault S accepts members texts says workers fault.NoMemory = IsWorkerCount workers × RunFailsWith S accepts members texts says workers fault.NoMemory
+IsIntakeFault S accepts members texts says workers fault.Spawn = IsWorkerCount workers × RunFailsWith S accepts members texts says workers fault.Spawn
+IsIntakeFault S accepts members texts says workers fault.GateShut = IsWorkerCount workers × RunFailsWith S accepts members texts says workers fault.GateShut

@@ -4,7 +4,7 @@ ghost use Rattle.std.specs.Prelude.{◌≡◌, true, false, OnOk, OnErr};
 use crate::{GateShut, Point};
 
 /// The maximum number of times that a gate is asked about one start.
-const TURNS: u32 = 1_000_000;
+const MAX_ASKS: u32 = 1_000_000;
 
 /// Threads report to a gate which points they reach, and ask it whether they may start. They share the gate, so its state must be in
 /// atomics or behind a lock. `may_pass` may sleep or yield before it returns `false`.
@@ -47,7 +47,7 @@ pub fn pass_start<G: Gate>(gate: &G, point: Point) -> Result<(), GateShut>
     ensures shut { OnErr result (G.says gate.now point false) }
 {
     gate.reach(point);
-    for _ in 1..TURNS {
+    for _ in 1..MAX_ASKS {
         if gate.may_pass(point) {
             return Ok(());
         }

@@ -2,7 +2,7 @@
 ghost use Rattle.std.specs.Prelude.{◌≡◌, ◌^◌, ◌<◌, ◌≤◌, length, map, Ok, IfOk, IfErr, vec_len};
 ghost use Rattle.std.specs.List.{AllZip};
 ghost use Rattle.nw_intake.specs.Answers.{AnswersText};
-ghost use Rattle.nw_intake.specs.Faults.{IsCrew};
+ghost use Rattle.nw_intake.specs.Faults.{IsWorkerCount};
 ghost use Rattle.nw_intake.specs.Promised.{ArePromised};
 ghost use Rattle.nw_intake.specs.Shares.{AreShareResults, IsIntakeFault, IsJointFault};
 
@@ -45,7 +45,7 @@ pub fn check_all<S: Scheme + Send, G: Gate + Sync, R: Threads + Wait + Sync>(
     gate: &G,
 ) -> Result<Vec<Checked<S>>, IntakeFault>
     requires { vec_len texts < 2 ^ 32 }
-    ensures workers { IfOk result (λ _. IsCrew workers) }
+    ensures workers { IfOk result (λ _. IsWorkerCount workers) }
     ensures checked { IfOk result
         (λ answers. AllZip (AnswersText S.accepts committee.now) texts.items answers.items) }
     ensures fault { IfErr result (IsIntakeFault S S.accepts committee.now texts.items

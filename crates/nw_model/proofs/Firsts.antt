@@ -7,7 +7,7 @@ use Rattle.nw_digest.specs.declared.digest.Digest.{Digest}
 use Rattle.nw_codec.specs.declared.block.Block.{Block}
 use Rattle.nw_digest.specs.Order.{Slot, slot_cmp}
 use Rattle.nw_model.specs.State.{State, block_slot}
-use Rattle.nw_model.specs.Step.{Bounds, IsReply, after, after_write, after_certify, after_collect, raised, write_reply, certify_reply, collect_reply, rival}
+use Rattle.nw_model.specs.Step.{Bounds, IsReply, after, after_write, after_certify, after_collect, raised, write_reply, certify_reply, collect_reply, other_first}
 use Rattle.nw_model.specs.History.{AreReplies}
 use Rattle.nw_model.specs.Laws.{IsVotingEvent, LegalHistoriesVoteOnce, FirstsOfABaseGetNoVote}
 use Rattle.nw_model.specs.declared.call.Call.{Call}
@@ -83,7 +83,7 @@ voted bounds s d b is =
     let held = past is_stored _ write.Held _ (write.Stored true) refl refl far.1 in
     let clash = past is_stored _ write.Clash _ (write.Stored true) refl refl held.1 in
     let misfit = past is_stored _ write.Misfit _ (write.Stored true) refl refl clash.1 in
-    let other = past_found is_stored write.Equivocates (rival s d (block_slot b)) _ (write.Stored true) (λ _. refl) refl misfit.1 in
+    let other = past_found is_stored write.Equivocates (other_first s d (block_slot b)) _ (write.Stored true) (λ _. refl) refl misfit.1 in
     let full = past is_stored (nat_le bounds.blocks (len s.blocks)) write.Full _ (write.Stored true) refl refl other.1 in
     (negated (is_some (get s.firsts (block_slot b))) (one_vote _ true full.1), not_below b.round s.floor low.0)
   where

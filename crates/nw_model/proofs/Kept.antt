@@ -13,7 +13,7 @@ use Rattle.nw_codec.specs.declared.block.Block.{Block}
 use Rattle.nw_codec.specs.declared.certificate.Certificate.{Certificate}
 use Rattle.nw_digest.specs.Order.{digest_cmp, Slot, slot_cmp}
 use Rattle.nw_model.specs.State.{State, block_slot, certificate_slot}
-use Rattle.nw_model.specs.Step.{is_slot, is_elsewhere, is_certified_for, certified_digest, with_block, with_certificate}
+use Rattle.nw_model.specs.Step.{is_slot, has_other_slot, is_certified_for, certified_digest, with_block, with_certificate}
 use Rattle.nw_model.specs.Sound.{IsSound, IsIndex, IsSoundWithIndex}
 use Rattle.nw_model.proofs.Maps.{digests_total, digests_apart, slots_total, slots_apart}
 
@@ -94,7 +94,7 @@ index_answers s index slot indexed = by (certified_digest s slot) refl (get inde
 
 -- ---- a written block
 
-apart_slot : {X : Type 0} (slot_of : X → Slot) (found : Option X) (slot : Slot) (x : X) → is_elsewhere slot_of found slot ≡ false → found ≡ Some x → slot_of x ≡ slot
+apart_slot : {X : Type 0} (slot_of : X → Slot) (found : Option X) (slot : Slot) (x : X) → has_other_slot slot_of found slot ≡ false → found ≡ Some x → slot_of x ≡ slot
 apart_slot slot_of None slot x e is = absurd cc
 apart_slot slot_of (Some y) slot x e is =
     let same : y ≡ x = cc in
@@ -112,7 +112,7 @@ after_insert m k v q x e = by (eq_by_cmp digest_cmp q k) refl (sym (get-insert d
     by true at is = inl (same_digest q k at, cc)
     by false at is = inr is
 
-pub sound_with_block : (s : State) (d : Digest) (b : Block) (vote : Bool) → IsSound s → is_elsewhere certificate_slot (get s.certificates d) (block_slot b) ≡ false → s.floor ≤ b.round → IsSound (with_block s d b vote)
+pub sound_with_block : (s : State) (d : Digest) (b : Block) (vote : Bool) → IsSound s → has_other_slot certificate_slot (get s.certificates d) (block_slot b) ≡ false → s.floor ≤ b.round → IsSound (with_block s d b vote)
 sound_with_block s d b vote sound fits above = record {
   own_digest = sound.own_digest;
   one_slot = λ e x c at cert.
@@ -139,7 +139,7 @@ none_certified s slot none e x at here =
     let held : list_any (eq_by_cmp digest_cmp e) (keys s.certificates) ≡ true = sym (contains_key-keys s.certificates e) ∙ ap is_some at in
     find_misses digest_cmp (is_certified_for s slot) e (keys s.certificates) same_digest held passes none
 
-pub sound_with_certificate : (s : State) (c : Certificate) → IsSound s → certified_digest s (certificate_slot c) ≡ None → is_elsewhere block_slot (get s.blocks c.digest) (certificate_slot c) ≡ false → s.floor ≤ c.round → IsSound (with_certificate s c)
+pub sound_with_certificate : (s : State) (c : Certificate) → IsSound s → certified_digest s (certificate_slot c) ≡ None → has_other_slot block_slot (get s.blocks c.digest) (certificate_slot c) ≡ false → s.floor ≤ c.round → IsSound (with_certificate s c)
 sound_with_certificate s c sound first fits above = record {
   own_digest = λ e x at.
       elim (after_insert s.certificates c.digest c e x at) [
@@ -241,7 +241,7 @@ kept_opening = record {
 
 -- after a write
 pub kept_written : (s : State) (index : FinMap slot_cmp Digest) (d : Digest) (b : Block) (blocks : FinMap digest_cmp Block) (firsts : FinMap slot_cmp Digest)
-    → IsSoundWithIndex s index → is_elsewhere certificate_slot (get s.certificates d) (block_slot b) ≡ false → s.floor ≤ b.round → blocks ≡ insert s.blocks d b → IsSoundWithIndex (record s { blocks = blocks; firsts = firsts }) index
+    → IsSoundWithIndex s index → has_other_slot certificate_slot (get s.certificates d) (block_slot b) ≡ false → s.floor ≤ b.round → blocks ≡ insert s.blocks d b → IsSoundWithIndex (record s { blocks = blocks; firsts = firsts }) index
 kept_written s index d b blocks firsts kept fits above is =
     let new = sound_with_block s d b false kept.sound fits above in
     rw is (record {
@@ -251,7 +251,7 @@ kept_written s index d b blocks firsts kept fits above is =
 
 -- after a write, or a failed allocation
 pub kept_after_write : {E : Type 0} (r : Result (Unit {0}) E) (s : State) (index : FinMap slot_cmp Digest) (d : Digest) (b : Block) (blocks : FinMap digest_cmp Block) (firsts : FinMap slot_cmp Digest)
-    → IsSoundWithIndex s index → is_elsewhere certificate_slot (get s.certificates d) (block_slot b) ≡ false → s.floor ≤ b.round
+    → IsSoundWithIndex s index → has_other_slot certificate_slot (get s.certificates d) (block_slot b) ≡ false → s.floor ≤ b.round
     → OnOk r (blocks ≡ insert s.blocks d b) → OnErr r (blocks ≡ s.blocks) → IsSoundWithIndex (record s { blocks = blocks; firsts = firsts }) index
 kept_after_write (Ok x) s index d b blocks firsts kept fits above ok err = kept_written s index d b blocks firsts kept fits above ok
 kept_after_write (Err e) s index d b blocks firsts kept fits above ok err =
@@ -263,7 +263,7 @@ kept_after_write (Err e) s index d b blocks firsts kept fits above ok err =
 
 -- after a certificate was kept, or a failed allocation
 pub kept_after_certify : {E : Type 0} (r : Result (Unit {0}) E) (s : State) (index : FinMap slot_cmp Digest) (c : Certificate) (certificates : FinMap digest_cmp Certificate) (after : FinMap slot_cmp Digest)
-    → IsSoundWithIndex s index → get s.certificates c.digest ≡ None → certified_digest s (certificate_slot c) ≡ None → is_elsewhere block_slot (get s.blocks c.digest) (certificate_slot c) ≡ false → s.floor ≤ c.round
+    → IsSoundWithIndex s index → get s.certificates c.digest ≡ None → certified_digest s (certificate_slot c) ≡ None → has_other_slot block_slot (get s.blocks c.digest) (certificate_slot c) ≡ false → s.floor ≤ c.round
     → OnOk r ((certificates ≡ insert s.certificates c.digest c) × (after ≡ insert index (certificate_slot c) c.digest)) → OnErr r ((certificates ≡ s.certificates) × (after ≡ index)) → IsSoundWithIndex (record s { certificates = certificates }) after
 kept_after_certify (Ok x) s index c certificates after kept absent first fits above ok err =
     let new = sound_with_certificate s c kept.sound first fits above in

@@ -8,7 +8,7 @@ use Rattle.nw_codec.specs.declared.block.Block.{Block}
 use Rattle.nw_codec.specs.declared.certificate.Certificate.{Certificate}
 use Rattle.nw_model.specs.State.{State, block_slot, certificate_slot, opening}
 use Rattle.nw_model.specs.Sound.{IsSound}
-use Rattle.nw_model.specs.Step.{Bounds, after, after_write, after_certify, write_reply, certify_reply, after_collect, collect_reply, is_elsewhere, certified_digest}
+use Rattle.nw_model.specs.Step.{Bounds, after, after_write, after_certify, write_reply, certify_reply, after_collect, collect_reply, has_other_slot, certified_digest}
 use Rattle.nw_sig.specs.Signed.{Meaning}
 use Rattle.nw_model.specs.History.{Terms, IsBase, replay}
 use Rattle.nw_model.specs.Laws.{LegalHistoriesLeaveSoundStates}
@@ -47,7 +47,7 @@ is_certified certify.Certified = true
 is_certified other = false
 
 stored : (bounds : Bounds) (s : State) (d : Digest) (b : Block) (vote : Bool) → write_reply bounds s d b ≡ write.Stored vote
-    → (s.floor ≤ b.round) × (is_elsewhere certificate_slot (get s.certificates d) (block_slot b) ≡ false)
+    → (s.floor ≤ b.round) × (has_other_slot certificate_slot (get s.certificates d) (block_slot b) ≡ false)
 stored bounds s d b vote is =
     let low = past is_stored (nat_lt b.round s.floor) (write.Collected s.floor) _ (write.Stored vote) refl refl is in
     let far = past is_stored _ write.TooFar _ (write.Stored vote) refl refl low.1 in
@@ -57,7 +57,7 @@ stored bounds s d b vote is =
     (not_below b.round s.floor low.0, misfit.0)
 
 certified : (bounds : Bounds) (s : State) (c : Certificate) → certify_reply bounds s c ≡ certify.Certified
-    → (s.floor ≤ c.round) × (is_elsewhere block_slot (get s.blocks c.digest) (certificate_slot c) ≡ false) × (certified_digest s (certificate_slot c) ≡ None)
+    → (s.floor ≤ c.round) × (has_other_slot block_slot (get s.blocks c.digest) (certificate_slot c) ≡ false) × (certified_digest s (certificate_slot c) ≡ None)
 certified bounds s c is =
     let low = past is_certified (nat_lt c.round s.floor) (certify.Collected s.floor) _ certify.Certified refl refl is in
     let far = past is_certified _ certify.TooFar _ certify.Certified refl refl low.1 in

@@ -60,7 +60,7 @@ FirstsOfABaseGetNoVote =
     → (slot : Slot) → IsSome (get base.firsts slot) → (i : ℕ) (e : Event) → slice_get es i ≡ Some e → IsVotingEvent slot e → ⊥
 
 -- s and t are states of one legal history, and s is not later than t
-pub record LeadsOn (accepts : Meaning) (terms : Terms) (s t : State) : Type 0 where
+pub record IsLaterState (accepts : Meaning) (terms : Terms) (s t : State) : Type 0 where
   -- the base of the history
   pub base : State
   -- its events up to s
@@ -78,7 +78,7 @@ pub record LeadsOn (accepts : Meaning) (terms : Terms) (s t : State) : Type 0 wh
 -- state too. Its causal list there is the earlier one without the blocks below that garbage round
 abbrev pub CausalListsStay : Type 0
 CausalListsStay =
-    (accepts : Meaning) (terms : Terms) (s t : State) → LeadsOn accepts terms s t
+    (accepts : Meaning) (terms : Terms) (s t : State) → IsLaterState accepts terms s t
     → (d : Digest) (b : Block) (blocks : List Block) → IsComplete s d → IsCausalList s d blocks → get s.blocks d ≡ Some b → t.floor ≤ b.round
     → IsComplete t d × IsCausalList t d (filter (λ x. nat_le t.floor x.round) blocks)
 

@@ -53,12 +53,12 @@ abbrev pub is_digest : Digest → Digest → Bool
 is_digest a b = same_bytes a.0 b.0
 
 -- whether there is a value, and it has another slot than this one
-abbrev pub is_elsewhere : {X : Type 0} → (X → Slot) → Option X → Slot → Bool
-is_elsewhere slot_of found slot = option_map_or (λ x. not (is_slot (slot_of x) slot)) found false
+abbrev pub has_other_slot : {X : Type 0} → (X → Slot) → Option X → Slot → Bool
+has_other_slot slot_of found slot = option_map_or (λ x. not (is_slot (slot_of x) slot)) found false
 
 -- the first digest of the slot, if there is one, it is not d, and d is not certified
-abbrev pub rival : State → Digest → Slot → Option Digest
-rival s d slot = if is_some (get s.certificates d) then None else option_and_then (λ first. if is_digest first d then None else Some first) (get s.firsts slot)
+abbrev pub other_first : State → Digest → Slot → Option Digest
+other_first s d slot = if is_some (get s.certificates d) then None else option_and_then (λ first. if is_digest first d then None else Some first) (get s.firsts slot)
 
 -- whether the round is below the garbage round
 abbrev pub is_collected : State → ℕ → Bool
@@ -82,11 +82,11 @@ is_certified s d = is_some (get s.certificates d)
 
 -- whether d is certified for another slot than this one
 abbrev pub is_certified_elsewhere : State → Digest → Slot → Bool
-is_certified_elsewhere s d slot = is_elsewhere certificate_slot (get s.certificates d) slot
+is_certified_elsewhere s d slot = has_other_slot certificate_slot (get s.certificates d) slot
 
 -- whether a block of another slot than this one is held under d
 abbrev pub is_held_elsewhere : State → Digest → Slot → Bool
-is_held_elsewhere s d slot = is_elsewhere block_slot (get s.blocks d) slot
+is_held_elsewhere s d slot = has_other_slot block_slot (get s.blocks d) slot
 
 -- whether this number of entries has reached the bound
 abbrev pub is_full : Bounds → ℕ → Bool
@@ -104,8 +104,8 @@ write_reply bounds s d b =
     else if is_held_block s d b then write.Held
     else if is_held s d then write.Clash
     else if is_certified_elsewhere s d (block_slot b) then write.Misfit
-    -- Equivocates with the rival if there is one; otherwise the next line
-    else option_map_or write.Equivocates (rival s d (block_slot b))
+    -- Equivocates with the other_first if there is one; otherwise the next line
+    else option_map_or write.Equivocates (other_first s d (block_slot b))
     (if is_full bounds (len s.blocks) then write.Full else write.Stored (is_open s (block_slot b)))
 
 -- the state in which b is held under d, and d is the first digest of b's slot if there is a vote

@@ -7,7 +7,7 @@ ghost use Rattle.std.specs.FinMap as map;
 ghost use Rattle.nw_digest.specs.Order.{digest_cmp, slot_cmp};
 ghost use Rattle.nw_model.specs.State.{opening, block_slot, certificate_slot};
 ghost use Rattle.nw_model.specs.Step.{IsReply, after, write_reply, certify_reply};
-ghost use Rattle.nw_model.specs.Step.{is_elsewhere, rival, with_block};
+ghost use Rattle.nw_model.specs.Step.{has_other_slot, other_first, with_block};
 
 mod causal;
 mod certificates;
@@ -169,7 +169,7 @@ impl Plain {
         if self.is_misfit(digest, block) {
             return WriteReply::Misfit;
         }
-        if let Some(first) = self.rival(digest, block) {
+        if let Some(first) = self.other_first(digest, block) {
             return WriteReply::Equivocates(first);
         }
         if self.block_count() >= self.limit as usize {
@@ -182,7 +182,7 @@ impl Plain {
 
     /// Whether the digest is certified for another round or author than the block's.
     fn is_misfit(&self, digest: &Digest, block: &Block) -> bool
-        ensures { result ≡ is_elsewhere certificate_slot
+        ensures { result ≡ has_other_slot certificate_slot
             (map.get self.now.state.certificates digest.now) (block_slot block.now) }
     {
         match self.certificate(digest) {
@@ -194,8 +194,8 @@ impl Plain {
     }
 
     /// The first digest of the block's slot, if it is another digest and this one is not certified.
-    fn rival(&self, digest: &Digest, block: &Block) -> Option<Digest>
-        ensures { result ≡ rival self.now.state digest.now (block_slot block.now) }
+    fn other_first(&self, digest: &Digest, block: &Block) -> Option<Digest>
+        ensures { result ≡ other_first self.now.state digest.now (block_slot block.now) }
     {
         if self.certificate(digest).is_some() {
             return None;
@@ -250,7 +250,7 @@ impl Plain {
     fn store(&mut self, digest: Digest, block: Shared<Block>, vote: bool) -> Result<(), NoMemory>
         requires absent { IsNone (map.get self.old.state.blocks digest) }
         requires open { IsTrue vote → IsNone (map.get self.old.state.firsts (block_slot block)) }
-        requires misfit { is_elsewhere certificate_slot (map.get self.old.state.certificates digest)
+        requires misfit { has_other_slot certificate_slot (map.get self.old.state.certificates digest)
             (block_slot block) ≡ false }
         requires kept { self.old.state.floor ≤ block.round }
         ensures state { OnOk result (self.new.state ≡ with_block self.old.state digest block vote) }
@@ -268,7 +268,7 @@ impl Plain {
     fn store_first(&mut self, digest: Digest, block: Shared<Block>) -> Result<(), NoMemory>
         requires absent { IsNone (map.get self.old.state.blocks digest) }
         requires open { IsNone (map.get self.old.state.firsts (block_slot block)) }
-        requires misfit { is_elsewhere certificate_slot (map.get self.old.state.certificates digest)
+        requires misfit { has_other_slot certificate_slot (map.get self.old.state.certificates digest)
             (block_slot block) ≡ false }
         requires kept { self.old.state.floor ≤ block.round }
         ensures state { OnOk result (self.new.state ≡ with_block self.old.state digest block true) }

@@ -28,7 +28,7 @@ use Rattle.nw_model.proofs.Complete.{one_block}
 use Rattle.nw_model.proofs.Kept.{same_digest, some_none}
 use Rattle.nw_model.proofs.Listed.{contains_cases, contains_first, contains_later, contains_none}
 use Rattle.nw_model.proofs.Maps.{digests_total, get_lookup, len_sorted}
-use Rattle.nw_state.specs.StateTables.{IsHeld, state_of}
+use Rattle.nw_state.specs.StateTables.{AreStateTables, state_of}
 use Rattle.nw_state.specs.Collection.{counts_at}
 use Rattle.nw_state.proofs.Filtered.{filter_was, filter_has}
 use Rattle.nw_state.proofs.HeldRaised.{certified_slot}
@@ -88,7 +88,7 @@ digests_once (e ∷ es) once one =
     true_false (sym ((eq_by_cmp_equiv places_total).refl e.0) ∙ ap (eq_by_cmp place_cmp e.0) same ∙ apart)))
     (digests_once es (IsDistinct-tail (eq_by_cmp place_cmp) e.0 (keys_of es) once) (λ p q d first second. one p q d (contains_later e es (p, d) first) (contains_later e es (q, d) second)))
 
-module _ (blocks : List (Digest × Block)) (certificates : List (Digest × Certificate)) (slots : Tables) (floor : ℕ) (held : IsHeld blocks certificates slots floor) (round : ℕ)
+module _ (blocks : List (Digest × Block)) (certificates : List (Digest × Certificate)) (slots : Tables) (floor : ℕ) (held : AreStateTables blocks certificates slots floor) (round : ℕ)
     (places : List (Place × Digest)) (are : ArePlacesBetween slots 0 round places) where
   abbrev s : State
   s = state_of blocks certificates slots floor

@@ -14,12 +14,12 @@ use Rattle.nw_model.specs.Sound.{IsSoundWithIndex}
 use Rattle.nw_model.proofs.Complete.{one_block}
 use Rattle.nw_model.proofs.Maps.{get_lookup, digests_total}
 use Rattle.nw_model.proofs.Raised.{is_kept, kept_raised, slots_from, slot_is_kept, slot_was_there, was_there}
-use Rattle.nw_state.specs.StateTables.{IsHeld, state_of}
+use Rattle.nw_state.specs.StateTables.{AreStateTables, state_of}
 use Rattle.nw_state.specs.Dropping.{DropsBelow}
 use Rattle.nw_state.specs.Collection.{AreDigestsUpTo}
 use Rattle.nw_state.proofs.Dropped.{dropped_is, count_fewer}
 
-module _ (blocks stay : List (Digest × Block)) (certificates kept : List (Digest × Certificate)) (slots after : Tables) (floor round : ℕ) (held : IsHeld blocks certificates slots floor)
+module _ (blocks stay : List (Digest × Block)) (certificates kept : List (Digest × Certificate)) (slots after : Tables) (floor round : ℕ) (held : AreStateTables blocks certificates slots floor)
     (low : List Digest) (digests_up_to : AreDigestsUpTo (state_of blocks certificates slots floor) round low)
     (drops : DropsBelow (λ (b : Block). b.round) round low blocks stay) (drops_too : DropsBelow (λ (c : Certificate). c.round) round low certificates kept)
     (firsts : after.firsts ≡ slots_from round slots.firsts) (index : after.certified ≡ slots_from round slots.certified) where
@@ -35,7 +35,7 @@ module _ (blocks stay : List (Digest × Block)) (certificates kept : List (Diges
   pub same_raised : state_of stay kept after round ≡ raised s round
   same_raised = λ i. record { blocks = blocks_are i; certificates = certificates_are i; firsts = firsts i; floor = round }
 
-  pub held_raised : IsHeld stay kept after round
+  pub held_raised : AreStateTables stay kept after round
   held_raised = record {
     kept = subst (λ (t : State). IsSoundWithIndex t after.certified) (sym same_raised) (subst (λ m. IsSoundWithIndex (raised s round) m) (sym index) (kept_raised s slots.certified round held.kept));
     listed = λ d b at.
@@ -57,7 +57,7 @@ module _ (blocks stay : List (Digest × Block)) (certificates kept : List (Diges
 
 -- ---- the digests of the slots
 
-module _ (blocks : List (Digest × Block)) (certificates : List (Digest × Certificate)) (slots : Tables) (floor : ℕ) (held : IsHeld blocks certificates slots floor) where
+module _ (blocks : List (Digest × Block)) (certificates : List (Digest × Certificate)) (slots : Tables) (floor : ℕ) (held : AreStateTables blocks certificates slots floor) where
   -- a certificate and the block under its digest have the same slot
   pub certified_slot : (slot : Slot) (d : Digest) (b : Block) → get slots.certified slot ≡ Some d → get (from_entries {R = digest_cmp} blocks) d ≡ Some b → block_slot b ≡ slot
   certified_slot slot d b at there = let (c, is, here) = (held.kept.indexed slot d).0 at in held.kept.sound.one_slot d b c there is ∙ here

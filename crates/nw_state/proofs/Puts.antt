@@ -15,12 +15,12 @@ use Rattle.nw_rounds.specs.Slots.{Tables}
 use Rattle.nw_trie.proofs.Inserts.{sorted_insert}
 use Rattle.nw_digest.specs.Order.{digest_cmp, Slot, slot_cmp}
 use Rattle.nw_model.specs.State.{State, block_slot, certificate_slot}
-use Rattle.nw_model.specs.Step.{is_elsewhere, is_digest, rival, with_block, with_certificate, certified_digest}
+use Rattle.nw_model.specs.Step.{has_other_slot, is_digest, other_first, with_block, with_certificate, certified_digest}
 use Rattle.nw_model.specs.Sound.{IsSoundWithIndex}
 use Rattle.nw_model.proofs.Kept.{kept_written, index_with_certificate, sound_with_certificate, index_answers, after_insert, after_slot, at_insert, at_slot, still_insert, still_slot}
 use Rattle.nw_model.proofs.Sames.{same_digest_decides}
 use Rattle.nw_model.proofs.Maps.{put_entries, digests_total, digests_apart}
-use Rattle.nw_state.specs.StateTables.{IsHeld, IsListed, state_of}
+use Rattle.nw_state.specs.StateTables.{AreStateTables, IsListed, state_of}
 
 pub absent : {A : Type 0} (found : Option A) → IsNone found → found ≡ None
 absent None h = refl
@@ -50,7 +50,7 @@ vacant_first None e = refl
 vacant_first (Some d) e = absurd cc
 
 -- if there is no vote, the slot has this first digest, or the digest is certified
-pub known_first : (s : State) (d : Digest) (slot : Slot) → rival s d slot ≡ None → false ≡ not (is_some (get s.firsts slot)) → (get s.firsts slot ≡ Some d) ⊎ IsSome (get s.certificates d)
+pub known_first : (s : State) (d : Digest) (slot : Slot) → other_first s d slot ≡ None → false ≡ not (is_some (get s.firsts slot)) → (get s.firsts slot ≡ Some d) ⊎ IsSome (get s.certificates d)
 known_first s d slot alone voted = by (get s.certificates d) refl (get s.firsts slot) refl
   where
     only : (first : Digest) (b : Bool) → is_digest first d ≡ b → cond b None (Some first) ≡ None → first ≡ d
@@ -74,8 +74,8 @@ module _ (blocks more : List (Digest × Block)) (certificates : List (Digest × 
   pub same_held : state_of more certificates after floor ≡ with_block (state_of blocks certificates slots floor) d b vote
   same_held = λ i. record { blocks = puts i; certificates = from_entries certificates; firsts = firsts i; floor = floor }
 
-  module _ (held : IsHeld blocks certificates slots floor) (none : get (from_entries {R = digest_cmp} blocks) d ≡ None) (fits : is_elsewhere certificate_slot (get (from_entries {R = digest_cmp} certificates) d) (block_slot b) ≡ false)
-      (above : floor ≤ b.round) (same : after.certified ≡ slots.certified) (first : vote ≡ not (is_some (get slots.firsts (block_slot b)))) (alone : rival (state_of blocks certificates slots floor) d (block_slot b) ≡ None) where
+  module _ (held : AreStateTables blocks certificates slots floor) (none : get (from_entries {R = digest_cmp} blocks) d ≡ None) (fits : has_other_slot certificate_slot (get (from_entries {R = digest_cmp} certificates) d) (block_slot b) ≡ false)
+      (above : floor ≤ b.round) (same : after.certified ≡ slots.certified) (first : vote ≡ not (is_some (get slots.firsts (block_slot b)))) (alone : other_first (state_of blocks certificates slots floor) d (block_slot b) ≡ None) where
     kept : IsSoundWithIndex (state_of more certificates after floor) after.certified
     kept = rw same (kept_written (state_of blocks certificates slots floor) slots.certified d b (from_entries more) after.firsts held.kept fits above puts)
 
@@ -103,7 +103,7 @@ module _ (blocks more : List (Digest × Block)) (certificates : List (Digest × 
     voting : Votes after.firsts
     voting = subst Votes (sym firsts) (votes vote first)
 
-    pub block_held : IsHeld more certificates after floor
+    pub block_held : AreStateTables more certificates after floor
     block_held = record {
       kept = kept;
       listed = λ e x at. elim (after_insert (from_entries blocks) d b e x (subst (λ m. get m e ≡ Some x) puts at)) [
@@ -125,9 +125,9 @@ module _ (blocks more : List (Digest × Block)) (certificates : List (Digest × 
 
 -- one more certificate
 pub certificate_held : (blocks : List (Digest × Block)) (certificates more : List (Digest × Certificate)) (slots after : Tables) (floor : ℕ) (c : Certificate)
-    → IsHeld blocks certificates slots floor → get (from_entries {R = digest_cmp} certificates) c.digest ≡ None → certified_digest (state_of blocks certificates slots floor) (certificate_slot c) ≡ None
-    → is_elsewhere block_slot (get (from_entries {R = digest_cmp} blocks) c.digest) (certificate_slot c) ≡ false → floor ≤ c.round
-    → more ≡ insert_entry digest_cmp certificates c.digest c → after.certified ≡ insert slots.certified (certificate_slot c) c.digest → after.firsts ≡ slots.firsts → IsHeld blocks more after floor
+    → AreStateTables blocks certificates slots floor → get (from_entries {R = digest_cmp} certificates) c.digest ≡ None → certified_digest (state_of blocks certificates slots floor) (certificate_slot c) ≡ None
+    → has_other_slot block_slot (get (from_entries {R = digest_cmp} blocks) c.digest) (certificate_slot c) ≡ false → floor ≤ c.round
+    → more ≡ insert_entry digest_cmp certificates c.digest c → after.certified ≡ insert slots.certified (certificate_slot c) c.digest → after.firsts ≡ slots.firsts → AreStateTables blocks more after floor
 certificate_held blocks certificates more slots after floor c held none first fits above put index firsts =
     let s : State = state_of blocks certificates slots floor in
     let new = sound_with_certificate s c held.kept.sound first fits above in

@@ -11,7 +11,7 @@ use Rattle.nw_rounds.specs.Slots.{Tables}
 use Rattle.nw_digest.specs.Order.{Slot}
 use Rattle.nw_model.specs.State.{State, block_slot}
 use Rattle.nw_model.proofs.Sames.{same_digest, same_digest_decides}
-use Rattle.nw_state.specs.StateTables.{IsHeld, state_of}
+use Rattle.nw_state.specs.StateTables.{AreStateTables, state_of}
 use Rattle.nw_state.specs.Standing.{IsMet}
 use Rattle.nw_state.proofs.HeldRaised.{certified_slot}
 
@@ -27,7 +27,7 @@ which : {X : Type 0} (found : Option X) → IsSome found → (x : X) × (found �
 which None h = absurd cc
 which (Some x) h = (x, refl)
 
-module _ (blocks : List (Digest × Block)) (certificates : List (Digest × Certificate)) (slots : Tables) (floor : ℕ) (held : IsHeld blocks certificates slots floor) (w : Wanted) where
+module _ (blocks : List (Digest × Block)) (certificates : List (Digest × Certificate)) (slots : Tables) (floor : ℕ) (held : AreStateTables blocks certificates slots floor) (w : Wanted) where
   abbrev s : State
   s = state_of blocks certificates slots floor
 

@@ -20,7 +20,7 @@ abbrev pub IsListed : Tables → Digest → Block → Type 0
 IsListed slots d b = (get slots.firsts (block_slot b) ≡ Some d) ⊎ (get slots.certified (block_slot b) ≡ Some d)
 
 -- the invariant of the tables of a store
-pub record IsHeld (blocks : List (Digest × Block)) (certificates : List (Digest × Certificate)) (slots : Tables) (floor : ℕ) : Type 0 where
+pub record AreStateTables (blocks : List (Digest × Block)) (certificates : List (Digest × Certificate)) (slots : Tables) (floor : ℕ) : Type 0 where
   -- the state is sound, and the slots have exactly the certified digests
   pub kept : IsSoundWithIndex (state_of blocks certificates slots floor) slots.certified
   -- each held block is listed at its slot, as its first or its certified digest

@@ -8,7 +8,7 @@ ghost use Rattle.nw_digest.specs.declared.digest.Digest.{Digest};
 ghost use Rattle.nw_model.specs.State.{opening, block_slot, certificate_slot};
 ghost use Rattle.nw_model.specs.Sound.{IsSound};
 ghost use Rattle.nw_state.specs.Standing.{Stands, IsMet, name_of};
-ghost use Rattle.nw_model.specs.Step.{certified_digest, is_elsewhere, rival, with_block};
+ghost use Rattle.nw_model.specs.Step.{certified_digest, has_other_slot, other_first, with_block};
 ghost use Rattle.nw_model.specs.Step.{with_certificate};
 
 mod collection;
@@ -39,7 +39,7 @@ pub struct StateTables {
 
 impl Model for StateTables {
     ghost use Rattle.nw_model.specs.Step.{BoundedState, coded_bounded_state};
-    ghost use Rattle.nw_state.specs.StateTables.{IsHeld, state_of};
+    ghost use Rattle.nw_state.specs.StateTables.{AreStateTables, state_of};
 
     ghost Value = { BoundedState };
 
@@ -50,7 +50,7 @@ impl Model for StateTables {
       state = state_of h.blocks h.certificates h.slots h.floor;
     } };
 
-    ghost invariant = { λ h. IsHeld h.blocks h.certificates h.slots h.floor };
+    ghost invariant = { λ h. AreStateTables h.blocks h.certificates h.slots h.floor };
 }
 
 impl StateTables {
@@ -180,8 +180,8 @@ impl StateTables {
     ) -> Result<(), NoMemory>
         requires absent { IsNone (map.get self.old.state.blocks digest) }
         requires first { vote ≡ not (is_some (map.get self.old.state.firsts (block_slot block))) }
-        requires alone { rival self.old.state digest (block_slot block) ≡ None }
-        requires misfit { is_elsewhere certificate_slot (map.get self.old.state.certificates digest)
+        requires alone { other_first self.old.state digest (block_slot block) ≡ None }
+        requires misfit { has_other_slot certificate_slot (map.get self.old.state.certificates digest)
             (block_slot block) ≡ false }
         requires kept { self.old.state.floor ≤ block.round }
         ensures state { OnOk result (self.new.state ≡ with_block self.old.state digest block vote) }
@@ -206,7 +206,7 @@ impl StateTables {
     pub fn put_certificate(&mut self, certificate: Shared<Certificate>) -> Result<(), NoMemory>
         requires absent { IsNone (map.get self.old.state.certificates certificate.digest) }
         requires open { certified_digest self.old.state (certificate_slot certificate) ≡ None }
-        requires misfit { is_elsewhere block_slot (map.get self.old.state.blocks certificate.digest)
+        requires misfit { has_other_slot block_slot (map.get self.old.state.blocks certificate.digest)
             (certificate_slot certificate) ≡ false }
         requires kept { self.old.state.floor ≤ certificate.round }
         ensures state { OnOk result (self.new.state ≡ with_certificate self.old.state certificate) }

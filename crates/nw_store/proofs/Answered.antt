@@ -11,7 +11,7 @@ use Rattle.nw_book.specs.Turn.{IsRefusal, event}
 use Rattle.nw_book.specs.declared.error.NoStep.{NoStep}
 use Rattle.std.specs.List.{Contains}
 use Rattle.nw_history.specs.Prefix.{IsPrefixOf}
-use Rattle.nw_store.specs.Journal.{Journal, AreBegun, KnowsAll, IsHistoryOf, next_number, with_answer}
+use Rattle.nw_store.specs.Journal.{Journal, ArePrefixesOf, KnowsAll, IsHistoryOf, next_number, with_answer}
 use Rattle.nw_store.specs.Answered.{IsAnswered, IsExplained, TakesNoStep}
 
 -- the session's journal after the answer was pushed
@@ -23,7 +23,7 @@ keeps_it id number answers after known later a asked reply front next items same
     ap (λ (l : List DoneView). record { id = id; answers = l; known = later }) (items ∙ ap (λ (x : DoneView). answers ++ x ∷ []) pushed)
 
 pub answered : (accepts : Meaning) (h next : Story) (id number : ℕ) (asked : Call) (reply : Reply) (front : Story) (answers after : List DoneView) (known later : List Story) (a : DoneView)
-    → Takes accepts h next id number asked reply front → number ≡ length answers + 1 → AreBegun next answers → after ≡ answers ++ a ∷ [] → a.front ≡ front → a.event ≡ event id number asked reply
+    → Takes accepts h next id number asked reply front → number ≡ length answers + 1 → ArePrefixesOf next answers → after ≡ answers ++ a ∷ [] → a.front ≡ front → a.event ≡ event id number asked reply
     → ((s : Story) → Contains known s → IsPrefixOf s next) → Contains later front → KnowsAll later known
     → IsAnswered accepts h (record { id = id; answers = answers; known = known }) (record { id = id; answers = after; known = later }) asked reply front
 answered accepts h next id number asked reply front answers after known later a t is begins items same event_is heard knows knew = record {
@@ -33,7 +33,7 @@ answered accepts h next id number asked reply front answers after known later a 
     front_is = refl;
     legal = subst (λ (s : Story). IsLegalStory accepts s) (sym t.front_is) t.legal;
   });
-  begins = subst (λ (s : Story). AreBegun s answers) (sym t.front_is) begins;
+  begins = subst (λ (s : Story). ArePrefixesOf s answers) (sym t.front_is) begins;
   heard = λ s c. subst (λ (f : Story). IsPrefixOf s f) (sym t.front_is) (heard s c);
   keeps = keeps_it id number answers after known later a asked reply front is items same event_is;
   knows = knows;

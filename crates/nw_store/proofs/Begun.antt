@@ -9,7 +9,7 @@ use Rattle.nw_model.specs.declared.event.Event.{Event}
 use Rattle.nw_history.specs.Story.{Story, with_event}
 use Rattle.nw_history.specs.Prefix.{IsPrefixOf}
 use Rattle.nw_book.specs.Answer.{DoneView}
-use Rattle.nw_store.specs.Journal.{AreBegun, AreAmong, AreComparable, AnswersCall, AreAnswers}
+use Rattle.nw_store.specs.Journal.{ArePrefixesOf, AreAmong, AreComparable, AnswersCall, AreAnswers}
 
 begins_itself : (xs : List Event) → IsPrefix xs xs
 begins_itself [] = ([], refl)
@@ -38,7 +38,7 @@ among_longer claim log answers p among =
     (λ a c. subst (λ l. Contains l a.front) p.1 (Contains-append_left claim p.0 a.front c)) answers among
 
 -- if each front in the log is a prefix of the history, so is the front of each answer, since a claim of the log has it
-pub begun_claimed : (h : Story) (log claim : List Story) (answers : List DoneView) → All (λ f. IsPrefixOf f h) log → IsPrefix claim log → AreAmong claim answers → AreBegun h answers
+pub begun_claimed : (h : Story) (log claim : List Story) (answers : List DoneView) → All (λ f. IsPrefixOf f h) log → IsPrefix claim log → AreAmong claim answers → ArePrefixesOf h answers
 begun_claimed h log claim answers begun p among =
     All-weaker (λ (a : DoneView). Contains log a.front) (λ (a : DoneView). IsPrefixOf a.front h)
     (λ a c. All-contains (λ (f : Story). IsPrefixOf f h) log a.front begun c) answers (among_longer claim log answers p among)
@@ -82,5 +82,5 @@ either_prefix s t u p q =
     (λ (e : IsPrefix t.events s.events). inr (record { committee = q.committee ∙ sym p.committee; limits = q.limits ∙ sym p.limits; base = q.base ∙ sym p.base; events = e }))
     (either_begins s.events t.events u.events p.events q.events)
 
-pub comparable : (h : Story) (answers others : List DoneView) → AreBegun h answers → AreBegun h others → AreComparable answers others
+pub comparable : (h : Story) (answers others : List DoneView) → ArePrefixesOf h answers → ArePrefixesOf h others → AreComparable answers others
 comparable h answers others begun also = λ k a l m b n. either_prefix _ _ h (begun k a l) (also m b n)

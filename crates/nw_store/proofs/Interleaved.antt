@@ -11,7 +11,7 @@ use Rattle.nw_model.specs.declared.event.Event.{Event}
 use Rattle.nw_model.specs.History.{events_of, AreNumbered}
 use Rattle.nw_history.specs.Story.{Story}
 use Rattle.nw_book.specs.Answer.{DoneView}
-use Rattle.nw_store.specs.Journal.{Guarded, Journal, AreBegun, AreAnswers}
+use Rattle.nw_store.specs.Journal.{Guarded, Journal, ArePrefixesOf, AreAnswers}
 use Rattle.nw_store.specs.Settled.{events_in, AreInOrder, AreSettled, AreAllComparable}
 use Rattle.nw_store.proofs.Begun.{comparable}
 
@@ -245,7 +245,7 @@ below_all : (made : ℕ) (es : List Event) → AreBelow made es → All (λ e. e
 below_all made [] h = All-nil (λ (e : Event). e.session < made)
 below_all made (e ∷ es) h = All-cons (λ (x : Event). x.session < made) e es h.0 (below_all made es h.1)
 
-pub joined : (h : Story) (js : List Journal) → ((s : ℕ) → AreNumbered 1 (events_of s h.events)) → AreInOrder 0 js → All (λ j. AreBegun h j.answers × AreAnswers j.id 1 j.answers) js
+pub joined : (h : Story) (js : List Journal) → ((s : ℕ) → AreNumbered 1 (events_of s h.events)) → AreInOrder 0 js → All (λ j. ArePrefixesOf h j.answers × AreAnswers j.id 1 j.answers) js
     → sum_by (λ j. length j.answers) js ≡ length h.events → AreSettled h js
 joined h js numbered order all sum =
     let begun : All (λ j. AreBegunBy h.events j.answers × AreAnswers j.id 1 j.answers) js = λ i d lt. (let p = all i d lt in ((λ k a l. (p.0 k a l).events), p.1)) in
@@ -255,7 +255,7 @@ joined h js numbered order all sum =
       each = λ s j at. (let f = found 0 js s j order at in record {
         id_is = f.2 ∙ zero_plus s;
         events = whole.0 s f.0 ∙ ap events_in f.1;
-        begun = (holds_at (λ j. AreBegun h j.answers × AreAnswers j.id 1 j.answers) js s j all at).0;
+        begun = (holds_at (λ j. ArePrefixesOf h j.answers × AreAnswers j.id 1 j.answers) js s j all at).0;
       });
       others = below_all (length js) h.events whole.1;
     }

@@ -8,7 +8,7 @@ use Rattle.std.proofs.lemmas.Bool.Decides.{eqb_tells, leb_tells}
 use Rattle.std.proofs.lemmas.List.Sums.{sum_by-cons}
 use Rattle.std.proofs.lemmas.List.Sorted.{IsPermutation-map, IsPermutation-refl, length_permutation, sum_by-IsPermutation}
 use Rattle.nw_store.specs.Journal.{Guarded, Journal}
-use Rattle.nw_store.specs.Settled.{AreInOrder, AreAll, IsStray, times, ids_of}
+use Rattle.nw_store.specs.Settled.{AreInOrder, AreAllSessions, IsStray, times, ids_of}
 
 abbrev one : ℕ → ℕ → ℕ
 one s x = cond (x == s) 1 0
@@ -151,16 +151,16 @@ rises : (js : List Journal) → IsNonDecreasingBy (λ x. x.id) js → Rise 0 (id
 rises [] h = tt
 rises (j ∷ js) h = (omega arith, rises_after j js h)
 
-pub all_length : (made : ℕ) (js : List Journal) → AreAll made js → length js ≡ made
+pub all_length : (made : ℕ) (js : List Journal) → AreAllSessions made js → length js ≡ made
 all_length made js all = let l = length_permutation (ids_of js) (range_with_len 0 made) all in let r = length_range 0 made in let m = length_ids js in omega (arith, l, r, m)
 
 -- if the sorted journals are as many as the made sessions and in order, the journals are those of all made sessions
-pub all_from_order : (made : ℕ) (js sorted : List Journal) → IsPermutation js sorted → length sorted ≡ made → AreInOrder 0 sorted → AreAll made js
+pub all_from_order : (made : ℕ) (js sorted : List Journal) → IsPermutation js sorted → length sorted ≡ made → AreInOrder 0 sorted → AreAllSessions made js
 all_from_order made js sorted p len order =
     subst (λ l. IsPermutation (ids_of js) l) (ids_in_order 0 sorted order ∙ ap (range_with_len 0) len) (IsPermutation-map (λ (j : Journal). j.id) js sorted p)
 
 -- if the journals are those of all made sessions, no id is stray
-pub none_of_all : (made : ℕ) (js : List Journal) → AreAll made js → (id : ℕ) → IsStray made (ids_of js) id → ⊥
+pub none_of_all : (made : ℕ) (js : List Journal) → AreAllSessions made js → (id : ℕ) → IsStray made (ids_of js) id → ⊥
 none_of_all made js all id stray =
     let same : times (ids_of js) id ≡ count id (range_with_len 0 made) = sym (sum_by-IsPermutation (one id) (ids_of js) (range_with_len 0 made) all) ∙ sym (count_is id (range_with_len 0 made)) in
     let once = range_once id 0 made in
@@ -186,14 +186,14 @@ order_from_none made js sorted p rising enough none =
     (omega (arith, whole, many), in_order_ids 0 (length (ids_of sorted)) sorted range.1)
 
 -- if the journals are those of all made sessions, so are the sorted journals
-pub all_in_order : (made : ℕ) (js sorted : List Journal) → AreAll made js → IsPermutation js sorted → IsNonDecreasingBy (λ j. j.id) sorted → AreAll made sorted
+pub all_in_order : (made : ℕ) (js sorted : List Journal) → AreAllSessions made js → IsPermutation js sorted → IsNonDecreasingBy (λ j. j.id) sorted → AreAllSessions made sorted
 all_in_order made js sorted all p rising =
     let whole = all_length made js all in
     let order = order_from_none made js sorted p rising (omega (arith, whole)) (none_of_all made js all) in
     all_from_order made sorted sorted (IsPermutation-refl sorted) order.0 order.1
 
-pub all_still : (old new : Guarded) (js after : List Journal) → new ≡ old → after ≡ js → AreAll old.made js → AreAll new.made after
-all_still old new js after same items all = subst (λ (h : Guarded). AreAll h.made after) (sym same) (subst (λ (l : List Journal). AreAll old.made l) (sym items) all)
+pub all_still : (old new : Guarded) (js after : List Journal) → new ≡ old → after ≡ js → AreAllSessions old.made js → AreAllSessions new.made after
+all_still old new js after same items all = subst (λ (h : Guarded). AreAllSessions h.made after) (sym same) (subst (λ (l : List Journal). AreAllSessions old.made l) (sym items) all)
 
 -- no id below n is stray
 abbrev pub NoneBelow : ℕ → List Journal → ℕ → Type 0

@@ -10,14 +10,14 @@ use Rattle.nw_history.specs.Prefix.{IsPrefixOf}
 use Rattle.nw_book.specs.Answer.{Takes}
 use Rattle.nw_book.specs.Turn.{IsRefusal, event}
 use Rattle.nw_book.specs.declared.error.NoStep.{NoStep}
-use Rattle.nw_store.specs.Journal.{Journal, AreBegun, KnowsAll, IsHistoryOf, next_number, with_answer}
+use Rattle.nw_store.specs.Journal.{Journal, ArePrefixesOf, KnowsAll, IsHistoryOf, next_number, with_answer}
 
 -- after this history, the session's next call got this reply and this front; `old` and `new` are the session before and after the call
 pub record IsAnswered (accepts : Meaning) (history : Story) (old new : Journal) (call : Call) (reply : Reply) (front : Story) : Type 0 where
   -- the call is taken after the history, with the session's next number; the front is the history with the call
   pub takes : Takes accepts history front old.id (next_number old) call reply front
   -- each earlier front of the session is a prefix of the new front
-  pub begins : AreBegun front old.answers
+  pub begins : ArePrefixesOf front old.answers
   -- each history that the session knew of is a prefix of the new front
   pub heard : (s : Story) → Contains old.known s → IsPrefixOf s front
   -- the session's journal gains this answer

@@ -48,8 +48,8 @@ pub record Journal : Type 0 where
   pub known : List Story
 
 -- each front is a prefix of the history
-abbrev pub AreBegun : Story → List DoneView → Type 0
-AreBegun history answers = All (λ a. IsPrefixOf a.front history) answers
+abbrev pub ArePrefixesOf : Story → List DoneView → Type 0
+ArePrefixesOf history answers = All (λ a. IsPrefixOf a.front history) answers
 
 -- of an answer from each list, one's front is a prefix of the other's
 abbrev pub AreComparable : List DoneView → List DoneView → Type 0

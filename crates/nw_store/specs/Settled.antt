@@ -7,7 +7,7 @@ use Rattle.nw_model.specs.History.{events_of}
 use Rattle.nw_model.specs.declared.event.Event.{Event}
 use Rattle.nw_history.specs.Story.{Story}
 use Rattle.nw_book.specs.Answer.{DoneView}
-use Rattle.nw_store.specs.Journal.{Guarded, Journal, AreBegun, AreComparable}
+use Rattle.nw_store.specs.Journal.{Guarded, Journal, ArePrefixesOf, AreComparable}
 use Rattle.nw_store.specs.declared.error.SettleFault.{SettleFault}
 use Rattle.nw_store.specs.declared.error.SettleFault.TheVariants as faults
 
@@ -25,8 +25,8 @@ abbrev pub ids_of : List Journal → List ℕ
 ids_of js = map (λ j. j.id) js
 
 -- the journals are those of all sessions that the store made: their ids are 0 to made - 1, each once, in any order
-abbrev pub AreAll : ℕ → List Journal → Type 0
-AreAll made js = IsPermutation (ids_of js) (range_with_len 0 made)
+abbrev pub AreAllSessions : ℕ → List Journal → Type 0
+AreAllSessions made js = IsPermutation (ids_of js) (range_with_len 0 made)
 
 -- the number of times that the id is in the list
 abbrev pub times : List ℕ → ℕ → ℕ
@@ -47,7 +47,7 @@ pub record IsJournalOf (history : Story) (session : ℕ) (j : Journal) : Type 0 
   -- its events are the session's events of the history, in order
   pub events : events_of session history.events ≡ events_in j.answers
   -- each front is a prefix of the history
-  pub begun : AreBegun history j.answers
+  pub begun : ArePrefixesOf history j.answers
 
 -- the history is an interleaving of the journals
 pub record AreSettled (history : Story) (js : List Journal) : Type 0 where

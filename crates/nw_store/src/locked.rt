@@ -5,7 +5,7 @@ ghost use mathlib.Core.List.{IsPrefix};
 ghost use Rattle.nw_history.specs.Limits.{AreInRange};
 ghost use Rattle.nw_history.specs.declared.limits.TheConstants.{MAX_EVENTS, MAX_SESSIONS};
 ghost use Rattle.nw_history.specs.Story.{IsLegalStory, reopened};
-ghost use Rattle.nw_store.specs.Journal.{AreBegun, AreComparable, AreAnswers, origin_of};
+ghost use Rattle.nw_store.specs.Journal.{ArePrefixesOf, AreComparable, AreAnswers, origin_of};
 ghost use Rattle.nw_store.specs.Lock.{parts_of_a_ledger};
 
 use crate::opening::Opening;
@@ -189,7 +189,7 @@ pub fn check_journal_locked<S: Scheme, L: Home>(
     locked: &mut Locked<S, L>,
     session: &mut Session<S, L>,
 )
-    ensures begun { AreBegun locked.old.history session.old.answers }
+    ensures begun { ArePrefixesOf locked.old.history session.old.answers }
     ensures starts { origin_of locked.old.history ≡ L.origin }
     ensures legal { IsLegalStory S.accepts locked.old.history }
     ensures numbered { AreAnswers session.old.id 1 session.old.answers }

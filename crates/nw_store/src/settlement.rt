@@ -5,8 +5,8 @@ ghost use Rattle.std.specs.Prelude.{All, Some, length, slice_get, sum_by};
 ghost use Rattle.std.specs.List.Sorted.{IsPermutation, IsNonDecreasingBy};
 ghost use Rattle.nw_history.specs.Story.{IsLegalStory, reopened};
 ghost use Rattle.nw_history.specs.declared.limits.TheConstants.{MAX_SESSIONS};
-ghost use Rattle.nw_store.specs.Journal.{Journal, AreBegun, AreAnswers, origin_of};
-ghost use Rattle.nw_store.specs.Settled.{AreAll, AreAllComparable, AreSettled, IsFault};
+ghost use Rattle.nw_store.specs.Journal.{Journal, ArePrefixesOf, AreAnswers, origin_of};
+ghost use Rattle.nw_store.specs.Settled.{AreAllSessions, AreAllComparable, AreSettled, IsFault};
 ghost use Rattle.nw_store.specs.Settled.{IsFirstStray, IsStray, ids_of};
 
 use crate::locked::check_journal_locked;
@@ -30,7 +30,7 @@ pub struct Settled<S: Scheme, L: Home> {
 impl<S: Scheme, L: Home> Model for Settled<S, L> {
     ghost use Rattle.std.specs.Coded.{codes};
     ghost use Rattle.nw_model.specs.State.{coded_state};
-    ghost use Rattle.nw_store.specs.Settled.{Settlement, AreAll, AreSettled};
+    ghost use Rattle.nw_store.specs.Settled.{Settlement, AreAllSessions, AreSettled};
 
     ghost Value = { Settlement };
 
@@ -39,7 +39,7 @@ impl<S: Scheme, L: Home> Model for Settled<S, L> {
     ghost view = { λ s.
         record { history = s.locked.history; made = s.locked.made; journals = s.sessions.items } };
 
-    ghost invariant = { λ s. AreAll s.locked.made s.sessions.items
+    ghost invariant = { λ s. AreAllSessions s.locked.made s.sessions.items
         × AreSettled s.locked.history s.sessions.items };
 }
 
@@ -48,7 +48,7 @@ impl<S: Scheme, L: Home> Settled<S, L> {
     /// journals, one's front is a prefix of the other's.
     pub fn history(&self) -> &History<S>
         ensures history { result.now ≡ self.now.history }
-        ensures all { AreAll self.now.made self.now.journals }
+        ensures all { AreAllSessions self.now.made self.now.journals }
         ensures settled { AreSettled self.now.history self.now.journals }
         ensures comparable { AreAllComparable self.now.journals }
         ensures starts { origin_of self.now.history ≡ L.origin }
@@ -100,7 +100,7 @@ pub fn settle_locked<S: Scheme, L: Home>(
     ensures made { IfOk result (λ s. s.made ≡ locked.made) }
     ensures journals { IfOk result (λ s. IsPermutation sessions.items s.journals) }
     ensures settled { IfOk result (λ s. AreSettled s.history s.journals) }
-    ensures exactly { IsOk result ↔ AreAll locked.made sessions.items }
+    ensures exactly { IsOk result ↔ AreAllSessions locked.made sessions.items }
     ensures refused { IfErr result (λ e. IsFault locked sessions.items e.0) }
     ensures back { IfErr result (λ e. (e.1 ≡ locked) × (e.2.items ≡ sessions.items)) }
 {
@@ -115,8 +115,8 @@ fn settle_in_place<S: Scheme, L: Home>(
     locked: &mut Locked<S, L>,
     sessions: &mut [Session<S, L>],
 ) -> Result<(), SettleFault>
-    ensures exactly { IsOk result ↔ AreAll locked.old.made sessions.old }
-    ensures all { OnOk result (AreAll locked.old.made sessions.new) }
+    ensures exactly { IsOk result ↔ AreAllSessions locked.old.made sessions.old }
+    ensures all { OnOk result (AreAllSessions locked.old.made sessions.new) }
     ensures settled { OnOk result (AreSettled locked.old.history sessions.new) }
     ensures refused { IfErr result (IsFault locked.old sessions.old) }
     ensures permutation { IsPermutation sessions.old sessions.new }
@@ -170,7 +170,7 @@ fn is_stray<S: Scheme, L: Home>(sessions: &[Session<S, L>], id: u16, made: u16) 
 /// Does for each session what `check_journal_locked` does.
 fn check_all_journals<S: Scheme, L: Home>(locked: &mut Locked<S, L>, sessions: &mut [Session<S, L>])
     ensures begun { All
-        (λ s. AreBegun locked.old.history s.answers × AreAnswers s.id 1 s.answers) sessions.old }
+        (λ s. ArePrefixesOf locked.old.history s.answers × AreAnswers s.id 1 s.answers) sessions.old }
     ensures below { All (λ s. s.id < MAX_SESSIONS) sessions.old }
     ensures same { locked.new ≡ locked.old }
     ensures sessions { sessions.new ≡ sessions.old }
@@ -227,7 +227,7 @@ pub fn settle<S: Scheme, L: Home>(
     store: Store<S, L>,
     sessions: Vec<Session<S, L>>,
 ) -> Result<Settled<S, L>, Unsettled<S, L>>
-    ensures all { IfOk result (λ s. AreAll s.made sessions.items) }
+    ensures all { IfOk result (λ s. AreAllSessions s.made sessions.items) }
     ensures journals { IfOk result (λ s. IsPermutation sessions.items s.journals) }
     ensures settled { IfOk result (λ s. AreSettled s.history s.journals) }
     ensures refused { IfErr result (λ e. IsFault e.locked sessions.items e.fault) }

@@ -1,7 +1,7 @@
 //! Converts the crate's answers to the model's types.
 
 use super::corpus::certificate_of;
-use super::node::Told;
+use super::node::RawTagged;
 use crate::model::{Block, Call, Certificate, Counts, Reply};
 use narwhal_store::{
     Answer, Causal, CausalFault, Checked, Digest, Event, History, Session, StepError, Ticket,
@@ -165,7 +165,7 @@ pub fn slot_of(certificate: &Certificate) -> Slot {
 }
 
 /// The event that a history must have for the call.
-pub fn event_of(told: &Told) -> Event {
+pub fn event_of(told: &RawTagged) -> Event {
     let call = match &told.call {
         Call::Write(block) => ToldCall::Write(Digest(block.digest)),
         Call::Certify(certificate) => ToldCall::Certify(Digest(certificate.digest)),

@@ -315,7 +315,7 @@ impl<'a> World<'a> {
         }
         if let Some((_, (_, apart))) = self.lists.iter().find(|(other, _)| **other != key) {
             assert!(
-                matches!(ticket.agrees(apart), Err(AgreeError::Apart)),
+                matches!(ticket.agrees(apart), Err(AgreeError::NotComparable)),
                 "tickets of two digests or garbage rounds"
             );
         }

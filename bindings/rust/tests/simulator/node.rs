@@ -11,7 +11,7 @@ use std::collections::{BTreeMap, VecDeque};
 use std::rc::Rc;
 
 /// A call with the model's reply.
-pub struct Told {
+pub struct RawTagged {
     pub session: u16,
     pub number: u32,
     pub call: Call,
@@ -41,7 +41,7 @@ pub struct Node<'a> {
     pub model: Model,
     /// The state that the history starts from, and its events.
     base: Model,
-    told: Vec<Told>,
+    told: Vec<RawTagged>,
     /// The last answer of the history, and some of the earlier ones.
     last: Option<Rc<dyn Explained>>,
     earlier: Vec<Rc<dyn Explained>>,
@@ -214,7 +214,7 @@ impl<'a> Node<'a> {
             reply.clone()
         };
         assert_eq!(heard.reply, expected, "the reply to {call:?}");
-        self.told.push(Told {
+        self.told.push(RawTagged {
             session: at as u16,
             number: *calls,
             call: call.clone(),

@@ -1,7 +1,7 @@
 //! Making blocks from their parts.
 ghost use Rattle.std.specs.Prelude.{◌≡◌, ◌^◌, ◌≤◌, pos, map, IfOk, IfErr, true};
 ghost use Rattle.nw_c.specs.Blocks.{AreCutFrom, CannotBeCut, IsMadeBlock, IsNoBlock, parent_in};
-ghost use Rattle.nw_c.specs.Kinds.{IsAsBefore};
+ghost use Rattle.nw_c.specs.Kinds.{IsUnchanged};
 ghost use Rattle.nw_c.specs.declared.codes.TheConstants.{BAD_ROUND, OPEN, OVER_LIMIT};
 
 use super::CParent;
@@ -68,7 +68,7 @@ pub extern "C" fn nw_block_new(
 ) -> i32
     ensures made { result ≡ pos 0
         → IsMadeBlock author round parents.now transactions.now lengths.now out.new.value }
-    ensures unchanged { (result ≡ pos 0 → ⊥) → IsAsBefore out.old out.new }
+    ensures unchanged { (result ≡ pos 0 → ⊥) → IsUnchanged out.old out.new }
     ensures opened { result ≡ pos 0 → out.new.held ≡ true }
     ensures occupied { result ≡ OPEN → out.old.held ≡ true }
     ensures bad_round { result ≡ BAD_ROUND → 2 ^ 48 ≤ round }

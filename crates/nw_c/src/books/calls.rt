@@ -6,7 +6,7 @@ ghost use Rattle.nw_book.specs.declared.error.NoStep.{NoStep as Refusal};
 ghost use Rattle.nw_c.specs.Books.{IsOpened, IsRefusedBy, IsTaken};
 ghost use Rattle.nw_c.specs.Codes.{step_code};
 ghost use Rattle.nw_c.specs.Plain.{digest_in};
-ghost use Rattle.nw_c.specs.Kinds.{IsAsBefore, HoldsBook, HoldsRoom};
+ghost use Rattle.nw_c.specs.Kinds.{IsUnchanged, HoldsBook, HoldsRoom};
 ghost use Rattle.nw_c.specs.declared.codes.TheConstants.{BAD_ROUND, CLOSED, OTHER_KIND};
 
 use super::{is_room, take};
@@ -32,8 +32,8 @@ pub extern "C" fn nw_book_certificate(
         book.old.value book.new.value answer.new.value }
     ensures refused { (why : Refusal) → result ≡ step_code why
         → IsRefusedBy book.old.value session number None why }
-    ensures unchanged { (result ≡ pos 0 → ⊥) → IsAsBefore book.old book.new }
-    ensures answer { (result ≡ pos 0 → ⊥) → IsAsBefore answer.old answer.new }
+    ensures unchanged { (result ≡ pos 0 → ⊥) → IsUnchanged book.old book.new }
+    ensures answer { (result ≡ pos 0 → ⊥) → IsUnchanged answer.old answer.new }
     ensures stays { book.new.held ≡ book.old.held }
     ensures answer_stays { answer.new.held ≡ answer.old.held }
     ensures closed { result ≡ CLOSED → book.old.held ≡ true → answer.old.held ≡ true → ⊥ }
@@ -57,8 +57,8 @@ pub extern "C" fn nw_book_read(
         book.old.value book.new.value answer.new.value }
     ensures refused { (why : Refusal) → result ≡ step_code why
         → IsRefusedBy book.old.value session number None why }
-    ensures unchanged { (result ≡ pos 0 → ⊥) → IsAsBefore book.old book.new }
-    ensures answer { (result ≡ pos 0 → ⊥) → IsAsBefore answer.old answer.new }
+    ensures unchanged { (result ≡ pos 0 → ⊥) → IsUnchanged book.old book.new }
+    ensures answer { (result ≡ pos 0 → ⊥) → IsUnchanged answer.old answer.new }
     ensures stays { book.new.held ≡ book.old.held }
     ensures answer_stays { answer.new.held ≡ answer.old.held }
     ensures closed { result ≡ CLOSED → book.old.held ≡ true → answer.old.held ≡ true → ⊥ }
@@ -83,8 +83,8 @@ pub extern "C" fn nw_book_collect(
         book.old.value book.new.value answer.new.value }
     ensures refused { (why : Refusal) → result ≡ step_code why
         → IsRefusedBy book.old.value session number None why }
-    ensures unchanged { (result ≡ pos 0 → ⊥) → IsAsBefore book.old book.new }
-    ensures answer { (result ≡ pos 0 → ⊥) → IsAsBefore answer.old answer.new }
+    ensures unchanged { (result ≡ pos 0 → ⊥) → IsUnchanged book.old book.new }
+    ensures answer { (result ≡ pos 0 → ⊥) → IsUnchanged answer.old answer.new }
     ensures stays { book.new.held ≡ book.old.held }
     ensures answer_stays { answer.new.held ≡ answer.old.held }
     ensures closed { result ≡ CLOSED → book.old.held ≡ true → answer.old.held ≡ true → ⊥ }
@@ -113,8 +113,8 @@ pub extern "C" fn nw_book_missing(
         book.old.value book.new.value answer.new.value }
     ensures refused { (why : Refusal) → result ≡ step_code why
         → IsRefusedBy book.old.value session number None why }
-    ensures unchanged { (result ≡ pos 0 → ⊥) → IsAsBefore book.old book.new }
-    ensures answer { (result ≡ pos 0 → ⊥) → IsAsBefore answer.old answer.new }
+    ensures unchanged { (result ≡ pos 0 → ⊥) → IsUnchanged book.old book.new }
+    ensures answer { (result ≡ pos 0 → ⊥) → IsUnchanged answer.old answer.new }
     ensures stays { book.new.held ≡ book.old.held }
     ensures answer_stays { answer.new.held ≡ answer.old.held }
     ensures closed { result ≡ CLOSED → book.old.held ≡ true → answer.old.held ≡ true → ⊥ }
@@ -137,8 +137,8 @@ pub extern "C" fn nw_book_status(
         book.old.value book.new.value answer.new.value }
     ensures refused { (why : Refusal) → result ≡ step_code why
         → IsRefusedBy book.old.value session number None why }
-    ensures unchanged { (result ≡ pos 0 → ⊥) → IsAsBefore book.old book.new }
-    ensures answer { (result ≡ pos 0 → ⊥) → IsAsBefore answer.old answer.new }
+    ensures unchanged { (result ≡ pos 0 → ⊥) → IsUnchanged book.old book.new }
+    ensures answer { (result ≡ pos 0 → ⊥) → IsUnchanged answer.old answer.new }
     ensures stays { book.new.held ≡ book.old.held }
     ensures answer_stays { answer.new.held ≡ answer.old.held }
     ensures closed { result ≡ CLOSED → book.old.held ≡ true → answer.old.held ≡ true → ⊥ }
@@ -163,8 +163,8 @@ pub extern "C" fn nw_book_open(
         book.old.value book.new.value answer.new.value }
     ensures refused { (why : Refusal) → result ≡ step_code why
         → IsRefusedBy book.old.value session number None why }
-    ensures unchanged { (result ≡ pos 0 → ⊥) → IsAsBefore book.old book.new }
-    ensures answer { (result ≡ pos 0 → ⊥) → IsAsBefore answer.old answer.new }
+    ensures unchanged { (result ≡ pos 0 → ⊥) → IsUnchanged book.old book.new }
+    ensures answer { (result ≡ pos 0 → ⊥) → IsUnchanged answer.old answer.new }
     ensures stays { book.new.held ≡ book.old.held }
     ensures answer_stays { answer.new.held ≡ answer.old.held }
     ensures closed { result ≡ CLOSED → book.old.held ≡ true → answer.old.held ≡ true → ⊥ }

@@ -1,6 +1,6 @@
 //! Opening and closing handles.
 ghost use Rattle.std.specs.Prelude.{◌≡◌, true, false, pos};
-ghost use Rattle.nw_c.specs.Kinds.{IsAsBefore};
+ghost use Rattle.nw_c.specs.Kinds.{IsUnchanged};
 ghost use Rattle.nw_c.specs.declared.codes.TheConstants.{NO_MEMORY};
 
 use super::Handle;
@@ -14,7 +14,7 @@ pub(crate) fn put(alloc: Global, out: &mut Handle, content: Content) -> i32
     requires { out.old.held ≡ false }
     ensures held { result ≡ pos 0 → out.new.held ≡ true }
     ensures value { result ≡ pos 0 → out.new.value ≡ content }
-    ensures unchanged { (result ≡ pos 0 → ⊥) → IsAsBefore out.old out.new }
+    ensures unchanged { (result ≡ pos 0 → ⊥) → IsUnchanged out.old out.new }
     ensures refused { (result ≡ pos 0 → ⊥) → result ≡ NO_MEMORY }
 {
     match Box::new(alloc, content) {

@@ -7,7 +7,7 @@ ghost use Rattle.nw_state.specs.Standing.{Stands};
 ghost use Rattle.nw_dag.specs.Lacking.{IsReady};
 ghost use Rattle.nw_dag.specs.Changes.{AppendsThose, Promotes};
 ghost use Rattle.nw_dag.specs.Frozen.{Grows};
-ghost use Rattle.nw_dag.specs.Settled.{IsTally, IsCascading, IsSettled, IsSettledWithout};
+ghost use Rattle.nw_dag.specs.Settled.{HasPendingCount, IsCascading, IsSettled, IsSettledWithout};
 
 use super::Waits;
 use crate::completions::{is_ready, lacks_nothing};
@@ -33,7 +33,7 @@ impl Waits {
 
     /// Lists the digests that are ready.
     fn add_ready(&mut self, held: &StateTables, digests: &[Digest])
-        requires tally { IsTally held.now.state self.old.lacking digests.now
+        requires tally { HasPendingCount held.now.state self.old.lacking digests.now
             self.old.completions.pending }
         requires once { IsDistinct (eq_by_cmp digest_cmp) digests.now }
         ensures unmet { self.new.unmet ≡ self.old.unmet }
@@ -50,7 +50,7 @@ impl Waits {
 
     /// Promotes the digest: no block lacks its block from now on, and the blocks that become ready as a result are listed.
     fn promote(&mut self, held: &StateTables, digest: Digest)
-        requires tally { IsTally held.now.state self.old.lacking [] self.old.completions.pending }
+        requires tally { HasPendingCount held.now.state self.old.lacking [] self.old.completions.pending }
         requires stands { Stands held.now.state digest }
         ensures unmet { self.new.unmet ≡ self.old.unmet }
         ensures promotes { Promotes held.now.state digest self.old.lacking self.new.lacking

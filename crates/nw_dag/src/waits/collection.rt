@@ -7,7 +7,7 @@ ghost use Rattle.nw_digest.specs.Order.{digest_cmp};
 ghost use Rattle.nw_dag.specs.Lacking.{IsReady};
 ghost use Rattle.nw_dag.specs.Changes.{AppendsThose};
 ghost use Rattle.nw_dag.specs.Frozen.{Grows};
-ghost use Rattle.nw_dag.specs.Settled.{IsTally, IsSettled};
+ghost use Rattle.nw_dag.specs.Settled.{HasPendingCount, IsSettled};
 ghost use Rattle.nw_dag.specs.Collection.{AreReleased, StandsButLacks};
 ghost use Rattle.nw_dag.specs.Collection.{IsCompleteBelow, HasCompleteBelow, IsCollecting};
 
@@ -48,7 +48,7 @@ impl Waits {
 
     /// Releases the holder: it lacks nothing from now on, and is listed if it becomes ready as a result.
     fn release(&mut self, held: &StateTables, holder: Digest)
-        requires tally { IsTally held.now.state self.old.lacking [] self.old.completions.pending }
+        requires tally { HasPendingCount held.now.state self.old.lacking [] self.old.completions.pending }
         ensures unmet { self.new.unmet ≡ without_holder self.old.unmet holder }
         ensures lacking { self.new.lacking ≡ without_holder self.old.lacking holder }
         ensures added { AppendsThose (StandsButLacks held.now.state self.old.lacking)
@@ -65,7 +65,7 @@ impl Waits {
 
     /// Releases the holders: they lack nothing from now on, and those that become ready as a result are listed.
     fn release_each(&mut self, held: &StateTables, holders: &[Digest])
-        requires tally { IsTally held.now.state self.old.lacking [] self.old.completions.pending }
+        requires tally { HasPendingCount held.now.state self.old.lacking [] self.old.completions.pending }
         requires once { IsDistinct (eq_by_cmp digest_cmp) holders.now }
         ensures unmet { AreReleased holders.now self.old.unmet self.new.unmet }
         ensures lacking { AreReleased holders.now self.old.lacking self.new.lacking }

@@ -2,7 +2,7 @@
 ghost use Rattle.std.specs.Prelude.{◌≡◌, ◌≤◌, IfOk, OnOk, OnErr, IsNone, None, false};
 ghost use Rattle.std.specs.FinMap as map;
 ghost use Rattle.nw_model.specs.State.{block_slot, certificate_slot};
-ghost use Rattle.nw_model.specs.Step.{certify_reply, certified_digest, is_elsewhere};
+ghost use Rattle.nw_model.specs.Step.{certify_reply, certified_digest, has_other_slot};
 ghost use Rattle.nw_model.specs.Step.{with_certificate};
 
 use super::{Plain, insert_both};
@@ -67,7 +67,7 @@ impl Plain {
     pub(super) fn certify(&mut self, certificate: Shared<Certificate>) -> Result<(), NoMemory>
         requires absent { IsNone (map.get self.old.state.certificates certificate.digest) }
         requires open { certified_digest self.old.state (certificate_slot certificate) ≡ None }
-        requires misfit { is_elsewhere block_slot (map.get self.old.state.blocks certificate.digest)
+        requires misfit { has_other_slot block_slot (map.get self.old.state.blocks certificate.digest)
             (certificate_slot certificate) ≡ false }
         requires kept { self.old.state.floor ≤ certificate.round }
         ensures state { OnOk result (self.new.state ≡ with_certificate self.old.state certificate) }

@@ -2,7 +2,7 @@
 ghost use Rattle.std.specs.Prelude.{◌≡◌, None, Some, is_some, if◌then◌else◌};
 ghost use Rattle.std.specs.Option.{option_and_then, option_copied};
 ghost use Rattle.nw_model.specs.State.{block_slot, certificate_slot};
-ghost use Rattle.nw_model.specs.Step.{write_reply, certify_reply, is_digest, is_elsewhere};
+ghost use Rattle.nw_model.specs.Step.{write_reply, certify_reply, is_digest, has_other_slot};
 
 use super::StateTables;
 use nw_codec::{Block, Certificate};
@@ -32,8 +32,8 @@ impl StateTables {
             return WriteReply::Misfit;
         }
         let first = self.first(block.round, block.author);
-        if let Some(rival) = rival(certificate, first, digest) {
-            return WriteReply::Equivocates(rival);
+        if let Some(other_first) = other_first(certificate, first, digest) {
+            return WriteReply::Equivocates(other_first);
         }
         if self.blocks() >= self.limit as usize {
             return WriteReply::Full;
@@ -80,7 +80,7 @@ impl StateTables {
 /// Whether there is a certificate, and it is for another round or author than the block's.
 fn is_misfit(certificate: Option<&Shared<Certificate>>, block: &Block) -> bool
     ensures { result
-        ≡ is_elsewhere certificate_slot (option_copied certificate.entry) (block_slot block.now) }
+        ≡ has_other_slot certificate_slot (option_copied certificate.entry) (block_slot block.now) }
 {
     match certificate {
         None => false,
@@ -92,7 +92,7 @@ fn is_misfit(certificate: Option<&Shared<Certificate>>, block: &Block) -> bool
 }
 
 /// The first digest of a slot, if it is another digest and this one has no certificate.
-fn rival(
+fn other_first(
     certificate: Option<&Shared<Certificate>>,
     first: Option<Digest>,
     digest: &Digest,

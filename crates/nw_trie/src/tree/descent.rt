@@ -62,7 +62,7 @@ pub(crate) struct Twice<S: Steps>(PhantomData<S>);
 type Four<S> = Twice<Twice<S>>;
 
 /// As many steps as a digest has bits.
-type Whole = Four<Four<Four<Four<Step>>>>;
+type AllBits = Four<Four<Four<Four<Step>>>>;
 
 impl Way for End {
     ghost bits = { 0 };
@@ -125,7 +125,7 @@ impl<V: Drop, A: Allocator> Tree<V, A> {
             → length (insert_entry digest_cmp self.old digest.now v) ≡ length self.old }
     {
         let _ = &self.link;
-        Whole::value_mut::<V, A, End>(self, digest)
+        AllBits::value_mut::<V, A, End>(self, digest)
     }
 
     /// The bit of the tree's first fork, or `None` if it has no fork.

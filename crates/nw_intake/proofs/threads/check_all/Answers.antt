@@ -1,6 +1,6 @@
 use Rattle.std.proofs.Common.{◌<◌, subst, sym, ◌∙◌, arith}
 use Rattle.std.proofs.lemmas.Result.{err_from_is_err_and}
-use Rattle.nw_intake.specs.Faults.{IsCrew}
+use Rattle.nw_intake.specs.Faults.{IsWorkerCount}
 use Rattle.nw_intake.specs.Answers.{IsDealt}
 use Rattle.nw_intake.specs.Shares.{AreShareResults}
 use Rattle.nw_intake.proofs.Whole.{whole_answers, joint_fault}
@@ -8,7 +8,7 @@ use Rattle.nw_intake.proofs.threads.check_all.Goals as goal
 
 pub returns-in_err-shares-clause-fault : goal.returns-in_err-shares-clause-fault
 returns-in_err-shares-clause-fault g c =
-    let crew : IsCrew c.args.workers = let some = c.if-workers-eq0.false in let most = c.if-workers-gt-MAX_WORKERS.false in (omega arith, omega arith) in
+    let crew : IsWorkerCount c.args.workers = let some = c.if-workers-eq0.false in let most = c.if-workers-gt-MAX_WORKERS.false in (omega arith, omega arith) in
     let p = err_from_is_err_and c.from_residual-in_err-shares.result c.from_residual-in_err-shares.ensures.1 in
     let results = subst (λ ts. AreShareResults g.S.Scheme.accepts c.args.committee.now ts (g.G.Gate.says c.args.gate.now) c.args.workers c.in_ok-results.results.items) c.as_slice.ensures.value c.in_ok-results.ensures in
     let h = joint_fault g.S.Scheme.accepts c.args.committee.now c.args.texts.items (g.G.Gate.says c.args.gate.now) c.args.workers c.in_ok-results.results.items c.in_err-shares.field-0.0 crew results c.in_err-shares.ensures.fault in

@@ -1,6 +1,6 @@
 use Rattle.std.proofs.Common.{List, sym, subst}
 use Rattle.nw_history.specs.Story.{Story}
-use Rattle.nw_store.specs.Journal.{Guarded, Journal, AreBegun}
+use Rattle.nw_store.specs.Journal.{Guarded, Journal, ArePrefixesOf}
 use Rattle.nw_store.specs.Lock.{IsSession}
 use Rattle.nw_store.proofs.Begun.{begun_claimed}
 use Rattle.nw_store.proofs.locked.check_journal_locked.Goals as goal
@@ -13,4 +13,4 @@ invariant_of-session g c =
 pub returns-clause-begun : goal.returns-clause-begun
 returns-clause-begun g c =
     let begun = begun_claimed c.locked.inside.book c.locked.inside.tally.keeper c.session.inside.pass.claim c.session.inside.journal.items c.locked.invariant.1.begun c.check_in_place.ensures.begins c.session.invariant.claimed in
-    subst (λ (h : Guarded). AreBegun h.history c.args.session.now.answers) c.locked.view_is (subst (λ (j : Journal). AreBegun c.locked.inside.book j.answers) c.session.view_is begun)
+    subst (λ (h : Guarded). ArePrefixesOf h.history c.args.session.now.answers) c.locked.view_is (subst (λ (j : Journal). ArePrefixesOf c.locked.inside.book j.answers) c.session.view_is begun)

@@ -1,9 +1,9 @@
 use Rattle.std.proofs.Common.{subst}
-use Rattle.nw_store.specs.Journal.{Guarded, AreBegun}
+use Rattle.nw_store.specs.Journal.{Guarded, ArePrefixesOf}
 use Rattle.nw_store.proofs.Begun.{comparable}
 use Rattle.nw_store.proofs.locked.check_journals_locked.Goals as goal
 
 pub returns-clause-comparable : goal.returns-clause-comparable
 returns-clause-comparable g c =
-    let also : AreBegun c.args.locked.now.history c.args.two.now.answers = subst (λ (h : Guarded). AreBegun h.history c.args.two.now.answers) c.check_journal_locked.ensures.same c.check_journal_locked-2.ensures.begun in
+    let also : ArePrefixesOf c.args.locked.now.history c.args.two.now.answers = subst (λ (h : Guarded). ArePrefixesOf h.history c.args.two.now.answers) c.check_journal_locked.ensures.same c.check_journal_locked-2.ensures.begun in
     comparable c.args.locked.now.history c.args.one.now.answers c.args.two.now.answers c.check_journal_locked.ensures.begun also

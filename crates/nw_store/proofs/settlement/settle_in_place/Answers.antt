@@ -3,8 +3,8 @@ use Rattle.std.specs.Prelude.{All}
 use Rattle.std.proofs.lemmas.List.Sorted.{All-permutation, sum_by-IsPermutation}
 use Rattle.std.specs.List.Sorted.{IsPermutation}
 use Rattle.nw_model.specs.History.{events_of, AreNumbered}
-use Rattle.nw_store.specs.Journal.{Guarded, Journal, AreBegun, AreAnswers}
-use Rattle.nw_store.specs.Settled.{ids_of, AreAll, IsFirstStray, IsStray}
+use Rattle.nw_store.specs.Journal.{Guarded, Journal, ArePrefixesOf, AreAnswers}
+use Rattle.nw_store.specs.Settled.{ids_of, AreAllSessions, IsFirstStray, IsStray}
 use Rattle.nw_store.proofs.Interleaved.{joined}
 use Rattle.nw_store.proofs.Ordered.{all_length, all_from_order, all_in_order, none_of_all, order_from_none}
 use Rattle.nw_store.proofs.settlement.settle_in_place.Goals as goal
@@ -59,14 +59,14 @@ returns-clause-all g c =
 
 pub returns-clause-settled : goal.returns-clause-settled
 returns-clause-settled g c =
-    let all : AreAll c.args.locked.now.made c.args.sessions.now = (returns-clause-exactly g c).0 refl in
+    let all : AreAllSessions c.args.locked.now.made c.args.sessions.now = (returns-clause-exactly g c).0 refl in
     let same : c.check_all_journals.new.sessions ≡ c.args.sessions.now = c.check_all_journals.ensures.sessions ∙ c.add_up.ensures.sessions in
     let p : IsPermutation c.args.sessions.now c.sort.new.sessions = subst (λ (js : List Journal). IsPermutation js c.sort.new.sessions) same c.sort.ensures.permutation in
     let whole = all_length c.args.locked.now.made c.args.sessions.now all in
     let order = order_from_none c.args.locked.now.made c.args.sessions.now c.sort.new.sessions p c.sort.ensures.sorted (omega (arith, whole)) (none_of_all c.args.locked.now.made c.args.sessions.now all) in
     let numbered : (s : ℕ) → AreNumbered 1 (events_of s c.args.locked.now.history.events) = subst (λ (h : Guarded). (s : ℕ) → AreNumbered 1 (events_of s h.history.events)) c.locked.view_is c.locked.invariant.1.legal.numbered in
-    let P : Journal → Type 0 = λ j. AreBegun c.args.locked.now.history j.answers × AreAnswers j.id 1 j.answers in
-    let begun : All P c.args.sessions.now = subst (λ (js : List Journal). All P js) c.add_up.ensures.sessions (subst (λ (h : Guarded). All (λ j. AreBegun h.history j.answers × AreAnswers j.id 1 j.answers) c.add_up.new.sessions) c.locked.view_is c.check_all_journals.ensures.begun) in
+    let P : Journal → Type 0 = λ j. ArePrefixesOf c.args.locked.now.history j.answers × AreAnswers j.id 1 j.answers in
+    let begun : All P c.args.sessions.now = subst (λ (js : List Journal). All P js) c.add_up.ensures.sessions (subst (λ (h : Guarded). All (λ j. ArePrefixesOf h.history j.answers × AreAnswers j.id 1 j.answers) c.add_up.new.sessions) c.locked.view_is c.check_all_journals.ensures.begun) in
     let none = c.locked.invariant.1.unused in
     let counted = c.locked.invariant.1.counted in
     let len = ap (λ (h : Guarded). length h.history.events) c.locked.view_is in

@@ -3,13 +3,13 @@ use Rattle.nw_digest.specs.declared.digest.Digest.{Digest}
 use Rattle.nw_waiting.specs.Pairs.{Pairs}
 use Rattle.nw_dag.specs.Lacking.{IsReady}
 use Rattle.nw_dag.specs.Changes.{AppendsThose, Promotes}
-use Rattle.nw_dag.specs.Settled.{IsTally}
+use Rattle.nw_dag.specs.Settled.{HasPendingCount}
 use Rattle.nw_dag.proofs.Steps.{tally_fewer, promotes}
 use Rattle.nw_dag.proofs.waits.Waits.promote.Goals as goal
 
 pub add_ready-requires-clause-tally : goal.add_ready-requires-clause-tally
 add_ready-requires-clause-tally c =
-    subst (λ (xs : List Digest). IsTally c.args.held.now.state c.satisfy-holders.new.self xs c.args.self.now.completions.pending) (sym c.as_slice.ensures.value)
+    subst (λ (xs : List Digest). HasPendingCount c.args.held.now.state c.satisfy-holders.new.self xs c.args.self.now.completions.pending) (sym c.as_slice.ensures.value)
     (tally_fewer c.args.held.now.state c.args.self.now.lacking c.satisfy-holders.new.self c.in-Some.wanted c.args.self.now.completions.pending c.satisfy-holders.result.items c.satisfy-holders.ensures.rest c.satisfy-holders.ensures.holders c.requires.tally)
 
 pub returns-in-Some-clause-promotes : goal.returns-in-Some-clause-promotes

@@ -3,12 +3,12 @@ use Rattle.std.specs.Prelude.{slice_get}
 use Rattle.std.proofs.lemmas.Option.{slice_get_read}
 use borrow.Author.Tests.{ltb-false}
 use Rattle.nw_store.specs.Journal.{Journal}
-use Rattle.nw_store.specs.Settled.{Settlement, AreAll}
+use Rattle.nw_store.specs.Settled.{Settlement, AreAllSessions}
 use Rattle.nw_store.proofs.Ordered.{all_length}
 use Rattle.nw_store.proofs.settlement.Settled.journal.Goals as goal
 
 -- there are as many journals as made sessions
-as_many : (l m : Settlement) → l ≡ m → AreAll l.made l.journals → length m.journals ≡ m.made
+as_many : (l m : Settlement) → l ≡ m → AreAllSessions l.made l.journals → length m.journals ≡ m.made
 as_many l m is all = subst (λ (x : Settlement). length x.journals ≡ x.made) is (all_length l.made l.journals all)
 
 journals_of : (l m : Settlement) → l ≡ m → l.journals ≡ m.journals

@@ -1,6 +1,6 @@
 use Rattle.std.proofs.Common.{◌⊎◌, subst, sym, ◌∙◌, ap}
 use Rattle.nw_c.specs.Kinds.{HoldsCheckedBlock, HoldsCheckedCert}
-use Rattle.nw_c.proofs.handed.nw_book_take.Goals as goal
+use Rattle.nw_c.proofs.handed.nw_book_hand_in.Goals as goal
 
 pub returns-in-Err-clause-other_kind : goal.returns-in-Err-clause-other_kind
 returns-in-Err-clause-other_kind c = λ code kind book room.

@@ -6,15 +6,15 @@ use crate::{Digest, Limits, Member, Slot, Status};
 /// A call or a reply: its kind, with a number and a digest if its kind has them.
 #[derive(Clone, Copy, Debug)]
 #[repr(C)]
-pub(crate) struct Told {
+pub(crate) struct RawTagged {
     pub(crate) kind: i32,
     pub(crate) number: u64,
     pub(crate) digest: Digest,
 }
 
-impl Told {
+impl RawTagged {
     /// A value for the library to write into.
-    pub(crate) const EMPTY: Told = Told {
+    pub(crate) const EMPTY: RawTagged = RawTagged {
         kind: 0,
         number: 0,
         digest: Digest::ZERO,
@@ -23,44 +23,44 @@ impl Told {
 
 /// The reply of an answer.
 #[inline]
-pub(crate) fn told(answer: &mut Handle) -> Told {
-    let mut told = Told::EMPTY;
-    ffi::nw_answer_reply(answer, &mut told).or_abort();
-    told
+pub(crate) fn tagged(answer: &mut Handle) -> RawTagged {
+    let mut raw = RawTagged::EMPTY;
+    ffi::nw_answer_reply(answer, &mut raw).or_abort();
+    raw
 }
 
 /// An event of a history.
 #[derive(Clone, Copy, Debug)]
 #[repr(C)]
-pub(crate) struct EventTold {
+pub(crate) struct RawEvent {
     pub(crate) session: u16,
     pub(crate) number: u32,
-    pub(crate) call: Told,
-    pub(crate) reply: Told,
+    pub(crate) call: RawTagged,
+    pub(crate) reply: RawTagged,
 }
 
-impl EventTold {
+impl RawEvent {
     /// A value for the library to write into.
-    pub(crate) const EMPTY: EventTold = EventTold {
+    pub(crate) const EMPTY: RawEvent = RawEvent {
         session: 0,
         number: 0,
-        call: Told::EMPTY,
-        reply: Told::EMPTY,
+        call: RawTagged::EMPTY,
+        reply: RawTagged::EMPTY,
     };
 }
 
 /// What a checked text is: a message, or a fault.
 #[derive(Clone, Copy, Debug)]
 #[repr(C)]
-pub(crate) struct MessageTold {
+pub(crate) struct RawMessage {
     pub(crate) kind: i32,
     pub(crate) signer: u16,
     pub(crate) slot: Slot,
 }
 
-impl MessageTold {
+impl RawMessage {
     /// A value for the library to write into.
-    pub(crate) const EMPTY: MessageTold = MessageTold {
+    pub(crate) const EMPTY: RawMessage = RawMessage {
         kind: 0,
         signer: 0,
         slot: Slot::EMPTY,
@@ -70,7 +70,7 @@ impl MessageTold {
 /// A reference of a block to a block of the preceding round.
 #[derive(Clone, Copy, Debug)]
 #[repr(C)]
-pub(crate) struct ParentTold {
+pub(crate) struct RawParent {
     pub(crate) author: u16,
     pub(crate) digest: Digest,
 }
@@ -80,15 +80,15 @@ const _: () = {
     assert!(size_of::<Member>() == 36 && align_of::<Member>() == 4);
     assert!(size_of::<Limits>() == 16 && size_of::<Status>() == 40);
     assert!(size_of::<Slot>() == 48 && align_of::<Slot>() == 8);
-    assert!(size_of::<ParentTold>() == 34 && align_of::<ParentTold>() == 2);
-    assert!(size_of::<Told>() == 48 && size_of::<EventTold>() == 104);
-    assert!(size_of::<MessageTold>() == 56);
+    assert!(size_of::<RawParent>() == 34 && align_of::<RawParent>() == 2);
+    assert!(size_of::<RawTagged>() == 48 && size_of::<RawEvent>() == 104);
+    assert!(size_of::<RawMessage>() == 56);
 };
 
 /// Panics, because `nw.h` has no such kind here.
 #[cold]
 pub(crate) fn unexpected_kind(kind: i32) -> ! {
-    panic!("the linked library does not match narwhal-store: it told kind {kind}")
+    panic!("the linked library does not match narwhal-store: it raw kind {kind}")
 }
 
 /// Kinds of replies.
