@@ -1,4 +1,4 @@
--- What an answer of the decoder says.
+-- The four clauses of `decode_message`, from `Decodes`.
 use Rattle.std.proofs.Common.{◌≡◌, ◌≢◌, ◌↔◌, ◌⊎◌, inl, inr, ℕ, List, Result, Ok, Err, sym, ap, ◌∙◌, subst}
 use Rattle.std.specs.Result.{IsErrOf, IfOk, IfErr}
 use Rattle.nw_codec.specs.declared.message.Message.{Message}

@@ -1,10 +1,10 @@
--- Items that are built one after another from their text.
+-- Items that are built in order from their encoding.
 use Rattle.std.proofs.Common.{◌≡◌, ℕ, List, [], ◌∷◌, ◌++◌, All, sym, ap, ◌∙◌, append_assoc}
 use Rattle.std.specs.List.{flat_map}
 use Rattle.std.proofs.lemmas.List.{append-nil}
 use Rattle.std.proofs.lemmas.List.Elements.{All-push}
 
--- these items are made from the front of the text, up to the rest
+-- these items are built, and the rest of the text is left
 pub record AreBuilt {X : Type 0} (piece : X → List ℕ) (P : X → Type 0) (text : List ℕ) (made : List X) (rest : List ℕ) : Type 0 where
   pub holds : All P made
   pub bytes : text ≡ flat_map piece made ++ rest
@@ -19,6 +19,6 @@ one_more_built piece P text made all item here after built holds cut is =
     let bytes : text ≡ flat_map piece (made ++ item ∷ []) ++ after = built.bytes ∙ ap (λ (t : List ℕ). flat_map piece made ++ t) cut ∙ sym (append_assoc (flat_map piece made) (piece item) after) ∙ ap (λ (t : List ℕ). t ++ after) (sym (flat_map-push piece made item)) in
     rw is (record { holds = All-push P made item built.holds holds; bytes = bytes })
 
--- all is made once nothing is left
+-- all items are built if no text is left
 pub all_built : {X : Type 0} (piece : X → List ℕ) (P : X → Type 0) (text : List ℕ) (made : List X) (rest : List ℕ) → AreBuilt piece P text made rest → rest ≡ [] → text ≡ flat_map piece made
 all_built piece P text made rest built none = built.bytes ∙ ap (λ (t : List ℕ). flat_map piece made ++ t) none ∙ append-nil (flat_map piece made)

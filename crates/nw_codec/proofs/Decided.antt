@@ -1,4 +1,4 @@
--- Each text leads to the end or to a fault, which is never want of memory.
+-- Each text is whole or has a first fault, and no first fault is NoMemory.
 use Rattle.std.proofs.Common.{◌≡◌, ◌≢◌, ℕ, zero, suc, ◌+◌, ◌*◌, ◌<◌, ◌≤◌, ◌⊎◌, Bool, true, false, cond, eqb, ltb, List, [], ◌∷◌, length, take, drop, Option, Some, None, Result, Ok, Err, refl, sym, subst, arith, inl, inr}
 use Rattle.std.specs.Prelude.{slice_index}
 use Rattle.std.specs.Bool.{MatchBool}
@@ -9,7 +9,7 @@ use Rattle.nw_codec.specs.declared.error.DecodeError.TheVariants.{Short, Trailin
 use Rattle.nw_codec.specs.Faults.{Stage, AtTag, AtVersion, AtAuthor, AtRound, AtParentCount, AtParentAuthor, AtParentDigest, AtTransactionCount, AtTransactionLength, AtTransaction, AtSignature, OfCertificate, OfVote, AtDigest, AtSubjectRound, AtSubjectAuthor, AtVoteCount, AtSigner, AtSealSignature, AtEnd, width, after_field, at_parents, at_transactions, at_seals, number16, number32, comes_after, Reaches, StopsAt, FaultFrom}
 use Rattle.nw_codec.proofs.Fronts.{here, onward, passed, short, failed, trailing, later}
 
--- ---- a test gives neither Short, nor Trailing, nor want of memory
+-- ---- no test has the fault Short, Trailing or NoMemory
 
 record IsNoTest (x : DecodeError) : Type 0 where
   tag : Tag ≢ x
@@ -97,7 +97,7 @@ trailing_stops (Some w) stage rest wide p =
     let stop : MatchBool (ltb (length rest) w) (Trailing ≡ Short) (after_field stage (take w rest) ≡ Err Trailing) = rw wide at p in
     absurd (never_by (ltb (length rest) w) Trailing trailing_is_no_test (λ e. cc) stage (take w rest) stop)
 
--- ---- each text is decided
+-- ---- each text is whole or has a fault
 
 -- more for a transaction, which may have no bytes
 weight : Stage → ℕ
@@ -155,7 +155,7 @@ going_is s t e = cc
 abbrev wide : ℕ → Option ℕ
 wide w = Some w
 
--- a field of no bytes is a transaction, and none comes behind it at once
+-- only a transaction may have no bytes, and the field after it has some
 falls : (s t : Stage) (w : ℕ) (field : List ℕ) → width s ≡ wide w → after_field s field ≡ going t → suc (weight t) ≤ weight s + 2 * w
 unfolding weight
 falls AtTag t w field e h = let k : 1 ≡ w = cc in omega (arith, weight_low t, k)
@@ -213,7 +213,7 @@ decided_end : (text : List ℕ) → Decided AtEnd text
 decided_end [] = inl (here AtEnd [])
 decided_end (b ∷ bs) = inr (Trailing, trailing (b ∷ bs) (λ e. cc))
 
--- what is decided of texts with less before them, for the texts one field longer
+-- the induction hypothesis: shorter texts are decided
 abbrev Below : ℕ → Type 0
 Below n = (s : Stage) (text : List ℕ) → 2 * length text + weight s < n → Decided s text
 
@@ -239,7 +239,7 @@ decide (suc n) s text low = by_width n (decide n) s text low (width s) refl
 pub decided : (s : Stage) (text : List ℕ) → Decided s text
 decided s text = decide (suc (2 * length text + weight s)) s text (omega arith)
 
--- Trailing stands behind a front that leads to the end
+-- the fault Trailing comes after fields that lead to the end
 pub behind_the_end : (a : Stage) (s : List ℕ) → FaultFrom a s Trailing → (rest : List ℕ) × Reaches a s AtEnd rest × (rest ≢ [])
 behind_the_end a s f =
     let stop = trailing_stops (width f.0) f.0 f.1 refl f.3 in

@@ -1,10 +1,10 @@
--- What a check of one field answers, as the code reads it.
-use Rattle.std.proofs.Common.{◌≡◌, ◌≢◌, ℕ, suc, ◌+◌, ◌-◌, ◌<◌, ◌≤◌, Bool, true, false, cond, eqb, ltb, List, [], ◌∷◌, ◌++◌, length, get_or, take, drop, Option, Some, Result, Ok, Err, refl, sym, ap, ◌∙◌, subst, append_assoc, add-one, mul-suc, arith}
+-- Fields as the code reads them: what passes, what fails, and with which fault.
+use Rattle.std.proofs.Common.{Fits, w8, ◌≡◌, ◌≢◌, ℕ, suc, ◌+◌, ◌-◌, ◌<◌, ◌≤◌, Bool, true, false, cond, eqb, ltb, List, [], ◌∷◌, ◌++◌, length, get_or, take, drop, Option, Some, Result, Ok, Err, refl, sym, ap, ◌∙◌, subst, append_assoc, add-one, mul-suc, arith}
 use Rattle.std.specs.Int.{w16, to_be_bytes, from_be_bytes}
 use Rattle.std.specs.Result.{MatchResult, IfOk, IsErrAnd}
 use Rattle.std.proofs.lemmas.Bool.{eq-eqb, ne_eqb, lt-ltb, le-ltb, eqb-true}
 use Rattle.std.proofs.lemmas.List.{nil_from_length, take_at, take-append-drop, length-append, length-take}
-use Rattle.std.proofs.lemmas.List.Elements.{All-take}
+use Rattle.std.proofs.lemmas.List.Elements.{All-take, All-from_get_or}
 use Rattle.nw_codec.specs.declared.error.DecodeError.{DecodeError}
 use Rattle.nw_codec.specs.declared.error.DecodeError.TheVariants.{Short, Tag, TransactionTooLong, BodyTooLong}
 use Rattle.nw_codec.specs.Faults.{Stage, AtTransaction, width, after_tag, after_field, number16, comes_after, Reaches, FaultFrom}
@@ -17,12 +17,12 @@ use Rattle.nw_codec.proofs.Ascending.{after_from_test}
 use Rattle.nw_codec.proofs.Passing.{count_passes, order_passes}
 use Rattle.nw_codec.proofs.Fronts.{one_field, passed, failed, short}
 
--- the exit of a `?`
+-- an error returned by `?`
 pub exit : {X : Type 0} (r : Result X DecodeError) (P : X → Type 0) (Q : DecodeError → Type 0) (d : DecodeError) → IsErrAnd r (λ e. e ≡ d) → Q d → MatchResult r P Q
 exit (Ok x) P Q d p q = absurd p
 exit (Err e) P Q d p q = subst Q (sym p) q
 
--- what holds of each value holds beside what holds of values and errors
+-- joins a fact on values with a fact on values and errors
 pub both : {X : Type 0} (r : Result X DecodeError) (P P' : X → Type 0) (Q : DecodeError → Type 0) → IfOk r P → MatchResult r P' Q → MatchResult r (λ x. P x × P' x) Q
 both (Ok x) P P' Q p q = (p, q)
 both (Err e) P P' Q p q = q
@@ -74,6 +74,10 @@ length_fails n more size low large =
     let second = lt-ltb 1048576 (size + 4 + n) large in
     rw (first, second) refl
 
+-- a slice of `u8` has bytes
+pub are_bytes : (text : List ℕ) → ((i : ℕ) → Fits w8 (get_or text i 0)) → AreBytes text
+are_bytes text fits = All-from_get_or (λ b. b < 256) text 0 (λ i lt. omega (arith, fits i))
+
 -- a tag and what follows it
 pub tagged : (text field rest : List ℕ) (tag : ℕ) → 1 ≤ length text → field ≡ take 1 text → rest ≡ drop 1 text → get_or field 0 0 ≡ tag → text ≡ tag ∷ rest
 tagged [] field rest tag long front back is = absurd (omega (arith, long))
@@ -101,30 +105,33 @@ number_at text field rest n bytes long front back is =
       bytes = sym (take-append-drop 2 text) ∙ (λ i. sym field_is i ++ sym back i);
     }
 
+pub number_len : (text rest : List ℕ) (n : ℕ) → NumberAt text n rest → length text ≡ 2 + length rest
+number_len text rest n at = omega (arith, ap length at.bytes, length-append (to_be_bytes w16 n) rest)
+
 -- an author or signer, and so many bytes that follow it
 pub record ItemAt (many author : ℕ) (text bytes rest : List ℕ) : Type 0 where
   pub len : length bytes ≡ many
   pub each : AreBytes bytes
   pub whole : text ≡ (to_be_bytes w16 author ++ bytes) ++ rest
 
-pub item_at : (many author : ℕ) (text after bytes rest : List ℕ) → AreBytes text → many ≤ length after → NumberAt text author after → bytes ≡ take many after → rest ≡ drop many after → ItemAt many author text bytes rest
-item_at many author text after bytes rest each enough at front back =
+pub item_at : (many author : ℕ) (text after bytes rest : List ℕ) → AreBytes text → length bytes ≡ many → NumberAt text author after → bytes ≡ take many after → rest ≡ drop many after → ItemAt many author text bytes rest
+item_at many author text after bytes rest each len at front back =
     let others : AreBytes after = (bytes_of (to_be_bytes w16 author) after text at.bytes each).1 in
     let cut : bytes ++ rest ≡ after = rw (front, back) (take-append-drop many after) in
     record {
-      len = omega (arith, ap length front, length-take many after, enough);
+      len = len;
       each = rw front (All-take (λ b. b < 256) many after others);
       whole = at.bytes ∙ ap (λ (t : List ℕ). to_be_bytes w16 author ++ t) (sym cut) ∙ sym (append_assoc (to_be_bytes w16 author) bytes rest);
     }
 
--- an item more
+-- one item more
 pub one_more_item : (bytes count : ℕ) (text items here item after : List ℕ) → ItemsAt bytes count text items here → length item ≡ bytes → here ≡ item ++ after → ItemsAt bytes (count + 1) text (items ++ item) after
 one_more_item bytes count text items here item after lie len cut = record {
   len = rw (add-one, mul-suc) (omega (arith, length-append items item, lie.len, len));
   bytes = lie.bytes ∙ ap (λ (t : List ℕ). items ++ t) cut ∙ sym (append_assoc items item after);
 }
 
--- the items are what stands before the rest
+-- the items are the text before the rest
 pub items_found : (bytes counter count : ℕ) (text items found rest : List ℕ) → ItemsAt bytes counter text items rest → counter ≡ count → text ≡ found ++ rest → ItemsAt bytes count text found rest
 items_found bytes counter count text items found rest lie many cut = record {
   len = rw (← many) (omega (arith, lie.len, ap length lie.bytes, ap length cut, length-append items rest, length-append found rest));
@@ -170,7 +177,7 @@ order_fails stage before disorder next n text rest orders at test =
     let fails : cond (comes_after before n) (Ok (next n)) (Err disorder) ≡ Err disorder = rw test refl in
     number_fails stage n text rest disorder orders.wide at (orders.test (to_be_bytes w16 n) ∙ subst (λ (x : ℕ). cond (comes_after before x) (Ok (next x)) (Err disorder) ≡ Err disorder) (sym same) fails)
 
--- nothing is left where the length is 0
+-- a list of length 0 is empty
 
 pub empty_is : (rest : List ℕ) (b : Bool) → b ≡ true → b ≡ eqb (length rest) 0 → rest ≡ []
 empty_is rest b true_is test = nil_from_length rest (eqb-true (length rest) 0 (sym test ∙ true_is))

@@ -1,4 +1,4 @@
--- Good fronts: how they are built, that a text has one place where it stops, and that it has one.
+-- Rows of fields that pass their tests: how they are built, and that each text stops at one place.
 use Rattle.std.proofs.Common.{◌≡◌, ◌≢◌, ℕ, ◌<◌, ◌≤◌, Bool, true, false, ltb, List, [], ◌∷◌, ◌++◌, length, take, drop, Option, Some, None, Result, Ok, Err, refl, sym, ap, subst, ◌∙◌, append_assoc, arith}
 use Rattle.std.specs.List.{flat_map}
 use Rattle.std.specs.Option.{MatchOption}
@@ -17,7 +17,7 @@ joined-append : (fs gs : List (List ℕ)) → joined (fs ++ gs) ≡ joined fs ++
 joined-append [] gs = refl
 joined-append (f ∷ fs) gs = ap (λ (x : List ℕ). f ++ x) (joined-append fs gs) ∙ sym (append_assoc f (joined fs) (joined gs))
 
--- ---- fronts are built from fields
+-- ---- rows of fields
 
 Leads-append : (fs gs : List (List ℕ)) (a b c : Stage) → Leads a fs b → Leads b gs c → Leads a (fs ++ gs) c
 Leads-append [] gs a b c p q = subst (λ (s : Stage). Leads s gs c) (sym p) q
@@ -33,7 +33,7 @@ onward a b c s t u p q = record {
   whole = p.whole ∙ ap (λ (x : List ℕ). joined p.fields ++ x) q.whole ∙ sym (append_assoc (joined p.fields) (joined q.fields) u) ∙ ap (λ (x : List ℕ). x ++ u) (sym (joined-append p.fields q.fields));
 }
 
--- the field in front passes its test
+-- the field at the front passes its test
 pub one_field : (a b : Stage) (field rest : List ℕ) → width a ≡ Some (length field) → after_field a field ≡ Ok b → Reaches a (field ++ rest) b rest
 one_field a b field rest wide passes = record {
   fields = field ∷ [];
@@ -72,7 +72,7 @@ later a b s t e p f = (f.0, f.1, onward a b f.0 s t f.1 p f.2, f.3)
 
 -- ---- a text has one place where it stops
 
--- no whole field that passes comes next
+-- the next field is not whole or fails its test
 abbrev IsStuck : Stage → List ℕ → Type 0
 IsStuck stage rest = (field more : List ℕ) (next : Stage) → width stage ≡ Some (length field) → rest ≡ field ++ more → after_field stage field ≡ Ok next → ⊥
 
@@ -113,7 +113,7 @@ one_stop (f ∷ fs) (g ∷ gs) a b c x y p q e left right =
     let again : Leads q.1 fs b = subst (λ (s : Stage). Leads s fs b) same p.3 in
     one_stop fs gs q.1 b c x y again q.3 both.1 left right
 
--- two fronts that lead to the end are the same
+-- two rows of fields that lead to the end are the same
 pub one_end : (a : Stage) (s x y : List ℕ) → Reaches a s AtEnd x → Reaches a s AtEnd y → x ≡ y
 one_end a s x y p q = (one_stop p.fields q.fields a AtEnd AtEnd x y p.leads q.leads (sym p.whole ∙ q.whole) (stuck_at_end x) (stuck_at_end y)).1
 

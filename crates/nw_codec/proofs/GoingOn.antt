@@ -1,4 +1,4 @@
--- Trailing is the fault of the texts that go on behind a message.
+-- Trailing is the fault of the texts that go on after a message.
 use Rattle.std.proofs.Common.{◌≡◌, ◌↔◌, ℕ, List, ◌++◌, refl, sym, ap, subst, ◌∙◌}
 use Rattle.nw_codec.specs.declared.error.DecodeError.TheVariants.{Trailing}
 use Rattle.nw_codec.specs.Grammar.{message}

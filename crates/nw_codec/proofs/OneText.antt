@@ -77,7 +77,7 @@ same_block b c e0 e1 e2 e3 =
     ap (λ (a : ℕ). make a b.round b.parents b.transactions) e0 ∙ ap (λ (r : ℕ). make c.author r b.parents b.transactions) e1
     ∙ ap (λ (ps : List Ref). make c.author c.round ps b.transactions) e2 ∙ ap (λ (ts : List (List ℕ)). make c.author c.round c.parents ts) e3
 
--- the pieces of two laid out messages, one after another
+-- the pieces of two messages, one after another
 record IsSame (b c : Block) (s t : Signature) (x y : List ℕ) : Type 0 where
   block : b ≡ c
   signature : s ≡ t
@@ -115,7 +115,7 @@ CountsFit (messages.Block b s) = IsCounted b
 CountsFit (messages.Certificate c) = length c.votes < 2 ^ 16
 CountsFit (messages.Vote v) = Unit {0}
 
--- the tag of a message, and what stands behind it
+-- the tag of a message, and the bytes after it
 record Begins (m : Message) (x : List ℕ) (tag : ℕ) : Type 0 where
   behind : List ℕ
   whole : message m ++ x ≡ tag ∷ behind

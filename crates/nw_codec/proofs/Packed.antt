@@ -1,4 +1,4 @@
--- Transactions that are packed: what was put together is cut again.
+-- Cutting the encoding of transactions gives these transactions.
 use Rattle.std.proofs.Common.{Bool, true, false, ◌≡◌, ℕ, zero, suc, ◌+◌, ◌-◌, ◌*◌, ◌<◌, ◌≤◌, List, [], ◌∷◌, ◌++◌, length, take, drop, refl, sym, ap, ◌∙◌, subst, append_assoc, arith}
 use Rattle.std.specs.List.{flat_map}
 use Rattle.std.specs.Int.{w32, from_be_bytes, to_be_bytes}
@@ -23,7 +23,7 @@ pub cut_length : (n : ℕ) (text : List ℕ) → length (cut n text) ≡ n
 cut_length zero text = refl
 cut_length (suc n) text = ap suc (cut_length n (drop (length_at text) (drop 4 text)))
 
--- the length that stands in front
+-- the length at the front
 length_in_front : (t rest : List ℕ) → IsShort t → length_at (transaction_bytes t ++ rest) ≡ length t
 length_in_front t rest low =
     ap (λ (x : List ℕ). from_be_bytes w32 (take 4 x)) (append_assoc (to_be_bytes w32 (length t)) t rest)
@@ -45,7 +45,7 @@ cut_packed (t ∷ ts) rest low =
     let others : cut (length ts) (drop (length_at text) (drop 4 text)) ≡ ts = rw left (cut_packed ts rest (All-tail IsShort t ts low)) in
     ap (cut (suc (length ts))) whole ∙ (λ i. first i ∷ others i)
 
--- these transactions, put together
+-- the encoding of these transactions
 pub packed : (ts : List (List ℕ)) → All IsShort ts → cut (length ts) (flat_map transaction_bytes ts) ≡ ts
 packed ts low = subst (λ (x : List ℕ). cut (length ts) x ≡ ts) (append-nil (flat_map transaction_bytes ts)) (cut_packed ts [] low)
 
@@ -73,7 +73,7 @@ packed_count count text p = omega (arith, cut_length count text, at_least (cut c
     at_least [] = omega arith
     at_least (t ∷ ts) = omega (arith, at_least ts, length-append (transaction_bytes t) (flat_map transaction_bytes ts), length-append (to_be_bytes w32 (length t)) t)
 
--- where a transaction stands in front: its length can be read, and it is behind that
+-- if a transaction is at the front, then its length can be read, and it follows the length
 pub record IsFront (here item after : List ℕ) : Type 0 where
   pub number : 4 ≤ length here
   pub length_is : length_at here ≡ length item
@@ -90,7 +90,7 @@ in_front here item after low is =
       behind = ap (drop (length item)) four ∙ drop_at item after (length item) refl;
     }
 
--- the text of so many transactions is theirs
+-- the encoding of `count` transactions gives them again
 pub cut_text : (count : ℕ) (ts : List (List ℕ)) → length ts ≡ count → All IsShort ts → cut count (flat_map transaction_bytes ts) ≡ ts
 cut_text count ts number low = subst (λ (n : ℕ). cut n (flat_map transaction_bytes ts) ≡ ts) number (packed ts low)
 
@@ -111,7 +111,7 @@ parted P (x ∷ xs) ys all =
     let others = parted P xs ys (All-tail P x (xs ++ ys) all) in
     (All-cons P x xs (All-head P x (xs ++ ys) all) others.0, others.1)
 
--- where all bytes are bytes, so are those of each transaction
+-- if the encoding is bytes, so is each transaction
 pub bytes_of_each : (ts : List (List ℕ)) → AreBytes (flat_map transaction_bytes ts) → All AreBytes ts
 bytes_of_each [] typed = All-nil AreBytes
 bytes_of_each (t ∷ ts) typed =
@@ -124,17 +124,17 @@ same_answer false false d e to from = refl
 same_answer true false d e to from = sym (e.1 (to (d.0 refl)))
 same_answer false true d e to from = d.1 (from (e.0 refl))
 
--- packed transactions are the same where their texts are
+-- packed transactions are the same if their texts are
 pub same_texts : (count : ℕ) (text other : List ℕ) → ArePacked count text → ArePacked count other → same_bytes text other ≡ pointwise same_bytes (cut count text) (cut count other)
 same_texts count text other p q = same_answer _ _ (bytes_decides text other) (pointwise_decides bytes_decides (cut count text) (cut count other))
     (λ e. ap (cut count) e) (λ e. p.bytes ∙ ap (flat_map transaction_bytes) e ∙ sym q.bytes)
 
--- and not where they are not as many
+-- and not if their numbers differ
 pub other_counts : (count number : ℕ) (text other : List ℕ) → (count ≡ number → ⊥) → (count == number) ≡ pointwise same_bytes (cut count text) (cut number other)
 other_counts count number text other differ = same_answer _ _ (Decides-eqb count number) (pointwise_decides bytes_decides (cut count text) (cut number other))
     (λ e. absurd (differ e)) (λ e. sym (cut_length count text) ∙ ap length e ∙ cut_length number other)
 
--- where one more stands in front: it can be cut off, and what is behind it is the others
+-- the first of several transactions can be cut off, and the others follow it
 pub record IsNext (left : ℕ) (text : List ℕ) : Type 0 where
   pub number : 4 ≤ length text
   pub enough : length_at text ≤ length (drop 4 text)

@@ -31,7 +31,7 @@ use Rattle.nw_codec.proofs.OneVote.{same_signature, same_subject, same_seals}
 use Rattle.nw_codec.proofs.WholeBlock.{BlockRead}
 use Rattle.nw_codec.proofs.WholeVotes.{CertificateRead}
 
--- ---- what was read leads on
+-- ---- parts that were read pass their tests
 
 pub head_leads : (text rest : List ℕ) (author round : ℕ) → HeadAt text author round rest → Reaches AtVersion text AtParentCount rest
 head_leads text rest author round head =
@@ -50,7 +50,7 @@ pub subject_leads : (kind : Kind) (text rest : List ℕ) (digest : Digest) (roun
 subject_leads kind text rest digest round author at =
     subst (λ (t : List ℕ). Reaches (AtDigest kind) t (behind_subject kind) rest) (sym at.bytes) (written_subject kind digest round author rest at.typed)
 
--- ---- the tests of the stages
+-- ---- the stages of the format
 
 pub signature_ends : IsLast 64 AtSignature
 signature_ends = record { wide = refl; passes = λ field. refl }
@@ -83,7 +83,7 @@ are_seals = record {
   ends = λ before. refl;
 }
 
--- what fields were read before the rest
+-- the fields that precede the rest
 pub front_of : (a b : Stage) (text rest : List ℕ) → Reaches a text b rest → (front : List ℕ) × (text ≡ front ++ rest)
 front_of a b text rest reaches = (flat_map (λ field. field) reaches.fields, reaches.whole)
 
@@ -104,7 +104,7 @@ parents_found text after_count parents rest count at_count few lie first others 
       subst (λ (n : ℕ). Reaches AtParentCount text (AtTransactionCount (11 + n)) rest) (sym lie.len) whole,
     )
 
--- lists that end in pieces of one length and are the same begin with pieces of one length
+-- if two equal lists end in pieces of the same length, their beginnings have the same length
 same_length : (a b x y : List ℕ) → length x ≡ length y → a ++ x ≡ b ++ y → length a ≡ length b
 same_length a b x y len e = omega (arith, ap length e, length-append a x, length-append b y, len)
 
@@ -115,7 +115,8 @@ block_lies text after_head after_parents after_transactions author round parents
     let b : Block = r.block in
     let many = counted b r.fits in
     let typed : AllByRecursion IsRef b.parents = recursion_from_All IsRef b.parents r.typed.parents in
-    let whole : text ≡ (1 ∷ []) ++ (to_be_bytes w16 author ++ (round_bytes round ++ (to_be_bytes w16 at_parents.count ++ (parents ++ (to_be_bytes w16 count ++ (transactions ++ (s.0 ++ []))))))) = rw (head.bytes, at_parents.bytes, at_transactions.bytes, last.bytes) refl in
+    let whole : text ≡ (1 ∷ []) ++ (to_be_bytes w16 author ++ (round_bytes round ++ (to_be_bytes w16 at_parents.count ++ (parents ++ (to_be_bytes w16 count ++ (transactions ++ (s.0 ++ []))))))) =
+    head.bytes ∙ ap (λ (t : List ℕ). (1 ∷ []) ++ (to_be_bytes w16 author ++ (round_bytes round ++ t))) (at_parents.bytes ∙ ap (λ (t : List ℕ). to_be_bytes w16 at_parents.count ++ (parents ++ t)) (at_transactions.bytes ∙ ap (λ (t : List ℕ). to_be_bytes w16 count ++ (transactions ++ t)) last.bytes)) in
     let cut = ap (λ (t : List ℕ). (1 ∷ []) ++ t) (sym whole) ∙ r.cut ∙ block_message_is b r.signature [] in
     let tag = same_start (1 ∷ []) (1 ∷ []) _ _ refl cut in
     let version = same_start (1 ∷ []) (1 ∷ []) _ _ refl tag.1 in
@@ -142,7 +143,7 @@ block_lies text after_head after_parents after_transactions author round parents
       },
     )
 
--- parents with the text of the block's are the block's
+-- parents with the same encoding as the block's are the block's
 pub parents_built : (b : Block) (text : List ℕ) (parents : List Ref) → IsBlock b → text ≡ flat_map parent_bytes b.parents → All IsRef parents → text ≡ flat_map parent_bytes parents → parents ≡ b.parents
 parents_built b text parents typed is each built =
     let mine = recursion_from_All IsRef parents each in
@@ -192,7 +193,8 @@ pub certificate_lies : (text after_subject after_count rest : List ℕ) (digest 
 certificate_lies text after_subject after_count rest digest round author count seals at_subject at_count at_seals r none =
     let c : Certificate = r.found in
     let typed : AllByRecursion IsSeal c.votes = recursion_from_All IsSeal c.votes r.typed.votes in
-    let whole : text ≡ subject_bytes digest round author ++ (to_be_bytes w16 count ++ (seals ++ rest)) = rw (at_subject.bytes, at_count.bytes, at_seals.bytes) refl in
+    let whole : text ≡ subject_bytes digest round author ++ (to_be_bytes w16 count ++ (seals ++ rest)) =
+    at_subject.bytes ∙ ap (λ (t : List ℕ). subject_bytes digest round author ++ t) (at_count.bytes ∙ ap (λ (t : List ℕ). to_be_bytes w16 count ++ t) at_seals.bytes) in
     let cut = ap (λ (t : List ℕ). (2 ∷ []) ++ t) (sym whole) ∙ r.cut ∙ certificate_message_is c rest in
     let tag = same_start (2 ∷ []) (2 ∷ []) _ _ refl cut in
     let subject = same_subject digest c.digest round c.round author c.author _ _ at_subject.typed r.typed.subject tag.1 in
@@ -214,7 +216,7 @@ certificate_lies text after_subject after_count rest digest round author count s
 pub seals_long : (c : Certificate) (digest : Digest) (round author : ℕ) (seals : List ℕ) → AreCertificateParts c digest round author seals → (n : ℕ) × (length seals ≡ 66 * n)
 seals_long c digest round author seals parts = (length c.votes, ap length parts.seals_are ∙ length-seals c.votes (recursion_from_All IsSeal c.votes parts.typed.votes))
 
--- seals with the text of the certificate's are the certificate's
+-- seals with the same encoding as the certificate's are the certificate's
 pub seals_built : (c : Certificate) (text : List ℕ) (seals : List Seal) → IsCertificate c → text ≡ flat_map seal_bytes c.votes → All IsSeal seals → text ≡ flat_map seal_bytes seals → seals ≡ c.votes
 seals_built c text seals typed is each built =
     let mine = recursion_from_All IsSeal seals each in

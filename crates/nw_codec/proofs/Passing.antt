@@ -1,4 +1,4 @@
--- The tests of counts and orders, at a number that was read back.
+-- The tests of counts and orders pass at the encoding of a number within the limits.
 use Rattle.std.proofs.Common.{◌≡◌, ℕ, ◌≤◌, true, false, cond, ltb, Option, Ok, Err, refl, sym, subst}
 use Rattle.std.proofs.lemmas.Bool.{le-ltb}
 use Rattle.nw_codec.specs.declared.error.DecodeError.{DecodeError}

@@ -1,4 +1,4 @@
--- What `is_sorted_by` tells of numbers that are to rise.
+-- The answer of `is_sorted_by` says whether the numbers ascend strictly.
 use Rattle.std.proofs.Common.{◌≡◌, ◌↔◌, ℕ, ◌+◌, ◌<◌, Bool, true, false, List, [], ◌∷◌, length, map, get_or, refl, sym, arith}
 use Rattle.std.specs.Prelude.{nat_lt, IsTrue}
 use Rattle.std.specs.List.{IsAllAdjacentAnswer}

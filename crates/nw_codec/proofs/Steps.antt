@@ -1,4 +1,4 @@
--- A front that leads to the end, field by field.
+-- Fields that lead to the end, read one by one.
 use Rattle.std.proofs.Common.{◌≡◌, ℕ, suc, ◌<◌, ◌≤◌, Bool, true, false, cond, eqb, List, [], ◌∷◌, ◌++◌, length, get_or, take, drop, Some, Result, Ok, Err, refl, sym, ap, subst, ◌∙◌, append_assoc, arith}
 use Rattle.std.specs.List.{flat_map}
 use Rattle.std.proofs.lemmas.Bool.{eqb-true}
@@ -8,7 +8,7 @@ use Rattle.nw_codec.specs.declared.error.DecodeError.{DecodeError}
 use Rattle.nw_codec.specs.Typed.{AreBytes}
 use Rattle.nw_codec.specs.Faults.{Stage, AtEnd, width, after_field, Leads, Reaches}
 
--- ---- the first field of a front
+-- ---- the first field
 
 pub record Step (s : Stage) (w : ℕ) (text rest : List ℕ) : Type 0 where
   pub field : List ℕ
@@ -54,11 +54,11 @@ bytes_of front back text cut h =
     let second : AreBytes (drop (length front) (front ++ back)) = All-drop (λ b. b < 256) (length front) (front ++ back) whole in
     (subst AreBytes (take_at front back (length front) refl) first, subst AreBytes (drop_at front back (length front) refl) second)
 
--- what stands at the front of a text, at its value's own bytes
+-- the field at the front of a text is the encoding of its value
 pub own_front : (text field more own : List ℕ) → text ≡ field ++ more → own ≡ field → text ≡ own ++ more
 own_front text field more own cut e = rw e cut
 
--- ---- tests that were passed
+-- ---- passed tests
 
 abbrev pub going : Stage → Result Stage DecodeError
 going s = Ok s

@@ -1,4 +1,4 @@
--- A text that is whole fields to the end is that of a message within the limits.
+-- If all fields of a text pass their tests, then it is the text of a message within the limits.
 use Rattle.std.proofs.Common.{◌≡◌, ℕ, Bool, true, false, cond, eqb, List, [], ◌∷◌, ◌++◌, length, get_or, Ok, Err, refl, sym, ap, ◌∙◌, arith}
 use Rattle.std.proofs.lemmas.Bool.{eqb-true}
 use Rattle.std.proofs.lemmas.List.{append-nil}
@@ -58,7 +58,7 @@ read_message text rest bytes front =
     let p-bytes = bytes_of p.field p.more text p.cut bytes in
     by_tag text p.field p.more rest p.next p.cut p.len p-bytes.1 p.onwards _ _ _ refl refl refl p.passes
 
--- a front that leads to the end is the text of a message
+-- fields that lead to the end are the text of a message
 pub front_spells : (text rest : List ℕ) → AreBytes text → Reaches AtTag text AtEnd rest → (m : Message) × IsMessage m × MessageFits m × (text ≡ message m ++ rest)
 front_spells text rest bytes front = let r = read_message text rest bytes front in (r.found, r.typed, r.fits, r.cut)
 

@@ -1,4 +1,5 @@
--- A text that is whole fields to the end, from a digest on, is that of a certificate within the limits or of a vote.
+-- If all fields of a text pass their tests, from a digest to the end, then it is the text of a certificate within the limits or of
+-- a vote.
 use Rattle.std.proofs.Common.{◌≡◌, ℕ, zero, suc, ltb, List, [], ◌∷◌, ◌++◌, length, Option, Some, None, refl, sym, ap, ◌∙◌, append_assoc}
 use Rattle.std.specs.Int.{w16, to_be_bytes}
 use Rattle.std.specs.List.{flat_map, AllByRecursion}

@@ -1,4 +1,4 @@
--- The text of a message within the limits leads to the end.
+-- The fields of a message within the limits pass their tests.
 use Rattle.std.proofs.Common.{ℕ, List, [], ◌++◌, sym, subst, ◌∙◌}
 use Rattle.std.proofs.lemmas.List.{append-nil}
 use Rattle.nw_codec.specs.declared.message.Message.{Message}

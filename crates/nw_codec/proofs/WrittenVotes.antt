@@ -1,4 +1,4 @@
--- The text of a certificate within the limits, and that of a vote, lead to the end.
+-- The fields of a certificate within the limits pass their tests, and so do those of a vote.
 use Rattle.std.proofs.Common.{◌≡◌, ℕ, ◌≤◌, List, [], ◌∷◌, ◌++◌, length, Option, Some, None, refl, sym, ap, subst, append_assoc, arith}
 use Rattle.std.specs.Int.{w16, to_be_bytes}
 use Rattle.std.specs.List.{flat_map, AllByRecursion}

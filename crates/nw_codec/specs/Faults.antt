@@ -1,4 +1,4 @@
--- The first fault of a text, by the fields that it is read in.
+-- The first fault of a text in reading order. A text is read field by field.
 use Rattle.std.specs.Prelude.{◌≡◌, ◌≢◌, ℕ, zero, suc, ◌+◌, ◌*◌, ◌==◌, nat_lt, Bool, true, List, [], ◌∷◌, ◌++◌, length, take, slice_index, MatchBool, MatchOption, Option, Some, None, Result, Ok, Err, if◌then◌else◌}
 use Rattle.std.specs.List.{flat_map}
 use Rattle.std.specs.Option.{option_map_or}
@@ -7,12 +7,13 @@ use Rattle.nw_codec.specs.declared.error.DecodeError.{DecodeError}
 use Rattle.nw_codec.specs.declared.limits.TheConstants.{MAX_PARENTS, MAX_TRANSACTIONS, MAX_TRANSACTION, MAX_BODY, MAX_VOTES}
 use Rattle.nw_codec.specs.declared.error.DecodeError.TheVariants.{Short, Trailing, Tag, Version, TooManyParents, ParentOrder, TooManyTransactions, TransactionTooLong, BodyTooLong, TooManyVotes, VoteOrder}
 
--- which messages have a subject
+-- the messages that have a subject
 pub data Kind : Type 0 where
   OfCertificate : Kind
   OfVote : Kind
 
--- which field comes next, and what later tests need: how many parents, transactions or seals follow this one, the parent's author or the seal's signer before, the bytes of the body so far
+-- The next field, and the values that later tests need. `more` is how many parents, transactions or seals follow this one,
+-- `before` is the preceding author or signer, and `size` is the number of bytes of the body so far.
 pub data Stage : Type 0 where
   AtTag : Stage
   AtVersion : Stage
@@ -33,7 +34,7 @@ pub data Stage : Type 0 where
   AtSealSignature : (more signer : ℕ) → Stage
   AtEnd : Stage
 
--- how many bytes the next field has; none comes at the end
+-- the size of the next field; none at the end
 abbrev pub width : Stage → Option ℕ
 width AtTag = Some 1
 width AtVersion = Some 1
@@ -54,37 +55,39 @@ width (AtSigner more before) = Some 2
 width (AtSealSignature more signer) = Some 64
 width AtEnd = None
 
--- before the first of so many parents, or behind the last one
+-- before the next of so many parents, or after the last one
 abbrev pub at_parents : ℕ → Option ℕ → ℕ → Stage
 at_parents zero before size = AtTransactionCount size
 at_parents (suc more) before size = AtParentAuthor more before size
 
--- before the first of so many transactions, or behind the last one
+-- before the next of so many transactions, or after the last one
 abbrev pub at_transactions : ℕ → ℕ → Stage
 at_transactions zero size = AtSignature
 at_transactions (suc more) size = AtTransactionLength more size
 
--- before the first of so many seals, or behind the last one
+-- before the next of so many seals, or after the last one
 abbrev pub at_seals : ℕ → Option ℕ → Stage
 at_seals zero before = AtEnd
 at_seals (suc more) before = AtSigner more before
 
--- a certificate counts its seals, and a vote has one
+-- after the subject: a certificate has the number of its seals, and a vote has one seal
 abbrev pub behind_subject : Kind → Stage
 behind_subject OfCertificate = AtVoteCount
 behind_subject OfVote = AtSigner 0 None
 
+-- the number in a field of two bytes
 abbrev pub number16 : List ℕ → ℕ
 number16 field = from_be_bytes w16 field
 
+-- the number in a field of four bytes
 abbrev pub number32 : List ℕ → ℕ
 number32 field = from_be_bytes w32 field
 
--- an author or signer is greater than the one before, if there is one
+-- the author or signer is greater than the preceding one, if there is one
 abbrev pub comes_after : Option ℕ → ℕ → Bool
 comes_after before author = option_map_or (λ b. nat_lt b author) before true
 
--- the field that a tag announces
+-- the field after the tag, or its fault
 abbrev pub after_tag : ℕ → Result Stage DecodeError
 after_tag tag =
     if tag == 1 then Ok AtVersion
@@ -92,7 +95,7 @@ after_tag tag =
     else if tag == 3 then Ok (AtDigest OfVote)
     else Err Tag
 
--- what a whole field leads to, or the fault of its test; no field comes at the end
+-- the stage after a whole field, or the fault of its test
 abbrev pub after_field : Stage → List ℕ → Result Stage DecodeError
 after_field AtTag field = after_tag (slice_index field 0)
 after_field AtVersion field = if slice_index field 0 == 1 then Ok AtAuthor else Err Version
@@ -124,36 +127,40 @@ after_field (AtSigner more before) field =
 after_field (AtSealSignature more signer) field = Ok (at_seals more (Some signer))
 after_field AtEnd field = Ok AtEnd
 
--- these whole fields pass their tests one after another, and lead from one stage to the other
+-- the fields have their sizes, pass their tests in order, and lead from one stage to the other
 abbrev pub Leads : Stage → List (List ℕ) → Stage → Type 0
 Leads from [] to = from ≡ to
 Leads from (field ∷ fields) to =
     (width from ≡ Some (length field)) × (next : Stage) × (after_field from field ≡ Ok next) × Leads next fields to
 
--- whole fields at the front of the text lead from one stage to the other; this is the rest
+-- whole fields at the front of the text pass their tests and lead from one stage to the other, before this rest
 pub record Reaches (from : Stage) (text : List ℕ) (to : Stage) (rest : List ℕ) : Type 0 where
+  -- the fields
   pub fields : List (List ℕ)
+  -- they lead from one stage to the other
   pub leads : Leads from fields to
+  -- the text is these fields and the rest
   pub whole : text ≡ flat_map (λ field. field) fields ++ rest
 
--- a front of the text is whole fields of a message that pass, up to this stage
+-- a message's fields at the front of the text pass their tests, up to this stage and rest
 abbrev pub IsGoodFront : List ℕ → Stage → List ℕ → Type 0
 IsGoodFront text stage rest = Reaches AtTag text stage rest
 
--- the text is whole fields of a message, to the end
+-- the text is all fields of a message, and they pass their tests
 abbrev pub IsWhole : List ℕ → Type 0
 IsWhole text = IsGoodFront text AtEnd []
 
--- what is wrong with the rest: bytes stand behind the end, the next field is not whole, or its test fails
+-- the fault at this stage: bytes follow the last field, the next field is cut short, or its test fails
 abbrev pub StopsAt : Stage → List ℕ → DecodeError → Type 0
 StopsAt stage rest e =
     MatchOption (width stage)
     ((rest ≢ []) × (e ≡ Trailing))
     (λ w. MatchBool (nat_lt (length rest) w) (e ≡ Short) (after_field stage (take w rest) ≡ Err e))
 
--- the fault behind the longest front of whole fields that pass, from this stage on
+-- the fault after the longest row of fields that pass, read from this stage on
 abbrev pub FaultFrom : Stage → List ℕ → DecodeError → Type 0
 FaultFrom from text e = (stage : Stage) × (rest : List ℕ) × Reaches from text stage rest × StopsAt stage rest e
 
+-- the first fault of the text in reading order
 abbrev pub IsFirstFault : List ℕ → DecodeError → Type 0
 IsFirstFault text e = FaultFrom AtTag text e

@@ -13,30 +13,39 @@ use Rattle.nw_codec.specs.declared.message.Message.TheVariants as messages
 abbrev pub authors : List Ref → List ℕ
 authors parents = map (λ r. r.author) parents
 
--- how many bytes these transactions take, each with its length before it
+-- the size of the transactions in a body: each takes its bytes and 4 for its length
 abbrev pub transactions_size : List (List ℕ) → ℕ
 transactions_size transactions = sum_by (λ t. 4 + length t) transactions
 
--- how many bytes a body has: 13 without parents and transactions, and 34 more for each parent
+-- the size of a body: 13 bytes, 34 for each parent, and the transactions
 abbrev pub body_size : Block → ℕ
 body_size b = 13 + 34 * length b.parents + transactions_size b.transactions
 
+-- the block keeps the limits of the format
 pub record Fits (b : Block) : Type 0 where
+  -- at most 100 parents
   pub few_parents : length b.parents ≤ MAX_PARENTS
+  -- their authors ascend strictly
   pub in_order : IsStrictlyIncreasing (authors b.parents)
+  -- at most 1,024 transactions
   pub few_transactions : length b.transactions ≤ MAX_TRANSACTIONS
+  -- each has at most 65,536 bytes
   pub short_transactions : All (λ t. length t ≤ MAX_TRANSACTION) b.transactions
+  -- the body has at most 1,048,576 bytes
   pub short_body : body_size b ≤ MAX_BODY
 
--- the members that sign, in the order of the certificate
+-- the signers of the votes, in order
 abbrev pub signers : List Seal → List ℕ
 signers votes = map (λ v. v.signer) votes
 
+-- the certificate keeps the limits of the format
 pub record CertificateFits (c : Certificate) : Type 0 where
+  -- at most 100 votes
   pub few_votes : length c.votes ≤ MAX_VOTES
+  -- their signers ascend strictly
   pub votes_in_order : IsStrictlyIncreasing (signers c.votes)
 
--- a vote always fits
+-- the block or certificate of the message keeps the limits; a vote always does
 abbrev pub MessageFits : Message → Type 0
 MessageFits (messages.Block b s) = Fits b
 MessageFits (messages.Certificate c) = CertificateFits c

@@ -1,4 +1,4 @@
--- What the readers of a text find: where its parts lie, and which tests a stage makes.
+-- The readers of the decoder: the parts that they find in a text, and the stages that they read.
 use Rattle.std.specs.Prelude.{◌≡◌, ◌⊎◌, ℕ, suc, ◌*◌, ◌<◌, ◌^◌, nat_lt, List, [], ◌∷◌, ◌++◌, length, MatchResult, Option, Some, None, Result, Ok, Err, if◌then◌else◌}
 use Rattle.std.specs.List.{flat_map}
 use Rattle.std.specs.Int.{to_be_bytes, w16}
@@ -16,75 +16,83 @@ use Rattle.nw_codec.specs.Typed.{IsBlock, IsSignature, IsSubject, IsCertificate}
 use Rattle.nw_codec.specs.Faults.{Stage, AtEnd, width, after_field, number16, comes_after, IsFirstFault}
 use Rattle.nw_codec.specs.Spelled.{Spells, TakesMemory}
 
--- ---- what stands at the front of a text, before the rest
+-- ---- the parts at the front of a text
 
+-- a number of two bytes, before the rest
 pub record NumberAt (text : List ℕ) (n : ℕ) (rest : List ℕ) : Type 0 where
   pub low : n < 2 ^ 16
   pub bytes : text ≡ to_be_bytes w16 n ++ rest
 
+-- a round, before the rest
 pub record RoundAt (text : List ℕ) (n : ℕ) (rest : List ℕ) : Type 0 where
   pub low : n < 2 ^ 48
   pub bytes : text ≡ round_bytes n ++ rest
 
--- the version, the author and the round of a block
+-- version 1, author and round, before the rest
 pub record HeadAt (text : List ℕ) (author round : ℕ) (rest : List ℕ) : Type 0 where
   pub low_author : author < 2 ^ 16
   pub low_round : round < 2 ^ 48
   pub bytes : text ≡ (1 ∷ []) ++ (to_be_bytes w16 author ++ (round_bytes round ++ rest))
 
--- so many items, each of so many bytes
+-- the text of `count` items of `width` bytes each, before the rest
 pub record ItemsAt (width count : ℕ) (text items rest : List ℕ) : Type 0 where
   pub len : length items ≡ width * count
   pub bytes : text ≡ items ++ rest
 
--- the parents with their count
+-- the number of parents and their text, before the rest
 pub record ParentsAt (text parents rest : List ℕ) : Type 0 where
+  -- the number of parents
   pub count : ℕ
   pub low : count < 2 ^ 16
   pub len : length parents ≡ 34 * count
   pub bytes : text ≡ to_be_bytes w16 count ++ (parents ++ rest)
 
--- the transactions with their count
+-- the number of transactions and their text, before the rest
 pub record TransactionsAt (text : List ℕ) (count : ℕ) (transactions rest : List ℕ) : Type 0 where
   pub low : count < 2 ^ 16
   pub bytes : text ≡ to_be_bytes w16 count ++ (transactions ++ rest)
 
+-- a subject, before the rest
 pub record SubjectAt (text : List ℕ) (digest : Digest) (round author : ℕ) (rest : List ℕ) : Type 0 where
   pub typed : IsSubject digest round author
   pub bytes : text ≡ subject_bytes digest round author ++ rest
 
--- the text is this signature
+-- the text is this signature, and nothing follows
 pub record LastSignature (text : List ℕ) (s : Signature) : Type 0 where
   pub signed : IsSignature s
   pub bytes : text ≡ s.0 ++ []
 
--- ---- the tests of a stage
+-- ---- stages with the same kind of field
 
--- the stage reads a count of at most so many, and goes on by it
+-- the stage reads a count; a count above `max` is the fault `over`
 pub record Counts (stage : Stage) (max : ℕ) (over : DecodeError) (next : ℕ → Stage) : Type 0 where
   pub wide : width stage ≡ Some 2
   pub test : (field : List ℕ) → after_field stage field ≡ (if nat_lt max (number16 field) then Err over else Ok (next (number16 field)))
 
--- the stage reads an author or signer greater than the one before, and goes on by it
+-- the stage reads an author or signer; one that is not greater than the preceding one is the fault `disorder`
 pub record Orders (stage : Stage) (before : Option ℕ) (disorder : DecodeError) (next : ℕ → Stage) : Type 0 where
   pub wide : width stage ≡ Some 2
   pub test : (field : List ℕ) → after_field stage field ≡ (if comes_after before (number16 field) then Ok (next (number16 field)) else Err disorder)
 
--- the stages of items: an author or signer in order, and so many bytes more
+-- the stages of a list of items: `at` before an item's author or signer, `inside` before its other bytes
 pub record AreItems (more_bytes : ℕ) (disorder : DecodeError) (at : ℕ → Option ℕ → Stage) (inside : ℕ → ℕ → Stage) : Type 0 where
+  -- authors or signers ascend strictly
   pub orders : (more : ℕ) (before : Option ℕ) → Orders (at (suc more) before) before disorder (inside more)
+  -- the other bytes have this size
   pub wide : (more author : ℕ) → width (inside more author) ≡ Some more_bytes
+  -- they have no test
   pub passes : (more author : ℕ) (field : List ℕ) → after_field (inside more author) field ≡ Ok (at more (Some author))
+  -- the end of the list does not depend on the last author or signer
   pub ends : (before : Option ℕ) → at 0 before ≡ at 0 None
 
--- the stage reads the last field, of so many bytes
+-- the stage reads the last field of a message, which has this size and no test
 pub record IsLast (bytes : ℕ) (stage : Stage) : Type 0 where
   pub wide : width stage ≡ Some bytes
   pub passes : (field : List ℕ) → after_field stage field ≡ Ok AtEnd
 
 -- ---- the parts of a whole text
 
--- these parts are the block's
+-- these are the parts of the block's text
 pub record AreBlockParts (b : Block) (author round : ℕ) (parents : List ℕ) (count : ℕ) (transactions : List ℕ) : Type 0 where
   pub typed : IsBlock b
   pub fits : Fits b
@@ -94,7 +102,7 @@ pub record AreBlockParts (b : Block) (author round : ℕ) (parents : List ℕ) (
   pub count_is : count ≡ length b.transactions
   pub transactions_are : transactions ≡ flat_map transaction_bytes b.transactions
 
--- these parts are the certificate's
+-- these are the parts of the certificate's text
 pub record AreCertificateParts (c : Certificate) (digest : Digest) (round author : ℕ) (seals : List ℕ) : Type 0 where
   pub typed : IsCertificate c
   pub fits : CertificateFits c
@@ -105,7 +113,7 @@ pub record AreCertificateParts (c : Certificate) (digest : Digest) (round author
 
 -- ---- answers
 
--- the message that the text spells; or the first fault of the text, or that memory was refused
+-- the answer is the message of the text, its first fault, or an allocation failure for a text whose decoding allocates
 abbrev pub Decodes : List ℕ → Result Message DecodeError → Type 0
 Decodes text answer =
     MatchResult answer

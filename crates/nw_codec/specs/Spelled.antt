@@ -10,28 +10,32 @@ use Rattle.nw_codec.specs.Grammar.{message}
 use Rattle.nw_codec.specs.Fits.{MessageFits}
 use Rattle.nw_codec.specs.Typed.{IsMessage}
 
--- the text is that of a message within the limits
+-- the text is the encoding of this message, which keeps the limits of the format
 pub record Spells (text : List ℕ) (m : Message) : Type 0 where
+  -- the message is one of the program
   pub typed : IsMessage m
+  -- it keeps the limits
   pub fits : MessageFits m
+  -- the text is its encoding
   pub bytes : text ≡ message m
 
 -- some message has this text
 abbrev pub IsSpelled : List ℕ → Type 0
 IsSpelled text = (m : Message) × Spells text m
 
--- the text is that of a block, of a certificate, of a vote
-
+-- the text is a block's message
 abbrev pub IsBlockText : List ℕ → Type 0
 IsBlockText text = (b : Block) × (s : Signature) × Spells text (messages.Block b s)
 
+-- the text is a certificate's message
 abbrev pub IsCertificateText : List ℕ → Type 0
 IsCertificateText text = (c : Certificate) × Spells text (messages.Certificate c)
 
+-- the text is a vote's message
 abbrev pub IsVoteText : List ℕ → Type 0
 IsVoteText text = (v : Vote) × Spells text (messages.Vote v)
 
--- the text is that of a message that takes memory to build: a vote takes none
+-- decoding the text allocates: it is the text of a block or a certificate, and not of a vote
 abbrev pub TakesMemory : List ℕ → Type 0
 TakesMemory text = IsBlockText text ⊎ IsCertificateText text
 

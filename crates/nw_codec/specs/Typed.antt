@@ -1,4 +1,4 @@
--- What the types of the fields say: a definition ranges over all numbers and lists, and a value of the program has these.
+-- The ranges of the program's types. Definitions range over all numbers and lists; values of the program satisfy these.
 use Rattle.std.specs.Prelude.{◌≡◌, ℕ, ◌<◌, ◌^◌, List, length, All}
 use Rattle.nw_codec.specs.declared.block.Ref.{Ref}
 use Rattle.nw_codec.specs.declared.block.Block.{Block}
@@ -11,42 +11,57 @@ use Rattle.nw_codec.specs.declared.message.Message.{Message}
 use Rattle.nw_codec.specs.declared.message.Message.TheVariants as messages
 use Rattle.nw_codec.specs.Grammar.{seal}
 
+-- each number is a byte
 abbrev pub AreBytes : List ℕ → Type 0
 AreBytes bytes = All (λ b. b < 256) bytes
 
+-- a reference of the program
 pub record IsRef (r : Ref) : Type 0 where
+  -- two bytes
   pub author : r.author < 2 ^ 16
+  -- 32 bytes
   pub digest : length r.digest.0 ≡ 32
   pub digest_bytes : AreBytes r.digest.0
 
+-- a block of the program
 pub record IsBlock (b : Block) : Type 0 where
+  -- two bytes
   pub author : b.author < 2 ^ 16
+  -- six bytes
   pub round : b.round < 2 ^ 48
+  -- each parent is a reference of the program
   pub parents : All IsRef b.parents
+  -- each transaction is a list of bytes
   pub transactions : All AreBytes b.transactions
 
+-- a signature of the program: 64 bytes
 pub record IsSignature (s : Signature) : Type 0 where
   pub len : length s.0 ≡ 64
   pub bytes : AreBytes s.0
 
+-- a seal of the program: its signer has two bytes
 pub record IsSeal (s : Seal) : Type 0 where
   pub signer : s.signer < 2 ^ 16
   pub signature : IsSignature s.signature
 
+-- the digest has 32 bytes, the round six, the author two
 pub record IsSubject (digest : Digest) (round author : ℕ) : Type 0 where
   pub digest_len : length digest.0 ≡ 32
   pub digest_bytes : AreBytes digest.0
   pub low_round : round < 2 ^ 48
   pub low_author : author < 2 ^ 16
 
+-- a certificate of the program
 pub record IsCertificate (c : Certificate) : Type 0 where
   pub subject : IsSubject c.digest c.round c.author
   pub votes : All IsSeal c.votes
 
+-- a vote of the program
 pub record IsVote (v : Vote) : Type 0 where
   pub subject : IsSubject v.digest v.round v.author
   pub sealed : IsSeal (seal v)
 
+-- a message of the program
 abbrev pub IsMessage : Message → Type 0
 IsMessage (messages.Block b s) = IsBlock b × IsSignature s
 IsMessage (messages.Certificate c) = IsCertificate c

@@ -14,7 +14,7 @@ pub struct Ref {
     pub digest: Digest,
 }
 
-/// A block: transactions, and references to blocks of the round before.
+/// A block: transactions, and references to blocks of the preceding round.
 #[derive(Debug, PartialEq, Eq, Drop)]
 pub struct Block {
     pub author: u16,
@@ -24,8 +24,8 @@ pub struct Block {
 }
 
 impl Block {
-    /// Whether the limits and the strict order of the format hold: at most 100 parents, their authors strictly
-    /// ascending, at most 1,024 transactions of at most 65,536 bytes each, and a body of at most 1,048,576 bytes.
+    /// Whether the block keeps the limits of the format: at most 100 parents with strictly ascending authors, at most
+    /// 1,024 transactions of at most 65,536 bytes each, and a body of at most 1,048,576 bytes.
     pub fn fits(&self) -> bool
         ensures { IsTrue result ↔ Fits self.now }
     {
@@ -36,7 +36,7 @@ impl Block {
             && 13 + 34 * parents.len() + self.transactions.size() <= MAX_BODY
     }
 
-    /// How many bytes its body has.
+    /// The size of its body in bytes.
     pub fn body_size(&self) -> usize
         requires { Fits self.now }
         ensures size { result ≡ body_size self.now }
@@ -54,7 +54,7 @@ impl InRound for Block {
     }
 }
 
-/// Whether each author is greater than the one before.
+/// Whether each author is greater than the preceding one.
 fn is_ascending(parents: &[Ref]) -> bool
     ensures { IsTrue result ↔ IsStrictlyIncreasing (authors parents.now) }
 {

@@ -1,4 +1,4 @@
-//! Certificates: a digest with the seals of members that vouch for it.
+//! Certificates: a block's digest with the signatures of members that voted for it.
 ghost use Rattle.std.specs.Prelude.{◌↔◌, IsTrue};
 ghost use Rattle.std.specs.List.Sorted.{IsStrictlyIncreasing};
 ghost use Rattle.nw_codec.specs.Fits.{CertificateFits, signers};
@@ -10,14 +10,14 @@ use nw_digest::{Digest, InRound, Round, Sequence};
 #[derive(Clone, Copy, Debug, PartialEq, Eq)]
 pub struct Signature(pub [u8; 64]);
 
-/// A member's number and its signature.
+/// A member's number and its signature of the vote.
 #[derive(Clone, Copy, Debug, PartialEq, Eq)]
 pub struct Seal {
     pub signer: u16,
     pub signature: Signature,
 }
 
-/// What the signers vouch for: that the block of this digest is the author's for this round.
+/// A certificate: the signers confirm that the block with this digest is the author's for this round.
 #[derive(Debug, PartialEq, Eq, Drop)]
 pub struct Certificate {
     pub digest: Digest,
@@ -27,7 +27,7 @@ pub struct Certificate {
 }
 
 impl Certificate {
-    /// Whether the limit and the strict order of the format hold: at most 100 votes, their signers strictly ascending.
+    /// Whether the certificate keeps the limits of the format: at most 100 votes with strictly ascending signers.
     pub fn fits(&self) -> bool
         ensures { IsTrue result ↔ CertificateFits self.now }
     {
@@ -44,7 +44,7 @@ impl InRound for Certificate {
     }
 }
 
-/// Whether each signer is greater than the one before.
+/// Whether each signer is greater than the preceding one.
 fn is_ascending(votes: &[Seal]) -> bool
     ensures { IsTrue result ↔ IsStrictlyIncreasing (signers votes.now) }
 {

@@ -1,4 +1,4 @@
-//! Texts as messages: one pass checks the whole text and keeps where its parts lie, and the message is built from them.
+//! Decodes messages: one pass checks the whole text and keeps where its parts lie, and the message is built from these parts.
 ghost use Rattle.std.specs.Prelude.{◌≡◌, ◌≢◌, ◌↔◌, IfOk, IfErr, IsErrOf};
 ghost use Rattle.nw_codec.specs.Faults.{IsFirstFault};
 ghost use Rattle.nw_codec.specs.Parts.{Decodes};
@@ -16,10 +16,10 @@ use fields::field;
 pub(crate) use fields::front;
 use std::alloc::Global;
 
-/// The message that the text spells. Its whole text is checked before memory is taken.
+/// The message of the text. It checks the whole text before it allocates.
 ///
-/// A text of no message is refused by its first fault in reading order; `NoMemory` is answered only of a block's or a
-/// certificate's text, so a vote is always decoded. The time taken is linear in the text.
+/// If the text is not a message's, it fails with the first fault in reading order. It fails with `NoMemory` only for the text
+/// of a block or a certificate, so decoding a vote makes no allocation. It takes time linear in the length of the text.
 pub fn decode_message(alloc: Global, text: &[u8]) -> Result<Message, DecodeError>
     ensures found { IfOk result (λ m. Spells text.now m) }
     ensures fault { (e : DecodeError) → e ≢ DecodeError.NoMemory
@@ -30,7 +30,7 @@ pub fn decode_message(alloc: Global, text: &[u8]) -> Result<Message, DecodeError
     decode_by_tag(alloc, text)
 }
 
-/// The message that the text spells, by the kind that its first byte names.
+/// The message of the text. Its first byte names the kind of message.
 fn decode_by_tag(alloc: Global, text: &[u8]) -> Result<Message, DecodeError>
     ensures { Decodes text.now result }
 {

@@ -1,4 +1,4 @@
-//! Values as bytes.
+//! Encodes bodies and messages.
 ghost use Rattle.std.specs.Prelude.{◌≡◌, ◌↔◌, ◌++◌, ◌<◌, ℕ};
 ghost use Rattle.std.specs.Prelude.{IfOk, OnOk, IsErrOf, All, List};
 ghost use Rattle.std.specs.List.{flat_map};
@@ -19,12 +19,12 @@ use sha2::Sha256;
 use std::alloc::{AllocError, Global};
 use std::convert::Infallible;
 
-/// What takes a text piece by piece.
+/// A destination of encoded bytes, which takes them piece by piece.
 trait Sink {
-    /// Why a piece was not taken.
+    /// Why it did not take a piece.
     type Refusal: Drop;
 
-    // What was taken so far is this text.
+    // The pieces taken so far make this text.
     ghost holds: { Self → List ℕ → Type 0 };
 
     fn put(&mut self, piece: &[u8]) -> Result<(), Self::Refusal>
@@ -68,7 +68,7 @@ fn put_parents<S: Sink>(sink: &mut S, parents: &[Ref]) -> Result<(), S::Refusal>
     Ok(())
 }
 
-/// The body of a block, field by field.
+/// Writes the body of the block, field by field.
 #[tactic(auto, unfolding(crate::specs::Grammar::body))]
 fn put_body<S: Sink>(sink: &mut S, block: &Block) -> Result<(), S::Refusal>
     requires { Fits block.now }
@@ -86,7 +86,7 @@ fn put_body<S: Sink>(sink: &mut S, block: &Block) -> Result<(), S::Refusal>
     sink.put(block.transactions.text())
 }
 
-/// The SHA-256 digest of the block's body, which is fed in pieces and never built. It takes no memory.
+/// The SHA-256 digest of the block's body. It hashes the body field by field, and makes no allocation.
 pub fn block_digest(block: &Block) -> Digest
     requires { Fits block.now }
     ensures { result.0 ≡ sha256 (body block.now) }
@@ -98,7 +98,8 @@ pub fn block_digest(block: &Block) -> Digest
     }
 }
 
-/// The bytes of the block's body. `OverLimit` exactly where the block does not fit, else `NoMemory` where memory is refused.
+/// The encoding of the block's body. Fails with `OverLimit` exactly if the block does not fit (`Block::fits`), and with
+/// `NoMemory` if the allocation fails.
 pub fn encode_body(alloc: Global, block: &Block) -> Result<Vec<u8>, EncodeError>
     ensures text { IfOk result (λ v. v.items ≡ body block.now) }
     ensures fits { OnOk result (Fits block.now) }
@@ -112,8 +113,8 @@ pub fn encode_body(alloc: Global, block: &Block) -> Result<Vec<u8>, EncodeError>
     Ok(bytes)
 }
 
-/// The text of a block's message, which spells the block and the signature that are lent. `OverLimit` exactly where the
-/// block does not fit, else `NoMemory` where memory is refused.
+/// The text of a block's message, with this block and signature. Fails with `OverLimit` exactly if the block does not fit
+/// (`Block::fits`), and with `NoMemory` if the allocation fails.
 pub fn encode_block(
     alloc: Global,
     block: &Block,
@@ -132,8 +133,8 @@ pub fn encode_block(
     Ok(text)
 }
 
-/// The text that spells the message. `OverLimit` exactly where its block or certificate does not fit, else `NoMemory` where
-/// memory is refused. A vote always fits.
+/// The text of the message. Fails with `OverLimit` exactly if its block or certificate does not fit (`Block::fits`,
+/// `Certificate::fits`), and with `NoMemory` if the allocation fails. A vote always fits.
 pub fn encode_message(alloc: Global, sent: &Message) -> Result<Vec<u8>, EncodeError>
     ensures spells { IfOk result (λ v. Spells v.items sent.now) }
     ensures over_limit { IsErrOf result EncodeError.OverLimit ↔ (MessageFits sent.now → ⊥) }

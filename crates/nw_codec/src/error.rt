@@ -1,17 +1,17 @@
-//! Why a value has no text, or a text no value.
+//! Errors of encoding and decoding.
 ghost use Rattle.std.specs.Prelude.{◌≡◌};
 
 use nw_digest::NoMemory;
 use std::alloc::{AllocError, AllocFailed};
 use thiserror::Error;
 
-/// Why a value was not encoded, or a transaction not added to those of a block.
+/// Why a value was not encoded, or a transaction not added.
 #[derive(Clone, Copy, Debug, PartialEq, Eq, Error)]
 pub enum EncodeError {
-    /// It does not fit: a limit or an order is broken.
+    /// The value exceeds a limit of the format or breaks an order.
     #[error("over limit")]
     OverLimit,
-    /// Memory was refused.
+    /// An allocation failed.
     #[error("out of memory")]
     NoMemory,
 }
@@ -49,13 +49,13 @@ impl From<NoMemory> for EncodeError {
     }
 }
 
-/// Why a text was not decoded: its first fault in reading order, or want of memory.
+/// Why a text was not decoded: its first fault in reading order, or an allocation failure.
 #[derive(Clone, Copy, Debug, PartialEq, Eq, Error)]
 pub enum DecodeError {
     /// Fewer bytes are left than the next field has.
     #[error("the text ends within a field")]
     Short,
-    /// Bytes are left behind the last field.
+    /// Bytes follow the last field.
     #[error("bytes follow the message")]
     Trailing,
     /// The first byte names no kind of message.
@@ -67,7 +67,7 @@ pub enum DecodeError {
     /// More than 100 parents.
     #[error("too many parents")]
     TooManyParents,
-    /// A parent's author is not greater than the one before.
+    /// A parent's author is not greater than the preceding one.
     #[error("parents out of order")]
     ParentOrder,
     /// More than 1,024 transactions.
@@ -82,10 +82,10 @@ pub enum DecodeError {
     /// More than 100 votes.
     #[error("too many votes")]
     TooManyVotes,
-    /// A vote's signer is not greater than the one before.
+    /// A vote's signer is not greater than the preceding one.
     #[error("votes out of order")]
     VoteOrder,
-    /// Memory was refused; the text is a message's.
+    /// An allocation failed. The text is a message's.
     #[error("out of memory")]
     NoMemory,
 }

@@ -1,4 +1,4 @@
-//! Laws of the grammar. Each is proved of its definitions; the functions do nothing.
+//! Laws of the grammar. Each is the contract of a function that does nothing.
 ghost use Rattle.std.specs.Prelude.{◌≡◌, ◌⊎◌, ◌↔◌, ℕ, List, ◌++◌, length};
 ghost use Rattle.nw_codec.specs.declared.block.Block.{Block};
 ghost use Rattle.nw_codec.specs.declared.message.Message.{Message};
@@ -10,14 +10,14 @@ ghost use Rattle.nw_codec.specs.Grammar.{body};
 ghost use Rattle.nw_codec.specs.Spelled.{Spells, IsSpelled, GoesOn};
 ghost use Rattle.nw_codec.specs.Typed.{AreBytes, IsBlock};
 
-/// A text has one message, and no message's text begins another's: where the texts of two messages begin one text,
-/// the messages are the same, and so is what follows them.
+/// A text has one message, and no message's text begins another's. If the texts of two messages begin one text, then the
+/// messages are the same, and the same bytes follow them.
 pub fn one_text()
     ensures { (a b x y : List ℕ) (m n : Message) → Spells a m → Spells b n → a ++ x ≡ b ++ y
         → (m ≡ n) × (x ≡ y) }
 {}
 
-/// A text of bytes is either a message's, or it has a first fault; and it has one first fault at most.
+/// A text of bytes is a message's or has a first fault, never both. It has at most one first fault.
 pub fn grammar_or_fault()
     ensures either { (text : List ℕ) → AreBytes text
         → IsSpelled text ⊎ ((e : DecodeError) × IsFirstFault text e) }
@@ -27,12 +27,12 @@ pub fn grammar_or_fault()
         → IsFirstFault text e → d ≡ e }
 {}
 
-/// Trailing is the fault exactly where bytes follow the text of a message.
+/// `Trailing` is the first fault exactly if bytes follow the text of a message.
 pub fn trailing_follows_a_message()
     ensures { (text : List ℕ) → AreBytes text → (IsFirstFault text Trailing ↔ GoesOn text) }
 {}
 
-/// A body has 13 bytes, 34 more for each parent, and for each transaction 4 more than its own.
+/// A body has 13 bytes, 34 for each parent, and for each transaction its bytes and 4 more.
 pub fn body_has_its_size()
     ensures { (b : Block) → IsBlock b → length (body b) ≡ body_size b }
 {}

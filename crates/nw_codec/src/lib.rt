@@ -1,7 +1,7 @@
-//! The messages of the mempool as bytes.
+//! Encodes blocks, certificates and votes as bytes, and decodes them.
 //!
-//! Its contract: what is decoded is exactly what the grammar spells, each fault is the first one in reading order, and
-//! what is encoded is the one text of its value. It stands on `nw_digest`, and on `sha2` for the digest of a block.
+//! Decoding accepts exactly the texts of the grammar, and reports the first fault of any other text in reading order. Each
+//! value has one text. `docs/FORMATS.md` describes the grammar and the faults.
 #![tactic(auto)]
 
 mod block;

@@ -9,22 +9,22 @@ pub const VOTE_TAG: u8 = 3;
 /// The first byte of a body.
 pub const VERSION: u8 = 1;
 
-/// The bytes of a signature.
+/// The size of a signature in bytes.
 pub(crate) const SIGNATURE_BYTES: usize = 64;
-/// The bytes of a subject: a digest, a round and an author.
+/// The size of a subject in bytes: a digest, a round and an author.
 pub(crate) const SUBJECT_BYTES: usize = 40;
-/// The bytes of a parent: its author and its digest.
+/// The size of a parent in bytes: its author and its digest.
 pub(crate) const PARENT_BYTES: usize = 34;
-/// The bytes of a seal: its signer and the signature.
+/// The size of a seal in bytes: its signer and its signature.
 pub(crate) const SEAL_BYTES: usize = 66;
 
-/// How many parents a block names at most.
+/// The greatest number of parents of a block.
 pub const MAX_PARENTS: usize = 100;
-/// How many transactions a block holds at most.
+/// The greatest number of transactions of a block.
 pub const MAX_TRANSACTIONS: usize = 1024;
-/// How many bytes a transaction has at most.
+/// The greatest size of a transaction in bytes.
 pub const MAX_TRANSACTION: usize = 65_536;
-/// How many bytes a body has at most.
+/// The greatest size of a body in bytes.
 pub const MAX_BODY: usize = 1_048_576;
-/// How many votes a certificate has at most.
+/// The greatest number of votes of a certificate.
 pub const MAX_VOTES: usize = 100;

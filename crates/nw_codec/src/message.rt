@@ -1,12 +1,12 @@
 //! Messages between validators.
 use crate::{Block, Certificate, Signature, Vote};
 
-/// What one validator sends to another.
+/// A message from one validator to another.
 #[derive(Debug, PartialEq, Eq, Drop)]
 pub enum Message {
-    /// A block, and its creator's signature.
+    /// A block and its author's signature.
     Block { block: Block, signature: Signature },
-    /// A certificate, with the votes that it is made of.
+    /// A certificate with its votes.
     Certificate(Certificate),
     /// The vote of one member.
     Vote(Vote),

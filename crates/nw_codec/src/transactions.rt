@@ -13,7 +13,7 @@ use nw_digest::NoMemory;
 use std::alloc::Global;
 use std::marker::Model;
 
-/// The transactions of a block, as its body has them: one behind another, each behind its length. Contracts see the list of them.
+/// The transactions of a block, in the encoding of its body: each follows its length. Contracts see them as a list.
 #[derive(Debug, Drop)]
 pub struct Transactions {
     count: usize,
@@ -32,7 +32,7 @@ impl Model for Transactions {
 }
 
 impl Transactions {
-    /// No transactions. It takes no memory.
+    /// No transactions. Makes no allocation.
     pub fn new(alloc: Global) -> Transactions
         ensures { result ≡ [] }
     {
@@ -42,8 +42,8 @@ impl Transactions {
         }
     }
 
-    /// Adds the transaction behind the others. `OverLimit` exactly where it has more than 65,536 bytes, else `NoMemory` where
-    /// memory is refused. A refusal changes nothing.
+    /// Adds the transaction at the end. Fails with `OverLimit` exactly if it has more than 65,536 bytes, and with `NoMemory`
+    /// if an allocation fails. An error leaves the transactions unchanged.
     pub fn push(&mut self, transaction: &[u8]) -> Result<(), EncodeError>
         ensures pushed { OnOk result (self.new ≡ self.old ++ transaction.now ∷ []) }
         ensures unchanged { OnErr result (self.new ≡ self.old) }
@@ -57,7 +57,7 @@ impl Transactions {
         Ok(())
     }
 
-    /// How many they are; each has at most 65,536 bytes.
+    /// The number of transactions. Each has at most 65,536 bytes.
     pub fn len(&self) -> usize
         ensures count { result ≡ length self.now }
         ensures short { All (λ t. length t ≤ MAX_TRANSACTION) self.now }
@@ -72,7 +72,7 @@ impl Transactions {
         self.count == 0
     }
 
-    /// The transactions, from the first on. It takes no memory.
+    /// The transactions in order. Makes no allocation.
     pub fn iter(&self) -> TransactionsIter<'_>
         ensures { result ≡ self.now }
     {
@@ -82,14 +82,14 @@ impl Transactions {
         }
     }
 
-    /// The part of the body that they are.
+    /// Their encoding in the body.
     pub(crate) fn text(&self) -> &[u8]
         ensures { result.now ≡ flat_map transaction_bytes self.now }
     {
         self.text.as_slice()
     }
 
-    /// How many bytes they take in a body, each with its length.
+    /// The size of their encoding in bytes.
     pub(crate) fn size(&self) -> usize
         ensures size { result ≡ transactions_size self.now }
         ensures low { result < 2 ^ 63 }
@@ -97,7 +97,7 @@ impl Transactions {
         self.text.len()
     }
 
-    /// So many transactions, which the text is. `NoMemory` where memory is refused.
+    /// The `count` transactions that the text encodes. Fails with `NoMemory` if the allocation fails.
     pub(crate) fn of_text(
         alloc: Global,
         count: usize,
@@ -113,7 +113,7 @@ impl Transactions {
     }
 }
 
-/// Puts the transaction behind the text, behind its length.
+/// Appends the length of the transaction and the transaction.
 fn append(text: &mut Vec<u8>, transaction: &[u8]) -> Result<(), NoMemory>
     requires { length transaction.now ≤ MAX_TRANSACTION }
     ensures appended { OnOk result
@@ -121,14 +121,14 @@ fn append(text: &mut Vec<u8>, transaction: &[u8]) -> Result<(), NoMemory>
     ensures unchanged { OnErr result (text.new.items ≡ text.old.items) }
 {
     text.reserve(4 + transaction.len())?;
-    // There is room for both.
+    // Both fit into the reserved memory.
     let length = (transaction.len() as u32).to_be_bytes();
     let _length = text.extend_from_slice(&length);
     let _bytes = text.extend_from_slice(transaction);
     Ok(())
 }
 
-/// The transaction at the front of the text, and what is behind it.
+/// The transaction at the front of the text, and the rest.
 pub(crate) fn first_transaction(text: &[u8]) -> (&[u8], &[u8])
     requires length { 4 ≤ length text.now }
     requires bytes { length_at text.now ≤ length (drop 4 text.now) }
@@ -159,7 +159,7 @@ impl Eq for Transactions {
     ghost laws = { lists_equiv nat_list_eq_equiv };
 }
 
-/// The transactions that are left, one after another. Contracts see the list of them. It takes no memory.
+/// The remaining transactions in order. Contracts see them as a list. Iterating makes no allocation.
 #[derive(Debug, Drop)]
 pub struct TransactionsIter<'a> {
     left: usize,

@@ -1,8 +1,8 @@
-//! Votes: one member's word for a block of an author and round.
+//! Votes: one member's signature for a block.
 use crate::Signature;
 use nw_digest::{Digest, Round};
 
-/// What one signer vouches for: that the block of this digest is the author's for this round.
+/// A vote: the signer confirms that the block with this digest is the author's for this round.
 #[derive(Clone, Copy, Debug, PartialEq, Eq)]
 pub struct Vote {
     pub digest: Digest,

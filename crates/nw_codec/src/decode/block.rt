@@ -1,4 +1,4 @@
-//! Block messages: one pass checks the text and keeps where its parts lie, and the block is built from them.
+//! Decodes blocks: one pass checks the text and keeps where its parts lie, and the block is built from these parts.
 ghost use Rattle.std.specs.Prelude.{◌≡◌, ℕ, ◌+◌, ◌*◌, ◌≤◌, ◌∷◌, ◌++◌};
 ghost use Rattle.std.specs.Prelude.{List, length, All, MatchResult, IfOk, None};
 ghost use Rattle.std.specs.List.{flat_map};
@@ -35,7 +35,7 @@ struct BlockParts<'a> {
     signature: Signature,
 }
 
-/// The message of the block whose body and signature the text is. Its tag was read before.
+/// The message of a block. The text is a body and a signature, without the tag.
 pub(super) fn decode_block(alloc: Global, text: &[u8]) -> Result<Message, DecodeError>
     ensures { Decodes (BLOCK_TAG ∷ text.now) result }
 {
@@ -47,7 +47,7 @@ pub(super) fn decode_block(alloc: Global, text: &[u8]) -> Result<Message, Decode
     })
 }
 
-/// The parts of the body and the signature that the text is.
+/// The parts of a text that is a body and a signature.
 fn read_block(text: &[u8]) -> Result<BlockParts<'_>, DecodeError>
     ensures { MatchResult result
         (λ p. (b : Block) × Spells (BLOCK_TAG ∷ text.now) (messages.Block b p.signature)
@@ -69,7 +69,7 @@ fn read_block(text: &[u8]) -> Result<BlockParts<'_>, DecodeError>
     })
 }
 
-/// The author and the round that follow the version, and the rest.
+/// The author, the round and the rest of a body.
 fn read_head(text: &[u8]) -> Result<(u16, u64, &[u8]), DecodeError>
     ensures { MatchResult result (λ x. HeadAt text.now x.0 x.1 x.2.now)
         (λ e. FaultFrom AtVersion text.now e) }
@@ -83,7 +83,7 @@ fn read_head(text: &[u8]) -> Result<(u16, u64, &[u8]), DecodeError>
     Ok((author, round, rest))
 }
 
-/// The text of the parents that follow their count, and the rest.
+/// The text of the parents, which follow their count, and the rest.
 fn read_parents(text: &[u8]) -> Result<(&[u8], &[u8]), DecodeError>
     ensures { MatchResult result
         (λ x. (length x.0.now ≤ 3400) × ParentsAt text.now x.0.now x.1.now
@@ -94,7 +94,7 @@ fn read_parents(text: &[u8]) -> Result<(&[u8], &[u8]), DecodeError>
     read_items::<32>(count, DecodeError::ParentOrder, rest)
 }
 
-/// The number of transactions, their text and the rest. The body has `size` bytes before their count.
+/// The number of transactions, their text and the rest. `size` is the number of bytes of the body so far.
 fn read_transactions(size: usize, text: &[u8]) -> Result<(usize, &[u8], &[u8]), DecodeError>
     requires { size ≤ 3411 }
     ensures { MatchResult result
@@ -108,7 +108,7 @@ fn read_transactions(size: usize, text: &[u8]) -> Result<(usize, &[u8], &[u8]), 
     Ok((count, until(rest, after), after))
 }
 
-/// The rest after so many transactions. The body has `size` bytes before them.
+/// The rest after `count` transactions. `size` is the number of bytes of the body so far.
 fn after_transactions(count: usize, size: usize, text: &[u8]) -> Result<&[u8], DecodeError>
     requires { size ≤ MAX_BODY }
     ensures { MatchResult result
@@ -125,7 +125,8 @@ fn after_transactions(count: usize, size: usize, text: &[u8]) -> Result<&[u8], D
     Ok(rest)
 }
 
-/// The size of the body up to the end of the transaction at the front, and the rest. The body has `size` bytes before it.
+/// The number of bytes of the body up to the end of the transaction at the front, and the rest. `size` is this number
+/// before the transaction.
 fn after_transaction(size: usize, text: &[u8]) -> Result<(usize, &[u8]), DecodeError>
     requires { size ≤ MAX_BODY }
     ensures { (more : ℕ) → MatchResult result
@@ -148,7 +149,7 @@ fn after_transaction(size: usize, text: &[u8]) -> Result<(usize, &[u8]), DecodeE
     Ok((size, &rest[len..]))
 }
 
-/// The block of these parts.
+/// The block with these parts. Fails with `NoMemory` if an allocation fails.
 fn block_of(alloc: Global, parts: BlockParts<'_>) -> Result<Block, NoMemory>
     requires { (b : Block) × AreBlockParts b parts.author parts.round parts.parents.now
         parts.transaction_count parts.transactions.now }
@@ -166,7 +167,7 @@ fn block_of(alloc: Global, parts: BlockParts<'_>) -> Result<Block, NoMemory>
     })
 }
 
-/// The parents that the text is.
+/// The parents that the text encodes.
 fn parents_of(alloc: Global, text: &[u8]) -> Result<Sequence<Ref>, NoMemory>
     requires { (count : ℕ) × (length text.now ≡ 34 * count) }
     ensures { IfOk result
@@ -186,8 +187,7 @@ fn parents_of(alloc: Global, text: &[u8]) -> Result<Sequence<Ref>, NoMemory>
 /// The parent at the front of the text, and the rest.
 fn parent_of(text: &[u8]) -> (Ref, &[u8])
     requires { 34 ≤ length text.now }
-    ensures typed { IsRef result.0 }
-    ensures bytes { text.now ≡ parent_bytes result.0 ++ result.1.now }
+    ensures { IsRef result.0 × (text.now ≡ parent_bytes result.0 ++ result.1.now) }
 {
     let (author, rest) = number_of(text);
     let (digest, rest) = front::<32>(rest);

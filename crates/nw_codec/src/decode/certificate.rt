@@ -1,4 +1,4 @@
-//! Certificates and votes: one pass checks the text and keeps where its parts lie, and the value is built from them.
+//! Decodes certificates and votes: one pass checks the text and keeps its parts, and the value is built from them.
 ghost use Rattle.std.specs.Prelude.{◌≡◌, ℕ, ◌*◌, ◌≤◌, ◌∷◌, ◌++◌};
 ghost use Rattle.std.specs.Prelude.{List, length, All, MatchResult, IfOk, None};
 ghost use Rattle.std.specs.List.{flat_map};
@@ -20,7 +20,7 @@ use crate::{Certificate, DecodeError, Message, Seal, Signature, Vote};
 use nw_digest::{Digest, NoMemory, Round, Sequence};
 use std::alloc::Global;
 
-/// What a vote speaks of: the block of this digest, as the one of this round and author.
+/// The subject of a vote: the digest, the round and the author of a block.
 #[derive(Clone, Copy)]
 struct Subject {
     digest: Digest,
@@ -35,7 +35,7 @@ struct CertificateParts<'a> {
     seals: &'a [u8],
 }
 
-/// The message of the certificate that the text is. Its tag was read before.
+/// The message of a certificate. The text lacks the tag.
 pub(super) fn decode_certificate(alloc: Global, text: &[u8]) -> Result<Message, DecodeError>
     ensures { Decodes (CERTIFICATE_TAG ∷ text.now) result }
 {
@@ -43,7 +43,7 @@ pub(super) fn decode_certificate(alloc: Global, text: &[u8]) -> Result<Message, 
     Ok(Message::Certificate(certificate_of(alloc, parts)?))
 }
 
-/// The message of the vote that the text is. Its tag was read before. It takes no memory.
+/// The message of a vote. The text lacks the tag. Makes no allocation.
 pub(super) fn decode_vote(text: &[u8]) -> Result<Message, DecodeError>
     ensures { MatchResult result (λ m. Spells (VOTE_TAG ∷ text.now) m)
         (λ e. FaultFrom (AtDigest OfVote) text.now e) }
@@ -60,7 +60,7 @@ pub(super) fn decode_vote(text: &[u8]) -> Result<Message, DecodeError>
     }))
 }
 
-/// The parts of the certificate that the text is.
+/// The parts of a certificate's text without the tag.
 fn read_certificate(text: &[u8]) -> Result<CertificateParts<'_>, DecodeError>
     ensures { MatchResult result
         (λ p. (c : Certificate) × Spells (CERTIFICATE_TAG ∷ text.now) (messages.Certificate c)
@@ -94,7 +94,7 @@ fn read_subject(text: &[u8]) -> Result<(Subject, &[u8]), DecodeError>
     ))
 }
 
-/// The certificate of these parts.
+/// The certificate with these parts. Fails with `NoMemory` if an allocation fails.
 fn certificate_of(alloc: Global, parts: CertificateParts<'_>) -> Result<Certificate, NoMemory>
     requires { (c : Certificate) × AreCertificateParts c parts.subject.digest parts.subject.round
         parts.subject.author parts.seals.now }
@@ -111,7 +111,7 @@ fn certificate_of(alloc: Global, parts: CertificateParts<'_>) -> Result<Certific
     })
 }
 
-/// The seals that the text is.
+/// The seals that the text encodes.
 fn seals_of(alloc: Global, text: &[u8]) -> Result<Sequence<Seal>, NoMemory>
     requires { (count : ℕ) × (length text.now ≡ 66 * count) }
     ensures { IfOk result (λ seals. All IsSeal seals × (text.now ≡ flat_map seal_bytes seals)) }
@@ -130,8 +130,7 @@ fn seals_of(alloc: Global, text: &[u8]) -> Result<Sequence<Seal>, NoMemory>
 /// The seal at the front of the text, and the rest.
 fn seal_of(text: &[u8]) -> (Seal, &[u8])
     requires { 66 ≤ length text.now }
-    ensures typed { IsSeal result.0 }
-    ensures bytes { text.now ≡ seal_bytes result.0 ++ result.1.now }
+    ensures { IsSeal result.0 × (text.now ≡ seal_bytes result.0 ++ result.1.now) }
 {
     let (signer, rest) = number_of(text);
     let (signature, rest) = front::<64>(rest);

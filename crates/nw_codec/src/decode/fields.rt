@@ -1,4 +1,4 @@
-//! The fields of a text, and the readers that blocks, certificates and votes share.
+//! Readers of fields and of lists of items, which blocks, certificates and votes share.
 ghost use Rattle.std.specs.Prelude.{◌≡◌, ℕ, suc, ◌+◌, ◌<◌, ◌≤◌, ◌++◌, [], Option, Some, None};
 ghost use Rattle.std.specs.Prelude.{List, length, take, drop, IfOk, MatchResult};
 ghost use Rattle.nw_codec.specs.declared.error.DecodeError.TheVariants.{Short};
@@ -8,7 +8,7 @@ ghost use Rattle.nw_codec.specs.Parts.{Counts, Orders, AreItems, IsLast};
 
 use crate::{DecodeError, Signature};
 
-/// The field of `N` bytes at the front of the text, and the rest.
+/// The field of `N` bytes at the front of the text, and the rest. `Short` if there are fewer bytes.
 pub(super) fn field<const N: usize>(text: &[u8]) -> Result<(&[u8; N], &[u8]), DecodeError>
     ensures { MatchResult result
         (λ x. (N ≤ length text.now) × (x.0.now ≡ take N text.now) × (x.1.now ≡ drop N text.now))
@@ -46,7 +46,7 @@ pub(super) fn read_number(text: &[u8]) -> Result<(u16, &[u8]), DecodeError>
     Ok(number_of(text))
 }
 
-/// The number of a round, six bytes at the front of the text, and the rest. `Short` if there are fewer bytes.
+/// The round of six bytes at the front of the text, as a number, and the rest. `Short` if there are fewer bytes.
 pub(super) fn read_round(text: &[u8]) -> Result<(u64, &[u8]), DecodeError>
     ensures { MatchResult result (λ x. RoundAt text.now x.0 x.1.now)
         (λ e. (length text.now < 6) × (e ≡ Short)) }
@@ -74,15 +74,15 @@ pub(super) fn read_count(
     Ok((count, rest))
 }
 
-/// Whether the author or signer is greater than the one before, if there is one.
+/// Whether the author or signer is greater than the preceding one, if there is one.
 fn is_in_order(before: Option<u16>, author: u16) -> bool
     ensures { result ≡ comes_after before author }
 {
     before.is_none_or(|before| before < author)
 }
 
-/// The author or signer of the item at the front of the text, and the rest after the item: it has `N` bytes more.
-/// `disorder` is the fault if the author or signer is not greater than the one before.
+/// The author or signer of the item at the front of the text, and the rest. An item is an author or signer and `N` bytes.
+/// `disorder` is the fault if the author or signer is not greater than the preceding one, `before`.
 fn read_item<const N: usize>(
     before: Option<u16>,
     disorder: DecodeError,
@@ -104,8 +104,8 @@ fn read_item<const N: usize>(
     Ok((author, rest))
 }
 
-/// The text of so many items at the front of the text, and the rest. Each item is an author or signer and `N` bytes more.
-/// `disorder` is the fault if an author or signer is not greater than the one before.
+/// The text of the `count` items at the front of the text, and the rest. An item is an author or signer and `N` bytes.
+/// `disorder` is the fault if an author or signer is not greater than the preceding one.
 pub(super) fn read_items<const N: usize>(
     count: usize,
     disorder: DecodeError,
@@ -128,7 +128,7 @@ pub(super) fn read_items<const N: usize>(
     Ok((until(text, rest), rest))
 }
 
-/// The part of the text before its rest.
+/// The part of the text that precedes its rest.
 pub(super) fn until<'a>(text: &'a [u8], rest: &[u8]) -> &'a [u8]
     requires { (front : List ℕ) × (text.now ≡ front ++ rest.now) }
     ensures { text.now ≡ result.now ++ rest.now }
@@ -136,7 +136,7 @@ pub(super) fn until<'a>(text: &'a [u8], rest: &[u8]) -> &'a [u8]
     &text[..text.len() - rest.len()]
 }
 
-/// The signature that the text is, the last field of its message. `Trailing` if bytes follow it.
+/// The signature that is the last field of a message. `Short` if there are fewer bytes, `Trailing` if there are more.
 pub(super) fn read_last_signature(text: &[u8]) -> Result<Signature, DecodeError>
     ensures { (stage : Stage) → IsLast 64 stage → MatchResult result
         (λ s. LastSignature text.now s) (λ e. FaultFrom stage text.now e) }
@@ -146,7 +146,7 @@ pub(super) fn read_last_signature(text: &[u8]) -> Result<Signature, DecodeError>
     Ok(Signature(*signature))
 }
 
-/// Nothing. `Trailing` if bytes follow the message.
+/// Fails with `Trailing` if the rest after the last field is not empty.
 pub(super) fn at_end(rest: &[u8]) -> Result<(), DecodeError>
     ensures { MatchResult result (λ _. rest.now ≡ []) (λ e. FaultFrom AtEnd rest.now e) }
 {

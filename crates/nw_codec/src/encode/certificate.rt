@@ -1,4 +1,4 @@
-//! Certificates and votes as bytes.
+//! Encodes certificates and votes.
 ghost use Rattle.std.specs.Prelude.{◌≡◌, ◌++◌, [], ◌∷◌, IfOk, OnOk, All};
 ghost use Rattle.std.specs.List.{flat_map};
 ghost use Rattle.nw_codec.specs.Grammar.{subject_bytes, seal_bytes};
@@ -12,7 +12,7 @@ use crate::{Certificate, Message, Seal, Vote};
 use nw_digest::{Digest, Round};
 use std::alloc::{AllocError, Global};
 
-/// A text of the tag and of what a vote speaks of: the digest, the round and the author of a block. It has room for so many bytes in all.
+/// A text with the tag and the subject: the digest, the round and the author of a block. It has room for `size` bytes in all.
 fn subject_text(
     alloc: Global,
     size: usize,
@@ -44,7 +44,7 @@ fn put_seals(text: &mut Vec<u8>, seals: &[Seal]) -> Result<(), AllocError>
     Ok(())
 }
 
-/// The text of a certificate's message, for a certificate that fits.
+/// The text of the message of a certificate that fits.
 pub(super) fn encode_certificate_message(
     alloc: Global,
     certificate: &Certificate,

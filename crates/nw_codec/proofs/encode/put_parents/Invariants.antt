@@ -5,7 +5,7 @@ use Rattle.nw_codec.specs.Grammar.{parent_bytes}
 use Rattle.nw_codec.specs.Typed.{IsRef}
 use Rattle.nw_codec.proofs.encode.put_parents.Given as goal
 
--- the parents so far are put behind what was there
+-- the parents so far are appended
 abbrev pub invariant-loop-parent : goal.invariant-loop-parent
 invariant-loop-parent g l = record {
   text : (text : List ℕ) → g.S.Sink.holds l.fn.sink text → g.S.Sink.holds l.sink (text ++ flat_map parent_bytes (take l.parent-index l.parents));

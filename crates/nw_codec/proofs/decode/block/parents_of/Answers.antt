@@ -11,8 +11,8 @@ loop-preserved c =
     let item = c.parent_of.result.0 in
     let read = c.parent_of.ensures in
     record {
-      built = one_more_built parent_bytes IsRef _ _ _ item _ _ c.loop.invariant.built read.typed read.bytes c.in_ok-push.ensures.items;
-      left = omega (arith, c.loop.invariant.left, ap length read.bytes, length-append (parent_bytes item) c.parent_of.result.1.now, length-parent item read.typed);
+      built = one_more_built parent_bytes IsRef _ _ _ item _ _ c.loop.invariant.built read.0 read.1 c.in_ok-push.ensures.items;
+      left = omega (arith, c.loop.invariant.left, ap length read.1, length-append (parent_bytes item) c.parent_of.result.1.now, length-parent item read.0);
     }
 
 pub returns : goal.returns

@@ -4,7 +4,7 @@ use Rattle.nw_codec.specs.Typed.{IsRef}
 use Rattle.nw_codec.proofs.Building.{AreBuilt}
 use Rattle.nw_codec.proofs.decode.block.parents_of.Given as goal
 
--- The parents so far are made, and the text of the others is left.
+-- The parents so far are built, and the text of the others is left.
 abbrev pub invariant-loop : goal.invariant-loop
 invariant-loop l = record {
   built : AreBuilt parent_bytes IsRef l.text l.parents.items l.rest;

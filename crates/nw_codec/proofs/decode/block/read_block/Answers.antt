@@ -1,8 +1,7 @@
-use Rattle.std.proofs.Common.{◌<◌, ◌+◌, length, arith}
-use Rattle.std.proofs.lemmas.List.Elements.{All-from_get_or}
+use Rattle.std.proofs.Common.{◌+◌, length}
 use Rattle.nw_codec.specs.Faults.{AtVersion, AtParentCount, AtTransactionCount, AtSignature, AtEnd}
 use Rattle.nw_codec.proofs.Fronts.{onward, later}
-use Rattle.nw_codec.proofs.Fields.{exit}
+use Rattle.nw_codec.proofs.Fields.{are_bytes, exit}
 use Rattle.nw_codec.proofs.Parts.{head_leads, signature_ends, signature_leads, block_lies}
 use Rattle.nw_codec.proofs.WholeBlock.{read_block}
 use Rattle.nw_codec.proofs.decode.block.read_block.Goals as goal
@@ -31,7 +30,7 @@ returns-in_err-signature c =
 pub returns : goal.returns
 returns c =
     let size = 11 + length c.in_ok-parents.parents.now in
-    let each = All-from_get_or (λ b. b < 256) c.args.text.now 0 (λ i lt. omega (arith, c.type_inv.text i)) in
+    let each = are_bytes _ c.type_inv.text in
     let head = head_leads _ _ _ _ c.in_ok-author.ensures in
     let last = c.in_ok-signature.ensures AtSignature signature_ends in
     let end = onward (AtTransactionCount size) AtSignature AtEnd _ _ _ c.in_ok-transaction_count.ensures.1 (signature_leads AtSignature _ _ signature_ends last) in

@@ -1,8 +1,7 @@
-use Rattle.std.proofs.Common.{◌<◌, None, arith}
-use Rattle.std.proofs.lemmas.List.Elements.{All-from_get_or}
+use Rattle.std.proofs.Common.{None}
 use Rattle.nw_codec.specs.Faults.{OfCertificate, AtDigest, AtVoteCount, AtSealSignature, AtEnd, at_seals}
 use Rattle.nw_codec.proofs.Fronts.{onward, later}
-use Rattle.nw_codec.proofs.Fields.{exit}
+use Rattle.nw_codec.proofs.Fields.{are_bytes, exit}
 use Rattle.nw_codec.proofs.Parts.{subject_leads, counts_votes, are_seals, certificate_lies}
 use Rattle.nw_codec.proofs.WholeVotes.{read_certificate}
 use Rattle.nw_codec.proofs.decode.certificate.read_certificate.Goals as goal
@@ -32,7 +31,7 @@ returns-in_err-at_end c =
 
 pub returns : goal.returns
 returns c =
-    let each = All-from_get_or (λ b. b < 256) c.args.text.now 0 (λ i lt. omega (arith, c.type_inv.text i)) in
+    let each = are_bytes _ c.type_inv.text in
     let at_subject = c.in_ok-subject.ensures OfCertificate in
     let subject = subject_leads OfCertificate _ _ _ _ _ at_subject in
     let count = c.in_ok-count.ensures AtVoteCount _ counts_votes in

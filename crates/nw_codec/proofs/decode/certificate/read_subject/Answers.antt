@@ -1,8 +1,7 @@
-use Rattle.std.proofs.Common.{◌<◌, refl, arith}
-use Rattle.std.proofs.lemmas.List.Elements.{All-from_get_or}
+use Rattle.std.proofs.Common.{refl}
 use Rattle.nw_codec.specs.Faults.{AtDigest, AtSubjectRound, AtSubjectAuthor}
 use Rattle.nw_codec.proofs.Fronts.{later}
-use Rattle.nw_codec.proofs.Fields.{exit, passed_as, short_as, round_passes}
+use Rattle.nw_codec.proofs.Fields.{are_bytes, exit, passed_as, short_as, round_passes}
 use Rattle.nw_codec.proofs.Parts.{subject_at}
 use Rattle.nw_codec.proofs.decode.certificate.read_subject.Goals as goal
 
@@ -24,6 +23,6 @@ returns-in_err-author c kind =
 
 pub returns : goal.returns
 returns c kind =
-    let each = All-from_get_or (λ b. b < 256) c.args.text.now 0 (λ i lt. omega (arith, c.type_inv.text i)) in
+    let each = are_bytes _ c.type_inv.text in
     let field = c.in_ok-digest.ensures in
     subject_at _ _ _ _ _ _ _ each field.0 field.1 field.2 c.in_ok-round.ensures c.in_ok-author.ensures

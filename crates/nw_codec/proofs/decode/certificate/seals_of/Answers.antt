@@ -11,8 +11,8 @@ loop-preserved c =
     let item = c.seal_of.result.0 in
     let read = c.seal_of.ensures in
     record {
-      built = one_more_built seal_bytes IsSeal _ _ _ item _ _ c.loop.invariant.built read.typed read.bytes c.in_ok-push.ensures.items;
-      left = omega (arith, c.loop.invariant.left, ap length read.bytes, length-append (seal_bytes item) c.seal_of.result.1.now, length-seal item read.typed);
+      built = one_more_built seal_bytes IsSeal _ _ _ item _ _ c.loop.invariant.built read.0 read.1 c.in_ok-push.ensures.items;
+      left = omega (arith, c.loop.invariant.left, ap length read.1, length-append (seal_bytes item) c.seal_of.result.1.now, length-seal item read.0);
     }
 
 pub returns : goal.returns

@@ -4,7 +4,7 @@ use Rattle.nw_codec.specs.Typed.{IsSeal}
 use Rattle.nw_codec.proofs.Building.{AreBuilt}
 use Rattle.nw_codec.proofs.decode.certificate.seals_of.Given as goal
 
--- The seals so far are made, and the text of the others is left.
+-- The seals so far are built, and the text of the others is left.
 abbrev pub invariant-loop : goal.invariant-loop
 invariant-loop l = record {
   built : AreBuilt seal_bytes IsSeal l.text l.seals.items l.rest;

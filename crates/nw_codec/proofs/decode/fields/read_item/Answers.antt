@@ -1,9 +1,8 @@
-use Rattle.std.proofs.Common.{◌<◌, ◌++◌, suc, sym, ◌∙◌, Some, arith}
+use Rattle.std.proofs.Common.{rules, length, ◌≡◌, ◌++◌, suc, sym, ◌∙◌, Some, arith}
 use Rattle.std.specs.Int.{w16, to_be_bytes}
 use Rattle.std.proofs.lemmas.List.{length-append}
-use Rattle.std.proofs.lemmas.List.Elements.{All-from_get_or}
 use Rattle.nw_codec.proofs.Fronts.{onward, later}
-use Rattle.nw_codec.proofs.Fields.{exit, passed_as, short_as, item_at, order_leads, order_fails}
+use Rattle.nw_codec.proofs.Fields.{are_bytes, exit, passed_as, short_as, item_at, order_leads, order_fails}
 use Rattle.nw_codec.proofs.decode.fields.read_item.Goals as goal
 
 pub returns-in_err-author-clause-leads : goal.returns-in_err-author-clause-leads
@@ -24,9 +23,10 @@ returns-in_err-_bytes-clause-leads g c at inside more items =
 
 pub returns-clause-item : goal.returns-clause-item
 returns-clause-item g c =
-    let each = All-from_get_or (λ b. b < 256) c.args.text.now 0 (λ i lt. omega (arith, c.type_inv.text i)) in
+    let each = are_bytes _ c.type_inv.text in
     let bytes = c.in_ok-_bytes.ensures in
-    let item = item_at g.row.N c.in_ok-author.author _ _ _ _ each bytes.0 c.in_ok-author.ensures bytes.1 bytes.2 in
+    let long : length c.in_ok-_bytes._bytes.now ≡ g.row.N = search rules in
+    let item = item_at g.row.N c.in_ok-author.author _ _ _ _ each long c.in_ok-author.ensures bytes.1 bytes.2 in
     (to_be_bytes w16 c.in_ok-author.author ++ c.in_ok-_bytes._bytes.now, omega (arith, length-append (to_be_bytes w16 c.in_ok-author.author) c.in_ok-_bytes._bytes.now, item.len), item.whole)
 
 pub returns-clause-leads : goal.returns-clause-leads

@@ -1,8 +1,6 @@
-use Rattle.std.proofs.Common.{◌<◌, arith}
-use Rattle.std.proofs.lemmas.List.Elements.{All-from_get_or}
 use Rattle.nw_codec.specs.Faults.{AtEnd}
 use Rattle.nw_codec.proofs.Fronts.{later}
-use Rattle.nw_codec.proofs.Fields.{exit, passed_as, short_as, signature_at}
+use Rattle.nw_codec.proofs.Fields.{are_bytes, exit, passed_as, short_as, signature_at}
 use Rattle.nw_codec.proofs.decode.fields.read_last_signature.Goals as goal
 
 pub returns-in_err-signature : goal.returns-in_err-signature
@@ -16,5 +14,5 @@ returns-in_err-at_end c stage last =
 pub returns : goal.returns
 returns c stage last =
     let signature = c.in_ok-signature.ensures in
-    let bytes = All-from_get_or (λ b. b < 256) c.args.text.now 0 (λ i lt. omega (arith, c.type_inv.text i)) in
+    let bytes = are_bytes _ c.type_inv.text in
     signature_at _ _ _ bytes signature.0 signature.1 signature.2 c.in_ok-at_end.ensures
