@@ -17,7 +17,7 @@ use Rattle.nw_codec.specs.Grammar.{round_bytes, parent_bytes, subject_bytes, sea
 use Rattle.nw_codec.specs.Packed.{ArePacked, transaction_bytes}
 use Rattle.nw_codec.specs.Typed.{AreBytes, IsRef, IsBlock, IsSeal, IsCertificate}
 use Rattle.nw_codec.specs.Spelled.{Spells}
-use Rattle.nw_codec.specs.Faults.{Kind, Stage, AtDigest, behind_subject, AtSignature, AtVersion, AtAuthor, AtRound, AtParentCount, AtParentDigest, AtTransactionCount, AtVoteCount, AtSealSignature, AtEnd, at_parents, at_transactions, at_seals, Reaches}
+use Rattle.nw_codec.specs.Faults.{Kind, Stage, AtDigest, after_subject, AtSignature, AtVersion, AtAuthor, AtRound, AtParentCount, AtParentDigest, AtTransactionCount, AtVoteCount, AtSealSignature, AtEnd, at_parents, at_transactions, at_seals, Reaches}
 use Rattle.nw_codec.specs.Parts.{Counts, AreItems, NumberAt, RoundAt, HeadAt, ItemsAt, ParentsAt, TransactionsAt, SubjectAt, LastSignature, IsLast, AreBlockParts, AreCertificateParts}
 use Rattle.nw_codec.proofs.Pieces.{same_start, same16, same48}
 use Rattle.nw_codec.proofs.Packed.{are_packed}
@@ -46,9 +46,9 @@ pub signature_leads : (stage : Stage) (text : List ℕ) (s : Signature) → IsLa
 signature_leads stage text s last at =
     subst (λ (t : List ℕ). Reaches stage t AtEnd []) (sym at.bytes) (one_field stage AtEnd s.0 [] (last.wide ∙ ap Some (sym at.signed.len)) (last.passes s.0))
 
-pub subject_leads : (kind : Kind) (text rest : List ℕ) (digest : Digest) (round author : ℕ) → SubjectAt text digest round author rest → Reaches (AtDigest kind) text (behind_subject kind) rest
+pub subject_leads : (kind : Kind) (text rest : List ℕ) (digest : Digest) (round author : ℕ) → SubjectAt text digest round author rest → Reaches (AtDigest kind) text (after_subject kind) rest
 subject_leads kind text rest digest round author at =
-    subst (λ (t : List ℕ). Reaches (AtDigest kind) t (behind_subject kind) rest) (sym at.bytes) (written_subject kind digest round author rest at.typed)
+    subst (λ (t : List ℕ). Reaches (AtDigest kind) t (after_subject kind) rest) (sym at.bytes) (written_subject kind digest round author rest at.typed)
 
 -- ---- the stages of the format
 

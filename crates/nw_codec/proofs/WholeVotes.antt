@@ -14,7 +14,7 @@ use Rattle.nw_codec.specs.declared.error.DecodeError.TheVariants.{TooManyVotes, 
 use Rattle.nw_codec.specs.Grammar.{round_bytes, subject_bytes, seal_bytes, message}
 use Rattle.nw_codec.specs.Fits.{signers, CertificateFits}
 use Rattle.nw_codec.specs.Typed.{AreBytes, IsSeal, IsSubject, IsCertificate, IsVote}
-use Rattle.nw_codec.specs.Faults.{Kind, OfCertificate, OfVote, AtDigest, AtSubjectRound, AtSubjectAuthor, AtVoteCount, AtSigner, AtSealSignature, AtEnd, at_seals, behind_subject, number16, comes_after, Reaches}
+use Rattle.nw_codec.specs.Faults.{Kind, OfCertificate, OfVote, AtDigest, AtSubjectRound, AtSubjectAuthor, AtVoteCount, AtSigner, AtSealSignature, AtEnd, at_seals, after_subject, number16, comes_after, Reaches}
 use Rattle.nw_codec.proofs.Pieces.{back16, below16, round_of, back48, below48}
 use Rattle.nw_codec.proofs.Ascending.{IsAfter, Ascends, increasing, after_from_test}
 use Rattle.nw_codec.proofs.Fronts.{here, one_end}
@@ -34,7 +34,7 @@ record SubjectRead (kind : Kind) (text rest : List ℕ) : Type 0 where
   typed : IsSubject digest round author
   cut : text ≡ subject_bytes digest round author ++ more
   bytes : AreBytes more
-  onwards : Reaches (behind_subject kind) more AtEnd rest
+  onwards : Reaches (after_subject kind) more AtEnd rest
 
 read_subject : (kind : Kind) (text rest : List ℕ) → AreBytes text → Reaches (AtDigest kind) text AtEnd rest → SubjectRead kind text rest
 read_subject kind text rest bytes front =
@@ -56,7 +56,7 @@ read_subject kind text rest bytes front =
       typed = record { digest_len = p.len; digest_bytes = p-bytes.0; low_round = below48 q.field q-bytes.0; low_author = below16 r.field r-bytes.0 };
       cut = subject_pieces text p.field p.more (round_bytes round) q.more (to_be_bytes w16 author) r.more p.cut q-cut r-cut;
       bytes = r-bytes.1;
-      onwards = to r.next (behind_subject kind) r.more rest (sym {b = r.next} (going_is (behind_subject kind) r.next r.passes)) r.onwards;
+      onwards = to r.next (after_subject kind) r.more rest (sym {b = r.next} (going_is (after_subject kind) r.next r.passes)) r.onwards;
     }
 
 -- ---- seals

@@ -12,7 +12,7 @@ use Rattle.nw_codec.specs.declared.error.DecodeError.TheVariants.{TooManyVotes, 
 use Rattle.nw_codec.specs.Grammar.{round_bytes, subject_bytes, seal_bytes, seal, message}
 use Rattle.nw_codec.specs.Fits.{signers, CertificateFits}
 use Rattle.nw_codec.specs.Typed.{IsSubject, IsSeal, IsCertificate, IsVote}
-use Rattle.nw_codec.specs.Faults.{Kind, OfCertificate, OfVote, AtTag, AtDigest, AtSubjectRound, AtSubjectAuthor, AtVoteCount, AtSigner, AtSealSignature, AtEnd, at_seals, behind_subject, Reaches}
+use Rattle.nw_codec.specs.Faults.{Kind, OfCertificate, OfVote, AtTag, AtDigest, AtSubjectRound, AtSubjectAuthor, AtVoteCount, AtSigner, AtSealSignature, AtEnd, at_seals, after_subject, Reaches}
 use Rattle.nw_codec.proofs.Pieces.{again16}
 use Rattle.nw_codec.proofs.Ascending.{IsAfter, Ascends, ascends}
 use Rattle.nw_codec.proofs.Fronts.{here, onward, one_field}
@@ -21,16 +21,16 @@ use Rattle.nw_codec.proofs.Passing.{count_passes, order_passes}
 pub subject_laid_out : (d r a x : List ℕ) → ((d ++ r) ++ a) ++ x ≡ d ++ (r ++ (a ++ x))
 subject_laid_out d r a x = simp append_assoc
 
-pub written_subject : (kind : Kind) (d : Digest) (r a : ℕ) (x : List ℕ) → IsSubject d r a → Reaches (AtDigest kind) (subject_bytes d r a ++ x) (behind_subject kind) x
+pub written_subject : (kind : Kind) (d : Digest) (r a : ℕ) (x : List ℕ) → IsSubject d r a → Reaches (AtDigest kind) (subject_bytes d r a ++ x) (after_subject kind) x
 written_subject kind d r a x typed =
     let r2 : List ℕ = to_be_bytes w16 a ++ x in
     let r1 : List ℕ = round_bytes r ++ r2 in
     let q0 : Reaches (AtDigest kind) (d.0 ++ r1) (AtSubjectRound kind) r1 = one_field (AtDigest kind) (AtSubjectRound kind) d.0 r1 (ap Some (sym typed.digest_len)) refl in
     let q1 : Reaches (AtSubjectRound kind) r1 (AtSubjectAuthor kind) r2 = one_field (AtSubjectRound kind) (AtSubjectAuthor kind) (round_bytes r) r2 refl refl in
-    let q2 : Reaches (AtSubjectAuthor kind) r2 (behind_subject kind) x = one_field (AtSubjectAuthor kind) (behind_subject kind) (to_be_bytes w16 a) x refl refl in
-    let p1 = onward (AtSubjectRound kind) (AtSubjectAuthor kind) (behind_subject kind) r1 r2 x q1 q2 in
-    let p0 = onward (AtDigest kind) (AtSubjectRound kind) (behind_subject kind) (d.0 ++ r1) r1 x q0 p1 in
-    subst (λ (t : List ℕ). Reaches (AtDigest kind) t (behind_subject kind) x) (sym (subject_laid_out d.0 (round_bytes r) (to_be_bytes w16 a) x)) p0
+    let q2 : Reaches (AtSubjectAuthor kind) r2 (after_subject kind) x = one_field (AtSubjectAuthor kind) (after_subject kind) (to_be_bytes w16 a) x refl refl in
+    let p1 = onward (AtSubjectRound kind) (AtSubjectAuthor kind) (after_subject kind) r1 r2 x q1 q2 in
+    let p0 = onward (AtDigest kind) (AtSubjectRound kind) (after_subject kind) (d.0 ++ r1) r1 x q0 p1 in
+    subst (λ (t : List ℕ). Reaches (AtDigest kind) t (after_subject kind) x) (sym (subject_laid_out d.0 (round_bytes r) (to_be_bytes w16 a) x)) p0
 
 written_seal : (s : Seal) (left : ℕ) (before : Option ℕ) (x : List ℕ) → IsSeal s → IsAfter before s.signer → Reaches (AtSigner left before) (seal_bytes s ++ x) (at_seals left (Some s.signer)) x
 written_seal s left before x typed after =

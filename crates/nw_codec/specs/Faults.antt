@@ -71,9 +71,9 @@ at_seals zero before = AtEnd
 at_seals (suc more) before = AtSigner more before
 
 -- after the subject: a certificate has the number of its seals, and a vote has one seal
-abbrev pub behind_subject : Kind → Stage
-behind_subject OfCertificate = AtVoteCount
-behind_subject OfVote = AtSigner 0 None
+abbrev pub after_subject : Kind → Stage
+after_subject OfCertificate = AtVoteCount
+after_subject OfVote = AtSigner 0 None
 
 -- the number in a field of two bytes
 abbrev pub number16 : List ℕ → ℕ
@@ -95,6 +95,14 @@ after_tag tag =
     else if tag == 3 then Ok (AtDigest OfVote)
     else Err Tag
 
+-- the bytes of a body before its parents: version, author, round and number of parents
+abbrev pub head_size : ℕ
+head_size = 11
+
+-- the bytes of a parent: author and digest
+abbrev pub parent_size : ℕ
+parent_size = 34
+
 -- the stage after a whole field, or the fault of its test
 abbrev pub after_field : Stage → List ℕ → Result Stage DecodeError
 after_field AtTag field = after_tag (slice_index field 0)
@@ -103,7 +111,7 @@ after_field AtAuthor field = Ok AtRound
 after_field AtRound field = Ok AtParentCount
 after_field AtParentCount field =
     if nat_lt MAX_PARENTS (number16 field) then Err TooManyParents
-    else Ok (at_parents (number16 field) None (11 + 34 * number16 field))
+    else Ok (at_parents (number16 field) None (head_size + parent_size * number16 field))
 after_field (AtParentAuthor more before size) field =
     if comes_after before (number16 field) then Ok (AtParentDigest more (number16 field) size) else Err ParentOrder
 after_field (AtParentDigest more author size) field = Ok (at_parents more (Some author) size)
@@ -118,7 +126,7 @@ after_field (AtTransaction len more size) field = Ok (at_transactions more size)
 after_field AtSignature field = Ok AtEnd
 after_field (AtDigest kind) field = Ok (AtSubjectRound kind)
 after_field (AtSubjectRound kind) field = Ok (AtSubjectAuthor kind)
-after_field (AtSubjectAuthor kind) field = Ok (behind_subject kind)
+after_field (AtSubjectAuthor kind) field = Ok (after_subject kind)
 after_field AtVoteCount field =
     if nat_lt MAX_VOTES (number16 field) then Err TooManyVotes
     else Ok (at_seals (number16 field) None)

@@ -4,7 +4,7 @@ ghost use Rattle.std.specs.Prelude.{List, length, All, MatchResult, IfOk, None};
 ghost use Rattle.std.specs.List.{flat_map};
 ghost use Rattle.nw_codec.specs.declared.certificate.Certificate.{Certificate};
 ghost use Rattle.nw_codec.specs.declared.message.Message.TheVariants as messages;
-ghost use Rattle.nw_codec.specs.Faults.{Kind, OfCertificate, OfVote, AtDigest, behind_subject};
+ghost use Rattle.nw_codec.specs.Faults.{Kind, OfCertificate, OfVote, AtDigest, after_subject};
 ghost use Rattle.nw_codec.specs.Faults.{Reaches, FaultFrom};
 ghost use Rattle.nw_codec.specs.Grammar.{seal_bytes};
 ghost use Rattle.nw_codec.specs.Parts.{SubjectAt, AreCertificateParts, Decodes};
