@@ -21,6 +21,7 @@ pub record IsRef (r : Ref) : Type 0 where
   pub author : r.author < 2 ^ 16
   -- 32 bytes
   pub digest : length r.digest.0 ≡ 32
+  -- each number of the digest is a byte
   pub digest_bytes : AreBytes r.digest.0
 
 -- a block of the program
@@ -34,31 +35,43 @@ pub record IsBlock (b : Block) : Type 0 where
   -- each transaction is a list of bytes
   pub transactions : All AreBytes b.transactions
 
--- a signature of the program: 64 bytes
+-- a signature of the program
 pub record IsSignature (s : Signature) : Type 0 where
+  -- 64 numbers
   pub len : length s.0 ≡ 64
+  -- each is a byte
   pub bytes : AreBytes s.0
 
--- a seal of the program: its signer has two bytes
+-- a seal of the program
 pub record IsSeal (s : Seal) : Type 0 where
+  -- two bytes
   pub signer : s.signer < 2 ^ 16
+  -- 64 bytes
   pub signature : IsSignature s.signature
 
--- the digest has 32 bytes, the round six, the author two
+-- the subject of a vote of the program
 pub record IsSubject (digest : Digest) (round author : ℕ) : Type 0 where
+  -- the digest has 32 numbers
   pub digest_len : length digest.0 ≡ 32
+  -- each is a byte
   pub digest_bytes : AreBytes digest.0
+  -- six bytes
   pub low_round : round < 2 ^ 48
+  -- two bytes
   pub low_author : author < 2 ^ 16
 
 -- a certificate of the program
 pub record IsCertificate (c : Certificate) : Type 0 where
+  -- digest, round and author
   pub subject : IsSubject c.digest c.round c.author
+  -- each vote is a seal of the program
   pub votes : All IsSeal c.votes
 
 -- a vote of the program
 pub record IsVote (v : Vote) : Type 0 where
+  -- digest, round and author
   pub subject : IsSubject v.digest v.round v.author
+  -- the signer and its signature
   pub sealed : IsSeal (seal v)
 
 -- a message of the program

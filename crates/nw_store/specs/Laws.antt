@@ -16,8 +16,11 @@ pub record AnsweredCall (accepts : Meaning) : Type 0 where
   pub before : Journal
   -- the session after the call
   pub after : Journal
+  -- the call
   pub call : Call
+  -- its reply
   pub reply : Reply
+  -- the history that the answer carries
   pub front : Story
   -- the call got this reply and this front
   pub answered : IsAnswered accepts history before after call reply front

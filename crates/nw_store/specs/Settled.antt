@@ -62,6 +62,7 @@ AreAllComparable js = (i k : ℕ) (one two : Journal) → slice_get js i ≡ Som
 
 -- a settled store, as contracts see it
 pub record Settlement : Type 0 where
+  -- the whole history
   pub history : Story
   -- the number of sessions that the store made
   pub made : ℕ
