@@ -9,10 +9,10 @@ use std::test::Fail;
 
 mod asking;
 mod chains;
-mod desk;
 mod endings;
 mod errors;
 mod examples;
+mod fixture;
 mod limits;
 mod moves;
 mod stores;

@@ -1,5 +1,5 @@
 //! A session that asks the rows of an example, and repeats a row at once if an allocation fails.
-use super::desk::{Desk, Link};
+use super::fixture::{Fixture, Link};
 use super::*;
 use nw_digest::Sequence;
 use nw_store::{Done, Home, Session, Store};
@@ -105,7 +105,7 @@ fn reply_to<L: Home, R: Wait>(
 /// Whether the reply has this text. The text of `Ready` has the number of generations of the last ticket's view.
 fn has_text(
     alloc: Global,
-    desk: &Desk,
+    fixture: &Fixture,
     reply: &Reply,
     last: Option<&Ticket<DemoScheme>>,
     expected: &str,
@@ -115,7 +115,7 @@ fn has_text(
             let parts = ticket.view().parts();
             Ok(retry!(AllocError, format!(in alloc; "Ready({parts})"))?.as_str() == expected)
         }
-        _ => desk.has_text(alloc, reply, expected),
+        _ => fixture.has_text(alloc, reply, expected),
     }
 }
 
@@ -126,18 +126,18 @@ fn answers<L: Home, R: Wait>(
     store: &Store<DemoScheme, L>,
     session: &mut Session<DemoScheme, L>,
     tickets: &mut Vec<Ticket<DemoScheme>>,
-    desk: &Desk,
+    fixture: &Fixture,
     row: &Row,
 ) -> Result<bool, Fail> {
     let Row(place, asked, expected) = row;
-    let Some(link) = desk.links.get(*place) else {
+    let Some(link) = fixture.links.get(*place) else {
         return Ok(false);
     };
     let reply = retry!(
         NoStep::NoMemory,
         reply_to(rt, alloc, store, session, link, tickets, asked)
     )?;
-    let has_text = has_text(alloc, desk, &reply, tickets.last(), expected);
+    let has_text = has_text(alloc, fixture, &reply, tickets.last(), expected);
     drop(reply);
     Ok(has_text?)
 }
@@ -149,11 +149,11 @@ pub(super) fn answered<L: Home, R: Wait>(
     store: &Store<DemoScheme, L>,
     session: &mut Session<DemoScheme, L>,
     tickets: &mut Vec<Ticket<DemoScheme>>,
-    desk: &Desk,
+    fixture: &Fixture,
     rows: &[Row],
 ) -> Result<usize, Fail> {
     for (place, row) in rows.iter().enumerate() {
-        if !answers(rt, alloc, store, session, tickets, desk, row)? {
+        if !answers(rt, alloc, store, session, tickets, fixture, row)? {
             return Ok(place);
         }
     }

@@ -1,7 +1,7 @@
 //! Seventeen tickets of a chain, in a store that is then compacted.
 use super::asking::{Ask, Row};
-use super::desk::Sketch;
 use super::examples::{CERTIFIED, STORED, seen};
+use super::fixture::Sketch;
 use super::*;
 
 /// A block in each of 17 rounds, whose parent is the one before it.

@@ -1,6 +1,6 @@
 //! Worked examples, played on stores.
 use super::asking::{Ask, Row};
-use super::desk::{Desk, FOUR, Sketch, TWO};
+use super::fixture::{FOUR, Fixture, Sketch, TWO};
 use super::stores::{LIMITS, played, played_anew};
 use super::*;
 use nw_store::Agreement;
@@ -68,9 +68,9 @@ pub(super) fn seen<R: Wait>(
     sketches: &[Sketch],
     rows: &[Row],
 ) -> Result<(usize, usize), Fail> {
-    let desk = Desk::new(alloc, members, sketches)?;
+    let fixture = Fixture::new(alloc, members, sketches)?;
     let mut tickets = retry!(AllocError, Vec::with_capacity(alloc, 18))?;
-    let outcome = played_anew(rt, alloc, &desk, rows, &mut tickets)?;
+    let outcome = played_anew(rt, alloc, &fixture, rows, &mut tickets)?;
     let seen = (outcome.answered, outcome.events);
     drop(outcome);
     Ok(seen)
@@ -97,9 +97,9 @@ fn a_block_and_its_certificate_are_kept_once(rt: HostRuntime) -> Result<(), Fail
     Ok(())
 }
 
-/// A new book of the desk's committee.
-pub(super) fn new_book(alloc: Global, desk: &Desk) -> Result<Book<DemoScheme>, BookError> {
-    Book::new(alloc, desk.committee.try_clone()?, LIMITS)
+/// A new book of the fixture's committee.
+pub(super) fn new_book(alloc: Global, fixture: &Fixture) -> Result<Book<DemoScheme>, BookError> {
+    Book::new(alloc, fixture.committee.try_clone()?, LIMITS)
 }
 
 /// The rows for a store of one member. `SECOND` is for a store over its reopened book, and `THIRD` for one over that store's reopened
@@ -125,12 +125,12 @@ fn reopened_after<R: Wait>(
     rt: &R,
     alloc: Global,
     book: Book<DemoScheme>,
-    desk: &Desk,
+    fixture: &Fixture,
     rows: &[Row],
     events: usize,
     tickets: &mut Vec<Ticket<DemoScheme>>,
 ) -> Result<Book<DemoScheme>, Fail> {
-    let outcome = played(rt, alloc, book, desk, rows, tickets)?;
+    let outcome = played(rt, alloc, book, fixture, rows, tickets)?;
     if (outcome.answered, outcome.events) == (rows.len(), events) {
         return Ok(outcome.book);
     }
@@ -141,12 +141,12 @@ fn reopened_after<R: Wait>(
 #[test]
 fn a_reopened_store_votes_once(rt: HostRuntime) -> Result<(), Fail> {
     let alloc = rt.alloc();
-    let desk = Desk::new(alloc, &[0], &TWO)?;
+    let fixture = Fixture::new(alloc, &[0], &TWO)?;
     let mut tickets = retry!(AllocError, Vec::with_capacity(alloc, 2))?;
-    let first = retry!(BookError::NoMemory, new_book(alloc, &desk))?;
-    let second = reopened_after(&rt, alloc, first, &desk, &FIRST, 3, &mut tickets)?;
-    let third = reopened_after(&rt, alloc, second, &desk, &SECOND, 4, &mut tickets)?;
-    reopened_after(&rt, alloc, third, &desk, &THIRD, 1, &mut tickets)?;
+    let first = retry!(BookError::NoMemory, new_book(alloc, &fixture))?;
+    let second = reopened_after(&rt, alloc, first, &fixture, &FIRST, 3, &mut tickets)?;
+    let third = reopened_after(&rt, alloc, second, &fixture, &SECOND, 4, &mut tickets)?;
+    reopened_after(&rt, alloc, third, &fixture, &THIRD, 1, &mut tickets)?;
     Ok(())
 }
 
@@ -166,11 +166,11 @@ fn agree(
 fn two_tickets<R: Wait>(
     rt: &R,
     alloc: Global,
-    desk: &Desk,
+    fixture: &Fixture,
 ) -> Result<Vec<Ticket<DemoScheme>>, Fail> {
     let mut tickets = retry!(AllocError, Vec::with_capacity(alloc, 2))?;
     for _ in 0..2 {
-        let outcome = played_anew(rt, alloc, desk, &COLLECTED[..9], &mut tickets)?;
+        let outcome = played_anew(rt, alloc, fixture, &COLLECTED[..9], &mut tickets)?;
         if (outcome.answered, outcome.events) != (9, 9) {
             drop(outcome);
             return Err(Fail::from("a store gave another reply"));
@@ -182,8 +182,8 @@ fn two_tickets<R: Wait>(
 
 #[test]
 fn two_stores_agree(rt: HostRuntime) -> Result<(), Fail> {
-    let desk = Desk::new(rt.alloc(), &[0, 1, 2, 3], &FOUR)?;
-    let tickets = two_tickets(&rt, rt.alloc(), &desk)?;
+    let fixture = Fixture::new(rt.alloc(), &[0, 1, 2, 3], &FOUR)?;
+    let tickets = two_tickets(&rt, rt.alloc(), &fixture)?;
     match tickets.as_slice() {
         [one, other] => assert!(rt; agree(rt.alloc(), one, other)?),
         _ => return Err(Fail::from("each store gives one ticket")),

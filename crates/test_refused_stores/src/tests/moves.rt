@@ -1,5 +1,5 @@
 //! Runs of moves in books.
-use super::desk::{Desk, Link, TWO};
+use super::fixture::{Fixture, Link, TWO};
 use super::*;
 use nw_book::{Answer, Cause, Move, Stop};
 
@@ -128,10 +128,10 @@ fn stop_again(
     }
 }
 
-/// The stop of a run with the moves for the last block of the desk.
-fn stop_with(alloc: Global, desk: &mut Desk) -> Result<Option<Stop>, Fail> {
-    let moves = moves(desk.links.pop().ok_or("an example has blocks")?);
-    let stop = stop_again(alloc, &desk.committee, &moves);
+/// The stop of a run with the moves for the last block of the fixture.
+fn stop_with(alloc: Global, fixture: &mut Fixture) -> Result<Option<Stop>, Fail> {
+    let moves = moves(fixture.links.pop().ok_or("an example has blocks")?);
+    let stop = stop_again(alloc, &fixture.committee, &moves);
     drop(moves);
     stop
 }
@@ -139,9 +139,9 @@ fn stop_with(alloc: Global, desk: &mut Desk) -> Result<Option<Stop>, Fail> {
 #[test]
 fn a_run_of_moves_is_made_or_stops(rt: HostRuntime) -> Result<(), Fail> {
     let alloc = rt.alloc();
-    let mut desk = Desk::new(alloc, &[0], &TWO)?;
-    let stop = stop_with(alloc, &mut desk);
-    drop(desk);
+    let mut fixture = Fixture::new(alloc, &[0], &TWO)?;
+    let stop = stop_with(alloc, &mut fixture);
+    drop(fixture);
     let stop = stop?;
     let cause = Cause::NoTicket;
     assert!(rt; stop == Some(Stop { at: 5, cause }));

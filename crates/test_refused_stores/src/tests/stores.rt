@@ -5,8 +5,8 @@ ghost use Rattle.nw_store.specs.Journal.{origin_of};
 ghost use Rattle.nw_store.specs.Lock.{parts_of_a_ledger};
 
 use super::asking::{Row, answered};
-use super::desk::Desk;
 use super::endings::ended;
+use super::fixture::Fixture;
 use super::*;
 use nw_store::{Home, Opening, Session, Store};
 use std::marker::Brand;
@@ -37,7 +37,7 @@ fn asked<L: Home, R: Wait>(
     alloc: Global,
     store: &Store<DemoScheme, L>,
     sessions: &mut Vec<Session<DemoScheme, L>>,
-    desk: &Desk,
+    fixture: &Fixture,
     rows: &[Row],
     tickets: &mut Vec<Ticket<DemoScheme>>,
 ) -> Result<usize, Fail> {
@@ -45,7 +45,7 @@ fn asked<L: Home, R: Wait>(
     sessions.push(store.session(rt, alloc)?)?;
     sessions.push(store.session(rt, alloc)?)?;
     let first = sessions.first_mut().ok_or("there are two sessions")?;
-    answered(rt, alloc, store, first, tickets, desk, rows)
+    answered(rt, alloc, store, first, tickets, fixture, rows)
 }
 
 /// Asks the rows on the store, and settles its sessions.
@@ -53,12 +53,12 @@ fn play<L: Home, R: Wait>(
     rt: &R,
     alloc: Global,
     store: Store<DemoScheme, L>,
-    desk: &Desk,
+    fixture: &Fixture,
     rows: &[Row],
     tickets: &mut Vec<Ticket<DemoScheme>>,
 ) -> Result<Outcome, Fail> {
     let mut sessions = Vec::new(alloc);
-    match asked(rt, alloc, &store, &mut sessions, desk, rows, tickets) {
+    match asked(rt, alloc, &store, &mut sessions, fixture, rows, tickets) {
         Ok(answered) => {
             let (events, book) = ended(alloc, store, sessions)?;
             Ok(Outcome {
@@ -81,7 +81,7 @@ fn play_over<L: Home, R: Wait>(
     alloc: Global,
     opening: Opening<DemoScheme>,
     book: Book<DemoScheme>,
-    desk: &Desk,
+    fixture: &Fixture,
     rows: &[Row],
     tickets: &mut Vec<Ticket<DemoScheme>>,
 ) -> Result<Outcome, Fail>
@@ -90,7 +90,7 @@ fn play_over<L: Home, R: Wait>(
     requires origin { origin_of book ≡ L.origin }
 {
     match Store::<DemoScheme, L>::over(opening, book) {
-        Ok(store) => play(rt, alloc, store, desk, rows, tickets),
+        Ok(store) => play(rt, alloc, store, fixture, rows, tickets),
         Err(book) => {
             drop(book);
             Err(Fail::from("the book has events"))
@@ -105,7 +105,7 @@ fn play_new<L: Home, R: Wait>(
     opening: Opening<DemoScheme>,
     committee: Shared<Committee>,
     limits: Limits,
-    desk: &Desk,
+    fixture: &Fixture,
     rows: &[Row],
     tickets: &mut Vec<Ticket<DemoScheme>>,
 ) -> Result<Result<Outcome, BookError>, Fail>
@@ -114,7 +114,7 @@ fn play_new<L: Home, R: Wait>(
     requires origin { first_origin committee limits ≡ L.origin }
 {
     match Store::<DemoScheme, L>::new(alloc, opening, committee, limits) {
-        Ok(store) => Ok(Ok(play(rt, alloc, store, desk, rows, tickets)?)),
+        Ok(store) => Ok(Ok(play(rt, alloc, store, fixture, rows, tickets)?)),
         Err(error) => Ok(Err(error)),
     }
 }
@@ -123,14 +123,14 @@ fn play_new<L: Home, R: Wait>(
 fn play_anew<R: Wait>(
     rt: &R,
     alloc: Global,
-    desk: &Desk,
+    fixture: &Fixture,
     rows: &[Row],
     tickets: &mut Vec<Ticket<DemoScheme>>,
 ) -> Result<Result<Outcome, BookError>, Fail> {
     let opening = retry!(NoMemory, Opening::new(alloc))?;
-    match retry!(NoMemory, desk.committee.try_clone()) {
+    match retry!(NoMemory, fixture.committee.try_clone()) {
         Ok(committee) => play_new::<Brand, R>(
-            rt, alloc, opening, committee, LIMITS, desk, rows, tickets,
+            rt, alloc, opening, committee, LIMITS, fixture, rows, tickets,
         ),
         Err(refused) => {
             drop(opening);
@@ -143,12 +143,12 @@ fn play_anew<R: Wait>(
 pub(super) fn played_anew<R: Wait>(
     rt: &R,
     alloc: Global,
-    desk: &Desk,
+    fixture: &Fixture,
     rows: &[Row],
     tickets: &mut Vec<Ticket<DemoScheme>>,
 ) -> Result<Outcome, Fail> {
-    match play_anew(rt, alloc, desk, rows, tickets)? {
-        Err(BookError::NoMemory) => Ok(play_anew(rt, alloc, desk, rows, tickets)??),
+    match play_anew(rt, alloc, fixture, rows, tickets)? {
+        Err(BookError::NoMemory) => Ok(play_anew(rt, alloc, fixture, rows, tickets)??),
         played => Ok(played?),
     }
 }
@@ -158,12 +158,12 @@ pub(super) fn played<R: Wait>(
     rt: &R,
     alloc: Global,
     book: Book<DemoScheme>,
-    desk: &Desk,
+    fixture: &Fixture,
     rows: &[Row],
     tickets: &mut Vec<Ticket<DemoScheme>>,
 ) -> Result<Outcome, Fail> {
     match retry!(NoMemory, Opening::new(alloc)) {
-        Ok(opening) => play_over::<Brand, R>(rt, alloc, opening, book, desk, rows, tickets),
+        Ok(opening) => play_over::<Brand, R>(rt, alloc, opening, book, fixture, rows, tickets),
         Err(refused) => {
             drop(book);
             Err(Fail::from(refused))

@@ -3,8 +3,8 @@ ghost use Rattle.std.specs.Prelude.{◌≡◌};
 ghost use Rattle.nw_store.specs.Journal.{origin_of};
 ghost use Rattle.nw_store.specs.Lock.{parts_of_a_ledger};
 
-use super::desk::{Desk, FOUR, TWO};
 use super::examples::{COLLECTED, new_book};
+use super::fixture::{FOUR, Fixture, TWO};
 use super::stores::played_anew;
 use super::*;
 use nw_store::{
@@ -22,8 +22,8 @@ const NARROW: Limits = Limits {
 };
 
 /// A book with those limits.
-fn narrow_book(alloc: Global, desk: &Desk) -> Result<Book<DemoScheme>, BookError> {
-    Book::new(alloc, desk.committee.try_clone()?, NARROW)
+fn narrow_book(alloc: Global, fixture: &Fixture) -> Result<Book<DemoScheme>, BookError> {
+    Book::new(alloc, fixture.committee.try_clone()?, NARROW)
 }
 
 /// Fills the history of the book, and returns its first answer.
@@ -70,60 +70,60 @@ const REFUSALS: [NoStep; 6] = [
 ];
 
 /// Whether the history of the full book and the front of its first answer can be read, and are the expected ones.
-fn are_read(book: &Book<DemoScheme>, desk: &Desk, first: &Done<DemoScheme>) -> bool {
+fn are_read(book: &Book<DemoScheme>, fixture: &Fixture, first: &Done<DemoScheme>) -> bool {
     let (history, front) = (book.history(), first.front());
     let lengths = (history.len(), history.parts(), front.len(), front.parts()) == (2, 2, 1, 1);
     let events = history.event(1).is_some()
         && history.event(2).is_none()
         && front.event(0).is_some()
         && front.event(1).is_none();
-    let origins = history.committee().get() == desk.committee.get()
+    let origins = history.committee().get() == fixture.committee.get()
         && history.limits() == NARROW
         && history.base().is_none()
-        && front.committee().get() == desk.committee.get()
+        && front.committee().get() == fixture.committee.get()
         && front.limits() == NARROW;
     let begins = front.is_prefix_of(history) && !history.is_prefix_of(front);
     lengths && events && origins && begins
 }
 
-/// A desk for members with these numbers, and the write of its block. The desk no longer has the block.
-fn write_under(alloc: Global, members: &[u8]) -> Result<(Desk, Command<DemoScheme>), Fail> {
-    let mut desk = Desk::new(alloc, members, &TWO[..1])?;
-    let link = desk.links.pop().ok_or("an example has blocks")?;
-    Ok((desk, Command::Write(link.block)))
+/// A fixture for members with these numbers, and the write of its block. The fixture no longer has the block.
+fn write_under(alloc: Global, members: &[u8]) -> Result<(Fixture, Command<DemoScheme>), Fail> {
+    let mut fixture = Fixture::new(alloc, members, &TWO[..1])?;
+    let link = fixture.links.pop().ok_or("an example has blocks")?;
+    Ok((fixture, Command::Write(link.block)))
 }
 
 /// Whether books refuse calls, and histories and fronts can be read, without an allocation.
 fn of_books(alloc: Global) -> Result<bool, Fail> {
-    let (desk, own) = write_under(alloc, &[0])?;
+    let (fixture, own) = write_under(alloc, &[0])?;
     let (other, foreign) = write_under(alloc, &[1])?;
     drop(other);
-    let mut book = retry!(BookError::NoMemory, narrow_book(alloc, &desk))?;
+    let mut book = retry!(BookError::NoMemory, narrow_book(alloc, &fixture))?;
     let first = fill(alloc, &mut book)?;
     fail_allocations(alloc);
     let refusals = refusals_of(alloc, &mut book, &own, &foreign);
-    let are_read = are_read(&book, &desk, &first);
+    let are_read = are_read(&book, &fixture, &first);
     allow_allocations(alloc);
     Ok(refusals == REFUSALS.map(Some) && are_read)
 }
 
 /// The place of the ticket's block, the number of events of its front and the number of parts of its view, read while all
 /// allocations fail.
-fn read_of(alloc: Global, desk: &Desk, ticket: &Ticket<DemoScheme>) -> (usize, usize, usize) {
+fn read_of(alloc: Global, fixture: &Fixture, ticket: &Ticket<DemoScheme>) -> (usize, usize, usize) {
     fail_allocations(alloc);
     let (front, view) = (ticket.front().len(), ticket.view().parts());
-    let place = desk.place_under(&ticket.digest());
+    let place = fixture.place_under(&ticket.digest());
     allow_allocations(alloc);
     (place, front, view)
 }
 
 /// Whether tickets can be read without an allocation.
 fn of_tickets<R: Wait>(rt: &R, alloc: Global) -> Result<bool, Fail> {
-    let desk = Desk::new(alloc, &[0, 1, 2, 3], &FOUR)?;
+    let fixture = Fixture::new(alloc, &[0, 1, 2, 3], &FOUR)?;
     let mut tickets = retry!(AllocError, Vec::with_capacity(alloc, 1))?;
-    drop(played_anew(rt, alloc, &desk, &COLLECTED[..9], &mut tickets)?);
+    drop(played_anew(rt, alloc, &fixture, &COLLECTED[..9], &mut tickets)?);
     match tickets.first() {
-        Some(ticket) => Ok(read_of(alloc, &desk, ticket) == (3, 9, 1)),
+        Some(ticket) => Ok(read_of(alloc, &fixture, ticket) == (3, 9, 1)),
         None => Ok(false),
     }
 }
@@ -201,9 +201,9 @@ fn of_a_store<L: Home, R: Wait>(
 
 /// Whether sessions are made, read and settled without an allocation.
 fn of_stores<R: Wait>(rt: &R, alloc: Global) -> Result<bool, Fail> {
-    let desk = Desk::new(alloc, &[0], &[])?;
+    let fixture = Fixture::new(alloc, &[0], &[])?;
     let opening = retry!(NoMemory, Opening::new(alloc))?;
-    let book = retry!(BookError::NoMemory, new_book(alloc, &desk))?;
+    let book = retry!(BookError::NoMemory, new_book(alloc, &fixture))?;
     of_a_store::<Brand, R>(rt, alloc, opening, book)
 }
 

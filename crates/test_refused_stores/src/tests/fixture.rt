@@ -77,21 +77,21 @@ fn certified(
 
 /// The blocks of an example, with their certificates, under its committee.
 #[derive(Drop)]
-pub(super) struct Desk {
+pub(super) struct Fixture {
     pub(super) committee: Shared<Committee>,
     pub(super) links: Vec<Link>,
 }
 
-impl Desk {
+impl Fixture {
     /// The blocks of the sketches, for a committee of members with these numbers.
-    pub(super) fn new(alloc: Global, members: &[u8], sketches: &[Sketch]) -> Result<Desk, Fail> {
+    pub(super) fn new(alloc: Global, members: &[u8], sketches: &[Sketch]) -> Result<Fixture, Fail> {
         let committee = retry!(NoMemory, committee(alloc, members))?;
         let links = retry!(AllocError, Vec::with_capacity(alloc, sketches.len()))?;
-        let mut desk = Desk { committee, links };
+        let mut fixture = Fixture { committee, links };
         for sketch in sketches {
-            desk.add(alloc, sketch)?;
+            fixture.add(alloc, sketch)?;
         }
-        Ok(desk)
+        Ok(fixture)
     }
 
     /// Adds the block of the sketch.
