@@ -19,13 +19,13 @@ increasing_tail x xs h k lt =
     let next : suc k + 1 ≡ suc (k + 1) = omega arith in
     rw next at at
 
-ascends_behind : (b : ℕ) (xs : List ℕ) → IsStrictlyIncreasing (b ∷ xs) → Ascends (Some b) xs
-ascends_behind b [] h = tt
-ascends_behind b (x ∷ xs) h = (h 0 (omega arith), ascends_behind x xs (increasing_tail b (x ∷ xs) h))
+ascends_after : (b : ℕ) (xs : List ℕ) → IsStrictlyIncreasing (b ∷ xs) → Ascends (Some b) xs
+ascends_after b [] h = tt
+ascends_after b (x ∷ xs) h = (h 0 (omega arith), ascends_after x xs (increasing_tail b (x ∷ xs) h))
 
 pub ascends : (xs : List ℕ) → IsStrictlyIncreasing xs → Ascends None xs
 ascends [] h = tt
-ascends (x ∷ xs) h = (tt, ascends_behind x xs h)
+ascends (x ∷ xs) h = (tt, ascends_after x xs h)
 
 pub increasing : (before : Option ℕ) (xs : List ℕ) → Ascends before xs → IsStrictlyIncreasing xs
 increasing before [] h k lt = absurd (omega arith)

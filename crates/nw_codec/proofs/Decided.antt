@@ -202,8 +202,8 @@ at_end AtEnd e = refl
 abbrev pub Decided : Stage → List ℕ → Type 0
 Decided s text = Reaches s text AtEnd [] ⊎ ((e : DecodeError) × FaultFrom s text e)
 
-decided_behind : (s t : Stage) (text rest : List ℕ) → Reaches s text t rest → Decided t rest → Decided s text
-decided_behind s t text rest p d =
+decided_after : (s t : Stage) (text rest : List ℕ) → Reaches s text t rest → Decided t rest → Decided s text
+decided_after s t text rest p d =
     elim d [
       | inl whole ↦ inl (onward s t AtEnd text rest [] p whole)
       | inr fault ↦ inr (fault.0, later s t text rest fault.0 p fault.1)
@@ -221,7 +221,7 @@ module _ (n : ℕ) (rec : Below n) (s : Stage) (text : List ℕ) (low : 2 * leng
   by_test : (w : ℕ) (r : Result Stage DecodeError) → width s ≡ Some w → w ≤ length text → after_field s (take w text) ≡ r → Decided s text
   by_test w (Ok t) e long h =
       let fewer = falls s t w (take w text) e h in
-      decided_behind s t text (drop w text) (passed s t w text e long h) (rec t (drop w text) (omega (arith, fewer, length-drop w text)))
+      decided_after s t text (drop w text) (passed s t w text e long h) (rec t (drop w text) (omega (arith, fewer, length-drop w text)))
   by_test w (Err d) e long h = inr (d, failed s w text d e long h)
 
   by_length : (w : ℕ) (b : Bool) → width s ≡ Some w → ltb (length text) w ≡ b → Decided s text
@@ -240,7 +240,7 @@ pub decided : (s : Stage) (text : List ℕ) → Decided s text
 decided s text = decide (suc (2 * length text + weight s)) s text (omega arith)
 
 -- the fault Trailing comes after fields that lead to the end
-pub behind_the_end : (a : Stage) (s : List ℕ) → FaultFrom a s Trailing → (rest : List ℕ) × Reaches a s AtEnd rest × (rest ≢ [])
-behind_the_end a s f =
+pub after_the_end : (a : Stage) (s : List ℕ) → FaultFrom a s Trailing → (rest : List ℕ) × Reaches a s AtEnd rest × (rest ≢ [])
+after_the_end a s f =
     let stop = trailing_stops (width f.0) f.0 f.1 refl f.3 in
     (f.1, subst (λ (t : Stage). Reaches a s t f.1) (at_end f.0 stop.0) f.2, stop.1)

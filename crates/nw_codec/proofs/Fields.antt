@@ -2,8 +2,8 @@
 use Rattle.std.proofs.Common.{Fits, w8, ◌≡◌, ◌≢◌, ℕ, suc, ◌+◌, ◌-◌, ◌<◌, ◌≤◌, Bool, true, false, cond, eqb, ltb, List, [], ◌∷◌, ◌++◌, length, get_or, take, drop, Option, Some, Result, Ok, Err, refl, sym, ap, ◌∙◌, subst, append_assoc, add-one, mul-suc, arith}
 use Rattle.std.specs.Int.{w16, to_be_bytes, from_be_bytes}
 use Rattle.std.specs.Result.{MatchResult, IfOk, IsErrAnd}
-use Rattle.std.proofs.lemmas.Bool.{eq-eqb, ne_eqb, lt-ltb, le-ltb, eqb-true}
-use Rattle.std.proofs.lemmas.List.{nil_from_length, take_at, take-append-drop, length-append, length-take}
+use Rattle.std.proofs.lemmas.Bool.{eq-eqb, ne_eqb, lt-ltb, le-ltb}
+use Rattle.std.proofs.lemmas.List.{take_at, take-append-drop, length-append, length-take}
 use Rattle.std.proofs.lemmas.List.Elements.{All-take, All-from_get_or}
 use Rattle.nw_codec.specs.declared.error.DecodeError.{DecodeError}
 use Rattle.nw_codec.specs.declared.error.DecodeError.TheVariants.{Short, Tag, TransactionTooLong, BodyTooLong}
@@ -49,9 +49,6 @@ high_fails n high s d e = let test = lt-ltb high n e in rw test refl
 
 pub short_as : (a : Stage) (w : ℕ) (text : List ℕ) (d : DecodeError) → width a ≡ Some w → length text < w → d ≡ Short → FaultFrom a text d
 short_as a w text d wide few e = rw e (short a w text wide few)
-
-pub tag_passes : (n tag : ℕ) (s : Stage) → n ≡ tag → after_tag tag ≡ Ok s → after_tag n ≡ Ok s
-tag_passes n tag s e passes = ap after_tag e ∙ passes
 
 pub tag_fails : (n : ℕ) → (n ≡ 1 → ⊥) → (n ≡ 2 → ⊥) → (n ≡ 3 → ⊥) → after_tag n ≡ Err Tag
 tag_fails n one two three =
@@ -178,9 +175,6 @@ order_fails stage before disorder next n text rest orders at test =
     number_fails stage n text rest disorder orders.wide at (orders.test (to_be_bytes w16 n) ∙ subst (λ (x : ℕ). cond (comes_after before x) (Ok (next x)) (Err disorder) ≡ Err disorder) (sym same) fails)
 
 -- a list of length 0 is empty
-
-pub empty_is : (rest : List ℕ) (b : Bool) → b ≡ true → b ≡ eqb (length rest) 0 → rest ≡ []
-empty_is rest b true_is test = nil_from_length rest (eqb-true (length rest) 0 (sym test ∙ true_is))
 
 pub not_empty : (rest : List ℕ) (b : Bool) → b ≡ false → b ≡ eqb (length rest) 0 → rest ≢ []
 not_empty [] b false_is test e = absurd (cc (false_is, test))

@@ -5,14 +5,14 @@ use Rattle.nw_codec.specs.Grammar.{message}
 use Rattle.nw_codec.specs.Typed.{AreBytes}
 use Rattle.nw_codec.specs.Faults.{AtTag, AtEnd, Reaches, IsFirstFault}
 use Rattle.nw_codec.specs.Spelled.{GoesOn}
-use Rattle.nw_codec.proofs.Decided.{behind_the_end}
+use Rattle.nw_codec.proofs.Decided.{after_the_end}
 use Rattle.nw_codec.proofs.Fronts.{later, trailing}
 use Rattle.nw_codec.proofs.WholeTexts.{front_spells}
 use Rattle.nw_codec.proofs.Written.{written}
 
 going_on : (text : List ℕ) → AreBytes text → IsFirstFault text Trailing → GoesOn text
 going_on text bytes fault =
-    let f = behind_the_end AtTag text fault in
+    let f = after_the_end AtTag text fault in
     let m = front_spells text f.0 bytes f.1 in
     (message m.0, f.0, (m.0, record { typed = m.1; fits = m.2; bytes = refl }), f.2, m.3)
 

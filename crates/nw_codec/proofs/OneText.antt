@@ -16,6 +16,7 @@ use Rattle.nw_codec.specs.Fits.{Fits, MessageFits}
 use Rattle.nw_codec.specs.Typed.{IsRef, IsBlock, IsSignature, IsMessage}
 use Rattle.nw_codec.specs.Spelled.{Spells}
 use Rattle.nw_codec.proofs.Pieces.{same_start, same16, same32, same48}
+use Rattle.nw_codec.proofs.Items.{parent_kind, same_items}
 use Rattle.nw_codec.proofs.WrittenBlock.{block_message_is}
 use Rattle.nw_codec.proofs.WrittenVotes.{certificate_message_is, vote_message_is}
 use Rattle.nw_codec.proofs.OneVote.{same_signature, same_certificate, same_vote}
@@ -35,26 +36,6 @@ counted b fits =
       transactions = omega (arith, some);
       bytes = recursion_from_All (λ t. length t < 2 ^ 32) b.transactions (All-weaker (λ t. length t ≤ 65536) (λ t. length t < 2 ^ 32) (λ t low. omega arith) b.transactions fits.short_transactions);
     }
-
-pub same_ref : (p q : Ref) → p.author ≡ q.author → p.digest.0 ≡ q.digest.0 → p ≡ q
-same_ref p q e h =
-    let make : ℕ → List ℕ → Ref = λ a d. record { author = a; digest = record { 0 = d } } in
-    ap (λ (a : ℕ). make a p.digest.0) e ∙ ap (λ (d : List ℕ). make q.author d) h
-
-pub same_parents : (ps qs : List Ref) (x y : List ℕ) → length ps ≡ length qs → AllByRecursion IsRef ps → AllByRecursion IsRef qs → flat_map parent_bytes ps ++ x ≡ flat_map parent_bytes qs ++ y → (ps ≡ qs) × (x ≡ y)
-same_parents [] [] x y len left right e = (refl, e)
-same_parents [] (q ∷ qs) x y len left right e = absurd (omega (arith, len))
-same_parents (p ∷ ps) [] x y len left right e = absurd (omega (arith, len))
-same_parents (p ∷ ps) (q ∷ qs) x y len left right e =
-    let xs : List ℕ = flat_map parent_bytes ps ++ x in
-    let ys : List ℕ = flat_map parent_bytes qs ++ y in
-    let cut : to_be_bytes w16 p.author ++ (p.digest.0 ++ xs) ≡ to_be_bytes w16 q.author ++ (q.digest.0 ++ ys) =
-    sym (append_assoc (parent_bytes p) (flat_map parent_bytes ps) x ∙ append_assoc (to_be_bytes w16 p.author) p.digest.0 xs) ∙ e ∙ append_assoc (parent_bytes q) (flat_map parent_bytes qs) y ∙ append_assoc (to_be_bytes w16 q.author) q.digest.0 ys in
-    let first = same_start (to_be_bytes w16 p.author) (to_be_bytes w16 q.author) (p.digest.0 ++ xs) (q.digest.0 ++ ys) refl cut in
-    let second = same_start p.digest.0 q.digest.0 xs ys (left.0.digest ∙ sym right.0.digest) first.1 in
-    let others = same_parents ps qs x y (omega (arith, len)) left.1 right.1 second.1 in
-    let one : p ≡ q = same_ref p q (same16 p.author q.author left.0.author right.0.author first.0) second.0 in
-    (cc (one, others.0), others.1)
 
 pub same_transactions : (ts us : List (List ℕ)) (x y : List ℕ) → length ts ≡ length us → AllByRecursion (λ t. length t < 2 ^ 32) ts → AllByRecursion (λ t. length t < 2 ^ 32) us → flat_map transaction_bytes ts ++ x ≡ flat_map transaction_bytes us ++ y → (ts ≡ us) × (x ≡ y)
 same_transactions [] [] x y len left right e = (refl, e)
@@ -90,7 +71,7 @@ same_counts : (b c : Block) (s t : Signature) (x y : List ℕ) → IsBlock b →
     → IsSame b c s t x y
 same_counts b c s t x y typed-b typed-c counted-b counted-c signed-s signed-t author round e =
     let count = same_start (to_be_bytes w16 (length b.parents)) (to_be_bytes w16 (length c.parents)) _ _ refl e in
-    let parents = same_parents b.parents c.parents _ _ (same16 (length b.parents) (length c.parents) counted-b.parents counted-c.parents count.0) (recursion_from_All IsRef b.parents typed-b.parents) (recursion_from_All IsRef c.parents typed-c.parents) count.1 in
+    let parents = same_items (parent_kind 0) b.parents c.parents _ _ (same16 (length b.parents) (length c.parents) counted-b.parents counted-c.parents count.0) (recursion_from_All IsRef b.parents typed-b.parents) (recursion_from_All IsRef c.parents typed-c.parents) count.1 in
     let number = same_start (to_be_bytes w16 (length b.transactions)) (to_be_bytes w16 (length c.transactions)) _ _ refl parents.1 in
     let transactions = same_transactions b.transactions c.transactions _ _ (same16 (length b.transactions) (length c.transactions) counted-b.transactions counted-c.transactions number.0) counted-b.bytes counted-c.bytes number.1 in
     let signature = same_start s.0 t.0 x y (signed-s.len ∙ sym signed-t.len) transactions.1 in
@@ -117,23 +98,23 @@ CountsFit (messages.Vote v) = Unit {0}
 
 -- the tag of a message, and the bytes after it
 record Begins (m : Message) (x : List ℕ) (tag : ℕ) : Type 0 where
-  behind : List ℕ
-  whole : message m ++ x ≡ tag ∷ behind
+  others : List ℕ
+  whole : message m ++ x ≡ tag ∷ others
 
 block_begins : (b : Block) (s : Signature) (x : List ℕ) → Begins (messages.Block b s) x 1
-block_begins b s x = record { behind = _; whole = block_message_is b s x }
+block_begins b s x = record { others = _; whole = block_message_is b s x }
 
 certificate_begins : (c : Certificate) (x : List ℕ) → Begins (messages.Certificate c) x 2
-certificate_begins c x = record { behind = _; whole = certificate_message_is c x }
+certificate_begins c x = record { others = _; whole = certificate_message_is c x }
 
 vote_begins : (v : Vote) (x : List ℕ) → Begins (messages.Vote v) x 3
-vote_begins v x = record { behind = _; whole = vote_message_is v x }
+vote_begins v x = record { others = _; whole = vote_message_is v x }
 
 first_is : (a b : ℕ) (x y : List ℕ) → a ∷ x ≡ b ∷ y → a ≡ b
 first_is a b x y e = cc
 
 one_tag : (m n : Message) (x y : List ℕ) (a b : ℕ) → Begins m x a → Begins n y b → message m ++ x ≡ message n ++ y → a ≡ b
-one_tag m n x y a b p q e = first_is a b p.behind q.behind (sym p.whole ∙ e ∙ q.whole)
+one_tag m n x y a b p q e = first_is a b p.others q.others (sym p.whole ∙ e ∙ q.whole)
 
 pub same_message : (m n : Message) (x y : List ℕ) → IsMessage m → IsMessage n → CountsFit m → CountsFit n → message m ++ x ≡ message n ++ y → (m ≡ n) × (x ≡ y)
 same_message (messages.Block b s) (messages.Block c t) x y typed-m typed-n counted-m counted-n e =

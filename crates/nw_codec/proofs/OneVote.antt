@@ -1,7 +1,6 @@
 -- A text has one certificate and one vote.
-use Rattle.std.proofs.Common.{◌≡◌, ℕ, ◌^◌, ◌<◌, List, [], ◌∷◌, ◌++◌, length, refl, sym, ap, ◌∙◌, append_assoc, arith}
+use Rattle.std.proofs.Common.{◌≡◌, ℕ, ◌^◌, ◌<◌, List, [], ◌∷◌, ◌++◌, length, refl, sym, ap, ◌∙◌}
 use Rattle.std.specs.Int.{w16, to_be_bytes}
-use Rattle.std.specs.List.{flat_map, AllByRecursion}
 use Rattle.std.proofs.lemmas.List.Elements.{recursion_from_All}
 use Rattle.nw_digest.specs.declared.digest.Digest.{Digest}
 use Rattle.nw_codec.specs.declared.certificate.Signature.{Signature}
@@ -9,9 +8,10 @@ use Rattle.nw_codec.specs.declared.certificate.Seal.{Seal}
 use Rattle.nw_codec.specs.declared.certificate.Certificate.{Certificate}
 use Rattle.nw_codec.specs.declared.vote.Vote.{Vote}
 use Rattle.nw_codec.specs.declared.message.Message.TheVariants as messages
-use Rattle.nw_codec.specs.Grammar.{round_bytes, subject_bytes, seal_bytes, seal, message}
+use Rattle.nw_codec.specs.Grammar.{round_bytes, subject_bytes, seal, message}
 use Rattle.nw_codec.specs.Typed.{IsSubject, IsSeal, IsCertificate, IsVote}
 use Rattle.nw_codec.proofs.Pieces.{same_start, same16, same48}
+use Rattle.nw_codec.proofs.Items.{seal_kind, same_item, same_items}
 use Rattle.nw_codec.proofs.WrittenVotes.{subject_laid_out, certificate_message_is, vote_message_is}
 
 pub same_digest : (d e : Digest) → d.0 ≡ e.0 → d ≡ e
@@ -23,11 +23,6 @@ pub same_signature : (s t : Signature) → s.0 ≡ t.0 → s ≡ t
 same_signature s t e =
     let make : List ℕ → Signature = λ bytes. record { 0 = bytes } in
     ap make e
-
-pub same_seal : (s t : Seal) → s.signer ≡ t.signer → s.signature ≡ t.signature → s ≡ t
-same_seal s t e h =
-    let make : ℕ → Signature → Seal = λ a b. record { signer = a; signature = b } in
-    ap (λ (a : ℕ). make a s.signature) e ∙ ap (λ (b : Signature). make t.signer b) h
 
 pub same_as_certificate : (c d : Certificate) → c.digest ≡ d.digest → c.round ≡ d.round → c.author ≡ d.author → c.votes ≡ d.votes → c ≡ d
 same_as_certificate c d e0 e1 e2 e3 =
@@ -62,23 +57,6 @@ same_subject d e r q a b x y left right h =
       rest = third.1;
     }
 
-pub same_seal_bytes : (s t : Seal) (x y : List ℕ) → IsSeal s → IsSeal t → seal_bytes s ++ x ≡ seal_bytes t ++ y → (s ≡ t) × (x ≡ y)
-same_seal_bytes s t x y left right h =
-    let cut = sym (append_assoc (to_be_bytes w16 s.signer) s.signature.0 x) ∙ h ∙ append_assoc (to_be_bytes w16 t.signer) t.signature.0 y in
-    let first = same_start (to_be_bytes w16 s.signer) (to_be_bytes w16 t.signer) _ _ refl cut in
-    let second = same_start s.signature.0 t.signature.0 x y (left.signature.len ∙ sym right.signature.len) first.1 in
-    (same_seal s t (same16 s.signer t.signer left.signer right.signer first.0) (same_signature s.signature t.signature second.0), second.1)
-
-pub same_seals : (ss ts : List Seal) (x y : List ℕ) → length ss ≡ length ts → AllByRecursion IsSeal ss → AllByRecursion IsSeal ts → flat_map seal_bytes ss ++ x ≡ flat_map seal_bytes ts ++ y → (ss ≡ ts) × (x ≡ y)
-same_seals [] [] x y len left right e = (refl, e)
-same_seals [] (t ∷ ts) x y len left right e = absurd (omega (arith, len))
-same_seals (s ∷ ss) [] x y len left right e = absurd (omega (arith, len))
-same_seals (s ∷ ss) (t ∷ ts) x y len left right e =
-    let cut = sym (append_assoc (seal_bytes s) (flat_map seal_bytes ss) x) ∙ e ∙ append_assoc (seal_bytes t) (flat_map seal_bytes ts) y in
-    let one = same_seal_bytes s t (flat_map seal_bytes ss ++ x) (flat_map seal_bytes ts ++ y) left.0 right.0 cut in
-    let others = same_seals ss ts x y (omega (arith, len)) left.1 right.1 one.1 in
-    (cc (one.0, others.0), others.1)
-
 -- ---- messages
 
 pub same_certificate : (c d : Certificate) (x y : List ℕ) → IsCertificate c → IsCertificate d → length c.votes < 2 ^ 16 → length d.votes < 2 ^ 16 → message (messages.Certificate c) ++ x ≡ message (messages.Certificate d) ++ y → (c ≡ d) × (x ≡ y)
@@ -87,7 +65,7 @@ same_certificate c d x y left right few-c few-d e =
     let tag = same_start (2 ∷ []) (2 ∷ []) _ _ refl cut in
     let subject = same_subject c.digest d.digest c.round d.round c.author d.author _ _ left.subject right.subject tag.1 in
     let count = same_start (to_be_bytes w16 (length c.votes)) (to_be_bytes w16 (length d.votes)) _ _ refl subject.rest in
-    let votes = same_seals c.votes d.votes x y (same16 (length c.votes) (length d.votes) few-c few-d count.0) (recursion_from_All IsSeal c.votes left.votes) (recursion_from_All IsSeal d.votes right.votes) count.1 in
+    let votes = same_items seal_kind c.votes d.votes x y (same16 (length c.votes) (length d.votes) few-c few-d count.0) (recursion_from_All IsSeal c.votes left.votes) (recursion_from_All IsSeal d.votes right.votes) count.1 in
     (same_as_certificate c d subject.digest subject.round subject.author votes.0, votes.1)
 
 pub same_vote : (v w : Vote) (x y : List ℕ) → IsVote v → IsVote w → message (messages.Vote v) ++ x ≡ message (messages.Vote w) ++ y → (v ≡ w) × (x ≡ y)
@@ -95,5 +73,5 @@ same_vote v w x y left right e =
     let cut = sym (vote_message_is v x) ∙ e ∙ vote_message_is w y in
     let tag = same_start (3 ∷ []) (3 ∷ []) _ _ refl cut in
     let subject = same_subject v.digest w.digest v.round w.round v.author w.author _ _ left.subject right.subject tag.1 in
-    let sealed = same_seal_bytes (seal v) (seal w) x y left.sealed right.sealed subject.rest in
+    let sealed = same_item seal_kind (seal v) (seal w) x y left.sealed right.sealed subject.rest in
     (same_as_vote v w subject.digest subject.round subject.author sealed.0, sealed.1)

@@ -1,5 +1,5 @@
 -- Cutting the encoding of transactions gives these transactions.
-use Rattle.std.proofs.Common.{Bool, true, false, ◌≡◌, ℕ, zero, suc, ◌+◌, ◌-◌, ◌*◌, ◌<◌, ◌≤◌, List, [], ◌∷◌, ◌++◌, length, take, drop, refl, sym, ap, ◌∙◌, subst, append_assoc, arith}
+use Rattle.std.proofs.Common.{Bool, true, false, ◌≡◌, ℕ, zero, suc, ◌+◌, ◌*◌, ◌<◌, ◌≤◌, List, [], ◌∷◌, ◌++◌, length, take, drop, refl, sym, ap, ◌∙◌, subst, append_assoc, arith}
 use Rattle.std.specs.List.{flat_map}
 use Rattle.std.specs.Int.{w32, from_be_bytes, to_be_bytes}
 use Rattle.std.proofs.lemmas.List.{append-nil, length-append, take_at, drop_at}
@@ -29,8 +29,8 @@ length_in_front t rest low =
     ap (λ (x : List ℕ). from_be_bytes w32 (take 4 x)) (append_assoc (to_be_bytes w32 (length t)) t rest)
     ∙ ap (from_be_bytes w32) (take_at (to_be_bytes w32 (length t)) (t ++ rest) 4 refl) ∙ from_be_bytes-to_be_bytes_4 (length t) (omega (arith, low))
 
-behind_length : (t rest : List ℕ) → drop 4 (transaction_bytes t ++ rest) ≡ t ++ rest
-behind_length t rest = ap (drop 4) (append_assoc (to_be_bytes w32 (length t)) t rest) ∙ drop_at (to_be_bytes w32 (length t)) (t ++ rest) 4 refl
+after_length : (t rest : List ℕ) → drop 4 (transaction_bytes t ++ rest) ≡ t ++ rest
+after_length t rest = ap (drop 4) (append_assoc (to_be_bytes w32 (length t)) t rest) ∙ drop_at (to_be_bytes w32 (length t)) (t ++ rest) 4 refl
 
 cut_packed : (ts : List (List ℕ)) (rest : List ℕ) → All IsShort ts → cut (length ts) (flat_map transaction_bytes ts ++ rest) ≡ ts
 cut_packed [] rest low = refl
@@ -39,9 +39,9 @@ cut_packed (t ∷ ts) rest low =
     let text : List ℕ = transaction_bytes t ++ more in
     let whole : flat_map transaction_bytes (t ∷ ts) ++ rest ≡ text = append_assoc (transaction_bytes t) (flat_map transaction_bytes ts) rest in
     let front : length_at text ≡ length t = length_in_front t more (All-head IsShort t ts low) in
-    let behind : drop 4 text ≡ t ++ more = behind_length t more in
-    let first : take (length_at text) (drop 4 text) ≡ t = rw (front, behind) (take_at t more (length t) refl) in
-    let left : drop (length_at text) (drop 4 text) ≡ more = rw (front, behind) (drop_at t more (length t) refl) in
+    let rest_is : drop 4 text ≡ t ++ more = after_length t more in
+    let first : take (length_at text) (drop 4 text) ≡ t = rw (front, rest_is) (take_at t more (length t) refl) in
+    let left : drop (length_at text) (drop 4 text) ≡ more = rw (front, rest_is) (drop_at t more (length t) refl) in
     let others : cut (length ts) (drop (length_at text) (drop 4 text)) ≡ ts = rw left (cut_packed ts rest (All-tail IsShort t ts low)) in
     ap (cut (suc (length ts))) whole ∙ (λ i. first i ∷ others i)
 
@@ -78,16 +78,16 @@ pub record IsFront (here item after : List ℕ) : Type 0 where
   pub number : 4 ≤ length here
   pub length_is : length_at here ≡ length item
   pub enough : length item ≤ length (drop 4 here)
-  pub behind : drop (length item) (drop 4 here) ≡ after
+  pub after_is : drop (length item) (drop 4 here) ≡ after
 
 pub in_front : (here item after : List ℕ) → IsShort item → here ≡ transaction_bytes item ++ after → IsFront here item after
 in_front here item after low is =
-    let four : drop 4 here ≡ item ++ after = ap (drop 4) is ∙ behind_length item after in
+    let four : drop 4 here ≡ item ++ after = ap (drop 4) is ∙ after_length item after in
     record {
       number = omega (arith, ap length is, length-append (transaction_bytes item) after, length-append (to_be_bytes w32 (length item)) item);
       length_is = ap length_at is ∙ length_in_front item after low;
       enough = omega (arith, ap length four, length-append item after);
-      behind = ap (drop (length item)) four ∙ drop_at item after (length item) refl;
+      after_is = ap (drop (length item)) four ∙ drop_at item after (length item) refl;
     }
 
 -- the encoding of `count` transactions gives them again
@@ -98,12 +98,6 @@ pub are_packed : (count : ℕ) (ts : List (List ℕ)) → length ts ≡ count �
 are_packed count ts number low =
     let is : cut count (flat_map transaction_bytes ts) ≡ ts = cut_text count ts number low in
     record { short = rw is low; bytes = ap (flat_map transaction_bytes) (sym is) }
-
--- the front of a text, before the rest
-pub before_rest : (text front rest : List ℕ) → text ≡ front ++ rest → take (length text - length rest) text ≡ front
-before_rest text front rest is =
-    let many : length text - length rest ≡ length front = omega (arith, ap length is, length-append front rest) in
-    (λ i. take (many i) (is i)) ∙ take_at front rest (length front) refl
 
 parted : {X : Type 0} (P : X → Type 0) (xs ys : List X) → All P (xs ++ ys) → All P xs × All P ys
 parted P [] ys all = (All-nil P, all)
@@ -150,6 +144,6 @@ next_packed left text p =
       enough = omega (arith, f.length_is, f.enough);
       others = record {
         short = All-tail IsShort t ts p.short;
-        bytes = ap (λ (n : ℕ). drop n (drop 4 text)) f.length_is ∙ f.behind;
+        bytes = ap (λ (n : ℕ). drop n (drop 4 text)) f.length_is ∙ f.after_is;
       };
     }

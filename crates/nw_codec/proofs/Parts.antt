@@ -12,13 +12,13 @@ use Rattle.nw_codec.specs.declared.certificate.Seal.{Seal}
 use Rattle.nw_codec.specs.declared.certificate.Certificate.{Certificate}
 use Rattle.nw_codec.specs.declared.vote.Vote.{Vote}
 use Rattle.nw_codec.specs.declared.message.Message.TheVariants as messages
-use Rattle.nw_codec.specs.declared.error.DecodeError.TheVariants.{TooManyParents, ParentOrder, TooManyTransactions, TooManyVotes, VoteOrder}
+use Rattle.nw_codec.specs.declared.error.DecodeError.TheVariants.{TooManyParents, TooManyTransactions, TooManyVotes}
 use Rattle.nw_codec.specs.Grammar.{round_bytes, parent_bytes, subject_bytes, seal_bytes, seal, message}
 use Rattle.nw_codec.specs.Packed.{ArePacked, transaction_bytes}
 use Rattle.nw_codec.specs.Typed.{AreBytes, IsRef, IsBlock, IsSeal, IsCertificate}
 use Rattle.nw_codec.specs.Spelled.{Spells}
-use Rattle.nw_codec.specs.Faults.{Kind, Stage, AtDigest, after_subject, AtSignature, AtVersion, AtAuthor, AtRound, AtParentCount, AtParentDigest, AtTransactionCount, AtVoteCount, AtSealSignature, AtEnd, at_parents, at_transactions, at_seals, Reaches}
-use Rattle.nw_codec.specs.Parts.{Counts, AreItems, NumberAt, RoundAt, HeadAt, ItemsAt, ParentsAt, TransactionsAt, SubjectAt, LastSignature, IsLast, AreBlockParts, AreCertificateParts}
+use Rattle.nw_codec.specs.Faults.{Kind, Stage, AtDigest, stage_after_subject, AtSignature, AtVersion, AtAuthor, AtRound, AtParentCount, AtTransactionCount, AtVoteCount, AtSealSignature, AtEnd, at_parents, at_transactions, at_seals, Reaches}
+use Rattle.nw_codec.specs.Parts.{Counts, NumberAt, RoundAt, HeadAt, ItemsAt, ParentsAt, TransactionsAt, SubjectAt, LastSignature, IsLast, AreBlockParts, AreCertificateParts}
 use Rattle.nw_codec.proofs.Pieces.{same_start, same16, same48}
 use Rattle.nw_codec.proofs.Packed.{are_packed}
 use Rattle.nw_codec.proofs.Steps.{bytes_of}
@@ -26,8 +26,9 @@ use Rattle.nw_codec.proofs.Sizes.{length-parents}
 use Rattle.nw_codec.proofs.Fronts.{onward, one_field}
 use Rattle.nw_codec.proofs.WrittenBlock.{block_message_is}
 use Rattle.nw_codec.proofs.WrittenVotes.{subject_laid_out, written_subject, certificate_message_is, vote_message_is}
-use Rattle.nw_codec.proofs.OneText.{counted, counts_fit, same_parents}
-use Rattle.nw_codec.proofs.OneVote.{same_signature, same_subject, same_seals}
+use Rattle.nw_codec.proofs.OneText.{counted, counts_fit}
+use Rattle.nw_codec.proofs.OneVote.{same_signature, same_subject}
+use Rattle.nw_codec.proofs.Items.{parent_kind, seal_kind, same_items}
 use Rattle.nw_codec.proofs.WholeBlock.{BlockRead}
 use Rattle.nw_codec.proofs.WholeVotes.{CertificateRead}
 
@@ -46,9 +47,9 @@ pub signature_leads : (stage : Stage) (text : List ℕ) (s : Signature) → IsLa
 signature_leads stage text s last at =
     subst (λ (t : List ℕ). Reaches stage t AtEnd []) (sym at.bytes) (one_field stage AtEnd s.0 [] (last.wide ∙ ap Some (sym at.signed.len)) (last.passes s.0))
 
-pub subject_leads : (kind : Kind) (text rest : List ℕ) (digest : Digest) (round author : ℕ) → SubjectAt text digest round author rest → Reaches (AtDigest kind) text (after_subject kind) rest
+pub subject_leads : (kind : Kind) (text rest : List ℕ) (digest : Digest) (round author : ℕ) → SubjectAt text digest round author rest → Reaches (AtDigest kind) text (stage_after_subject kind) rest
 subject_leads kind text rest digest round author at =
-    subst (λ (t : List ℕ). Reaches (AtDigest kind) t (after_subject kind) rest) (sym at.bytes) (written_subject kind digest round author rest at.typed)
+    subst (λ (t : List ℕ). Reaches (AtDigest kind) t (stage_after_subject kind) rest) (sym at.bytes) (written_subject kind digest round author rest at.typed)
 
 -- ---- the stages of the format
 
@@ -66,22 +67,6 @@ counts_transactions size = record { wide = refl; test = λ field. refl }
 
 pub counts_votes : Counts AtVoteCount 100 TooManyVotes (λ n. at_seals n None)
 counts_votes = record { wide = refl; test = λ field. refl }
-
-pub are_parents : (size : ℕ) → AreItems 32 ParentOrder (λ more before. at_parents more before size) (λ more author. AtParentDigest more author size)
-are_parents size = record {
-  orders = λ more before. record { wide = refl; test = λ field. refl };
-  wide = λ more author. refl;
-  passes = λ more author field. refl;
-  ends = λ before. refl;
-}
-
-pub are_seals : AreItems 64 VoteOrder at_seals AtSealSignature
-are_seals = record {
-  orders = λ more before. record { wide = refl; test = λ field. refl };
-  wide = λ more signer. refl;
-  passes = λ more signer field. refl;
-  ends = λ before. refl;
-}
 
 -- the fields that precede the rest
 pub front_of : (a b : Stage) (text rest : List ℕ) → Reaches a text b rest → (front : List ℕ) × (text ≡ front ++ rest)
@@ -150,7 +135,7 @@ parents_built b text parents typed is each built =
     let own = recursion_from_All IsRef b.parents typed.parents in
     let same : flat_map parent_bytes parents ≡ flat_map parent_bytes b.parents = sym built ∙ is in
     let many : length parents ≡ length b.parents = omega (arith, ap length same, length-parents parents mine, length-parents b.parents own) in
-    (same_parents parents b.parents [] [] many mine own (ap (λ (t : List ℕ). t ++ []) same)).0
+    (same_items (parent_kind 0) parents b.parents [] [] many mine own (ap (λ (t : List ℕ). t ++ []) same)).0
 
 pub parents_long : (b : Block) (author round : ℕ) (parents : List ℕ) (count : ℕ) (transactions : List ℕ) → AreBlockParts b author round parents count transactions → (n : ℕ) × (length parents ≡ 34 * n)
 parents_long b author round parents count transactions parts =
@@ -223,7 +208,7 @@ seals_built c text seals typed is each built =
     let own = recursion_from_All IsSeal c.votes typed.votes in
     let same : flat_map seal_bytes seals ≡ flat_map seal_bytes c.votes = sym built ∙ is in
     let many : length seals ≡ length c.votes = omega (arith, ap length same, length-seals seals mine, length-seals c.votes own) in
-    (same_seals seals c.votes [] [] many mine own (ap (λ (t : List ℕ). t ++ []) same)).0
+    (same_items seal_kind seals c.votes [] [] many mine own (ap (λ (t : List ℕ). t ++ []) same)).0
 
 -- ---- a vote
 

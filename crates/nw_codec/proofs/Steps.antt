@@ -91,8 +91,8 @@ one_more m n e = cc
 pub two_pieces : (text a b c d e f : List ℕ) → text ≡ a ++ b → b ≡ c ++ d → d ≡ e ++ f → text ≡ ((a ++ c) ++ e) ++ f
 two_pieces text a b c d e f p q r = rw (p, q, r) (sym (append_assoc (a ++ c) e f ∙ append_assoc a c (e ++ f)))
 
-pub behind : (text front more more' : List ℕ) → text ≡ front ++ more → more ≡ more' → text ≡ front ++ more'
-behind text front more more' cut e = rw (← e) cut
+pub with_rest : (text front more more' : List ℕ) → text ≡ front ++ more → more ≡ more' → text ≡ front ++ more'
+with_rest text front more more' cut e = rw (← e) cut
 
 pub at_most : (n count high : ℕ) → count ≡ n → n ≤ high → count ≤ high
 at_most n count high e low = omega arith

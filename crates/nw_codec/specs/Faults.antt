@@ -71,9 +71,9 @@ at_seals zero before = AtEnd
 at_seals (suc more) before = AtSigner more before
 
 -- after the subject: a certificate has the number of its seals, and a vote has one seal
-abbrev pub after_subject : Kind → Stage
-after_subject OfCertificate = AtVoteCount
-after_subject OfVote = AtSigner 0 None
+abbrev pub stage_after_subject : Kind → Stage
+stage_after_subject OfCertificate = AtVoteCount
+stage_after_subject OfVote = AtSigner 0 None
 
 -- the number in a field of two bytes
 abbrev pub number16 : List ℕ → ℕ
@@ -126,7 +126,7 @@ after_field (AtTransaction len more size) field = Ok (at_transactions more size)
 after_field AtSignature field = Ok AtEnd
 after_field (AtDigest kind) field = Ok (AtSubjectRound kind)
 after_field (AtSubjectRound kind) field = Ok (AtSubjectAuthor kind)
-after_field (AtSubjectAuthor kind) field = Ok (after_subject kind)
+after_field (AtSubjectAuthor kind) field = Ok (stage_after_subject kind)
 after_field AtVoteCount field =
     if nat_lt MAX_VOTES (number16 field) then Err TooManyVotes
     else Ok (at_seals (number16 field) None)

@@ -19,7 +19,7 @@ use std::alloc::Global;
 /// The message of the text. It checks the whole text before it allocates.
 ///
 /// If the text is not a message's, it fails with the first fault in reading order. It fails with `NoMemory` only for the text
-/// of a block or a certificate, so decoding a vote makes no allocation. It takes time linear in the length of the text.
+/// of a block or a certificate, so the text of a vote is always decoded. It takes time linear in the length of the text.
 pub fn decode_message(alloc: Global, text: &[u8]) -> Result<Message, DecodeError>
     ensures found { IfOk result (λ m. Spells text.now m) }
     ensures fault { (e : DecodeError) → e ≢ DecodeError.NoMemory

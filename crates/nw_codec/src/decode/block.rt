@@ -1,11 +1,11 @@
 //! Decodes blocks: one pass checks the text and keeps where its parts lie, and the block is built from these parts.
 ghost use Rattle.std.specs.Prelude.{◌≡◌, ℕ, ◌+◌, ◌*◌, ◌≤◌, ◌∷◌, ◌++◌};
-ghost use Rattle.std.specs.Prelude.{List, length, All, MatchResult, IfOk, None};
+ghost use Rattle.std.specs.Prelude.{length, All, MatchResult, IfOk};
 ghost use Rattle.std.specs.List.{flat_map};
 ghost use Rattle.nw_codec.specs.declared.block.Block.{Block};
 ghost use Rattle.nw_codec.specs.declared.message.Message.TheVariants as messages;
 ghost use Rattle.nw_codec.specs.Faults.{AtVersion, AtParentCount, AtTransactionCount};
-ghost use Rattle.nw_codec.specs.Faults.{AtTransactionLength, AtSignature, AtEnd};
+ghost use Rattle.nw_codec.specs.Faults.{AtTransactionLength, AtSignature};
 ghost use Rattle.nw_codec.specs.Faults.{at_transactions, Reaches, FaultFrom};
 ghost use Rattle.nw_codec.specs.Grammar.{parent_bytes};
 ghost use Rattle.nw_codec.specs.Parts.{HeadAt, ParentsAt, TransactionsAt, AreBlockParts, Decodes};

@@ -1,11 +1,11 @@
 //! Decodes certificates and votes: one pass checks the text and keeps its parts, and the value is built from them.
 ghost use Rattle.std.specs.Prelude.{◌≡◌, ℕ, ◌*◌, ◌≤◌, ◌∷◌, ◌++◌};
-ghost use Rattle.std.specs.Prelude.{List, length, All, MatchResult, IfOk, None};
+ghost use Rattle.std.specs.Prelude.{length, All, MatchResult, IfOk};
 ghost use Rattle.std.specs.List.{flat_map};
 ghost use Rattle.nw_codec.specs.declared.certificate.Certificate.{Certificate};
 ghost use Rattle.nw_codec.specs.declared.message.Message.TheVariants as messages;
-ghost use Rattle.nw_codec.specs.Faults.{Kind, OfCertificate, OfVote, AtDigest, after_subject};
-ghost use Rattle.nw_codec.specs.Faults.{Reaches, FaultFrom};
+ghost use Rattle.nw_codec.specs.Faults.{Kind, OfCertificate, OfVote, AtDigest};
+ghost use Rattle.nw_codec.specs.Faults.{FaultFrom};
 ghost use Rattle.nw_codec.specs.Grammar.{seal_bytes};
 ghost use Rattle.nw_codec.specs.Parts.{SubjectAt, AreCertificateParts, Decodes};
 ghost use Rattle.nw_codec.specs.Spelled.{Spells};

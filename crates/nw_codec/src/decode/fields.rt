@@ -4,7 +4,7 @@ ghost use Rattle.std.specs.Prelude.{List, length, take, drop, IfOk, MatchResult}
 ghost use Rattle.nw_codec.specs.declared.error.DecodeError.TheVariants.{Short};
 ghost use Rattle.nw_codec.specs.Faults.{Stage, AtEnd, comes_after, Reaches, FaultFrom};
 ghost use Rattle.nw_codec.specs.Parts.{NumberAt, RoundAt, ItemsAt, LastSignature};
-ghost use Rattle.nw_codec.specs.Parts.{Counts, Orders, AreItems, IsLast};
+ghost use Rattle.nw_codec.specs.Parts.{Counts, AreItems, IsLast};
 
 use crate::{DecodeError, Signature};
 

@@ -3,7 +3,8 @@ use Rattle.std.proofs.lemmas.Result.{MatchResult-weaker}
 use Rattle.nw_codec.specs.Faults.{AtParentCount, at_parents}
 use Rattle.nw_codec.proofs.Fronts.{later}
 use Rattle.nw_codec.proofs.Fields.{exit, both}
-use Rattle.nw_codec.proofs.Parts.{counts_parents, are_parents, parents_found}
+use Rattle.nw_codec.proofs.Items.{are_parents}
+use Rattle.nw_codec.proofs.Parts.{counts_parents, parents_found}
 use Rattle.nw_codec.proofs.decode.block.read_parents.Goals as goal
 
 pub returns-in_err-count : goal.returns-in_err-count

@@ -3,7 +3,8 @@ use Rattle.nw_codec.specs.declared.error.DecodeError.TheVariants.{VoteOrder}
 use Rattle.nw_codec.specs.Faults.{OfVote, AtDigest, AtSigner, AtSealSignature}
 use Rattle.nw_codec.proofs.Fronts.{later}
 use Rattle.nw_codec.proofs.Fields.{exit, short_as, order_leads}
-use Rattle.nw_codec.proofs.Parts.{subject_leads, are_seals, seal_ends, vote_lies}
+use Rattle.nw_codec.proofs.Items.{are_seals}
+use Rattle.nw_codec.proofs.Parts.{subject_leads, seal_ends, vote_lies}
 use Rattle.nw_codec.proofs.decode.certificate.decode_vote.Goals as goal
 
 pub returns-in_err-subject : goal.returns-in_err-subject

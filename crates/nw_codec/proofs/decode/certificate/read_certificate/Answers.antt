@@ -2,7 +2,8 @@ use Rattle.std.proofs.Common.{None}
 use Rattle.nw_codec.specs.Faults.{OfCertificate, AtDigest, AtVoteCount, AtSealSignature, AtEnd, at_seals}
 use Rattle.nw_codec.proofs.Fronts.{onward, later}
 use Rattle.nw_codec.proofs.Fields.{are_bytes, exit}
-use Rattle.nw_codec.proofs.Parts.{subject_leads, counts_votes, are_seals, certificate_lies}
+use Rattle.nw_codec.proofs.Items.{are_seals}
+use Rattle.nw_codec.proofs.Parts.{subject_leads, counts_votes, certificate_lies}
 use Rattle.nw_codec.proofs.WholeVotes.{read_certificate}
 use Rattle.nw_codec.proofs.decode.certificate.read_certificate.Goals as goal
 
