@@ -1,6 +1,6 @@
 //! Decodes and checks messages from other validators.
 ghost use Rattle.std.specs.Prelude.{IfOk, OnErr};
-ghost use Rattle.nw_codec.specs.Spelled.{Spells, TakesMemory};
+ghost use Rattle.nw_codec.specs.Spelled.{Spells, DecodingAllocates};
 ghost use Rattle.nw_codec.specs.declared.message.Message.TheVariants as messages;
 ghost use Rattle.nw_check.specs.Message.{IsChecked};
 
@@ -37,7 +37,7 @@ pub fn check_message<S: Scheme>(
     text: &[u8],
 ) -> Result<Checked<S>, NoMemory>
     ensures checked { IfOk result (IsChecked S.accepts committee.now text.now) }
-    ensures memory { OnErr result (TakesMemory text.now) }
+    ensures memory { OnErr result (DecodingAllocates text.now) }
 {
     match decode_message(alloc, text) {
         Ok(Message::Block { block, signature }) => checked_block(

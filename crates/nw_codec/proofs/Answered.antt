@@ -7,7 +7,7 @@ use Rattle.nw_codec.specs.declared.error.DecodeError.{DecodeError}
 use Rattle.nw_codec.specs.declared.error.DecodeError.TheVariants.{NoMemory}
 use Rattle.nw_codec.specs.Faults.{AtTag, IsWhole, IsFirstFault}
 use Rattle.nw_codec.specs.Parts.{Decodes}
-use Rattle.nw_codec.specs.Spelled.{Spells, IsSpelled, TakesMemory}
+use Rattle.nw_codec.specs.Spelled.{Spells, IsSpelled, DecodingAllocates}
 use Rattle.nw_codec.proofs.Fronts.{one_fault, not_both}
 use Rattle.nw_codec.proofs.Decided.{never_memory}
 use Rattle.nw_codec.proofs.Written.{spelled_is_whole}
@@ -20,9 +20,9 @@ failing_is d e h = cc
 
 -- why a text was not decoded
 abbrev Fails : List ℕ → DecodeError → Type 0
-Fails text e = IsFirstFault text e ⊎ ((e ≡ NoMemory) × TakesMemory text)
+Fails text e = IsFirstFault text e ⊎ ((e ≡ NoMemory) × DecodingAllocates text)
 
-memory_is_whole : (text : List ℕ) → TakesMemory text → IsWhole text
+memory_is_whole : (text : List ℕ) → DecodingAllocates text → IsWhole text
 memory_is_whole text (inl block) = spelled_is_whole text (messages.Block block.0 block.1, block.2)
 memory_is_whole text (inr certificate) = spelled_is_whole text (messages.Certificate certificate.0, certificate.1)
 
@@ -36,7 +36,7 @@ fault_of text d e (inr memory) other = (
   λ g. absurd (not_both AtTag text e (memory_is_whole text memory.1) g),
 )
 
-memory_of : (text : List ℕ) (d : DecodeError) → Fails text d → d ≡ NoMemory → TakesMemory text
+memory_of : (text : List ℕ) (d : DecodeError) → Fails text d → d ≡ NoMemory → DecodingAllocates text
 memory_of text d (inl fault) is = absurd (never_memory AtTag text (subst (λ (x : DecodeError). IsFirstFault text x) is fault))
 memory_of text d (inr memory) is = memory.1
 
@@ -55,7 +55,7 @@ says_fault text (Ok m) decodes e other = (
 )
 says_fault text (Err d) decodes e other = fault_of text d e decodes other
 
-pub says_memory : (text : List ℕ) (r : Result Message DecodeError) → Decodes text r → IsErrOf r NoMemory → TakesMemory text
+pub says_memory : (text : List ℕ) (r : Result Message DecodeError) → Decodes text r → IsErrOf r NoMemory → DecodingAllocates text
 says_memory text (Ok m) decodes h = absurd (cc h)
 says_memory text (Err d) decodes h = memory_of text d decodes (failing_is d NoMemory h)
 

@@ -14,7 +14,7 @@ use Rattle.nw_codec.specs.Packed.{transaction_bytes}
 use Rattle.nw_codec.specs.Fits.{Fits, CertificateFits}
 use Rattle.nw_codec.specs.Typed.{IsBlock, IsSignature, IsSubject, IsCertificate}
 use Rattle.nw_codec.specs.Faults.{Stage, AtEnd, width, after_field, number16, comes_after, IsFirstFault}
-use Rattle.nw_codec.specs.Spelled.{Spells, TakesMemory}
+use Rattle.nw_codec.specs.Spelled.{Spells, DecodingAllocates}
 
 -- ---- the parts at the front of a text
 
@@ -155,4 +155,4 @@ abbrev pub Decodes : List ℕ → Result Message DecodeError → Type 0
 Decodes text answer =
     MatchResult answer
     (λ m. Spells text m)
-    (λ e. IsFirstFault text e ⊎ ((e ≡ NoMemory) × TakesMemory text))
+    (λ e. IsFirstFault text e ⊎ ((e ≡ NoMemory) × DecodingAllocates text))

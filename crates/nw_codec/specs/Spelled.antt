@@ -36,8 +36,8 @@ abbrev pub IsVoteText : List ℕ → Type 0
 IsVoteText text = (v : Vote) × Spells text (messages.Vote v)
 
 -- decoding the text allocates: it is the text of a block or a certificate, and not of a vote
-abbrev pub TakesMemory : List ℕ → Type 0
-TakesMemory text = IsBlockText text ⊎ IsCertificateText text
+abbrev pub DecodingAllocates : List ℕ → Type 0
+DecodingAllocates text = IsBlockText text ⊎ IsCertificateText text
 
 -- bytes follow the text of a message
 abbrev pub GoesOn : List ℕ → Type 0

@@ -2,7 +2,7 @@
 ghost use Rattle.std.specs.Prelude.{◌≡◌, ◌≢◌, ◌↔◌, IfOk, IfErr, IsErrOf};
 ghost use Rattle.nw_codec.specs.Faults.{IsFirstFault};
 ghost use Rattle.nw_codec.specs.Parts.{Decodes};
-ghost use Rattle.nw_codec.specs.Spelled.{Spells, IsSpelled, TakesMemory};
+ghost use Rattle.nw_codec.specs.Spelled.{Spells, IsSpelled, DecodingAllocates};
 
 mod block;
 mod certificate;
@@ -24,7 +24,7 @@ pub fn decode_message(alloc: Global, text: &[u8]) -> Result<Message, DecodeError
     ensures found { IfOk result (λ m. Spells text.now m) }
     ensures fault { (e : DecodeError) → e ≢ DecodeError.NoMemory
         → (IsErrOf result e ↔ IsFirstFault text.now e) }
-    ensures memory { IsErrOf result DecodeError.NoMemory → TakesMemory text.now }
+    ensures memory { IsErrOf result DecodeError.NoMemory → DecodingAllocates text.now }
     ensures succeeds { IsSpelled text.now → IfErr result (λ e. e ≡ DecodeError.NoMemory) }
 {
     decode_by_tag(alloc, text)

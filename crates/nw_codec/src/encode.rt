@@ -135,11 +135,11 @@ pub fn encode_block(
 
 /// The text of the message. Fails with `OverLimit` exactly if its block or certificate does not fit (`Block::fits`,
 /// `Certificate::fits`), and with `NoMemory` if the allocation fails. A vote always fits.
-pub fn encode_message(alloc: Global, sent: &Message) -> Result<Vec<u8>, EncodeError>
-    ensures spells { IfOk result (λ v. Spells v.items sent.now) }
-    ensures over_limit { IsErrOf result EncodeError.OverLimit ↔ (MessageFits sent.now → ⊥) }
+pub fn encode_message(alloc: Global, message: &Message) -> Result<Vec<u8>, EncodeError>
+    ensures spells { IfOk result (λ v. Spells v.items message.now) }
+    ensures over_limit { IsErrOf result EncodeError.OverLimit ↔ (MessageFits message.now → ⊥) }
 {
-    match sent {
+    match message {
         Message::Block { block, signature } => encode_block(alloc, block, signature),
         Message::Certificate(certificate) => {
             if !certificate.fits() {

@@ -58,7 +58,7 @@ pub(crate) fn merged<'a>(
     let most = newer.len().saturating_add(older.len());
     let mut both = Vec::with_capacity(alloc, most)?;
     let (mut newer, mut older) = (newer, older);
-    while let Some((entry, of_newer, of_older)) = first_of(newer, older) {
+    while let Some((entry, of_newer, of_older)) = first_of_both(newer, older) {
         both.push(EntryRef { entry })?;
         newer = &newer[of_newer..];
         older = &older[of_older..];
@@ -68,7 +68,10 @@ pub(crate) fn merged<'a>(
 
 /// The first entry of both lists, and for each list the number of entries with its digest: 0 or 1. If both lists have the digest, the
 /// newer list's entry is taken.
-fn first_of<'a>(newer: &[EntryRef<'a>], older: &'a [Entry]) -> Option<(&'a Entry, usize, usize)>
+fn first_of_both<'a>(
+    newer: &[EntryRef<'a>],
+    older: &'a [Entry],
+) -> Option<(&'a Entry, usize, usize)>
     requires newer { Ascend newer.now }
     requires older { Ascend older.now }
     ensures next { MatchOption result ((newer.now ≡ []) × (older.now ≡ []))

@@ -37,7 +37,7 @@ impl Network {
             return Err(End::CutOff);
         };
         match senders.get(usize::from(node)) {
-            Some(sender) => sent(sender.send(rt, text)),
+            Some(sender) => end_if_out_of_memory(sender.send(rt, text)),
             None => Ok(()),
         }
     }
@@ -50,7 +50,7 @@ impl Network {
 }
 
 // An allocation failure ends the load. A message to a thread that has ended is dropped.
-fn sent<T: Drop>(outcome: Result<(), SendError<T>>) -> Result<(), End> {
+fn end_if_out_of_memory<T: Drop>(outcome: Result<(), SendError<T>>) -> Result<(), End> {
     match outcome {
         Err(SendError::OutOfMemory(_)) => Err(End::NoMemory),
         _ => Ok(()),
@@ -78,7 +78,7 @@ impl<'a> LinkChannels<'a> {
 
     /// Tells the client that the node's block of the next round, which has this digest, is certified.
     pub(crate) fn tell_client<R: Wait>(&self, rt: &R, digest: Digest) -> Result<(), End> {
-        sent(self.to_client.send(rt, digest))
+        end_if_out_of_memory(self.to_client.send(rt, digest))
     }
 }
 

@@ -31,16 +31,16 @@ bit_in (Fork bit sides) = bit
 pub same_bit : {V A : Type 0} {link : Link V A} {m n : ℕ} {s t : Box (Sides V A) A} → link ≡ Fork m s → link ≡ Fork n t → m ≡ n
 same_bit a b = sym (ap bit_in a) ∙ ap bit_in b
 
-first_of : {V : Type 0} (P : Digest → Type 0) (es : List (Digest × V)) → 0 < length es → EachKey P es → (k : Digest) × P k
-first_of P [] full h = absurd (omega (arith, full))
-first_of P (e ∷ es) full h = (e.0, h.0)
+first_has : {V : Type 0} (P : Digest → Type 0) (es : List (Digest × V)) → 0 < length es → EachKey P es → (k : Digest) × P k
+first_has P [] full h = absurd (omega (arith, full))
+first_has P (e ∷ es) full h = (e.0, h.0)
 
 module _ {V : Type 0} (k : Digest) (bit n : ℕ) (l r : List (Digest × V)) (fork : IsFork bit l r) (alike : EachKey (AgreeButLast n k) (l ++ r)) where
   -- digests that differ only in their last bits fork at one of those
   pub parted_late : bit + n < 256 → ⊥
   parted_late low =
-      let x = first_of _ l fork.left_nonempty (each_pair _ _ l (each_left _ l r alike) fork.unset) in
-      let y = first_of _ r fork.right_nonempty (each_pair _ _ r (each_right _ l r alike) fork.set) in
+      let x = first_has _ l fork.left_nonempty (each_pair _ _ l (each_left _ l r alike) fork.unset) in
+      let y = first_has _ r fork.right_nonempty (each_pair _ _ r (each_right _ l r alike) fork.set) in
       let e : false ≡ true = sym x.1.1 ∙ sym (x.1.0 bit low) ∙ y.1.0 bit low ∙ y.1.1 in
       cc
 

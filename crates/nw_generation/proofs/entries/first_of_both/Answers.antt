@@ -6,8 +6,8 @@ use Rattle.nw_digest.specs.Order.{digest_cmp}
 use Rattle.nw_model.proofs.Maps.{digests_total}
 use Rattle.nw_generation.proofs.Searches.{empty_below}
 use Rattle.nw_generation.proofs.Merging.{both_next, first_below, newer_next, older_next}
-use Rattle.nw_generation.proofs.entries.first_of.Goals.{in-Less, in-Equal, in-Greater}
-use Rattle.nw_generation.proofs.entries.first_of.Goals as goal
+use Rattle.nw_generation.proofs.entries.first_of_both.Goals.{in-Less, in-Equal, in-Greater}
+use Rattle.nw_generation.proofs.entries.first_of_both.Goals as goal
 
 pub returns-in-None-Some-clause-next : goal.returns-in-None-Some-clause-next
 returns-in-None-Some-clause-next c =
