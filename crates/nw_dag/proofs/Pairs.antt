@@ -10,7 +10,7 @@ use Rattle.nw_waiting.specs.Pairs.{Pair, Pairs, Lacks, pair_cmp, without_holder,
 use Rattle.nw_model.specs.Missing.{wanted_cmp}
 use Rattle.nw_model.proofs.Kept.{tie}
 use Rattle.nw_model.proofs.Maps.{digests_total, digests_apart}
-use Rattle.nw_model.proofs.Wanted.{one_wanted, wanted_total}
+use Rattle.nw_model.proofs.WantedOrder.{one_wanted, wanted_total}
 use Rattle.nw_waiting.proofs.Orders.{pairs_apart, pairs_total}
 
 one_digest : (c d : Digest) → eq_by_cmp digest_cmp c d ≡ true → c ≡ d

@@ -1,6 +1,6 @@
 pub mod Maps
 pub mod Kept
-pub mod Wanted
+pub mod WantedOrder
 pub mod Raised
 pub mod Complete
 pub mod Listed

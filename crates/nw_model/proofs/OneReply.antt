@@ -4,7 +4,7 @@ use Rattle.std.specs.Prelude.{take}
 use Rattle.std.specs.Cmp.{IsTotalOrder}
 use Rattle.std.specs.declared.cmp.Ordering.{Ordering}
 use Rattle.std.specs.FinMap.{get}
-use Rattle.nw_model.proofs.Wanted.{wanted_total}
+use Rattle.nw_model.proofs.WantedOrder.{wanted_total}
 use Rattle.nw_model.specs.declared.wanted.Wanted.{Wanted}
 use Rattle.nw_model.specs.Missing.{IsWanted, ListsExactly, HasCount, AreFirstWanted, AreCounts}
 use Rattle.nw_model.specs.declared.reply.Counts.{Counts}

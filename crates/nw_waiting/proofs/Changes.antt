@@ -16,7 +16,7 @@ use Rattle.nw_waiting.specs.Pairs.{AreHolders, AreMissing, AreWanted, Pairs, wit
 use Rattle.nw_model.specs.Missing.{wanted_cmp}
 use Rattle.nw_waiting.proofs.Members.{member_added, member_removed, once_added, once_removed}
 use Rattle.nw_model.proofs.Maps.{digests_total}
-use Rattle.nw_model.proofs.Wanted.{one_wanted, wanted_total}
+use Rattle.nw_model.proofs.WantedOrder.{one_wanted, wanted_total}
 use Rattle.nw_waiting.proofs.Relation.{are_holders, are_missing, are_wanted, contains_added, contains_in, contains_without_holder, contains_without_wanted, filled_taken, is_pair, member_taken, nobody, once_taken, one_digest, same_added, same_satisfied, same_unwanted, view_is}
 
 module _ {L M : Type 0} (items : L → List Digest) (missing : M → List Wanted) where

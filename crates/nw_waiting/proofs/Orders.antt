@@ -10,7 +10,7 @@ use Rattle.std.proofs.lemmas.Map.Lookups.{exact_pairs}
 use Rattle.nw_digest.specs.Order.{digest_cmp}
 use Rattle.nw_model.specs.Missing.{wanted_cmp}
 use Rattle.nw_model.proofs.Maps.{digests_apart, digests_total}
-use Rattle.nw_model.proofs.Wanted.{wanted_apart, wanted_total}
+use Rattle.nw_model.proofs.WantedOrder.{wanted_apart, wanted_total}
 use Rattle.nw_waiting.specs.Pairs.{Pair, pair_cmp}
 
 pub pairs_total : IsTotalOrder pair_cmp

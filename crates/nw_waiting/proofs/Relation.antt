@@ -23,7 +23,7 @@ use Rattle.nw_waiting.specs.Pairs.{AreHolders, AreMissing, AreWanted, Lacks, Pai
 use Rattle.nw_model.specs.Missing.{wanted_cmp}
 use Rattle.nw_model.proofs.Kept.{tie}
 use Rattle.nw_model.proofs.Maps.{digests_apart, digests_total}
-use Rattle.nw_model.proofs.Wanted.{one_wanted, wanted_total}
+use Rattle.nw_model.proofs.WantedOrder.{one_wanted, wanted_total}
 use Rattle.nw_waiting.proofs.Orders.{pair_tied, pairs_apart, pairs_total}
 
 left : (a b : Bool) → (a && b) ≡ true → a ≡ true
