@@ -7,8 +7,8 @@ abbrev pub ghosts-run-L-Ledger : goal.ghosts-run-L-Ledger
 ghosts-run-L-Ledger g a = record { name = a.opening.ledger; parts = parts_of_a_ledger }
 
 -- the opening's log
-abbrev pub ghosts-run-L-Place : goal.ghosts-run-L-Place
-ghosts-run-L-Place g a = record { log = a.opening.log }
+abbrev pub ghosts-run-L-LogName : goal.ghosts-run-L-LogName
+ghosts-run-L-LogName g a = record { log = a.opening.log }
 
 -- the origin of the store's history
 abbrev pub ghosts-run-L-Home : goal.ghosts-run-L-Home

@@ -7,8 +7,8 @@ abbrev pub ghosts-take_with_store-L-Ledger : goal.ghosts-take_with_store-L-Ledge
 ghosts-take_with_store-L-Ledger g a = record { name = a.opening.ledger; parts = parts_of_a_ledger }
 
 -- the opening's log
-abbrev pub ghosts-take_with_store-L-Place : goal.ghosts-take_with_store-L-Place
-ghosts-take_with_store-L-Place g a = record { log = a.opening.log }
+abbrev pub ghosts-take_with_store-L-LogName : goal.ghosts-take_with_store-L-LogName
+ghosts-take_with_store-L-LogName g a = record { log = a.opening.log }
 
 -- the origin of the book's history
 abbrev pub ghosts-take_with_store-L-Home : goal.ghosts-take_with_store-L-Home

@@ -7,8 +7,8 @@ abbrev pub ghosts-run_store-L-Ledger : goal.ghosts-run_store-L-Ledger
 ghosts-run_store-L-Ledger g a = record { name = a.opening.ledger; parts = parts_of_a_ledger }
 
 -- the log that was opened
-abbrev pub ghosts-run_store-L-Place : goal.ghosts-run_store-L-Place
-ghosts-run_store-L-Place g a = record { log = a.opening.log }
+abbrev pub ghosts-run_store-L-LogName : goal.ghosts-run_store-L-LogName
+ghosts-run_store-L-LogName g a = record { log = a.opening.log }
 
 -- the origin of the new store
 abbrev pub ghosts-run_store-L-Home : goal.ghosts-run_store-L-Home

@@ -20,8 +20,8 @@ use Rattle.nw_load.proofs.node.start_client.Goals as goal
 -- the values that the closure captures: the load's context, the node, the store, the session and the channel
 pub spawn-requires-send-F : goal.spawn-requires-send-F
 spawn-requires-send-F g c κs within =
-    let store = store_sync demo.the_row (param 0 g.row.L) demo_is.ghosts g.L.Home g.L.Place g.L.Ledger in
-    let session = session_send demo.the_row (param 0 g.row.L) demo_is.ghosts g.L.Home g.L.Place g.L.Ledger in
+    let store = store_sync demo.the_row (param 0 g.row.L) demo_is.ghosts g.L.Home g.L.LogName g.L.Ledger in
+    let session = session_send demo.the_row (param 0 g.row.L) demo_is.ghosts g.L.Home g.L.LogName g.L.Ledger in
     let channel : IsSend (receivers.the_row digests.the_row heap.the_row ghosts) = search (receiver.the_send, digest.the_send, send, sync, frees) depth 20 in
     let node : IsSend (UInt w16) = search sendable in
     along_send _ _ _ _ (

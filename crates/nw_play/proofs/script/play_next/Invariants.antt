@@ -7,8 +7,8 @@ abbrev pub ghosts-play_store-L-Ledger : goal.ghosts-play_store-L-Ledger
 ghosts-play_store-L-Ledger g a = record { name = a.opening.ledger; parts = parts_of_a_ledger }
 
 -- the log that was opened
-abbrev pub ghosts-play_store-L-Place : goal.ghosts-play_store-L-Place
-ghosts-play_store-L-Place g a = record { log = a.opening.log }
+abbrev pub ghosts-play_store-L-LogName : goal.ghosts-play_store-L-LogName
+ghosts-play_store-L-LogName g a = record { log = a.opening.log }
 
 -- the origin of the book
 abbrev pub ghosts-play_store-L-Home : goal.ghosts-play_store-L-Home

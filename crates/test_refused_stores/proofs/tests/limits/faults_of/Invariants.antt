@@ -7,8 +7,8 @@ abbrev pub ghosts-fault_of-L-Ledger : goal.ghosts-fault_of-L-Ledger
 ghosts-fault_of-L-Ledger a = record { name = a.opening.ledger; parts = parts_of_a_ledger }
 
 -- the log of the opening
-abbrev pub ghosts-fault_of-L-Place : goal.ghosts-fault_of-L-Place
-ghosts-fault_of-L-Place a = record { log = a.opening.log }
+abbrev pub ghosts-fault_of-L-LogName : goal.ghosts-fault_of-L-LogName
+ghosts-fault_of-L-LogName a = record { log = a.opening.log }
 
 -- the origin that a store would have
 abbrev pub ghosts-fault_of-L-Home : goal.ghosts-fault_of-L-Home

@@ -7,8 +7,8 @@ abbrev pub ghosts-play_new-L-Ledger : goal.ghosts-play_new-L-Ledger
 ghosts-play_new-L-Ledger g a = record { name = a.opening.ledger; parts = parts_of_a_ledger }
 
 -- the log of the opening
-abbrev pub ghosts-play_new-L-Place : goal.ghosts-play_new-L-Place
-ghosts-play_new-L-Place g a = record { log = a.opening.log }
+abbrev pub ghosts-play_new-L-LogName : goal.ghosts-play_new-L-LogName
+ghosts-play_new-L-LogName g a = record { log = a.opening.log }
 
 -- the origin of the store
 abbrev pub ghosts-play_new-L-Home : goal.ghosts-play_new-L-Home

@@ -7,8 +7,8 @@ abbrev pub ghosts-play_over-L-Ledger : goal.ghosts-play_over-L-Ledger
 ghosts-play_over-L-Ledger g a = record { name = a.opening.ledger; parts = parts_of_a_ledger }
 
 -- the log of the opening
-abbrev pub ghosts-play_over-L-Place : goal.ghosts-play_over-L-Place
-ghosts-play_over-L-Place g a = record { log = a.opening.log }
+abbrev pub ghosts-play_over-L-LogName : goal.ghosts-play_over-L-LogName
+ghosts-play_over-L-LogName g a = record { log = a.opening.log }
 
 -- the origin of the book
 abbrev pub ghosts-play_over-L-Home : goal.ghosts-play_over-L-Home

@@ -7,8 +7,8 @@ abbrev pub ghosts-of_a_store-L-Ledger : goal.ghosts-of_a_store-L-Ledger
 ghosts-of_a_store-L-Ledger g a = record { name = a.opening.ledger; parts = parts_of_a_ledger }
 
 -- the log of the opening
-abbrev pub ghosts-of_a_store-L-Place : goal.ghosts-of_a_store-L-Place
-ghosts-of_a_store-L-Place g a = record { log = a.opening.log }
+abbrev pub ghosts-of_a_store-L-LogName : goal.ghosts-of_a_store-L-LogName
+ghosts-of_a_store-L-LogName g a = record { log = a.opening.log }
 
 -- the origin of the book
 abbrev pub ghosts-of_a_store-L-Home : goal.ghosts-of_a_store-L-Home

@@ -7,8 +7,8 @@ abbrev pub ghosts-opened_in-L-Ledger : goal.ghosts-opened_in-L-Ledger
 ghosts-opened_in-L-Ledger g a = record { name = a.opening.ledger; parts = parts_of_a_ledger }
 
 -- the log of the opening
-abbrev pub ghosts-opened_in-L-Place : goal.ghosts-opened_in-L-Place
-ghosts-opened_in-L-Place g a = record { log = a.opening.log }
+abbrev pub ghosts-opened_in-L-LogName : goal.ghosts-opened_in-L-LogName
+ghosts-opened_in-L-LogName g a = record { log = a.opening.log }
 
 -- the origin of the book
 abbrev pub ghosts-opened_in-L-Home : goal.ghosts-opened_in-L-Home

@@ -15,5 +15,5 @@ for_each_mut-requires-send-T g c κs within = search (sendable, session_send) de
 -- what the closure captures by reference: the runtime, the allocator, the store and the crew
 pub for_each_mut-requires-sync-F : goal.for_each_mut-requires-sync-F
 for_each_mut-requires-sync-F g c κs within =
-    let store = store_sync demo.the_row (param 0 g.row.L) demo_is.ghosts g.L.Home g.L.Place g.L.Ledger in
+    let store = store_sync demo.the_row (param 0 g.row.L) demo_is.ghosts g.L.Home g.L.LogName g.L.Ledger in
     along_sync _ _ _ _ (also _ _ (shr_sync _ _ _ c.type_bounds.sync-R) (also _ _ (shr_sync _ _ _ sync) (also _ _ (shr_sync _ _ _ store) (also _ _ (shr_sync _ _ _ crew.the_sync) none))))

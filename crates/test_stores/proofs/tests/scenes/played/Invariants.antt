@@ -7,8 +7,8 @@ abbrev pub ghosts-play-L-Ledger : goal.ghosts-play-L-Ledger
 ghosts-play-L-Ledger g a = record { name = a.opening.ledger; parts = parts_of_a_ledger }
 
 -- the log of the opening
-abbrev pub ghosts-play-L-Place : goal.ghosts-play-L-Place
-ghosts-play-L-Place g a = record { log = a.opening.log }
+abbrev pub ghosts-play-L-LogName : goal.ghosts-play-L-LogName
+ghosts-play-L-LogName g a = record { log = a.opening.log }
 
 -- the origin of the book
 abbrev pub ghosts-play-L-Home : goal.ghosts-play-L-Home
