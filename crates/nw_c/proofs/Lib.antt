@@ -1,3 +1,4 @@
 pub mod AsBox
 pub mod Send
 pub mod Cut
+pub mod Boxed

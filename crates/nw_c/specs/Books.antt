@@ -23,34 +23,34 @@ limits_in l = record { blocks = l.blocks; events = l.events; window = l.window; 
 
 -- it is a new book of the committee, under these limits, with an empty history
 abbrev pub IsEmptyBook : Content → CLimits → Content → Type 0
-IsEmptyBook (kind.Committee members) limits (kind.Book s) = AreInRange (limits_in limits) × (s ≡ story_of (first_origin members (limits_in limits)) [])
+IsEmptyBook (kind.Committee members) limits (kind.Book b) = AreInRange (limits_in limits) × (b.value ≡ story_of (first_origin members (limits_in limits)) [])
 IsEmptyBook committee limits other = ⊥
 
 -- it is a book whose history has n events
 abbrev pub HasEvents : Content → ℕ → Type 0
-HasEvents (kind.Book s) n = n ≡ length s.events
+HasEvents (kind.Book b) n = n ≡ length b.value.events
 HasEvents other n = ⊥
 
 -- the book takes this call as the session's call of this number, and the answer is the step's
 abbrev pub IsTaken : Meaning → ℕ → ℕ → Call → Content → Content → Content → Type 0
-IsTaken accepts session number asked (kind.Book old) (kind.Book new) (kind.Answer told) = Takes accepts old new session number asked told.event.reply told.front
+IsTaken accepts session number asked (kind.Book old) (kind.Book new) (kind.Answer told) = Takes accepts old.value new.value session number asked told.event.reply told.front
 IsTaken accepts session number asked old new answer = ⊥
 
 -- the book takes the session's causal read of this number: the answer is a ticket for the digest, or says why there is none
 abbrev pub IsOpened : Meaning → ℕ → ℕ → Digest → Content → Content → Content → Type 0
 IsOpened accepts session number d (kind.Book old) (kind.Book new) (kind.Ticket given) =
-    Takes accepts old new session number (call.Causal d) reply.Ready given.front × (given.digest ≡ d)
+    Takes accepts old.value new.value session number (call.Causal d) reply.Ready given.front × (given.digest ≡ d)
 IsOpened accepts session number d (kind.Book old) (kind.Book new) (kind.Answer told) =
-    Takes accepts old new session number (call.Causal d) told.event.reply told.front × ((why : CausalReply) × (told.event.reply ≡ reply.Causal why))
+    Takes accepts old.value new.value session number (call.Causal d) told.event.reply told.front × ((why : CausalReply) × (told.event.reply ≡ reply.Causal why))
 IsOpened accepts session number d old new answer = ⊥
 
 -- the book refuses the session's call of this number for this reason; `under` is the committee of the value handed in, if the call hands
 -- one in
 abbrev pub IsRefusedBy : Content → ℕ → ℕ → Option (List Member) → NoStep → Type 0
-IsRefusedBy (kind.Book s) session number under why = IsRefusal s session number under why
+IsRefusedBy (kind.Book b) session number under why = IsRefusal b.value session number under why
 IsRefusedBy other session number under why = ⊥
 
 -- the new book has the same state, and an empty history that starts from it
 abbrev pub IsRestarted : Content → Content → Type 0
-IsRestarted (kind.Book old) (kind.Book new) = new ≡ reopened old
+IsRestarted (kind.Book old) (kind.Book new) = new.value ≡ reopened old.value
 IsRestarted old new = ⊥

@@ -4,7 +4,7 @@ use Rattle.nw_codec.specs.Fits.{signers}
 use Rattle.nw_committee.specs.Committee.{ReachesQuorum}
 use Rattle.nw_sig.specs.Signed.{Meaning}
 use Rattle.nw_model.specs.Checks.{IsMember}
-use Rattle.nw_check.specs.Gathering.{Counts, CanCount, IsGatherFault, certificate_of}
+use Rattle.nw_check.specs.Gathering.{CountsVote, CanCount, IsGatherFault, certificate_of}
 use Rattle.nw_check.specs.declared.fault.GatherFault.{GatherFault}
 use Rattle.nw_check.specs.declared.message.Checked.TheVariants as checked
 use Rattle.nw_c.specs.Plain.{digest_in}
@@ -21,7 +21,7 @@ IsNewGather committee s other = ⊥
 -- the vote can be counted and is counted, and b says whether the counted votes reach the quorum
 abbrev pub IsCountedIn : Meaning → Content → Content → Content → Bool → Type 0
 IsCountedIn accepts (kind.Gather old) (kind.Checked (checked.Vote v)) (kind.Gather new) b =
-    CanCount accepts old v × Counts old v new × (IsTrue b ↔ ReachesQuorum new.committee (signers new.seals))
+    CanCount accepts old v × CountsVote old v new × (IsTrue b ↔ ReachesQuorum new.committee (signers new.seals))
 IsCountedIn accepts old vote new b = ⊥
 
 -- the vote is not counted for this reason

@@ -1,5 +1,6 @@
 -- The contents that functions require, and unchanged handles.
-use Rattle.std.specs.Prelude.{◌≡◌, ◌⊎◌, List}
+use Rattle.std.specs.Prelude.{◌≡◌, ◌⊎◌, Box, List}
+use Rattle.std.specs.Global.{Global}
 use Rattle.nw_committee.specs.declared.member.Member.{Member}
 use Rattle.nw_codec.specs.declared.block.Block.{Block}
 use Rattle.nw_codec.specs.declared.vote.Vote.{Vote}
@@ -45,7 +46,7 @@ HoldsGather c = (votes : Gathering) × (c ≡ kind.Gather votes)
 
 -- it is a book
 abbrev pub HoldsBook : Content → Type 0
-HoldsBook c = (story : Story) × (c ≡ kind.Book story)
+HoldsBook c = (book : Box Story Global) × (c ≡ kind.Book book)
 
 -- it is an answer
 abbrev pub HoldsAnswer : Content → Type 0

@@ -73,10 +73,17 @@ pub extern "C" fn nw_book_new(
     let Ok(members) = members.try_clone() else {
         return NO_MEMORY;
     };
-    match Book::<Ed25519>::new(alloc, members, limits.get()) {
+    let book = match Book::<Ed25519>::new(alloc, members, limits.get()) {
+        Ok(book) => book,
+        Err(BookError::BadLimits) => return BAD_LIMITS,
+        Err(BookError::NoMemory) => return NO_MEMORY,
+    };
+    match Box::new(alloc, book) {
         Ok(book) => put(alloc, out, Content::Book(book)),
-        Err(BookError::BadLimits) => BAD_LIMITS,
-        Err(BookError::NoMemory) => NO_MEMORY,
+        Err(refused) => {
+            drop(refused);
+            NO_MEMORY
+        }
     }
 }
 

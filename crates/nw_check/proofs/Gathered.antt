@@ -12,7 +12,7 @@ use Rattle.nw_codec.specs.declared.vote.Vote.{Vote}
 use Rattle.nw_committee.specs.Committee.{ReachesQuorum}
 use Rattle.nw_sig.specs.Signed.{Meaning, text_of_vote}
 use Rattle.nw_model.specs.Checks.{IsMember, IsSignedBy, IsSealOf, IsValid}
-use Rattle.nw_check.specs.Gathering.{Gathering, IsGathering, IsPlace, CanCount, Counts, certificate_of}
+use Rattle.nw_check.specs.Gathering.{Gathering, IsGathering, IsPlace, CanCount, CountsVote, certificate_of}
 use Rattle.nw_check.proofs.Places.{few_below, place-rises}
 
 -- the number at a place is that of the seal at the place
@@ -75,7 +75,7 @@ counted-gathering accepts g v p ok may place =
     gathering-insert accepts g ok p (seal v) place (subst (λ t. IsSignedBy accepts g.committee v.signer t v.signature) text may.2)
 
 -- if the seal of a vote was inserted at a place, the vote was counted
-pub counted-counts : (g : Gathering) (v : Vote) (p : ℕ) (new : List Seal) → new ≡ insert g.seals p (seal v) → Counts g v (record g { seals = new })
+pub counted-counts : (g : Gathering) (v : Vote) (p : ℕ) (new : List Seal) → new ≡ insert g.seals p (seal v) → CountsVote g v (record g { seals = new })
 counted-counts g v p new e = record {
   seals = (take p g.seals, drop p g.seals, sym (take-append-drop p g.seals), e);
   others = refl;

@@ -82,7 +82,7 @@ abbrev pub AddsSeal : List Seal → Seal → List Seal → Type 0
 AddsSeal old one new = (before after : List Seal) × (old ≡ before ++ after) × (new ≡ before ++ one ∷ after)
 
 -- the new gatherer is the old one after it counted the vote
-pub record Counts (old : Gathering) (v : Vote) (new : Gathering) : Type 0 where
+pub record CountsVote (old : Gathering) (v : Vote) (new : Gathering) : Type 0 where
   -- its seal was added
   pub seals : AddsSeal old.seals (seal v) new.seals
   -- nothing else changed

@@ -7,7 +7,7 @@ ghost use Rattle.nw_codec.specs.Fits.{signers};
 ghost use Rattle.nw_committee.specs.Committee.{ReachesQuorum};
 ghost use Rattle.nw_model.specs.Checks.{IsMember};
 ghost use Rattle.nw_check.specs.Gathering.{IsGathering, CanCount, IsGatherFault, IsVoteForBlock, IsPlace};
-ghost use Rattle.nw_check.specs.Gathering.{Counts, IsCount, certificate_of};
+ghost use Rattle.nw_check.specs.Gathering.{CountsVote, IsCount, certificate_of};
 
 use crate::members::{is_member, is_signed_by, reach_quorum};
 use crate::{CheckedCert, Counted, FinishFault, GatherFault, StartFault};
@@ -97,7 +97,7 @@ impl<S: Scheme> Gather<S> {
     /// 4. `Signature`: the scheme does not accept the signature under the signer's key.
     /// 5. `NoMemory`: an allocation failed.
     pub fn add(&mut self, vote: &Vote) -> Result<Counted, GatherFault>
-        ensures counted { OnOk result (Counts self.old vote.now self.new) }
+        ensures counted { OnOk result (CountsVote self.old vote.now self.new) }
         ensures quorum { IfOk result (IsCount self.new) }
         ensures gathering { IsGathering S.accepts self.new }
         ensures may_count { OnOk result (CanCount S.accepts self.old vote.now) }

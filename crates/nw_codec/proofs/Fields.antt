@@ -9,7 +9,7 @@ use Rattle.nw_codec.specs.declared.error.DecodeError.{DecodeError}
 use Rattle.nw_codec.specs.declared.error.DecodeError.TheVariants.{Short, Tag, TransactionTooLong, BodyTooLong}
 use Rattle.nw_codec.specs.Faults.{Stage, AtTransaction, width, after_tag, after_field, number16, comes_after, Reaches, FaultFrom}
 use Rattle.nw_codec.specs.Grammar.{round_bytes}
-use Rattle.nw_codec.specs.Parts.{NumberAt, RoundAt, HeadAt, ItemsAt, LastSignature, Counts, Orders}
+use Rattle.nw_codec.specs.Parts.{NumberAt, RoundAt, HeadAt, ItemsAt, LastSignature, ReadsCount, Orders}
 use Rattle.nw_codec.specs.Typed.{AreBytes}
 use Rattle.nw_codec.proofs.Pieces.{again16, back16, below16}
 use Rattle.nw_codec.proofs.Steps.{bytes_of}
@@ -155,11 +155,11 @@ number_fails stage n text rest e wide at fails =
     let field : take 2 text ≡ to_be_bytes w16 n = ap (take 2) at.bytes ∙ take_at (to_be_bytes w16 n) rest 2 refl in
     failed stage 2 text e wide (omega (arith, ap length at.bytes, length-append (to_be_bytes w16 n) rest)) (subst (λ (f : List ℕ). after_field stage f ≡ Err e) (sym field) fails)
 
-pub count_leads : (stage : Stage) (max : ℕ) (over : DecodeError) (next : ℕ → Stage) (n : ℕ) (text rest : List ℕ) → Counts stage max over next → NumberAt text n rest → n ≤ max → Reaches stage text (next n) rest
+pub count_leads : (stage : Stage) (max : ℕ) (over : DecodeError) (next : ℕ → Stage) (n : ℕ) (text rest : List ℕ) → ReadsCount stage max over next → NumberAt text n rest → n ≤ max → Reaches stage text (next n) rest
 count_leads stage max over next n text rest counts at low =
     number_passes stage (next n) n text rest counts.wide at (counts.test (to_be_bytes w16 n) ∙ count_passes (number16 (to_be_bytes w16 n)) n max over next (again16 n at.low) low)
 
-pub count_fails : (stage : Stage) (max : ℕ) (over : DecodeError) (next : ℕ → Stage) (n : ℕ) (text rest : List ℕ) → Counts stage max over next → NumberAt text n rest → max < n → FaultFrom stage text over
+pub count_fails : (stage : Stage) (max : ℕ) (over : DecodeError) (next : ℕ → Stage) (n : ℕ) (text rest : List ℕ) → ReadsCount stage max over next → NumberAt text n rest → max < n → FaultFrom stage text over
 count_fails stage max over next n text rest counts at high =
     let same : number16 (to_be_bytes w16 n) ≡ n = again16 n at.low in
     number_fails stage n text rest over counts.wide at (counts.test (to_be_bytes w16 n) ∙ high_fails (number16 (to_be_bytes w16 n)) max (Ok (next (number16 (to_be_bytes w16 n)))) over (omega (arith, same, high)))

@@ -18,7 +18,7 @@ use Rattle.nw_codec.specs.Packed.{ArePacked, transaction_bytes}
 use Rattle.nw_codec.specs.Typed.{AreBytes, IsRef, IsBlock, IsSeal, IsCertificate}
 use Rattle.nw_codec.specs.Spelled.{Spells}
 use Rattle.nw_codec.specs.Faults.{Kind, Stage, AtDigest, stage_after_subject, AtSignature, AtVersion, AtAuthor, AtRound, AtParentCount, AtTransactionCount, AtVoteCount, AtSealSignature, AtEnd, at_parents, at_transactions, at_seals, Reaches}
-use Rattle.nw_codec.specs.Parts.{Counts, NumberAt, RoundAt, HeadAt, ItemsAt, ParentsAt, TransactionsAt, SubjectAt, LastSignature, IsLast, AreBlockParts, AreCertificateParts}
+use Rattle.nw_codec.specs.Parts.{ReadsCount, NumberAt, RoundAt, HeadAt, ItemsAt, ParentsAt, TransactionsAt, SubjectAt, LastSignature, IsLast, AreBlockParts, AreCertificateParts}
 use Rattle.nw_codec.proofs.Pieces.{same_start, same16, same48}
 use Rattle.nw_codec.proofs.Packed.{are_packed}
 use Rattle.nw_codec.proofs.Steps.{bytes_of}
@@ -59,13 +59,13 @@ signature_ends = record { wide = refl; passes = λ field. refl }
 pub seal_ends : (signer : ℕ) → IsLast 64 (AtSealSignature 0 signer)
 seal_ends signer = record { wide = refl; passes = λ field. refl }
 
-pub counts_parents : Counts AtParentCount 100 TooManyParents (λ n. at_parents n None (11 + 34 * n))
+pub counts_parents : ReadsCount AtParentCount 100 TooManyParents (λ n. at_parents n None (11 + 34 * n))
 counts_parents = record { wide = refl; test = λ field. refl }
 
-pub counts_transactions : (size : ℕ) → Counts (AtTransactionCount size) 1024 TooManyTransactions (λ n. at_transactions n (size + 2))
+pub counts_transactions : (size : ℕ) → ReadsCount (AtTransactionCount size) 1024 TooManyTransactions (λ n. at_transactions n (size + 2))
 counts_transactions size = record { wide = refl; test = λ field. refl }
 
-pub counts_votes : Counts AtVoteCount 100 TooManyVotes (λ n. at_seals n None)
+pub counts_votes : ReadsCount AtVoteCount 100 TooManyVotes (λ n. at_seals n None)
 counts_votes = record { wide = refl; test = λ field. refl }
 
 -- the fields that precede the rest

@@ -83,7 +83,7 @@ pub record LastSignature (text : List ℕ) (s : Signature) : Type 0 where
 -- ---- stages with the same kind of field
 
 -- the stage reads a count; a count above `max` is the fault `over`
-pub record Counts (stage : Stage) (max : ℕ) (over : DecodeError) (next : ℕ → Stage) : Type 0 where
+pub record ReadsCount (stage : Stage) (max : ℕ) (over : DecodeError) (next : ℕ → Stage) : Type 0 where
   -- a count has two bytes
   pub wide : width stage ≡ Some 2
   -- the fault, or the next stage

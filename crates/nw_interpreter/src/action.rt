@@ -47,45 +47,27 @@ impl<'a> Interpreter<'a> {
         request: &Request<'a>,
     ) -> Result<Action<'a>, LineFault> {
         match request {
+            Request::Block(line) => print(self.block(alloc, line)),
+            Request::Body(name) => print(self.body(alloc, *name)),
+            Request::Digest(name) => print(self.digest(alloc, *name)),
+            Request::Hash(word) => print(Interpreter::hash(alloc, word)),
+            Request::Valid { name, signers } => print(self.valid(alloc, *name, signers)),
+            Request::Gather { name, signers } => print(self.gather(alloc, *name, signers)),
+            Request::Walk(ticket) => print(self.walk(alloc, *ticket)),
             Request::Write { name, signer } => self.write(alloc, *name, *signer),
             Request::Certify { name, signers } => self.certify(alloc, *name, signers),
-            Request::Certificate(_) | Request::Read(_) => self.call(request),
-            Request::Collect(_) | Request::Missing(_) | Request::Status => self.call(request),
+            Request::Certificate(name) => {
+                Ok(call(Some(*name), Command::Certificate(self.digest_of(*name)?)))
+            }
+            Request::Read(name) => Ok(call(Some(*name), Command::Read(self.digest_of(*name)?))),
+            Request::Collect(round) => Ok(call(None, Command::Collect(*round))),
+            Request::Missing(most) => Ok(call(None, Command::Missing(*most))),
+            Request::Status => Ok(call(None, Command::Status)),
             Request::Causal(name) => self.open(*name, *name, false),
             Request::Open { ticket, name } => self.open(*ticket, *name, true),
             Request::Session(id) => Ok(Action::Session(*id)),
             Request::Compact => Ok(Action::Compact),
-            _ => Ok(Action::Print(self.answer(alloc, request)?)),
         }
-    }
-
-    // The answer to a request that needs no store. `Bad` for any other request.
-    fn answer(&mut self, alloc: Global, request: &Request<'a>) -> Result<Answer<'a>, LineFault> {
-        match request {
-            Request::Block(line) => self.block(alloc, line),
-            Request::Body(name) => self.body(alloc, *name),
-            Request::Digest(name) => self.digest(alloc, *name),
-            Request::Hash(word) => Interpreter::hash(alloc, word),
-            Request::Valid { name, signers } => self.valid(alloc, *name, signers),
-            Request::Gather { name, signers } => self.gather(alloc, *name, signers),
-            Request::Walk(ticket) => self.walk(alloc, *ticket),
-            _ => Err(LineFault::Bad),
-        }
-    }
-
-    // The call of a request that hands in neither a block nor a certificate. `Bad` for any other request.
-    fn call(&self, request: &Request<'a>) -> Result<Action<'a>, LineFault> {
-        let (name, command) = match request {
-            Request::Certificate(name) => {
-                (Some(*name), Command::Certificate(self.digest_of(*name)?))
-            }
-            Request::Read(name) => (Some(*name), Command::Read(self.digest_of(*name)?)),
-            Request::Collect(round) => (None, Command::Collect(*round)),
-            Request::Missing(most) => (None, Command::Missing(*most)),
-            Request::Status => (None, Command::Status),
-            _ => return Err(LineFault::Bad),
-        };
-        Ok(Action::Call { name, command })
     }
 
     // The write of the block after its message is encoded, decoded and checked. The given member or its author signs it.
@@ -144,8 +126,15 @@ fn checked_command<'a>(
         Checked::BadCert(fault) => return Ok(Action::Print(Answer::BadCert { name, fault })),
         Checked::Vote(_) | Checked::BadText(_) => return Err(LineFault::Bad),
     };
-    Ok(Action::Call {
-        name: Some(name),
-        command,
-    })
+    Ok(call(Some(name), command))
+}
+
+// The call, answered under the name of a block if it has one.
+fn call<'a>(name: Option<Name<'a>>, command: Command<DemoScheme>) -> Action<'a> {
+    Action::Call { name, command }
+}
+
+// An answer that needs no store.
+fn print(answer: Result<Answer<'_>, LineFault>) -> Result<Action<'_>, LineFault> {
+    Ok(Action::Print(answer?))
 }

@@ -22,47 +22,26 @@ impl<'a> Interpreter<'a> {
         name: Option<Name<'a>>,
         reply: &Reply,
     ) -> Result<Answer<'a>, LineFault> {
-        match name {
-            Some(name) => self.answer_on_name(alloc, name, reply),
-            None => self.answer_without_name(alloc, reply),
-        }
-    }
-
-    // The reply to a call on a named block, in words.
-    fn answer_on_name(
-        &self,
-        alloc: Global,
-        name: Name<'a>,
-        reply: &Reply,
-    ) -> Result<Answer<'a>, LineFault> {
-        match reply {
-            Reply::Write(reply) => self.answer_to_write(name, *reply),
-            Reply::Certify(reply) => self.answer_to_certify(name, *reply),
-            Reply::Certificate(Some(certificate)) => {
+        match (name, reply) {
+            (Some(name), Reply::Write(reply)) => self.answer_to_write(name, *reply),
+            (Some(name), Reply::Certify(reply)) => self.answer_to_certify(name, *reply),
+            (Some(name), Reply::Certificate(Some(certificate))) => {
                 signed(alloc, name, certificate.get().votes.as_slice())
             }
-            Reply::Certificate(None) => Ok(named(name, " none")),
-            Reply::Read(Some(block)) => found(name, block.get()),
-            Reply::Read(None) => Ok(named(name, " unknown")),
-            Reply::Causal(reply) => Ok(named(name, word_of(*reply))),
-            Reply::Ready | Reply::List(_) => Err(LineFault::Bad),
-            Reply::Collect(_) | Reply::Missing(_) | Reply::Status(_) => Err(LineFault::Bad),
-        }
-    }
-
-    // The reply to a call without a block, in words.
-    fn answer_without_name(&self, alloc: Global, reply: &Reply) -> Result<Answer<'a>, LineFault> {
-        match reply {
-            Reply::Collect(CollectReply::Raised { dropped }) => Ok(Answer::Count {
+            (Some(name), Reply::Certificate(None)) => Ok(named(name, " none")),
+            (Some(name), Reply::Read(Some(block))) => found(name, block.get()),
+            (Some(name), Reply::Read(None)) => Ok(named(name, " unknown")),
+            (Some(name), Reply::Causal(reply)) => Ok(named(name, word_of(*reply))),
+            (None, Reply::Collect(CollectReply::Raised { dropped })) => Ok(Answer::Count {
                 words: "raised ",
                 number: *dropped,
             }),
-            Reply::Collect(CollectReply::NotHigher(floor)) => Ok(Answer::Count {
+            (None, Reply::Collect(CollectReply::NotHigher(floor))) => Ok(Answer::Count {
                 words: "not higher ",
                 number: floor.get(),
             }),
-            Reply::Missing(wanted) => self.answer_to_missing(alloc, wanted.as_slice()),
-            Reply::Status(counts) => Ok(Answer::Status(*counts)),
+            (None, Reply::Missing(wanted)) => self.answer_to_missing(alloc, wanted.as_slice()),
+            (None, Reply::Status(counts)) => Ok(Answer::Status(*counts)),
             _ => Err(LineFault::Bad),
         }
     }

@@ -99,18 +99,9 @@ impl<L: Home> Player<L> {
         alloc: Global,
         command: &Command<DemoScheme>,
     ) -> Result<Done<DemoScheme>, NoStep> {
-        let Some(session) = self.sessions.get_mut(self.current) else {
-            return Err(NoStep::OutOfTurn);
-        };
-        let store = &self.store;
-        match command {
-            Command::Write(block) => store.write(rt, alloc, session, block),
-            Command::Certify(certificate) => store.certify(rt, alloc, session, certificate),
-            Command::Certificate(digest) => store.certificate(rt, alloc, session, *digest),
-            Command::Read(digest) => store.read(rt, alloc, session, *digest),
-            Command::Collect(round) => store.collect(rt, alloc, session, *round),
-            Command::Missing(most) => store.missing(rt, alloc, session, *most),
-            Command::Status => store.status(rt, alloc, session),
+        match self.sessions.get_mut(self.current) {
+            Some(session) => self.store.call(rt, alloc, session, command),
+            None => Err(NoStep::OutOfTurn),
         }
     }
 

@@ -4,7 +4,7 @@ ghost use Rattle.std.specs.Prelude.{List, length, take, drop, IfOk, MatchResult}
 ghost use Rattle.nw_codec.specs.declared.error.DecodeError.TheVariants.{Short};
 ghost use Rattle.nw_codec.specs.Faults.{Stage, AtEnd, comes_after, Reaches, FaultFrom};
 ghost use Rattle.nw_codec.specs.Parts.{NumberAt, RoundAt, ItemsAt, LastSignature};
-ghost use Rattle.nw_codec.specs.Parts.{Counts, AreItems, IsLast};
+ghost use Rattle.nw_codec.specs.Parts.{ReadsCount, AreItems, IsLast};
 
 use crate::{DecodeError, Signature};
 
@@ -62,7 +62,7 @@ pub(super) fn read_count(
     over: DecodeError,
     text: &[u8],
 ) -> Result<(usize, &[u8]), DecodeError>
-    ensures { (stage : Stage) (next : ℕ → Stage) → Counts stage max over next → MatchResult result
+    ensures { (stage : Stage) (next : ℕ → Stage) → ReadsCount stage max over next → MatchResult result
         (λ x. (x.0 ≤ max) × NumberAt text.now x.0 x.1.now × Reaches stage text.now (next x.0) x.1.now)
         (λ e. FaultFrom stage text.now e) }
 {
