@@ -1,12 +1,11 @@
 //! Ancestors that were looked up in a view.
 ghost use Rattle.std.specs.Prelude.{◌≡◌, Some};
 ghost use Rattle.std.specs.FinMap as map;
-ghost use Rattle.nw_model.specs.View.{IsClosed};
 ghost use Rattle.nw_generation.specs.Seen.{IsOfRound};
 
 use nw_codec::Block;
 use nw_digest::{Digest, Round, Shared};
-use nw_generation::View;
+use nw_generation::Descent;
 
 /// A digest, and its block in the view.
 #[derive(Drop)]
@@ -16,19 +15,18 @@ pub(crate) struct Ancestor<'a> {
 }
 
 impl<'a> Ancestor<'a> {
-    /// Looks up the block under the digest, which the view must have. If a slot is given, the block must be of its round.
+    /// Looks up the block under the digest, which the search must find. If a slot is given, the block must be of its round.
     pub(crate) fn look_up(
-        view: &'a View,
+        descent: &Descent<'a>,
         slot: Option<(Round, u16)>,
         digest: &'a Digest,
     ) -> Ancestor<'a>
-        requires there { (b : Block) × (map.get view.now.frozen.blocks digest.now ≡ Some b) }
-        requires slot { IsOfRound slot (map.get view.now.frozen.blocks digest.now) }
+        requires there { (b : Block) × (map.get descent.now digest.now ≡ Some b) }
+        requires slot { IsOfRound slot (map.get descent.now digest.now) }
         ensures digest { result.digest.now ≡ digest.now }
-        ensures block { map.get view.now.frozen.blocks digest.now ≡ Some result.block.now }
-        ensures closed { IsClosed view.now.frozen }
+        ensures block { map.get descent.now digest.now ≡ Some result.block.now }
     {
-        let Some(block) = view.get_in_slot(slot, digest) else {
+        let Some(block) = descent.get(slot, digest) else {
             unreachable!()
         };
         Ancestor { digest, block }

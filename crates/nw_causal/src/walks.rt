@@ -4,13 +4,14 @@ ghost use Rattle.std.specs.List.Sorted.{IsBinarySearchResult, IsSearchInRange};
 ghost use Rattle.std.specs.Ordering.{nat_cmp};
 ghost use Rattle.nw_model.specs.View.{HasParent, IsClosed, HasBlock, IsWalk};
 ghost use Rattle.nw_model.specs.Search.{IsNamed, IsParentOfAny};
+ghost use Rattle.nw_generation.specs.Seen.{HasUpTo};
 ghost use Rattle.nw_causal.specs.declared.ancestor.Ancestor.{Ancestor};
 ghost use Rattle.nw_causal.specs.Looked.{AreFound, Gains, IsLevel, digests};
 
 use crate::ancestor::Ancestor;
 use nw_codec::{Block, Ref};
 use nw_digest::{Digest, NoMemory, Round, Shared};
-use nw_generation::View;
+use nw_generation::{Descent, View};
 use std::alloc::Global;
 use std::mem::swap;
 
@@ -42,13 +43,15 @@ pub(crate) fn ancestors<'a>(
     ensures closed { OnOk result (IsClosed view.now.frozen) }
 {
     let floor = view.floor().get();
-    let first = Ancestor::look_up(view, None, digest);
+    let mut descent = view.descent();
+    let first = Ancestor::look_up(&descent, None, digest);
     let mut round = first.block.get().round;
     let (mut found, mut level, mut parents) = (Vec::new(alloc), Vec::new(alloc), Vec::new(alloc));
     level.push(first)?;
     while floor < round.get() && !level.is_empty() {
         round = round.before().unwrap();
-        find_parents_of_all(view, round, &level, &mut parents)?;
+        descent.descend_to(round);
+        find_parents_of_all(view, &descent, round, &level, &mut parents)?;
         found.append(&mut level)?;
         swap(&mut level, &mut parents);
     }
@@ -60,12 +63,14 @@ pub(crate) fn ancestors<'a>(
 /// the following one.
 fn find_parents_of_all<'a>(
     view: &'a View,
+    descent: &Descent<'a>,
     round: Round,
     level: &[Ancestor<'a>],
     parents: &mut Vec<Ancestor<'a>>,
 ) -> Result<(), NoMemory>
     requires closed { IsClosed view.now.frozen }
     requires floor { view.now.frozen.floor ≤ round }
+    requires descent { HasUpTo view.now.frozen.blocks round descent.now }
     requires level { IsLevel view.now.frozen (round + 1) level.now }
     requires empty { parents.old.items ≡ [] }
     ensures level { OnOk result (IsLevel view.now.frozen round parents.new.items) }
@@ -74,7 +79,7 @@ fn find_parents_of_all<'a>(
 {
     for child in level {
         let references = child.block.get().parents.as_slice();
-        find_parents(view, round, references, parents)?;
+        find_parents(view, descent, round, references, parents)?;
     }
     Ok(())
 }
@@ -85,12 +90,14 @@ fn find_parents_of_all<'a>(
 /// is usually just before the last place.
 fn find_parents<'a>(
     view: &'a View,
+    descent: &Descent<'a>,
     round: Round,
     references: &'a [Ref],
     parents: &mut Vec<Ancestor<'a>>,
 ) -> Result<(), NoMemory>
     requires closed { IsClosed view.now.frozen }
     requires floor { view.now.frozen.floor ≤ round }
+    requires descent { HasUpTo view.now.frozen.blocks round descent.now }
     requires there { All (HasParent view.now.frozen.blocks (round + 1)) references.now }
     requires level { IsLevel view.now.frozen round parents.old.items }
     ensures level { OnOk result (IsLevel view.now.frozen round parents.new.items) }
@@ -103,7 +110,7 @@ fn find_parents<'a>(
             Ok(place) => last = place,
             Err(place) => {
                 let parent = Ancestor::look_up(
-                    view,
+                    descent,
                     Some((round, reference.author)),
                     &reference.digest,
                 );

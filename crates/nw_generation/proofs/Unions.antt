@@ -1,5 +1,5 @@
 -- Lookups in a union of generations.
-use Rattle.std.proofs.Common.{◌≡◌, ℕ, Bool, true, false, List, [], ◌∷◌, ◌++◌, Option, Some, None, IfSome, All, cond, refl, ap, sym, ◌∙◌, subst, append_assoc, append-nil, length, arith}
+use Rattle.std.proofs.Common.{◌≡◌, ℕ, Bool, true, false, List, [], ◌∷◌, ◌++◌, ◌<◌, Option, Some, None, IfSome, All, cond, refl, ap, sym, ◌∙◌, subst, append_assoc, append-nil, length, arith}
 use Rattle.std.specs.Option.{option_or}
 use Rattle.std.specs.declared.cmp.Ordering.{Ordering}
 use Rattle.std.specs.BTreeMap.{is_at}
@@ -12,7 +12,7 @@ use Rattle.nw_codec.specs.declared.block.Block.{Block}
 use Rattle.nw_digest.specs.Order.{digest_cmp}
 use Rattle.nw_model.proofs.Maps.{digests_apart, digests_total}
 use Rattle.nw_generation.specs.Entries.{under}
-use Rattle.nw_generation.specs.Seen.{IsOfRound, IsWithin, latest_first, union}
+use Rattle.nw_generation.specs.Seen.{HasUpTo, IsOfRound, IsWithin, latest_first, union}
 
 or_later : {X : Type 0} (b : Bool) (v : X) (first later : Option X) → cond b (Some v) (option_or first later) ≡ option_or (cond b (Some v) first) later
 or_later true v first later = refl
@@ -55,6 +55,16 @@ get_here left older latest d b is here = ap (λ gs. get (union gs) d) is ∙ get
 pub get_older : (left older : List (FinMap digest_cmp Block)) (latest : FinMap digest_cmp Block) (d : Digest) → left ≡ older ++ latest ∷ [] → None ≡ get latest d → get (union older) d ≡ get (union left) d
 get_older left older latest d is lacks = ap (λ found. option_or found (get (union older) d)) lacks ∙ sym (get_latest older latest d) ∙ ap (λ gs. get (union gs) d) (sym is)
 
+-- without a latest generation that has only blocks of higher rounds, the others have each block up to the round
+pub older_has : (left older : List (FinMap digest_cmp Block)) (latest : FinMap digest_cmp Block) (round : ℕ) → left ≡ older ++ latest ∷ [] → ((d : Digest) (b : Block) → get latest d ≡ Some b → round < b.round) → HasUpTo (union left) round (union older)
+older_has left older latest round is above d b at low = by (get latest d) refl
+  where
+    by : (found : Option Block) → get latest d ≡ found → get (union older) d ≡ Some b
+    by None none = get_older left older latest d is (sym none) ∙ at
+    by (Some x) here =
+        let same : b.round ≡ x.round = subst (λ o. IfSome o (λ (y : Block). y.round ≡ x.round)) (sym (get_here left older latest d x is (sym here)) ∙ at) refl in
+        absurd (omega (arith, above d x here, low, same))
+
 -- if the block under the digest in all generations is of the slot's round, so is that in the latest generation
 pub of_latest : (left older : List (FinMap digest_cmp Block)) (latest : FinMap digest_cmp Block) (slot : Option (ℕ × ℕ)) (d : Digest) → left ≡ older ++ latest ∷ [] → IsOfRound slot (get (union left) d) → IsOfRound slot (get latest d)
 of_latest left older latest None d is of = tt
@@ -64,18 +74,22 @@ of_latest left older latest (Some (round, author)) d is of = by (get latest d) (
     by None h = tt
     by (Some b) h = h
 
--- if all entries are of other rounds, none has a block of this round
-pub none_of : (es : List (Digest × Block)) (rounds : Option (ℕ × ℕ)) (round author : ℕ) (d : Digest) → All (λ (e : Digest × Block). IsWithin rounds e.1.round) es → (IsWithin rounds round → ⊥) → IsOfRound (Some (round, author)) (under es d) → None ≡ under es d
-none_of es rounds round author d within out of = by (under es d) (look es (recursion_from_All (λ (e : Digest × Block). IsWithin rounds e.1.round) es within)) of
+-- if all entries are of rounds within a range, so is the block under a digest
+within_of : (es : List (Digest × Block)) (rounds : Option (ℕ × ℕ)) (d : Digest) → AllByRecursion (λ (e : Digest × Block). IsWithin rounds e.1.round) es → IfSome (under es d) (λ (b : Block). IsWithin rounds b.round)
+within_of [] rounds d all = tt
+within_of (e ∷ es) rounds d all = pick (is_at (digest_cmp d) e.0) e.1 (under es d) all.0 (within_of es rounds d all.1)
   where
     pick : (t : Bool) (b : Block) (o : Option Block) → IsWithin rounds b.round → IfSome o (λ (x : Block). IsWithin rounds x.round) → IfSome (cond t (Some b) o) (λ (x : Block). IsWithin rounds x.round)
     pick true b o here later = here
     pick false b o here later = later
 
-    look : (fs : List (Digest × Block)) → AllByRecursion (λ (e : Digest × Block). IsWithin rounds e.1.round) fs → IfSome (under fs d) (λ (b : Block). IsWithin rounds b.round)
-    look [] all = tt
-    look (e ∷ fs) all = pick (is_at (digest_cmp d) e.0) e.1 (under fs d) all.0 (look fs all.1)
+pub within_at : (es : List (Digest × Block)) (rounds : Option (ℕ × ℕ)) (d : Digest) (b : Block) → All (λ (e : Digest × Block). IsWithin rounds e.1.round) es → under es d ≡ Some b → IsWithin rounds b.round
+within_at es rounds d b within at = subst (λ o. IfSome o (λ (x : Block). IsWithin rounds x.round)) at (within_of es rounds d (recursion_from_All (λ (e : Digest × Block). IsWithin rounds e.1.round) es within))
 
+-- if all entries are of other rounds, none has a block of this round
+pub none_of : (es : List (Digest × Block)) (rounds : Option (ℕ × ℕ)) (round author : ℕ) (d : Digest) → All (λ (e : Digest × Block). IsWithin rounds e.1.round) es → (IsWithin rounds round → ⊥) → IsOfRound (Some (round, author)) (under es d) → None ≡ under es d
+none_of es rounds round author d within out of = by (under es d) (within_of es rounds d (recursion_from_All (λ (e : Digest × Block). IsWithin rounds e.1.round) es within)) of
+  where
     by : (o : Option Block) → IfSome o (λ (b : Block). IsWithin rounds b.round) → IfSome o (λ (b : Block). b.round ≡ round) → None ≡ o
     by None w is = refl
     by (Some b) w is = absurd (out (subst (IsWithin rounds) is w))

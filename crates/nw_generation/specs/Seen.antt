@@ -39,6 +39,10 @@ joined generations = record { blocks = union generations; parts = length generat
 abbrev pub IsOverlay : FinMap digest_cmp Block → FinMap digest_cmp Block → FinMap digest_cmp Block → Type 0
 IsOverlay newer older both = (d : Digest) → get both d ≡ option_or (get newer d) (get older d)
 
+-- the other blocks include all blocks up to this round
+abbrev pub HasUpTo : FinMap digest_cmp Block → ℕ → FinMap digest_cmp Block → Type 0
+HasUpTo blocks round others = (d : Digest) (b : Block) → get blocks d ≡ Some b → b.round ≤ round → get others d ≡ Some b
+
 -- if a slot is given and a block was found, the block is of the slot's round
 abbrev pub IsOfRound : Option (ℕ × ℕ) → Option Block → Type 0
 IsOfRound slot found = IfSome slot (λ s. IfSome found (λ b. b.round ≡ s.0))

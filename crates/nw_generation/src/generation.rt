@@ -1,5 +1,5 @@
 //! Generations: blocks that were frozen at one moment.
-ghost use Rattle.std.specs.Prelude.{◌≡◌, IfOk, IfErr, IsTrue, None};
+ghost use Rattle.std.specs.Prelude.{◌≡◌, ◌<◌, IfOk, IfErr, IsTrue, Some, None};
 ghost use Rattle.std.specs.Option.{option_copied};
 ghost use Rattle.std.specs.FinMap as map;
 ghost use Rattle.nw_generation.specs.Entries.{Ascend};
@@ -117,6 +117,16 @@ impl Generation {
             return None;
         }
         self.index.get().get(named, digest)
+    }
+
+    /// Whether all blocks are of higher rounds than this one.
+    pub(crate) fn is_above(&self, round: Round) -> bool
+        ensures { IsTrue result → (d : Digest) (b : Block) → map.get self.now d ≡ Some b → round < b.round }
+    {
+        match self.rounds {
+            Some((least, _greatest)) => round < least,
+            None => true,
+        }
     }
 
     /// Whether a slot is given whose round is outside the range of the generation's rounds.

@@ -7,6 +7,7 @@
 //! The crate uses `nw_trie` for tries. `nw_model` defines closed views.
 #![tactic(auto)]
 
+mod descent;
 mod entries;
 mod generation;
 mod generations;
@@ -15,6 +16,7 @@ mod slots;
 mod span;
 mod view;
 
+pub use descent::Descent;
 pub use generation::{Generation, freeze};
 pub use generations::{Generations, MAX_GENERATIONS};
 pub use view::View;

@@ -3,10 +3,10 @@ ghost use Rattle.std.specs.Prelude.{◌≡◌, ◌≤◌, length};
 ghost use Rattle.std.specs.Option.{option_copied};
 ghost use Rattle.std.specs.FinMap as map;
 ghost use Rattle.nw_model.specs.View.{IsClosed};
-ghost use Rattle.nw_generation.specs.Seen.{IsOfRound, seen_of};
+ghost use Rattle.nw_generation.specs.Seen.{seen_of};
 ghost use Rattle.nw_generation.specs.declared.generations.TheConstants.{MAX_GENERATIONS};
 
-use crate::Generation;
+use crate::{Descent, Generation};
 use nw_codec::Block;
 use nw_digest::{Digest, Round, Shared};
 use std::marker::Model;
@@ -50,28 +50,15 @@ impl View {
         ensures block { option_copied result ≡ map.get self.now.frozen.blocks digest.now }
         ensures closed { IsClosed self.now.frozen }
     {
-        self.get_in_slot(None, digest)
+        self.descent().get(None, digest)
     }
 
-    /// The block under the digest, or `None` if there is no such block.
-    ///
-    /// `slot` makes the search fast. Its round must be that of the block, if the view has the block. Its author is only a guess.
-    /// Only generations whose range of rounds includes this round are searched.
-    pub fn get_in_slot(&self, slot: Option<(Round, u16)>, digest: &Digest) -> Option<&Shared<Block>>
-        requires { IsOfRound slot (map.get self.now.frozen.blocks digest.now) }
-        ensures block { option_copied result ≡ map.get self.now.frozen.blocks digest.now }
+    /// A search of all generations.
+    pub fn descent(&self) -> Descent<'_>
+        ensures blocks { result ≡ self.now.frozen.blocks }
         ensures closed { IsClosed self.now.frozen }
     {
-        // The borrow checker does not allow a copy of the argument itself in a loop.
-        let named = &slot;
-        let mut left = self.generations.as_slice();
-        while let Some((generation, older)) = left.split_last() {
-            if let Some(block) = generation.get(*named, digest) {
-                return Some(block);
-            }
-            left = older;
-        }
-        None
+        Descent::new(self.generations.as_slice())
     }
 
     /// The floor. Walks visit no blocks of rounds below it.

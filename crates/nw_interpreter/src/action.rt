@@ -22,7 +22,8 @@ pub enum Action<'a> {
         name: Option<Name<'a>>,
         command: Command<DemoScheme>,
     },
-    /// Make a causal read of the digest, and print the ticket (`Interpreter::answer_to_ticket`) or the reply.
+    /// Make a causal read of the digest. Print `Interpreter::answer_to_ticket` if it gives a ticket, and `Interpreter::answer_to` if it
+    /// gives a reply.
     Open {
         /// The name in the answer: that of the ticket if it is kept, else that of the block.
         name: Name<'a>,
@@ -47,13 +48,13 @@ impl<'a> Interpreter<'a> {
         request: &Request<'a>,
     ) -> Result<Action<'a>, LineFault> {
         match request {
-            Request::Block(line) => print(self.block(alloc, line)),
-            Request::Body(name) => print(self.body(alloc, *name)),
-            Request::Digest(name) => print(self.digest(alloc, *name)),
-            Request::Hash(word) => print(Interpreter::hash(alloc, word)),
-            Request::Valid { name, signers } => print(self.valid(alloc, *name, signers)),
-            Request::Gather { name, signers } => print(self.gather(alloc, *name, signers)),
-            Request::Walk(ticket) => print(self.walk(alloc, *ticket)),
+            Request::Block(line) => printed(self.block(alloc, line)),
+            Request::Body(name) => printed(self.body(alloc, *name)),
+            Request::Digest(name) => printed(self.digest(alloc, *name)),
+            Request::Hash(word) => printed(Interpreter::hash(alloc, word)),
+            Request::Valid { name, signers } => printed(self.valid(alloc, *name, signers)),
+            Request::Gather { name, signers } => printed(self.gather(alloc, *name, signers)),
+            Request::Walk(ticket) => printed(self.walk(alloc, *ticket)),
             Request::Write { name, signer } => self.write(alloc, *name, *signer),
             Request::Certify { name, signers } => self.certify(alloc, *name, signers),
             Request::Certificate(name) => {
@@ -70,7 +71,8 @@ impl<'a> Interpreter<'a> {
         }
     }
 
-    // The write of the block after its message is encoded, decoded and checked. The given member or its author signs it.
+    // The write of the block after its message is encoded, decoded and checked. The given member signs it, or the block's author if none
+    // is given.
     fn write(
         &self,
         alloc: Global,
@@ -129,12 +131,12 @@ fn checked_command<'a>(
     Ok(call(Some(name), command))
 }
 
-// The call, answered under the name of a block if it has one.
+// The action for the command. The answer names the block if `name` is given.
 fn call<'a>(name: Option<Name<'a>>, command: Command<DemoScheme>) -> Action<'a> {
     Action::Call { name, command }
 }
 
 // An answer that needs no store.
-fn print(answer: Result<Answer<'_>, LineFault>) -> Result<Action<'_>, LineFault> {
+fn printed(answer: Result<Answer<'_>, LineFault>) -> Result<Action<'_>, LineFault> {
     Ok(Action::Print(answer?))
 }

@@ -65,10 +65,10 @@ pub enum Answer<'a> {
         name: Name<'a>,
         signers: Vec<u16>,
     },
-    /// The names of the blocks in the causal list of a block or ticket.
+    /// The names of the blocks in the causal list of a block or ticket, as they are printed: each after a space.
     Listed {
         name: Name<'a>,
-        blocks: Vec<&'a str>,
+        names: Vec<u8>,
     },
     /// Wanted parents, and the first name of each one's digest.
     Missing {
@@ -129,9 +129,12 @@ impl Answer<'_> {
                 write_after_space(out, hex.as_str())
             }
             Answer::Hash(hex) => out.write_all(hex.as_bytes()),
-            Answer::Gathered { name, votes } => write_list(out, name.as_str(), "", votes),
+            Answer::Gathered { name, votes } => write_list(out, name.as_str(), votes),
             Answer::Signers { name, signers } => write_signers(out, name.as_str(), signers),
-            Answer::Listed { name, blocks } => write_list(out, name.as_str(), " causal", blocks),
+            Answer::Listed { name, names } => {
+                write_two(out, name.as_str(), " causal")?;
+                out.write_all(names)
+            }
             Answer::Missing { wanted, names } => write_missing(out, wanted, names),
             Answer::Status(counts) => write_status(out, counts),
             Answer::Settled(counts) => write_settled(out, counts),
@@ -160,9 +163,9 @@ fn write_number_after<W: Write>(out: &mut W, before: u8, number: u64) -> io::Res
     write_number(out, number)
 }
 
-// The name, the words, and the items, each after a space.
-fn write_list<W: Write>(out: &mut W, name: &str, words: &str, items: &[&str]) -> io::Result<()> {
-    write_two(out, name, words)?;
+// The name and the items, each item after a space.
+fn write_list<W: Write>(out: &mut W, name: &str, items: &[&str]) -> io::Result<()> {
+    out.write_all(name.as_bytes())?;
     for item in items {
         write_after_space(out, item)?;
     }

@@ -14,8 +14,8 @@ use std::alloc::Global;
 impl<'a> Interpreter<'a> {
     /// The reply of a call in words. `name` is the block of the call, if it has one.
     ///
-    /// `Bad` if the reply is a list or `Ready`, or does not fit a call with or without a name. `Bad` also if one of its digests has no
-    /// name. `NoMemory` if an allocation fails.
+    /// `Bad` if the reply is `List` or `Ready`, if it needs a name and `name` is `None`, or if it takes no name and one is given. `Bad`
+    /// also if one of its digests has no name, or if the block of a read does not fit. `NoMemory` if an allocation fails.
     pub fn answer_to(
         &self,
         alloc: Global,
@@ -112,7 +112,8 @@ impl<'a> Interpreter<'a> {
         Ok(Answer::NamedPair { name, words, other })
     }
 
-    /// Walks the ticket: the answer with the names of its list.
+    /// Walks the ticket, and returns the answer with the names of the listed blocks. `Bad` if a block has no name, and `NoMemory` if an
+    /// allocation fails.
     pub(crate) fn walk_ticket(
         &self,
         alloc: Global,
@@ -120,18 +121,20 @@ impl<'a> Interpreter<'a> {
         ticket: &Ticket<DemoScheme>,
     ) -> Result<Answer<'a>, LineFault> {
         let walked = ticket.walk(alloc)?;
-        let blocks = self.names_of(alloc, &walked);
+        let names = self.names_of(alloc, &walked);
         drop(walked);
         Ok(Answer::Listed {
             name,
-            blocks: blocks?,
+            names: names?,
         })
     }
 
-    fn names_of(&self, alloc: Global, blocks: &[Shared<Block>]) -> Result<Vec<&'a str>, LineFault> {
-        let mut names = Vec::with_capacity(alloc, blocks.len())?;
+    // The first names of the blocks, each after a space.
+    fn names_of(&self, alloc: Global, blocks: &[Shared<Block>]) -> Result<Vec<u8>, LineFault> {
+        let mut names = Vec::new(alloc);
         for block in blocks {
-            names.push(self.names.name_of(block.get())?.as_str())?;
+            names.push(b' ')?;
+            names.extend_from_slice(self.names.name_of(block.get())?.as_str().as_bytes())?;
         }
         Ok(names)
     }

@@ -23,7 +23,7 @@ pub struct Player<L: Home> {
 }
 
 impl<L: Home> Player<L> {
-    /// A player without sessions, with a new store that continues from the book of the start. `Bad` if the book's history is not empty.
+    /// A player without sessions, with a new store over `start.book`. `Bad` if the book's history is not empty.
     pub fn new(
         alloc: Global,
         opening: Opening<DemoScheme>,
@@ -92,7 +92,7 @@ impl<L: Home> Player<L> {
         }
     }
 
-    // Makes the command the next call of the current session.
+    // Calls the store with the command, as the current session's next call. `OutOfTurn` if there is no session.
     fn make_call<R: Wait>(
         &mut self,
         rt: &R,
@@ -122,7 +122,7 @@ impl<L: Home> Player<L> {
         }
     }
 
-    // Makes the causal read the next call of the current session.
+    // Opens a causal read, as the current session's next call. `OutOfTurn` if there is no session.
     fn open_ticket<R: Wait>(
         &mut self,
         rt: &R,
@@ -188,8 +188,9 @@ fn answer_of<'a>(
     answer
 }
 
-// A full history is an answer, and any other refusal ends the play. The last two refusals never come: each call has its session's next
-// number, and each block and certificate was checked under the store's committee.
+// A full history is an answer, and any other refusal ends the play. `OutOfTurn` never comes: a session exists before the first call, and
+// each call has its session's next number. `OtherCommittee` never comes: every block and certificate was checked under the store's
+// committee.
 fn answer_to_refusal<'a>(refusal: NoStep) -> Result<Answer<'a>, LineFault> {
     match refusal {
         NoStep::HistoryFull => Ok(Answer::Words("refused history full")),

@@ -119,7 +119,7 @@ fn views_pass(alloc: Global) -> Result<bool, NoMemory> {
     let generations = retry!(NoMemory, generations(alloc))?;
     fail_allocations(alloc);
     let is_read = view.get(&name(1, 0)).is_some()
-        && view.get_in_slot(None, &name(1, 0)).is_some()
+        && view.descent().get(None, &name(1, 0)).is_some()
         && (view.floor(), view.parts()) == (round(1), 2);
     let are_found = generations
         .iter()

@@ -1,4 +1,7 @@
-use Rattle.std.proofs.Common.{◌≡◌, ◌+◌, ◌++◌, ◌∷◌, List, [], ap, ◌∙◌, arith}
+use Rattle.std.proofs.Common.{◌≡◌, ◌+◌, ◌++◌, ◌∷◌, List, [], ap, sym, ◌∙◌, arith}
+use Rattle.std.specs.FinMap.{FinMap, get}
+use Rattle.nw_codec.specs.declared.block.Block.{Block}
+use Rattle.nw_digest.specs.Order.{digest_cmp}
 use Rattle.std.proofs.lemmas.List.{nil_from_length}
 use Rattle.nw_model.specs.View.{Frozen}
 use Rattle.nw_model.proofs.Ancestors.{none_left}
@@ -12,10 +15,17 @@ loop-level-init c =
     let first : Ancestor = c.look_up-first.result in
     let level : c.push.new.self.items ≡ first ∷ [] = c.in_ok-push.ensures.items ∙ ap (λ (xs : List Ancestor). xs ++ first ∷ []) c.new-level.ensures.items in
     record {
-      explores = rw (c.new-found.ensures.items, level, c.get.ensures) (explores_first c.args.view.now.frozen c.args.digest.now first c.requires c.look_up-first.ensures.digest c.look_up-first.ensures.block);
+      explores = rw (c.new-found.ensures.items, level, c.get.ensures) (explores_first c.args.view.now.frozen c.args.digest.now first c.requires c.look_up-first.ensures.digest
+          (ap (λ (m : FinMap digest_cmp Block). get m c.args.digest.now) (sym c.descent-descent.ensures.blocks) ∙ c.look_up-first.ensures.block));
+      descends = λ d b at low. ap (λ (m : FinMap digest_cmp Block). get m d) c.descent-descent.ensures.blocks ∙ at;
       floor = c.get-floor.ensures.number ∙ c.floor.ensures.floor;
       empty = c.new-parents.ensures.items;
     }
+
+pub find_parents_of_all-requires-clause-descent : goal.find_parents_of_all-requires-clause-descent
+find_parents_of_all-requires-clause-descent c = λ d b at low.
+    let before : c.unwrap-round.result + 1 ≡ c.loop-level.round = rw c.unwrap-round.ensures at c.before-in-loop-level.ensures in
+    c.descend_to.ensures d b (c.loop-level.invariant.descends d b at (omega (arith, before, low))) low
 
 pub loop-level-preserved : goal.loop-level-preserved
 loop-level-preserved c =
@@ -25,6 +35,7 @@ loop-level-preserved c =
       explores = rw (c.in_ok-append.ensures.items, c.swap.ensures.x_after) (explores_on v c.args.digest.now c.loop-level.found.items c.loop-level.level.items c.find_parents_of_all.new.parents.items c.loop-level.round c.unwrap-round.result
           c.floor.ensures.closed c.loop-level.invariant.explores before (omega (arith, before, c.loop-level-test.true, c.loop-level.invariant.floor, c.get-in-loop-level.ensures.number)) c.in_ok-find_parents_of_all.ensures.level
           (rw (c.deref.ensures.value, c.loop-level.invariant.empty) at c.in_ok-find_parents_of_all.ensures.gains));
+      descends = λ d b at low. c.descend_to.ensures d b (c.loop-level.invariant.descends d b at (omega (arith, before, low))) low;
       floor = c.get-floor.ensures.number ∙ c.floor.ensures.floor;
       empty = rw (c.swap.ensures.y_after) c.in_ok-append.ensures.other_items;
     }

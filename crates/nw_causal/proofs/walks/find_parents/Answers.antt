@@ -18,7 +18,8 @@ pub look_up-parent-requires : goal.look_up-parent-requires
 look_up-parent-requires c =
     let there = c.requires.there c.loop-reference.reference-index (record { author = 0; digest = record { 0 = [] } }) c.loop-reference-test.true in
     let before : there.0.round + 1 ≡ c.args.round + 1 = there.3 in
-    record { there = (there.0, there.1); slot = subst (λ found. IfSome found (λ (b : Block). b.round ≡ c.args.round)) (sym there.1) (omega (arith, before)) }
+    let found = c.requires.descent _ there.0 there.1 (omega (arith, before)) in
+    record { there = (there.0, found); slot = subst (λ o. IfSome o (λ (b : Block). b.round ≡ c.args.round)) (sym found) (omega (arith, before)) }
 
 pub loop-reference-preserved : goal.loop-reference-preserved
 loop-reference-preserved c =
@@ -35,8 +36,8 @@ loop-reference-preserved c =
           let a : Ancestor = w.look_up-parent.result in
           let p = w.in-Err.place in
           let block : Block = a.block.now in
-          let at : get v.blocks a.digest.now ≡ Some block = ap (get v.blocks) w.look_up-parent.ensures.digest ∙ w.look_up-parent.ensures.block in
-          let one : there.0 ≡ block = one_block there.0 block there.1 w.look_up-parent.ensures.block in
+          let one : there.0 ≡ block = one_block there.0 block (c.requires.descent _ there.0 there.1 (let parent = there.3 in omega (arith, parent))) w.look_up-parent.ensures.block in
+          let at : get v.blocks a.digest.now ≡ Some block = ap (get v.blocks) w.look_up-parent.ensures.digest ∙ there.1 ∙ ap (λ (x : Block). Some x) one in
           let before : block.round + 1 ≡ c.args.round + 1 = subst (λ (x : Block). x.round + 1 ≡ c.args.round + 1) one there.3 in
           let by : r.author ≡ block.author = sym there.2 ∙ ap (λ (x : Block). x.author) one in
           rw (w.parents-is, w.in_ok-insert-in-Err.ensures.items) (record {

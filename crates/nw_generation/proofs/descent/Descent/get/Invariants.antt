@@ -1,7 +1,7 @@
 use Rattle.std.proofs.Common.{◌≡◌, length}
 use Rattle.std.specs.FinMap.{get}
 use Rattle.nw_generation.specs.Seen.{union}
-use Rattle.nw_generation.proofs.view.View.get_in_slot.Given as goal
+use Rattle.nw_generation.proofs.descent.Descent.get.Given as goal
 
 abbrev pub invariant-loop-generation : goal.invariant-loop-generation
 invariant-loop-generation l = get (union l.left) l.digest ≡ get (union l.initial.left) l.digest
