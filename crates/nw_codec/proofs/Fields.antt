@@ -9,7 +9,7 @@ use Rattle.nw_codec.specs.declared.error.DecodeError.{DecodeError}
 use Rattle.nw_codec.specs.declared.error.DecodeError.TheVariants.{Short, Tag, TransactionTooLong, BodyTooLong}
 use Rattle.nw_codec.specs.Faults.{Stage, AtTransaction, width, after_tag, after_field, number16, comes_after, Reaches, FaultFrom}
 use Rattle.nw_codec.specs.Grammar.{round_bytes}
-use Rattle.nw_codec.specs.Parts.{NumberAt, RoundAt, HeadAt, ItemsAt, LastSignature, ReadsCount, Orders}
+use Rattle.nw_codec.specs.Parts.{NumberAt, RoundAt, HeadAt, ItemsAt, LastSignature, ReadsCount, ReadsMember}
 use Rattle.nw_codec.specs.Typed.{AreBytes}
 use Rattle.nw_codec.proofs.Pieces.{again16, back16, below16}
 use Rattle.nw_codec.proofs.Steps.{bytes_of}
@@ -164,12 +164,12 @@ count_fails stage max over next n text rest counts at high =
     let same : number16 (to_be_bytes w16 n) ≡ n = again16 n at.low in
     number_fails stage n text rest over counts.wide at (counts.test (to_be_bytes w16 n) ∙ high_fails (number16 (to_be_bytes w16 n)) max (Ok (next (number16 (to_be_bytes w16 n)))) over (omega (arith, same, high)))
 
-pub order_leads : (stage : Stage) (before : Option ℕ) (disorder : DecodeError) (next : ℕ → Stage) (n : ℕ) (text rest : List ℕ) → Orders stage before disorder next → NumberAt text n rest → comes_after before n ≡ true → Reaches stage text (next n) rest
-order_leads stage before disorder next n text rest orders at test =
+pub member_leads : (stage : Stage) (before : Option ℕ) (disorder : DecodeError) (next : ℕ → Stage) (n : ℕ) (text rest : List ℕ) → ReadsMember stage before disorder next → NumberAt text n rest → comes_after before n ≡ true → Reaches stage text (next n) rest
+member_leads stage before disorder next n text rest orders at test =
     number_passes stage (next n) n text rest orders.wide at (orders.test (to_be_bytes w16 n) ∙ order_passes (number16 (to_be_bytes w16 n)) n before disorder next (again16 n at.low) (after_from_test before n test))
 
-pub order_fails : (stage : Stage) (before : Option ℕ) (disorder : DecodeError) (next : ℕ → Stage) (n : ℕ) (text rest : List ℕ) → Orders stage before disorder next → NumberAt text n rest → comes_after before n ≡ false → FaultFrom stage text disorder
-order_fails stage before disorder next n text rest orders at test =
+pub member_fails : (stage : Stage) (before : Option ℕ) (disorder : DecodeError) (next : ℕ → Stage) (n : ℕ) (text rest : List ℕ) → ReadsMember stage before disorder next → NumberAt text n rest → comes_after before n ≡ false → FaultFrom stage text disorder
+member_fails stage before disorder next n text rest orders at test =
     let same : number16 (to_be_bytes w16 n) ≡ n = again16 n at.low in
     let fails : cond (comes_after before n) (Ok (next n)) (Err disorder) ≡ Err disorder = rw test refl in
     number_fails stage n text rest disorder orders.wide at (orders.test (to_be_bytes w16 n) ∙ subst (λ (x : ℕ). cond (comes_after before x) (Ok (next x)) (Err disorder) ≡ Err disorder) (sym same) fails)

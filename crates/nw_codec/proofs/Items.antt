@@ -120,7 +120,7 @@ pub written_item : {X : Type 0} (k : ItemKind X) (p : X) (more : ℕ) (before : 
 written_item k p more before rest typed after =
     let n : ℕ = k.number p in
     let field : List ℕ = to_be_bytes w16 n in
-    let orders = k.stages.orders more before in
+    let member = k.stages.members more before in
     let order = orders.test field ∙ order_passes (number16 field) n before k.disorder (k.inside more) (again16 n (k.low p typed)) after in
     let first : Reaches (k.at (suc more) before) (field ++ (k.others p ++ rest)) (k.inside more n) (k.others p ++ rest) = one_field (k.at (suc more) before) (k.inside more n) field (k.others p ++ rest) orders.wide order in
     let second : Reaches (k.inside more n) (k.others p ++ rest) (k.at more (Some n)) rest = one_field (k.inside more n) (k.at more (Some n)) (k.others p) rest (k.stages.wide more n ∙ ap Some (sym (k.len p typed))) (k.stages.passes more n (k.others p)) in
@@ -160,7 +160,7 @@ two_cuts text a more b rest whole first second is = rw (first, second, is) (sym 
 
 pub read_item : {X : Type 0} (k : ItemKind X) (more : ℕ) (before : Option ℕ) (text rest : List ℕ) → AreBytes text → Reaches (k.at (suc more) before) text AtEnd rest → ItemRead k more before text rest
 read_item k more before text rest bytes front =
-    let orders = k.stages.orders more before in
+    let member = k.stages.members more before in
     let at_number = step (k.at (suc more) before) 2 text rest orders.wide front in
     let n : ℕ = number16 at_number.field in
     let test = else_choice (comes_after before n) k.disorder (k.inside more n) at_number.next (sym (orders.test at_number.field) ∙ at_number.passes) in

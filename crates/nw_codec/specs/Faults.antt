@@ -55,17 +55,17 @@ width (AtSigner more before) = Some 2
 width (AtSealSignature more signer) = Some 64
 width AtEnd = None
 
--- before the next of so many parents, or after the last one
+-- the stage at which so many parents are still to come: before the next one, or after the last one
 abbrev pub at_parents : ℕ → Option ℕ → ℕ → Stage
 at_parents zero before size = AtTransactionCount size
 at_parents (suc more) before size = AtParentAuthor more before size
 
--- before the next of so many transactions, or after the last one
+-- the stage at which so many transactions are still to come: before the next one, or after the last one
 abbrev pub at_transactions : ℕ → ℕ → Stage
 at_transactions zero size = AtSignature
 at_transactions (suc more) size = AtTransactionLength more size
 
--- before the next of so many seals, or after the last one
+-- the stage at which so many seals are still to come: before the next one, or after the last one
 abbrev pub at_seals : ℕ → Option ℕ → Stage
 at_seals zero before = AtEnd
 at_seals (suc more) before = AtSigner more before
@@ -87,7 +87,7 @@ number32 field = from_be_bytes w32 field
 abbrev pub comes_after : Option ℕ → ℕ → Bool
 comes_after before author = option_map_or (λ b. nat_lt b author) before true
 
--- the field after the tag, or its fault
+-- the stage after this tag, or the fault `Tag`
 abbrev pub after_tag : ℕ → Result Stage DecodeError
 after_tag tag =
     if tag == 1 then Ok AtVersion
@@ -95,15 +95,15 @@ after_tag tag =
     else if tag == 3 then Ok (AtDigest OfVote)
     else Err Tag
 
--- the bytes of a body before its parents: version, author, round and number of parents
-abbrev pub head_size : ℕ
-head_size = 11
+-- the size of a body before its parents: version, author, round and number of parents
+abbrev pub size_before_parents : ℕ
+size_before_parents = 11
 
--- the bytes of a parent: author and digest
+-- the size of a parent: author and digest
 abbrev pub parent_size : ℕ
 parent_size = 34
 
--- the stage after a whole field, or the fault of its test
+-- the stage after this field, which is whole, or the fault of its test
 abbrev pub after_field : Stage → List ℕ → Result Stage DecodeError
 after_field AtTag field = after_tag (slice_index field 0)
 after_field AtVersion field = if slice_index field 0 == 1 then Ok AtAuthor else Err Version
@@ -111,7 +111,7 @@ after_field AtAuthor field = Ok AtRound
 after_field AtRound field = Ok AtParentCount
 after_field AtParentCount field =
     if nat_lt MAX_PARENTS (number16 field) then Err TooManyParents
-    else Ok (at_parents (number16 field) None (head_size + parent_size * number16 field))
+    else Ok (at_parents (number16 field) None (size_before_parents + parent_size * number16 field))
 after_field (AtParentAuthor more before size) field =
     if comes_after before (number16 field) then Ok (AtParentDigest more (number16 field) size) else Err ParentOrder
 after_field (AtParentDigest more author size) field = Ok (at_parents more (Some author) size)
@@ -141,7 +141,7 @@ Leads from [] to = from ≡ to
 Leads from (field ∷ fields) to =
     (width from ≡ Some (length field)) × (next : Stage) × (after_field from field ≡ Ok next) × Leads next fields to
 
--- whole fields at the front of the text pass their tests and lead from one stage to the other, before this rest
+-- fields at the front of the text pass their tests and lead from one stage to the other; `rest` is the text after these fields
 pub record Reaches (from : Stage) (text : List ℕ) (to : Stage) (rest : List ℕ) : Type 0 where
   -- the fields
   pub fields : List (List ℕ)
@@ -150,7 +150,7 @@ pub record Reaches (from : Stage) (text : List ℕ) (to : Stage) (rest : List �
   -- the text is these fields and the rest
   pub whole : text ≡ flat_map (λ field. field) fields ++ rest
 
--- a message's fields at the front of the text pass their tests, up to this stage and rest
+-- the first fields of the text pass their tests and lead to this stage; `rest` is the text after these fields
 abbrev pub IsGoodFront : List ℕ → Stage → List ℕ → Type 0
 IsGoodFront text stage rest = Reaches AtTag text stage rest
 
@@ -158,14 +158,14 @@ IsGoodFront text stage rest = Reaches AtTag text stage rest
 abbrev pub IsWhole : List ℕ → Type 0
 IsWhole text = IsGoodFront text AtEnd []
 
--- the fault at this stage: bytes follow the last field, the next field is cut short, or its test fails
+-- the fault at this stage, where `rest` is still to be read: bytes follow the last field, the next field is cut short, or its test fails
 abbrev pub StopsAt : Stage → List ℕ → DecodeError → Type 0
 StopsAt stage rest e =
     MatchOption (width stage)
     ((rest ≢ []) × (e ≡ Trailing))
     (λ w. MatchBool (nat_lt (length rest) w) (e ≡ Short) (after_field stage (take w rest) ≡ Err e))
 
--- the fault after the longest row of fields that pass, read from this stage on
+-- the fault of a text that is read from this stage on: the fields before it pass their tests
 abbrev pub FaultFrom : Stage → List ℕ → DecodeError → Type 0
 FaultFrom from text e = (stage : Stage) × (rest : List ℕ) × Reaches from text stage rest × StopsAt stage rest e
 

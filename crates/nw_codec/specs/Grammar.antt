@@ -26,7 +26,7 @@ body b =
     ++ to_be_bytes w16 (length b.parents) ++ flat_map parent_bytes b.parents
     ++ to_be_bytes w16 (length b.transactions) ++ flat_map transaction_bytes b.transactions
 
--- the subject of a vote: the digest, the round and the author of a block
+-- the subject of a vote or a certificate: the digest, the round and the author of a block
 abbrev pub subject_bytes : Digest → ℕ → ℕ → List ℕ
 subject_bytes digest round author = digest.0 ++ round_bytes round ++ to_be_bytes w16 author
 

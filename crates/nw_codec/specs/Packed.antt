@@ -1,4 +1,4 @@
--- The encoding of transactions in a body: each follows its length.
+-- The encoding of transactions in a body: before each transaction comes its length in four bytes.
 use Rattle.std.specs.Prelude.{◌≡◌, ℕ, zero, suc, ◌≤◌, List, [], ◌∷◌, ◌++◌, length, take, drop, All}
 use Rattle.std.specs.List.{flat_map}
 use Rattle.std.specs.Int.{from_be_bytes, to_be_bytes, w32}

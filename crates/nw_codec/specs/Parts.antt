@@ -1,4 +1,4 @@
--- The readers of the decoder: the parts that they find in a text, and the stages that they read.
+-- What the readers of the decoder return: the parts at the front of a text, and the stages that the reader passes.
 use Rattle.std.specs.Prelude.{◌≡◌, ◌⊎◌, ℕ, suc, ◌*◌, ◌<◌, ◌^◌, nat_lt, List, [], ◌∷◌, ◌++◌, length, MatchResult, Option, Some, None, Result, Ok, Err, if◌then◌else◌}
 use Rattle.std.specs.List.{flat_map}
 use Rattle.std.specs.Int.{to_be_bytes, w16}
@@ -82,15 +82,15 @@ pub record LastSignature (text : List ℕ) (s : Signature) : Type 0 where
 
 -- ---- stages with the same kind of field
 
--- the stage reads a count; a count above `max` is the fault `over`
+-- the stage reads a count; if it is above `max`, the fault is `over`
 pub record ReadsCount (stage : Stage) (max : ℕ) (over : DecodeError) (next : ℕ → Stage) : Type 0 where
   -- a count has two bytes
   pub wide : width stage ≡ Some 2
   -- the fault, or the next stage
   pub test : (field : List ℕ) → after_field stage field ≡ (if nat_lt max (number16 field) then Err over else Ok (next (number16 field)))
 
--- the stage reads an author or signer; one that is not greater than the preceding one is the fault `disorder`
-pub record Orders (stage : Stage) (before : Option ℕ) (disorder : DecodeError) (next : ℕ → Stage) : Type 0 where
+-- the stage reads an author or signer; if it is not greater than the preceding one, the fault is `disorder`
+pub record ReadsMember (stage : Stage) (before : Option ℕ) (disorder : DecodeError) (next : ℕ → Stage) : Type 0 where
   -- an author or signer has two bytes
   pub wide : width stage ≡ Some 2
   -- the next stage, or the fault
@@ -99,7 +99,7 @@ pub record Orders (stage : Stage) (before : Option ℕ) (disorder : DecodeError)
 -- the stages of a list of items: `at` before an item's author or signer, `inside` before its other bytes
 pub record AreItems (more_bytes : ℕ) (disorder : DecodeError) (at : ℕ → Option ℕ → Stage) (inside : ℕ → ℕ → Stage) : Type 0 where
   -- authors or signers ascend strictly
-  pub orders : (more : ℕ) (before : Option ℕ) → Orders (at (suc more) before) before disorder (inside more)
+  pub members : (more : ℕ) (before : Option ℕ) → ReadsMember (at (suc more) before) before disorder (inside more)
   -- the other bytes have this size
   pub wide : (more author : ℕ) → width (inside more author) ≡ Some more_bytes
   -- they have no test

@@ -1,4 +1,4 @@
--- The grammar: the texts of messages.
+-- The grammar: which texts encode which messages.
 use Rattle.std.specs.Prelude.{◌≡◌, ◌≢◌, ◌⊎◌, ℕ, List, [], ◌++◌}
 use Rattle.nw_codec.specs.declared.block.Block.{Block}
 use Rattle.nw_codec.specs.declared.certificate.Signature.{Signature}
@@ -10,7 +10,7 @@ use Rattle.nw_codec.specs.Grammar.{message}
 use Rattle.nw_codec.specs.Fits.{MessageFits}
 use Rattle.nw_codec.specs.Typed.{IsMessage}
 
--- the text is the encoding of this message, which keeps the limits of the format
+-- the text encodes this message, which keeps the limits of the format
 pub record Spells (text : List ℕ) (m : Message) : Type 0 where
   -- the message is one of the program
   pub typed : IsMessage m
@@ -19,26 +19,26 @@ pub record Spells (text : List ℕ) (m : Message) : Type 0 where
   -- the text is its encoding
   pub bytes : text ≡ message m
 
--- some message has this text
+-- the text encodes a message
 abbrev pub IsSpelled : List ℕ → Type 0
 IsSpelled text = (m : Message) × Spells text m
 
--- the text is a block's message
+-- the text encodes a block and its signature
 abbrev pub IsBlockText : List ℕ → Type 0
 IsBlockText text = (b : Block) × (s : Signature) × Spells text (messages.Block b s)
 
--- the text is a certificate's message
+-- the text encodes a certificate
 abbrev pub IsCertificateText : List ℕ → Type 0
 IsCertificateText text = (c : Certificate) × Spells text (messages.Certificate c)
 
--- the text is a vote's message
+-- the text encodes a vote
 abbrev pub IsVoteText : List ℕ → Type 0
 IsVoteText text = (v : Vote) × Spells text (messages.Vote v)
 
--- decoding the text allocates: it is the text of a block or a certificate, and not of a vote
+-- decoding the text allocates: it encodes a block or a certificate
 abbrev pub DecodingAllocates : List ℕ → Type 0
 DecodingAllocates text = IsBlockText text ⊎ IsCertificateText text
 
--- bytes follow the text of a message
-abbrev pub GoesOn : List ℕ → Type 0
-GoesOn text = (front rest : List ℕ) × IsSpelled front × (rest ≢ []) × (text ≡ front ++ rest)
+-- the text begins with that of a message, and more bytes follow
+abbrev pub HasTrailingBytes : List ℕ → Type 0
+HasTrailingBytes text = (front rest : List ℕ) × IsSpelled front × (rest ≢ []) × (text ≡ front ++ rest)

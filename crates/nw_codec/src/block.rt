@@ -36,7 +36,7 @@ impl Block {
             && 13 + 34 * parents.len() + self.transactions.size() <= MAX_BODY
     }
 
-    /// The size of its body in bytes.
+    /// The size of its body in bytes. The block must fit (`Block::fits`).
     pub fn body_size(&self) -> usize
         requires { Fits self.now }
         ensures size { result ≡ body_size self.now }

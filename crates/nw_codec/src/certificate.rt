@@ -23,6 +23,7 @@ pub struct Certificate {
     pub digest: Digest,
     pub round: Round,
     pub author: u16,
+    /// The seals of the votes, in ascending order of their signers.
     pub votes: Sequence<Seal>,
 }
 

@@ -1,4 +1,4 @@
-//! Decodes messages: one pass checks the whole text and keeps where its parts lie, and the message is built from these parts.
+//! Decodes messages. One pass checks the whole text and keeps its parts, and then the message is built from these parts.
 ghost use Rattle.std.specs.Prelude.{◌≡◌, ◌≢◌, ◌↔◌, IfOk, IfErr, IsErrOf};
 ghost use Rattle.nw_codec.specs.Faults.{IsFirstFault};
 ghost use Rattle.nw_codec.specs.Parts.{Decodes};
@@ -18,8 +18,9 @@ use std::alloc::Global;
 
 /// The message of the text. It checks the whole text before it allocates.
 ///
-/// If the text is not a message's, it fails with the first fault in reading order. It fails with `NoMemory` only for the text
-/// of a block or a certificate, so the text of a vote is always decoded. It takes time linear in the length of the text.
+/// If the text does not encode a message, it fails with the text's first fault in reading order. It fails with `NoMemory` only
+/// for the text of a block or a certificate, so the text of a vote is always decoded. It takes time linear in the length of the
+/// text.
 pub fn decode_message(alloc: Global, text: &[u8]) -> Result<Message, DecodeError>
     ensures found { IfOk result (λ m. Spells text.now m) }
     ensures fault { (e : DecodeError) → e ≢ DecodeError.NoMemory

@@ -86,7 +86,8 @@ fn put_body<S: Sink>(sink: &mut S, block: &Block) -> Result<(), S::Refusal>
     sink.put(block.transactions.text())
 }
 
-/// The SHA-256 digest of the block's body. It hashes the body field by field, and makes no allocation.
+/// The SHA-256 digest of the block's body. The block must fit (`Block::fits`). It hashes the body field by field, and makes no
+/// allocation.
 pub fn block_digest(block: &Block) -> Digest
     requires { Fits block.now }
     ensures { result.0 ≡ sha256 (body block.now) }

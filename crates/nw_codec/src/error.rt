@@ -8,8 +8,8 @@ use thiserror::Error;
 /// Why a value was not encoded, or a transaction not added.
 #[derive(Clone, Copy, Debug, PartialEq, Eq, Error)]
 pub enum EncodeError {
-    /// The value exceeds a limit of the format or breaks an order.
-    #[error("over limit")]
+    /// The value exceeds a limit of the format, or its parents or signers are out of order.
+    #[error("over a limit or out of order")]
     OverLimit,
     /// An allocation failed.
     #[error("out of memory")]
@@ -52,13 +52,13 @@ impl From<NoMemory> for EncodeError {
 /// Why a text was not decoded: its first fault in reading order, or an allocation failure.
 #[derive(Clone, Copy, Debug, PartialEq, Eq, Error)]
 pub enum DecodeError {
-    /// Fewer bytes are left than the next field has.
-    #[error("the text ends within a field")]
+    /// Fewer bytes are left than the next field needs.
+    #[error("the text ends before the message does")]
     Short,
     /// Bytes follow the last field.
     #[error("bytes follow the message")]
     Trailing,
-    /// The first byte names no kind of message.
+    /// The first byte is not 1 (block), 2 (certificate) or 3 (vote).
     #[error("unknown kind of message")]
     Tag,
     /// The version of the body is not 1.
@@ -85,7 +85,7 @@ pub enum DecodeError {
     /// A vote's signer is not greater than the preceding one.
     #[error("votes out of order")]
     VoteOrder,
-    /// An allocation failed. The text is a message's.
+    /// An allocation failed. The text is a valid block or certificate message.
     #[error("out of memory")]
     NoMemory,
 }

@@ -7,17 +7,17 @@ ghost use Rattle.nw_codec.specs.declared.error.DecodeError.TheVariants.{Trailing
 ghost use Rattle.nw_codec.specs.Faults.{IsFirstFault};
 ghost use Rattle.nw_codec.specs.Fits.{body_size};
 ghost use Rattle.nw_codec.specs.Grammar.{body};
-ghost use Rattle.nw_codec.specs.Spelled.{Spells, IsSpelled, GoesOn};
+ghost use Rattle.nw_codec.specs.Spelled.{Spells, IsSpelled, HasTrailingBytes};
 ghost use Rattle.nw_codec.specs.Typed.{AreBytes, IsBlock};
 
-/// A text has one message, and no message's text begins another's. If the texts of two messages begin one text, then the
-/// messages are the same, and the same bytes follow them.
-pub fn one_text()
+/// A text encodes at most one message, and no message's text is a proper prefix of another's. If the texts of two messages begin
+/// one text, then the messages are the same, and the same bytes follow them.
+pub fn one_message()
     ensures { (a b x y : List ℕ) (m n : Message) → Spells a m → Spells b n → a ++ x ≡ b ++ y
         → (m ≡ n) × (x ≡ y) }
 {}
 
-/// A text of bytes is a message's or has a first fault, never both. It has at most one first fault.
+/// A text of bytes either encodes a message or has a first fault, and never both. It has at most one first fault.
 pub fn grammar_or_fault()
     ensures either { (text : List ℕ) → AreBytes text
         → IsSpelled text ⊎ ((e : DecodeError) × IsFirstFault text e) }
@@ -29,7 +29,7 @@ pub fn grammar_or_fault()
 
 /// `Trailing` is the first fault exactly if bytes follow the text of a message.
 pub fn trailing_follows_a_message()
-    ensures { (text : List ℕ) → AreBytes text → (IsFirstFault text Trailing ↔ GoesOn text) }
+    ensures { (text : List ℕ) → AreBytes text → (IsFirstFault text Trailing ↔ HasTrailingBytes text) }
 {}
 
 /// A body has 13 bytes, 34 for each parent, and for each transaction its bytes and 4 more.

@@ -1,7 +1,10 @@
 //! Encodes blocks, certificates and votes as bytes, and decodes them.
 //!
 //! Decoding accepts exactly the texts of the grammar, and reports the first fault of any other text in reading order. Each
-//! value has one text. `docs/FORMATS.md` describes the grammar and the faults.
+//! value that fits the limits has exactly one text. `docs/FORMATS.md` describes the grammar and the faults.
+//!
+//! A block's *body* is its encoding without a tag and a signature; its digest is that of the body. A *subject* is the digest, the
+//! round and the author of a block, which its votes and its certificate name. A *seal* is a signer with its signature of a vote.
 #![tactic(auto)]
 
 mod block;
@@ -20,7 +23,7 @@ pub use certificate::{Certificate, Seal, Signature};
 pub use decode::decode_message;
 pub use encode::{block_digest, encode_block, encode_body, encode_message};
 pub use error::{DecodeError, EncodeError};
-pub use laws::{body_has_its_size, grammar_or_fault, one_text, trailing_follows_a_message};
+pub use laws::{body_has_its_size, grammar_or_fault, one_message, trailing_follows_a_message};
 pub use message::Message;
 pub use transactions::{Transactions, TransactionsIter};
 pub use vote::Vote;

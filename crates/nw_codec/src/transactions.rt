@@ -13,7 +13,8 @@ use nw_digest::NoMemory;
 use std::alloc::Global;
 use std::marker::Model;
 
-/// The transactions of a block, in the encoding of its body: each follows its length. Contracts see them as a list.
+/// The transactions of a block, encoded as in its body: before each transaction comes its length in four bytes. Contracts see
+/// them as a list.
 #[derive(Debug, Drop)]
 pub struct Transactions {
     count: usize,
@@ -65,7 +66,7 @@ impl Transactions {
         self.count
     }
 
-    /// Whether there are none.
+    /// Whether the block has no transactions.
     pub fn is_empty(&self) -> bool
         ensures { result ≡ (length self.now == 0) }
     {

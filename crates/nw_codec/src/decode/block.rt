@@ -1,4 +1,4 @@
-//! Decodes blocks: one pass checks the text and keeps where its parts lie, and the block is built from these parts.
+//! Decodes blocks. One pass checks the text and keeps its parts, and then the block is built from these parts.
 ghost use Rattle.std.specs.Prelude.{◌≡◌, ℕ, ◌+◌, ◌*◌, ◌≤◌, ◌∷◌, ◌++◌};
 ghost use Rattle.std.specs.Prelude.{length, All, MatchResult, IfOk};
 ghost use Rattle.std.specs.List.{flat_map};
@@ -24,7 +24,7 @@ use crate::{Block, DecodeError, Message, Ref, Signature};
 use nw_digest::{Digest, NoMemory, Round, Sequence};
 use std::alloc::Global;
 
-/// Where the parts of a block's text lie.
+/// The checked fields of a block's text. The parents and the transactions are still encoded.
 #[derive(Drop)]
 struct BlockParts<'a> {
     author: u16,
@@ -69,7 +69,7 @@ fn read_block(text: &[u8]) -> Result<BlockParts<'_>, DecodeError>
     })
 }
 
-/// The author, the round and the rest of a body.
+/// The author and the round of the body at the front of the text, and the rest.
 fn read_head(text: &[u8]) -> Result<(u16, u64, &[u8]), DecodeError>
     ensures { MatchResult result (λ x. HeadAt text.now x.0 x.1 x.2.now)
         (λ e. FaultFrom AtVersion text.now e) }
@@ -83,7 +83,7 @@ fn read_head(text: &[u8]) -> Result<(u16, u64, &[u8]), DecodeError>
     Ok((author, round, rest))
 }
 
-/// The text of the parents, which follow their count, and the rest.
+/// Reads the number of parents and the parents. Returns the text of the parents, and the rest.
 fn read_parents(text: &[u8]) -> Result<(&[u8], &[u8]), DecodeError>
     ensures { MatchResult result
         (λ x. (length x.0.now ≤ 3400) × ParentsAt text.now x.0.now x.1.now

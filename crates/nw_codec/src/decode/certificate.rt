@@ -1,4 +1,4 @@
-//! Decodes certificates and votes: one pass checks the text and keeps its parts, and the value is built from them.
+//! Decodes certificates and votes. One pass checks the text and keeps its parts, and then the value is built from these parts.
 ghost use Rattle.std.specs.Prelude.{◌≡◌, ℕ, ◌*◌, ◌≤◌, ◌∷◌, ◌++◌};
 ghost use Rattle.std.specs.Prelude.{length, All, MatchResult, IfOk};
 ghost use Rattle.std.specs.List.{flat_map};
@@ -20,7 +20,7 @@ use crate::{Certificate, DecodeError, Message, Seal, Signature, Vote};
 use nw_digest::{Digest, NoMemory, Round, Sequence};
 use std::alloc::Global;
 
-/// The subject of a vote: the digest, the round and the author of a block.
+/// The subject of a vote or a certificate: the digest, the round and the author of a block.
 #[derive(Clone, Copy)]
 struct Subject {
     digest: Digest,
@@ -28,7 +28,7 @@ struct Subject {
     author: u16,
 }
 
-/// Where the parts of a certificate's text lie.
+/// The checked fields of a certificate's text. The seals are still encoded.
 #[derive(Drop)]
 struct CertificateParts<'a> {
     subject: Subject,

@@ -128,7 +128,7 @@ pub(super) fn read_items<const N: usize>(
     Ok((until(text, rest), rest))
 }
 
-/// The part of the text that precedes its rest.
+/// The part of `text` before `rest`, which must be a suffix of `text`.
 pub(super) fn until<'a>(text: &'a [u8], rest: &[u8]) -> &'a [u8]
     requires { (front : List ℕ) × (text.now ≡ front ++ rest.now) }
     ensures { text.now ≡ result.now ++ rest.now }

@@ -8,7 +8,7 @@ use std::fmt::Display;
 use std::test::Fail;
 
 const OF_DECODING: [(DecodeError, &str); 12] = [
-    (DecodeError::Short, "the text ends within a field"),
+    (DecodeError::Short, "the text ends before the message does"),
     (DecodeError::Trailing, "bytes follow the message"),
     (DecodeError::Tag, "unknown kind of message"),
     (DecodeError::Version, "unknown version"),
@@ -23,7 +23,7 @@ const OF_DECODING: [(DecodeError, &str); 12] = [
 ];
 
 const OF_ENCODING: [(EncodeError, &str); 2] = [
-    (EncodeError::OverLimit, "over limit"),
+    (EncodeError::OverLimit, "over a limit or out of order"),
     (EncodeError::NoMemory, "out of memory"),
 ];
 

@@ -1,4 +1,4 @@
-use Rattle.nw_codec.proofs.GoingOn.{trailing_is}
+use Rattle.nw_codec.proofs.TrailingBytes.{trailing_is}
 use Rattle.nw_codec.proofs.laws.trailing_follows_a_message.Goals as goal
 
 pub returns : goal.returns

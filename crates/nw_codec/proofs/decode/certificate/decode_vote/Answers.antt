@@ -2,7 +2,7 @@ use Rattle.std.proofs.Common.{◌≡◌, None, refl, rules}
 use Rattle.nw_codec.specs.declared.error.DecodeError.TheVariants.{VoteOrder}
 use Rattle.nw_codec.specs.Faults.{OfVote, AtDigest, AtSigner, AtSealSignature}
 use Rattle.nw_codec.proofs.Fronts.{later}
-use Rattle.nw_codec.proofs.Fields.{exit, short_as, order_leads}
+use Rattle.nw_codec.proofs.Fields.{exit, short_as, member_leads}
 use Rattle.nw_codec.proofs.Items.{are_seals}
 use Rattle.nw_codec.proofs.Parts.{subject_leads, seal_ends, vote_lies}
 use Rattle.nw_codec.proofs.decode.certificate.decode_vote.Goals as goal
@@ -19,7 +19,7 @@ pub returns-in_err-signature : goal.returns-in_err-signature
 returns-in_err-signature c =
     let next = AtSealSignature 0 c.in_ok-signer.signer in
     let subject = subject_leads OfVote _ _ _ _ _ (c.in_ok-subject.ensures OfVote) in
-    let signer = order_leads (AtSigner 0 None) None VoteOrder (AtSealSignature 0) _ _ _ (are_seals.orders 0 None) c.in_ok-signer.ensures refl in
+    let signer = member_leads (AtSigner 0 None) None VoteOrder (AtSealSignature 0) _ _ _ (are_seals.members 0 None) c.in_ok-signer.ensures refl in
     exit _ _ _ _ c.from_residual-in_err-signature.ensures.1 (later (AtDigest OfVote) (AtSigner 0 None) _ _ _ subject (later (AtSigner 0 None) next _ _ _ signer (c.in_err-signature.ensures next (seal_ends c.in_ok-signer.signer))))
 
 pub unwrap-requires : goal.unwrap-requires

@@ -1,5 +1,5 @@
 use Rattle.nw_codec.proofs.OneText.{one_message}
-use Rattle.nw_codec.proofs.laws.one_text.Goals as goal
+use Rattle.nw_codec.proofs.laws.one_message.Goals as goal
 
 pub returns : goal.returns
 returns c = one_message
