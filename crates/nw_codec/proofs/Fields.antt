@@ -105,7 +105,7 @@ number_at text field rest n bytes long front back is =
 pub number_len : (text rest : List ℕ) (n : ℕ) → NumberAt text n rest → length text ≡ 2 + length rest
 number_len text rest n at = omega (arith, ap length at.bytes, length-append (to_be_bytes w16 n) rest)
 
--- an author or signer, and so many bytes that follow it
+-- an author or signer, and the `many` bytes that follow it
 pub record ItemAt (many author : ℕ) (text bytes rest : List ℕ) : Type 0 where
   pub len : length bytes ≡ many
   pub each : AreBytes bytes
@@ -165,14 +165,14 @@ count_fails stage max over next n text rest counts at high =
     number_fails stage n text rest over counts.wide at (counts.test (to_be_bytes w16 n) ∙ high_fails (number16 (to_be_bytes w16 n)) max (Ok (next (number16 (to_be_bytes w16 n)))) over (omega (arith, same, high)))
 
 pub member_leads : (stage : Stage) (before : Option ℕ) (disorder : DecodeError) (next : ℕ → Stage) (n : ℕ) (text rest : List ℕ) → ReadsMember stage before disorder next → NumberAt text n rest → comes_after before n ≡ true → Reaches stage text (next n) rest
-member_leads stage before disorder next n text rest orders at test =
-    number_passes stage (next n) n text rest orders.wide at (orders.test (to_be_bytes w16 n) ∙ order_passes (number16 (to_be_bytes w16 n)) n before disorder next (again16 n at.low) (after_from_test before n test))
+member_leads stage before disorder next n text rest member at test =
+    number_passes stage (next n) n text rest member.wide at (member.test (to_be_bytes w16 n) ∙ order_passes (number16 (to_be_bytes w16 n)) n before disorder next (again16 n at.low) (after_from_test before n test))
 
 pub member_fails : (stage : Stage) (before : Option ℕ) (disorder : DecodeError) (next : ℕ → Stage) (n : ℕ) (text rest : List ℕ) → ReadsMember stage before disorder next → NumberAt text n rest → comes_after before n ≡ false → FaultFrom stage text disorder
-member_fails stage before disorder next n text rest orders at test =
+member_fails stage before disorder next n text rest member at test =
     let same : number16 (to_be_bytes w16 n) ≡ n = again16 n at.low in
     let fails : cond (comes_after before n) (Ok (next n)) (Err disorder) ≡ Err disorder = rw test refl in
-    number_fails stage n text rest disorder orders.wide at (orders.test (to_be_bytes w16 n) ∙ subst (λ (x : ℕ). cond (comes_after before x) (Ok (next x)) (Err disorder) ≡ Err disorder) (sym same) fails)
+    number_fails stage n text rest disorder member.wide at (member.test (to_be_bytes w16 n) ∙ subst (λ (x : ℕ). cond (comes_after before x) (Ok (next x)) (Err disorder) ≡ Err disorder) (sym same) fails)
 
 -- a list of length 0 is empty
 

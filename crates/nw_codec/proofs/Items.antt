@@ -38,7 +38,7 @@ pub record ItemKind (X : Type 0) : Type 1 where
 
 pub are_parents : (size : ℕ) → AreItems 32 ParentOrder (λ more before. at_parents more before size) (λ more author. AtParentDigest more author size)
 are_parents size = record {
-  orders = λ more before. record { wide = refl; test = λ field. refl };
+  members = λ more before. record { wide = refl; test = λ field. refl };
   wide = λ more author. refl;
   passes = λ more author field. refl;
   ends = λ before. refl;
@@ -46,7 +46,7 @@ are_parents size = record {
 
 pub are_seals : AreItems 64 VoteOrder at_seals AtSealSignature
 are_seals = record {
-  orders = λ more before. record { wide = refl; test = λ field. refl };
+  members = λ more before. record { wide = refl; test = λ field. refl };
   wide = λ more signer. refl;
   passes = λ more signer field. refl;
   ends = λ before. refl;
@@ -121,8 +121,8 @@ written_item k p more before rest typed after =
     let n : ℕ = k.number p in
     let field : List ℕ = to_be_bytes w16 n in
     let member = k.stages.members more before in
-    let order = orders.test field ∙ order_passes (number16 field) n before k.disorder (k.inside more) (again16 n (k.low p typed)) after in
-    let first : Reaches (k.at (suc more) before) (field ++ (k.others p ++ rest)) (k.inside more n) (k.others p ++ rest) = one_field (k.at (suc more) before) (k.inside more n) field (k.others p ++ rest) orders.wide order in
+    let order = member.test field ∙ order_passes (number16 field) n before k.disorder (k.inside more) (again16 n (k.low p typed)) after in
+    let first : Reaches (k.at (suc more) before) (field ++ (k.others p ++ rest)) (k.inside more n) (k.others p ++ rest) = one_field (k.at (suc more) before) (k.inside more n) field (k.others p ++ rest) member.wide order in
     let second : Reaches (k.inside more n) (k.others p ++ rest) (k.at more (Some n)) rest = one_field (k.inside more n) (k.at more (Some n)) (k.others p) rest (k.stages.wide more n ∙ ap Some (sym (k.len p typed))) (k.stages.passes more n (k.others p)) in
     let cut : k.piece p ++ rest ≡ field ++ (k.others p ++ rest) = ap (λ (t : List ℕ). t ++ rest) (k.cut p) ∙ append_assoc field (k.others p) rest in
     subst (λ (t : List ℕ). Reaches (k.at (suc more) before) t (k.at more (Some n)) rest) (sym cut) (onward _ _ _ _ _ _ first second)
@@ -161,9 +161,9 @@ two_cuts text a more b rest whole first second is = rw (first, second, is) (sym 
 pub read_item : {X : Type 0} (k : ItemKind X) (more : ℕ) (before : Option ℕ) (text rest : List ℕ) → AreBytes text → Reaches (k.at (suc more) before) text AtEnd rest → ItemRead k more before text rest
 read_item k more before text rest bytes front =
     let member = k.stages.members more before in
-    let at_number = step (k.at (suc more) before) 2 text rest orders.wide front in
+    let at_number = step (k.at (suc more) before) 2 text rest member.wide front in
     let n : ℕ = number16 at_number.field in
-    let test = else_choice (comes_after before n) k.disorder (k.inside more n) at_number.next (sym (orders.test at_number.field) ∙ at_number.passes) in
+    let test = else_choice (comes_after before n) k.disorder (k.inside more n) at_number.next (sym (member.test at_number.field) ∙ at_number.passes) in
     let number-bytes = bytes_of at_number.field at_number.more text at_number.cut bytes in
     let at_others = step (k.inside more n) k.width at_number.more rest (k.stages.wide more n) (to at_number.next (k.inside more n) at_number.more rest (sym test.1) at_number.onwards) in
     let others-bytes = bytes_of at_others.field at_others.more at_number.more at_others.cut number-bytes.1 in
