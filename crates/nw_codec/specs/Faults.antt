@@ -12,8 +12,8 @@ pub data Kind : Type 0 where
   OfCertificate : Kind
   OfVote : Kind
 
--- The next field, and the values that later tests need. `more` is how many parents, transactions or seals follow this one,
--- `before` is the preceding author or signer, and `size` is the number of bytes of the body so far.
+-- The next field, and the values that later tests need. `more` is how many parents, transactions or seals follow this one.
+-- `before` is the preceding author or signer. `size` is the number of bytes of the body so far.
 pub data Stage : Type 0 where
   AtTag : Stage
   AtVersion : Stage
