@@ -19,7 +19,7 @@ pub struct Crew {
     pub committee: Shared<Committee>,
     pub pairs: Vec<Pair>,
     pub threads: u16,
-    /// The number of blocks that were written and certified.
+    /// The number of blocks that were written and certified: the store answered both calls, whatever the reply.
     taken: AtomicU64,
     /// The number of blocks that walks listed.
     listed: AtomicU64,

@@ -1,17 +1,18 @@
 //! A benchmark program: it measures how long a node takes to check and store messages.
 //!
-//! `nw_bench MESSAGES BYTES WORKERS` makes MESSAGES messages. Each has a block with one transaction of BYTES bytes, signed by the only
-//! member of a committee. WORKERS threads check them. The program prints how long the check took, in milliseconds.
+//! `nw_bench MESSAGES BYTES WORKERS` makes MESSAGES messages. Each has a block with one transaction of BYTES bytes, at most
+//! 65,536. The only member of a committee signs them. WORKERS threads, 1 to 16, check them. The program prints how long the check
+//! took, in milliseconds.
 //!
 //! `nw_bench ed25519 MEMBERS MESSAGES WORKERS` reads lines in hex from standard input. First come the Ed25519 public keys of MEMBERS
-//! members, and then MESSAGES messages of blocks and certificates. WORKERS threads check the messages. The program prints how long the
-//! check took, in milliseconds.
+//! members, and then MESSAGES messages of blocks and certificates. WORKERS threads, 1 to 16, check the messages. The program
+//! prints how long the check took, in milliseconds.
 //!
 //! `nw_bench node MEMBERS ROUNDS THREADS` makes the messages of a full DAG of MEMBERS members and ROUNDS rounds: each block and its
 //! certificate. A block has the most transactions of 512 bytes that are allowed. THREADS threads, 1 to 256, check the messages and write
 //! and certify the blocks in one store. They read one block of each round causally. The program prints these five numbers:
 //!
-//! - how many blocks were written and certified;
+//! - how many blocks were written and certified, that is, the store answered both calls;
 //! - how many blocks the walks listed;
 //! - the time of the run, in milliseconds;
 //! - the time that all threads together spent in calls that write and certify, in milliseconds;

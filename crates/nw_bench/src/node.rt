@@ -29,7 +29,7 @@ const LIMITS: Limits = Limits {
 /// The work of a node, and its times.
 #[derive(Clone, Copy, Debug)]
 pub struct Report {
-    /// The number of blocks that were written and certified.
+    /// The number of blocks that were written and certified: the store answered both calls, whatever the reply.
     pub taken: u64,
     /// The number of blocks that the walks listed.
     pub listed: u64,
@@ -76,7 +76,7 @@ fn digest_all<R: Clock>(rt: &R, pairs: &[Pair]) -> Result<Duration, Error> {
         // The tag precedes the body, and the signature follows it.
         let body = pair.block.get(1..pair.block.len().saturating_sub(64));
         if digest_of(body.unwrap_or(&[])) != pair.digest {
-            return Err(Error::msg("a digest is another one"));
+            return Err(Error::msg("a digest differs from its pair's"));
         }
     }
     Ok(started.elapsed(rt)?)

@@ -28,7 +28,8 @@ pub enum Checked<S: Scheme> {
     BadCert(CertFault),
 }
 
-/// Decodes the text, and checks the block or certificate in it. A fault of the text, the block or the certificate is a result.
+/// Decodes the text, and checks the block or certificate in it. A fault of the text, the block or the certificate is no error: it
+/// is returned in `Ok`.
 ///
 /// `NoMemory`: an allocation failed. Only blocks and certificates need memory.
 pub fn check_message<S: Scheme>(

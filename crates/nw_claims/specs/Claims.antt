@@ -1,4 +1,5 @@
--- A log: the seat that knows it, and the seats that claim a beginning of it.
+-- A log: the seat that knows it, and the seats that claim a beginning of it. A seat is a zero-sized token of the kit's `atomic_table`: its owner
+-- takes steps on a table with it, and it has a view, which is what the owner knows.
 use Rattle.std.specs.Prelude.{◌≡◌, ℕ, List, [], ◌∷◌, ◌++◌, Bool, true, false}
 use mathlib.Core.Option.{Option, some, none}
 use mathlib.Core.List.{IsPrefix}

@@ -1,4 +1,5 @@
-//! What each seat of a log's table knows, and how its steps change that.
+//! What each seat of a log's table knows, and how its steps change that. A *seat* is a zero-sized token of `atomic_table`, with
+//! which its owner takes steps on the table.
 use atomic_table::{Join, Play, Split, TableRule};
 use std::collections::LinkedList;
 

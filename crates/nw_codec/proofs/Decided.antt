@@ -99,7 +99,7 @@ trailing_stops (Some w) stage rest wide p =
 
 -- ---- each text is whole or has a fault
 
--- more for a transaction, which may have no bytes
+-- 1 at a transaction, whose field may have no bytes. With twice the bytes left to read, it is a measure that each field lowers
 weight : Stage → ℕ
 weight (AtTransaction len more size) = 1
 weight AtTag = 0

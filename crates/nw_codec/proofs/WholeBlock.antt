@@ -1,4 +1,4 @@
--- If all fields of a text pass their tests, from the version to the end, then it is the text of a block within the limits.
+-- If all fields of a text pass their tests, from the version to the end, the text is that of a block within the limits.
 use Rattle.std.proofs.Common.{◌≡◌, ℕ, zero, suc, ◌+◌, ◌*◌, ◌^◌, ◌<◌, ◌≤◌, ltb, List, [], ◌∷◌, ◌++◌, length, None, refl, sym, ap, ◌∙◌, arith}
 use Rattle.std.specs.Int.{w16, w32, to_be_bytes}
 use Rattle.std.specs.List.{flat_map, AllByRecursion}

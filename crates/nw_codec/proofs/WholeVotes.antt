@@ -1,5 +1,4 @@
--- If all fields of a text pass their tests, from a digest to the end, then it is the text of a certificate within the limits or of
--- a vote.
+-- If all fields of a text pass their tests, from a digest to the end, the text is that of a vote, or of a certificate within the limits.
 use Rattle.std.proofs.Common.{◌≡◌, ℕ, ltb, List, [], ◌∷◌, ◌++◌, length, None, refl, sym, ap, ◌∙◌}
 use Rattle.std.specs.Int.{w16, to_be_bytes}
 use Rattle.std.specs.List.{flat_map}

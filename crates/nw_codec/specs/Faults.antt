@@ -7,13 +7,13 @@ use Rattle.nw_codec.specs.declared.error.DecodeError.{DecodeError}
 use Rattle.nw_codec.specs.declared.limits.TheConstants.{MAX_PARENTS, MAX_TRANSACTIONS, MAX_TRANSACTION, MAX_BODY, MAX_VOTES}
 use Rattle.nw_codec.specs.declared.error.DecodeError.TheVariants.{Short, Trailing, Tag, Version, TooManyParents, ParentOrder, TooManyTransactions, TransactionTooLong, BodyTooLong, TooManyVotes, VoteOrder}
 
--- the messages that have a subject
+-- the kinds of messages that have a subject: the digest, the round and the author of a block
 pub data Kind : Type 0 where
   OfCertificate : Kind
   OfVote : Kind
 
--- The next field, and the values that later tests need. `more` is how many parents, transactions or seals follow this one,
--- `before` is the preceding author or signer, and `size` is the number of bytes of the body so far.
+-- The next field, and the values that later tests need. `more` is how many parents, transactions or seals follow this one.
+-- `before` is the preceding author or signer. `size` is the number of bytes of the body so far.
 pub data Stage : Type 0 where
   AtTag : Stage
   AtVersion : Stage
@@ -55,17 +55,17 @@ width (AtSigner more before) = Some 2
 width (AtSealSignature more signer) = Some 64
 width AtEnd = None
 
--- the stage at which so many parents are still to come: before the next one, or after the last one
+-- the stage with this many parents left to read: before the next one, or after the last one
 abbrev pub at_parents : ℕ → Option ℕ → ℕ → Stage
 at_parents zero before size = AtTransactionCount size
 at_parents (suc more) before size = AtParentAuthor more before size
 
--- the stage at which so many transactions are still to come: before the next one, or after the last one
+-- the stage with this many transactions left to read: before the next one, or after the last one
 abbrev pub at_transactions : ℕ → ℕ → Stage
 at_transactions zero size = AtSignature
 at_transactions (suc more) size = AtTransactionLength more size
 
--- the stage at which so many seals are still to come: before the next one, or after the last one
+-- the stage with this many seals left to read: before the next one, or after the last one
 abbrev pub at_seals : ℕ → Option ℕ → Stage
 at_seals zero before = AtEnd
 at_seals (suc more) before = AtSigner more before
@@ -158,7 +158,7 @@ IsGoodFront text stage rest = Reaches AtTag text stage rest
 abbrev pub IsWhole : List ℕ → Type 0
 IsWhole text = IsGoodFront text AtEnd []
 
--- the fault at this stage, where `rest` is still to be read: bytes follow the last field, the next field is cut short, or its test fails
+-- the fault at this stage, when `rest` is left to read: bytes follow the last field, the next field is cut short, or its test fails
 abbrev pub StopsAt : Stage → List ℕ → DecodeError → Type 0
 StopsAt stage rest e =
     MatchOption (width stage)

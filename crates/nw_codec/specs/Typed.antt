@@ -1,4 +1,4 @@
--- The ranges of the program's types. A definition speaks of any number and any list. A value of the program is in the range of its type.
+-- The ranges of the program's types. In definitions, numbers and lists have no bounds. A value of the program is in the range of its type.
 use Rattle.std.specs.Prelude.{◌≡◌, ℕ, ◌<◌, ◌^◌, List, length, All}
 use Rattle.nw_codec.specs.declared.block.Ref.{Ref}
 use Rattle.nw_codec.specs.declared.block.Block.{Block}

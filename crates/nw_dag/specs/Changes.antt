@@ -1,4 +1,4 @@
--- Changes of the tables by the single steps of a call.
+-- What the single stages of a call change in the tables.
 use Rattle.std.specs.Prelude.{◌≡◌, ◌↔◌, ◌⊎◌, List, ◌++◌, Some, Contains}
 use Rattle.std.specs.List.{IsDistinct}
 use Rattle.std.specs.Ordering.{eq_by_cmp}

@@ -1,4 +1,4 @@
--- Changes of the tables by a collection.
+-- What a collection changes in the tables. Lacking defines the sets of missing parents, and Settled the count of pending blocks.
 use Rattle.std.specs.Prelude.{◌≡◌, ◌↔◌, ℕ, ◌+◌, ◌<◌, List, [], Some, Contains, length}
 use Rattle.std.specs.FinMap.{get, len}
 use Rattle.nw_digest.specs.declared.digest.Digest.{Digest}

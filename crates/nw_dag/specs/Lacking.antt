@@ -1,7 +1,8 @@
 -- Which blocks lack which parents.
 --
--- A store keeps two sets of pairs of a block and a parent that it lacks (Pairs): `unmet` has the parents that do not stand, and `lacking`
--- has the parents that are not complete.
+-- A store keeps two sets of pairs (Pairs). A pair is a parent and a holder that lacks it: the digest of a block that names the parent.
+-- `unmet` has the parents that are not met: their digests do not stand with a block of their round and author (IsMet). `lacking` has the
+-- parents that are not met or not complete.
 use Rattle.std.specs.Prelude.{◌≡◌, ◌↔◌, ℕ, ◌<◌, ◌⊎◌, List, Some, Contains}
 use Rattle.std.specs.FinMap.{get}
 use Rattle.nw_digest.specs.declared.digest.Digest.{Digest}

@@ -1,4 +1,4 @@
-//! Completions: the digests of the blocks that became complete since the last view, and the number of blocks that are not complete.
+//! Completions: which blocks became complete since the last freeze, and how many blocks are not complete.
 ghost use Rattle.std.specs.Prelude.{◌≡◌, ◌↔◌, ◌+◌, ◌-◌, ◌<◌, ◌≤◌, [], ◌∷◌, ◌++◌};
 ghost use Rattle.std.specs.Prelude.{OnOk, MatchOption, IsTrue, false, length, get_or, Contains};
 ghost use Rattle.std.specs.Vec.{vec_capacity};
@@ -10,8 +10,8 @@ use nw_state::StateTables;
 use nw_waiting::Waiting;
 use std::alloc::Global;
 
-/// The digests of the blocks that became complete since the last view, and the number of pending blocks: those that are held but not
-/// complete.
+/// The digests of the blocks that became complete since the last freeze (by a causal read or `compact`), and the number of
+/// *pending* blocks: those that are held but not complete.
 #[derive(Drop)]
 pub(crate) struct Completions {
     /// The digests, in the order in which the blocks became complete. Blocks that were collected since may still be listed.

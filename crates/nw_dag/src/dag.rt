@@ -33,7 +33,7 @@ pub struct DagLimits {
 pub struct Dag {
     held: StateTables,
     waits: Waits,
-    /// The frozen blocks: those that were complete at the last view.
+    /// The frozen blocks: those that were complete at the last freeze.
     generations: Generations,
 }
 

@@ -12,8 +12,9 @@ use nw_state::StateTables;
 use nw_trie::Trie;
 use std::alloc::Global;
 
-/// Freezes the blocks that became complete since the last view as one more generation, and empties their list. If there are no such
-/// blocks, it adds no generation. If there are [`MAX_GENERATIONS`] generations already, it first joins some of them into one.
+/// Freezes the blocks that became complete since the last freeze as one more generation, and empties their list. If there are no
+/// such blocks, it adds no generation. If there are [`MAX_GENERATIONS`] generations already, it first joins some of them into
+/// one.
 ///
 /// `NoMemory` if allocation fails. Then only collected blocks may have been removed from the list.
 pub(crate) fn freeze(

@@ -1,4 +1,7 @@
 //! Missing parents of the held blocks, and which blocks are complete.
+//!
+//! A *holder* is the digest of a block that names parents. A parent is *met* if its digest stands, with a block of the parent's
+//! round and author.
 ghost use Rattle.std.specs.Prelude.{◌≡◌, ◌<◌, ◌+◌, [], OnOk, OnErr};
 ghost use Rattle.std.specs.FinSet as set;
 ghost use Rattle.nw_waiting.specs.Pairs.{without_holder};
@@ -21,11 +24,11 @@ use std::alloc::Global;
 /// Which held blocks lack which parents, and which blocks are complete.
 #[derive(Drop)]
 pub(crate) struct Waits {
-    /// The parents that do not stand, and the blocks that name them.
+    /// The parents that are not met, and the holders that name them.
     pub(crate) unmet: Waiting<Global>,
-    /// The parents that are not complete, and the blocks that name them.
+    /// The parents that are not met or not complete, and the holders that name them.
     pub(crate) lacking: Waiting<Global>,
-    /// The blocks that became complete since the last view, and the number of blocks that are not complete.
+    /// The blocks that became complete since the last freeze, and the number of blocks that are not complete.
     pub(crate) completions: Completions,
 }
 
@@ -44,7 +47,7 @@ impl Waits {
         }
     }
 
-    /// Records that the holder lacks the parent, if the parent does not stand or is not complete.
+    /// Records that the holder lacks the parent, if the parent is not met or not complete.
     ///
     /// `NoMemory` if allocation fails. Then one of the two sets may have the pair.
     fn want(&mut self, held: &StateTables, wanted: Wanted, holder: Digest) -> Result<(), NoMemory>
@@ -69,7 +72,8 @@ impl Waits {
         }
     }
 
-    /// Records which parents the holder lacks: those that these references name in this round and that do not stand or are not complete.
+    /// Records which parents the holder lacks: those that these references name in this round, and that are not met or not
+    /// complete.
     ///
     /// `NoMemory` if allocation fails. Then only some of them may be recorded.
     fn want_each(
@@ -96,7 +100,7 @@ impl Waits {
         Ok(())
     }
 
-    /// Records which parents of its block the holder lacks: those that do not stand or are not complete. A block that is not above the
+    /// Records which parents of its block the holder lacks: those that are not met or not complete. A block that is not above the
     /// garbage round lacks none. Before the call, the holder lacks nothing.
     ///
     /// `NoMemory` if allocation fails. Then nothing changes.

@@ -16,13 +16,13 @@ const MARGIN: u64 = 5;
 /// How a reference is drawn.
 #[derive(Clone, Copy)]
 pub(crate) enum Kind {
-    /// The walk follows the reference, and it is the first reference to this parent.
+    /// The walk follows the reference, and no earlier one to the same parent.
     First,
-    /// The walk follows the reference, but another one to the same parent comes before it.
+    /// The walk follows the reference, and an earlier one to the same parent.
     Walked,
-    /// The walk does not follow the reference, which is satisfied.
+    /// The reference is satisfied, but the walk does not follow it.
     Satisfied,
-    /// The walk does not follow the reference, which is not satisfied.
+    /// The reference is not satisfied, and the walk does not follow it.
     Unsatisfied,
 }
 

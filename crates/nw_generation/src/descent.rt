@@ -60,7 +60,7 @@ impl<'a> Descent<'a> {
         requires { IsOfRound slot (map.get self.now digest.now) }
         ensures { option_copied result ≡ map.get self.now digest.now }
     {
-        // The borrow checker does not allow a copy of the argument itself in a loop.
+        // Rattle's borrow checker does not allow a copy of the argument itself in a loop.
         let named = &slot;
         let mut left = self.generations;
         while let Some((generation, older)) = left.split_last() {

@@ -82,7 +82,7 @@ impl Generations {
 
     /// The index of the first generation to join with all later ones.
     ///
-    /// This is the oldest generation with at most as many blocks as all later ones together, so that each block is joined only a few
+    /// This is the oldest generation with at most as many blocks as all later ones together. So each block is joined only a few
     /// times. At least the last two generations are joined.
     pub fn join_start(&self) -> usize
         requires several { 2 ≤ self.now.parts }

@@ -15,7 +15,7 @@ use std::marker::Model;
 /// Blocks under their digests, ascending. Contracts see the list of entries.
 #[derive(Drop)]
 pub(crate) struct Index {
-    /// The first two bytes of each digest, so that a search follows few pointers.
+    /// The head of each digest: its first two bytes. Heads are adjacent in memory, so that a search follows few pointers.
     heads: Vec<u16>,
     entries: Vec<Entry>,
     /// The same blocks by round and author.

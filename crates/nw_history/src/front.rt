@@ -86,7 +86,7 @@ impl<S: Scheme> Front<S> {
         Ok(Front::of(SharedList::new(alloc, Shared::new(alloc, start)?)?))
     }
 
-    /// The history with these events. Their head is its start.
+    /// The history with these events. The head of their list is the history's start.
     fn of(events: SharedList<Start, Event>) -> Front<S>
         requires { IsLegalStory S.accepts (story_of events.head (items_of events)) }
         ensures { result ≡ story_of events.head (items_of events) }

@@ -36,7 +36,7 @@ IsJointFault workers results fault.NoMemory = Unit {0}
 IsJointFault workers results fault.Spawn = HadMemory results × (length results < workers)
 IsJointFault workers results fault.GateShut = HadMemory results × (length results ≡ workers) × Contains results (Err share.GateShut)
 
--- a run of this many workers may fail with this fault: results that they may have lead to it
+-- a run of this many workers may fail with this fault: the workers may have results that lead to it
 abbrev pub RunFailsWith : (S : Type 0) → {A : Type 0} → Meaning → List Member → List (Vec ℕ A) → (Point → Bool → Type 0) → ℕ → IntakeFault → Type 0
 RunFailsWith S accepts members texts says workers why = (results : List (Result (VecDeque (Checked S) Global) ShareFault)) × AreShareResults accepts members texts says workers results × IsJointFault workers results why
 

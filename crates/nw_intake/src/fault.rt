@@ -3,7 +3,7 @@ use nw_digest::NoMemory;
 use std::alloc::AllocFailed;
 use thiserror::Error;
 
-/// A gate did not let a thread start.
+/// A gate did not let a thread pass a point.
 #[derive(Clone, Copy, Debug, PartialEq, Eq, Error)]
 #[error("gate shut")]
 pub struct GateShut;

@@ -3,11 +3,11 @@ ghost use Rattle.std.specs.Prelude.{◌≡◌, true, false, OnOk, OnErr};
 
 use crate::{GateShut, Point};
 
-/// The maximum number of times that a gate is asked about one start.
+/// The maximum number of times that a gate is asked whether a thread may pass a point.
 const MAX_ASKS: u32 = 1_000_000;
 
-/// Threads report to a gate which points they reach, and ask it whether they may start. They share the gate, so its state must be in
-/// atomics or behind a lock. `may_pass` may sleep or yield before it returns `false`.
+/// Threads report to a gate which points they reach, and ask it whether they may pass. They share the gate, so its state must be
+/// in atomics or behind a lock. `may_pass` may sleep or yield before it returns `false`.
 pub trait Gate {
     ghost use Rattle.std.specs.Prelude.{Bool};
     ghost use Rattle.nw_intake.specs.declared.point.Point.{Point};
@@ -18,12 +18,12 @@ pub trait Gate {
     /// Reports that a thread is at the point.
     fn reach(&self, point: Point);
 
-    /// Whether the thread at the point may start.
+    /// Whether the thread at the point may pass.
     fn may_pass(&self, point: Point) -> bool
         ensures { says self.now point result };
 }
 
-/// A gate that lets every thread start.
+/// A gate that lets every thread pass.
 #[derive(Clone, Copy, Debug)]
 pub struct FreeGate;
 
@@ -39,7 +39,7 @@ impl Gate for FreeGate {
     }
 }
 
-/// Reports the point to the gate, and asks the gate until it lets the thread start.
+/// Reports the point to the gate, and asks the gate until it lets the thread pass.
 ///
 /// `GateShut`: the gate refused 1,000,000 times.
 pub fn pass_start<G: Gate>(gate: &G, point: Point) -> Result<(), GateShut>

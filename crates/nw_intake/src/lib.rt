@@ -1,7 +1,7 @@
 //! Checks many messages in several threads. Gates hold threads at named points.
 //!
 //! [`check_all`] returns one answer for each text: the same as a separate check of this text. The number of workers and the gate do
-//! not change the answers. [`pass_start`] returns `Ok` only after its gate let the thread start. The crate uses `nw_check`.
+//! not change the answers. [`pass_start`] returns `Ok` only after its gate let the thread pass. The crate uses `nw_check`.
 #![tactic(auto)]
 
 mod fault;

@@ -1,7 +1,7 @@
 //! Named points that threads reach.
 
 /// A point that a thread reaches and reports to its gate. A check has the place of its message, counted from 0. A walk or a write
-/// has the number of its node, and a number of its own.
+/// has the number of its node (a validator of a load), and its own number at that node.
 #[derive(Clone, Copy, Debug, PartialEq, Eq)]
 pub enum Point {
     /// The check of the message at this place is about to start.

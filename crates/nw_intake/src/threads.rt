@@ -90,7 +90,7 @@ fn run_all<S: Scheme + Send, G: Gate + Sync, R: Threads + Wait + Sync>(
     )
 }
 
-/// Starts the workers in the order of their numbers, up to the first one that cannot be started. Returns the handles of those started.
+/// Starts the workers in the order of their numbers, until one cannot be started. Returns the handles of the started workers.
 fn start_all<'s, 'e, S: Scheme + Send + 'e, G: Gate + Sync>(
     alloc: Global,
     scope: &Scope<'s, &'e ()>,

@@ -62,7 +62,7 @@ impl<'a, L: Home, G: Gate> Client<'a, L, G> {
         }
     }
 
-    /// Walks the ticket between two points of the gate. It has no handle to wait with, so it takes no lock.
+    /// Walks the ticket between two points of the gate. It gets no `rt`, which every wait needs, so it takes no lock.
     fn walk(&self, number: u32, ticket: &Ticket<DemoScheme>) -> Result<usize, End> {
         let node = self.node;
         pass_start(self.gate, Point::WalkStart { node, number })?;

@@ -1,4 +1,5 @@
-//! Runs a committee of nodes under load: each makes, certifies and reads blocks over a few rounds, with a store and two threads.
+//! Runs a committee of nodes under load. A *node* is a validator with a store and two threads. It makes, certifies and reads
+//! blocks over a few rounds.
 //!
 //! It is proved that `load` refuses numbers of nodes and rounds out of range before anything else. Tests show what it reports. Its
 //! threads wait for one another, and no contract says that they end. The type of a thread shows what it may do: a link writes,

@@ -67,8 +67,8 @@ impl<'a, L: Home, G: Gate> Link<'a, L, G> {
         }
     }
 
-    /// Makes the block of each round and handles the messages of other nodes, until the node's store has all blocks of all nodes
-    /// written and certified.
+    /// Makes the block of each round, and handles the messages of other nodes. It returns when the node's store has all blocks of
+    /// all nodes written and certified.
     pub(crate) fn run<R: Wait>(&mut self, rt: &R) -> Result<(), End> {
         self.table.add_rounds(self.alloc, self.rounds, self.nodes)?;
         let none = Vec::new(self.alloc);

@@ -24,7 +24,7 @@ use Rattle.nw_model.specs.declared.reply.CollectReply.TheVariants as collect
 use Rattle.nw_model.proofs.Kept.{sound_with_block, sound_with_certificate, kept_opening}
 use Rattle.nw_model.proofs.Raised.{sound_raised}
 
--- if the result has the mark and the first branch does not, the result is the second branch
+-- if the result of an `if` has the mark and its first branch does not, the test fails and the result is the second branch
 pub past : {X : Type 0} (mark : X → Bool) (test : Bool) (x rest r : X) → mark x ≡ false → mark r ≡ true → cond test x rest ≡ r → (test ≡ false) × (rest ≡ r)
 past mark true x rest r unmarked marked is = let same = ap mark is in absurd cc
 past mark false x rest r unmarked marked is = (refl, is)

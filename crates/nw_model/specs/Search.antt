@@ -32,7 +32,8 @@ IsParentOfAny v digests e = (d : Digest) × Contains digests d × IsParentIn v d
 abbrev pub AreAbove : Frozen → List Digest → Type 0
 AreAbove v digests = All (λ d. (b : Block) × (get v.blocks d ≡ Some b) × (v.floor < b.round)) digests
 
--- a step of the search finds the digests with P. The found digests grow from old to new, and the listed ones from listed to more
+-- a step of the search finds the digests with P. The map of all found digests grows from old to new. The list of the digests that are new in
+-- this round of the search grows from listed to more
 pub record Finds (v : Frozen) (P : Digest → Type 0) (old new : FinMap slot_cmp Digest) (listed more : List Digest) : Type 0 where
   -- each digest found before is still found
   pub keeps : (slot : Slot) (e : Digest) → get old slot ≡ Some e → get new slot ≡ Some e

@@ -33,7 +33,7 @@ block_slot b = (b.round, b.author)
 abbrev pub certificate_slot : Certificate → Slot
 certificate_slot c = (c.round, c.author)
 
--- the code of a digest, by which contracts compare digests
+-- the code of a digest: digests with equal codes are equal
 abbrev pub coded_digest : Coded Digest
 coded_digest = code_by (List ℕ) (coded_list coded_ℕ) (λ d. d.0) (λ b. record { 0 = b }) (λ _. refl)
 

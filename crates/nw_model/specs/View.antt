@@ -1,4 +1,4 @@
--- Views: frozen blocks above a floor, the ancestors in them, and which state a view shows.
+-- Views: frozen blocks and a floor, the ancestors in them, and which state a view shows.
 use Rattle.std.specs.Prelude.{◌≡◌, ◌↔◌, ℕ, ◌+◌, ◌<◌, ◌≤◌, ◌⊎◌, List, [], ◌∷◌, Some, None, All, Contains, refl}
 use Rattle.std.specs.Coded.{Coded, code_by, coded×, coded_ℕ}
 use Rattle.std.specs.FinMap as map
@@ -10,7 +10,7 @@ use Rattle.nw_digest.specs.Order.{digest_cmp}
 use Rattle.nw_model.specs.State.{State, block_slot, coded_digest, coded_block}
 use Rattle.nw_model.specs.Paths.{IsComplete, Lists}
 
--- a view
+-- a view: frozen blocks and a floor
 pub record Frozen : Type 0 where
   -- the blocks, by digest
   pub blocks : FinMap digest_cmp Block

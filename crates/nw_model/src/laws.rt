@@ -1,4 +1,4 @@
-//! The laws that the definitions satisfy.
+//! The laws that the definitions satisfy. Each law is the proved contract of a function that does nothing.
 ghost use Rattle.nw_model.specs.Laws.{
   CompleteDigestsHaveOneCausalList,
   CausalListsContainThoseOfTheirBlocks,
@@ -18,7 +18,8 @@ pub fn step_is_a_function()
     ensures { StepIsAFunction }
 {}
 
-/// Every legal history leaves a sound state, whatever its base. So no two digests are ever certified for one round and author.
+/// Every legal history leaves a sound state, whatever its base. So in this state at most one digest is certified for a round and
+/// author.
 pub fn legal_histories_leave_sound_states()
     ensures { LegalHistoriesLeaveSoundStates }
 {}

@@ -1,8 +1,8 @@
 //! This crate defines what a store means: its state, its calls, the reply to each call, and which histories are legal.
 //!
-//! Its contract: the step table in `specs/Step.antt` gives each call exactly one reply in a state, and every legal history leaves a
-//! sound state. It takes blocks and certificates from `nw_codec`, and digests and rounds from `nw_digest`. Only its definitions use
-//! `nw_committee`, `nw_sig` and `sha2`.
+//! Its contract: the step table in `specs/Step.antt` never gives a call two different replies in one state, except that `Ready`
+//! may be in place of a list. Every legal history leaves a sound state. It takes blocks and certificates from `nw_codec`, and
+//! digests and rounds from `nw_digest`. Only its definitions use `nw_committee`, `nw_sig` and `sha2`.
 #![tactic(auto)]
 
 mod call;

@@ -1,7 +1,8 @@
 //! Draws the blocks that a script leaves in its store, as SVG.
 //!
 //! It reads a script from standard input. The player (`nw_play`) plays it twice: as it is, and then followed by questions to the store.
-//! If `nw` would not play the script to its end, the exit status is that of `nw`. Then only the text of the fault is printed.
+//! If `nw` would not play the script to its end, the exit status is that of `nw`. Then it prints only what `nw` prints of the
+//! fault.
 #![tactic(auto)]
 
 mod questions;

@@ -63,7 +63,7 @@ fn add_all(extended: &mut ExtendedScript, scene: &Scene<'_>) -> Result<(), Alloc
     add_opens(extended, scene)
 }
 
-// Which blocks have the same digest?
+// Asks for the digest of each block. Blocks with the same digest are drawn once.
 fn add_digests(extended: &mut ExtendedScript, scene: &Scene<'_>) -> Result<(), AllocError> {
     for block in &scene.blocks {
         let name = block.line.name;
@@ -72,7 +72,7 @@ fn add_digests(extended: &mut ExtendedScript, scene: &Scene<'_>) -> Result<(), A
     Ok(())
 }
 
-// Which parents are wanted, and what is the garbage round?
+// Asks which parents are wanted, and what the garbage round is.
 fn add_store_questions(extended: &mut ExtendedScript) -> Result<(), AllocError> {
     extended.make_room()?;
     extended.text.push_str("missing 65535\n")?;
@@ -80,7 +80,7 @@ fn add_store_questions(extended: &mut ExtendedScript) -> Result<(), AllocError> 
     extended.text.push_str("status\n")
 }
 
-// What does a causal read of each block answer? The tickets have unused names.
+// Opens a causal read of each block. Its answer tells the state of the block. The tickets have unused names.
 fn add_opens(extended: &mut ExtendedScript, scene: &Scene<'_>) -> Result<(), AllocError> {
     let mut next = 0;
     for block in &scene.blocks {

@@ -12,7 +12,7 @@ use std::collections::BTreeMap;
 
 /// The blocks of the ancestors of the digest in the view, strictly ascending by round and author.
 ///
-/// The walk goes round by round, from the block's own down to the floor. It looks up each block once for each reference to it.
+/// The walk goes round by round, from the block's own down to the floor. It looks a block up again for each reference to it.
 pub(crate) fn walk(
     alloc: Global,
     view: &View,

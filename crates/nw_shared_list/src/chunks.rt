@@ -10,7 +10,7 @@ use nw_digest::{NoMemory, Shared};
 use std::alloc::Global;
 use std::marker::Model;
 
-/// The head and the full chunks of a list. A list that grows from it shares this value until it closes a chunk.
+/// The head and the full chunks of a list. Lists that grow from that list share this value until they close a chunk.
 #[derive(Drop)]
 struct Root<H: Drop, T: Drop> {
     head: Shared<H>,

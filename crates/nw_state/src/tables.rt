@@ -133,8 +133,8 @@ impl StateTables {
         self.certificates.len()
     }
 
-    /// The name of the block under the digest, if the digest stands: its block is held, and it is certified. Otherwise `None`. If the
-    /// digest is not certified, this takes one lookup.
+    /// The name of the block under the digest: its round, author and digest. `None` if the digest does not stand, that is, if its
+    /// block is not held or it is not certified. If the digest is not certified, this takes one lookup.
     pub fn standing(&self, digest: &Digest) -> Option<Wanted>
         ensures stands { IsSome result ↔ Stands self.now.state digest.now }
         ensures name { IfSome result (λ name. Some name

@@ -13,13 +13,13 @@ module _ {V A : Type 0} where
   entries_of (Leaf leaf) = (leaf.value.digest, leaf.value.value) ∷ []
   entries_of (Fork bit sides) = sides.value.left ++ sides.value.right
 
-  -- the tree is well formed: its digests ascend, and a fork has the digests with its bit unset on the left
+  -- the tree is well formed: its digests ascend. If it is a fork, both sides have entries, and those with the fork's bit unset are on the left
   abbrev pub IsTree : Link V A → Type 0
   IsTree Empty = Unit {0}
   IsTree (Leaf leaf) = AreEntries ((leaf.value.digest, leaf.value.value) ∷ [])
   IsTree (Fork bit sides) = IsFork bit sides.value.left sides.value.right × AreEntries (sides.value.left ++ sides.value.right)
 
-  -- the same, except that a side of the first fork may be empty
+  -- the same, except that a side of the fork may be empty
   abbrev pub IsNearlyTree : Link V A → Type 0
   IsNearlyTree Empty = Unit {0}
   IsNearlyTree (Leaf leaf) = AreEntries ((leaf.value.digest, leaf.value.value) ∷ [])

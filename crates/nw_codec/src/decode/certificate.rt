@@ -35,7 +35,7 @@ struct CertificateParts<'a> {
     seals: &'a [u8],
 }
 
-/// The message of a certificate. The text lacks the tag.
+/// The message of a certificate. The text is given without its tag.
 pub(super) fn decode_certificate(alloc: Global, text: &[u8]) -> Result<Message, DecodeError>
     ensures { Decodes (CERTIFICATE_TAG ∷ text.now) result }
 {
@@ -43,7 +43,7 @@ pub(super) fn decode_certificate(alloc: Global, text: &[u8]) -> Result<Message, 
     Ok(Message::Certificate(certificate_of(alloc, parts)?))
 }
 
-/// The message of a vote. The text lacks the tag. Makes no allocation.
+/// The message of a vote. The text is given without its tag. Makes no allocation.
 pub(super) fn decode_vote(text: &[u8]) -> Result<Message, DecodeError>
     ensures { MatchResult result (λ m. Spells (VOTE_TAG ∷ text.now) m)
         (λ e. FaultFrom (AtDigest OfVote) text.now e) }

@@ -15,8 +15,8 @@ use nw_model::{CausalReply, Reply};
 use std::alloc::Global;
 
 impl Dag {
-    /// If the digest is complete, freezes the blocks that became complete since the last view, and returns a view of all complete blocks.
-    /// Later views share the frozen blocks. If the digest is not complete, returns the reason.
+    /// If the digest is complete, freezes the blocks that became complete since the last freeze, and returns a view of all
+    /// complete blocks. Later views share the frozen blocks. If the digest is not complete, returns the reason.
     ///
     /// `NoMemory` if allocation fails. The state never changes.
     pub fn freeze_for(

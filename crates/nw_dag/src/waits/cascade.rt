@@ -1,4 +1,5 @@
-//! The cascade: when a digest becomes ready, blocks that lack its block may become ready too, and so on.
+//! The cascade. A digest is *ready* if it stands and lacks no parent. When a digest becomes ready, blocks that lack its block may
+//! become ready too, and so on.
 ghost use Rattle.std.specs.Prelude.{◌≡◌, ◌+◌, ◌<◌, [], ◌∷◌, drop, length};
 ghost use Rattle.std.specs.List.{IsDistinct};
 ghost use Rattle.std.specs.Ordering.{eq_by_cmp};
@@ -82,8 +83,9 @@ impl Waits {
         }
     }
 
-    /// Updates the sets after the block or the certificate of the digest was added. If the digest stands now, it is no longer unmet. If it
-    /// is complete, it is listed and promoted, with all blocks that become complete as a result. Allocates nothing.
+    /// Updates the sets after the block or the certificate of the digest was added. If the digest stands now, its block is no
+    /// longer an unmet parent. If it is complete, it is listed and promoted, with all blocks that become complete as a result.
+    /// Allocates nothing.
     pub(crate) fn arrive(&mut self, held: &StateTables, digest: Digest)
         requires { IsSettledWithout held.now.state digest self.old.unmet self.old.lacking
             self.old.completions.pending }

@@ -9,7 +9,7 @@ use Rattle.nw_model.proofs.Maps.{get_lookup, digests_total}
 use Rattle.nw_model.proofs.Complete.{closed, shown, complete_there, complete_not_there}
 use Rattle.nw_plain.proofs.plain.Plain.freeze_for.Goals as goal
 
--- the lent value exists
+-- a lookup that found a reference found a value
 held : {X : Type 0} (lent : Option (Bor X)) (found : Option X) → option_copied lent ≡ found → is_some lent ≡ true → IsSome found
 held (Some b) found same is = ap is_some (sym same)
 held None found same is = absurd cc
