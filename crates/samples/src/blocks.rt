@@ -1,6 +1,6 @@
 //! Sample blocks, and the digests that name them.
 ghost use Rattle.std.specs.Prelude.{◌≡◌, ◌+◌, ◌*◌, ◌<◌, IfOk};
-ghost use Rattle.sample_blocks.specs.Sample.{NameBases, name_of};
+ghost use Rattle.samples.specs.Sample.{NameBases, name_of};
 
 use nw_codec::{Block, Ref, Transactions};
 use nw_digest::{Digest, NoMemory, Round, Sequence, Shared};
@@ -25,7 +25,7 @@ pub fn round(number: u8) -> Round
 }
 
 /// A block with this round and author, these parents, and one transaction.
-pub fn block(
+pub fn shared_block(
     alloc: Global,
     slot: (Round, u16),
     parents: Vec<Ref>,

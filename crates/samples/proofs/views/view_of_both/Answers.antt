@@ -1,7 +1,7 @@
 use Rattle.std.proofs.Common.{arith}
 use Rattle.std.specs.FinMap.{from_entries}
-use Rattle.sample_blocks.proofs.Closed.{closed_both}
-use Rattle.sample_blocks.proofs.views.view_of_both.Goals as goal
+use Rattle.samples.proofs.Closed.{closed_both}
+use Rattle.samples.proofs.views.view_of_both.Goals as goal
 
 pub new-requires-clause-closed : goal.new-requires-clause-closed
 new-requires-clause-closed c =

@@ -1,6 +1,6 @@
 use Rattle.std.specs.FinMap.{from_entries}
-use Rattle.sample_blocks.proofs.Closed.{closed_one}
-use Rattle.sample_blocks.proofs.views.view_of_one.Goals as goal
+use Rattle.samples.proofs.Closed.{closed_one}
+use Rattle.samples.proofs.views.view_of_one.Goals as goal
 
 pub new-requires-clause-closed : goal.new-requires-clause-closed
 new-requires-clause-closed c =

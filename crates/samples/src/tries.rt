@@ -1,9 +1,9 @@
 //! Tries of blocks for tests to freeze.
 ghost use Rattle.std.specs.Prelude.{IfOk};
 ghost use Rattle.std.specs.FinMap as map;
-ghost use Rattle.sample_blocks.specs.Sample.{AreBases, AreNext};
+ghost use Rattle.samples.specs.Sample.{AreBases, AreNext};
 
-use crate::{block, name, references, round};
+use crate::{name, references, round, shared_block};
 use nw_codec::Block;
 use nw_digest::{NoMemory, Round, Shared};
 use nw_trie::Trie;
@@ -19,7 +19,7 @@ pub fn older(alloc: Global, authors: u8, text: &[u8]) -> Result<Blocks, NoMemory
     let mut trie = Trie::new_in(alloc);
     for author in 0..authors {
         let slot = (Round::ZERO, author as u16);
-        let base = block(alloc, slot, Vec::new(alloc), text)?;
+        let base = shared_block(alloc, slot, Vec::new(alloc), text)?;
         trie.put(name(0, author), base)?;
     }
     Ok(trie)
@@ -30,7 +30,7 @@ pub fn newer(alloc: Global) -> Result<Blocks, NoMemory>
     ensures { IfOk result (λ trie. AreNext 3 (map.from_entries trie)) }
 {
     let mut trie = Trie::new_in(alloc);
-    let next = block(alloc, (round(1), 0), references(alloc)?, b"next")?;
+    let next = shared_block(alloc, (round(1), 0), references(alloc)?, b"next")?;
     trie.put(name(1, 0), next)?;
     Ok(trie)
 }

@@ -3,9 +3,9 @@ use Rattle.std.specs.FinMap.{from_entries}
 use Rattle.nw_digest.specs.declared.digest.Digest.{Digest}
 use Rattle.nw_codec.specs.declared.block.Block.{Block}
 use Rattle.nw_model.proofs.Maps.{digests_total, digests_apart, put_entries}
-use Rattle.sample_blocks.specs.Sample.{name_of}
-use Rattle.sample_blocks.proofs.Bases.{bases_none, bases_more}
-use Rattle.sample_blocks.proofs.tries.older.Goals as goal
+use Rattle.samples.specs.Sample.{name_of}
+use Rattle.samples.proofs.Bases.{bases_none, bases_more}
+use Rattle.samples.proofs.tries.older.Goals as goal
 
 pub loop-author-init : goal.loop-author-init
 loop-author-init c = rw (c.new_in-trie.ensures) bases_none

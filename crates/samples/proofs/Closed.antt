@@ -9,8 +9,8 @@ use Rattle.nw_digest.specs.Order.{digest_cmp, Slot}
 use Rattle.nw_model.specs.State.{block_slot}
 use Rattle.nw_model.specs.View.{HasParent, IsClosed}
 use Rattle.nw_generation.specs.Seen.{union, seen_of}
-use Rattle.sample_blocks.specs.Sample.{name_of, AreNamed, AreBases, AreNext}
-use Rattle.sample_blocks.proofs.Bases.{names_apart}
+use Rattle.samples.specs.Sample.{name_of, AreNamed, AreBases, AreNext}
+use Rattle.samples.proofs.Bases.{names_apart}
 use Rattle.nw_generation.proofs.Unions.{get_latest, get_from_none}
 
 -- a found block is of the later generation or of the older one

@@ -1,7 +1,7 @@
 //! Makes committees, blocks, votes and certificates, and returns an allocation failure as a distinct error.
+use crate::checked::key;
 use crate::signing::seal;
 pub use crate::signing::signature;
-use crate::values::key;
 use nw_check::{BlockFault, CertFault, CheckedBlock, CheckedCert, check_block, check_cert};
 use nw_codec::{Block, Certificate, Ref, Transactions, Vote};
 use nw_committee::{Committee, Key};

@@ -10,7 +10,7 @@ use Rattle.nw_model.specs.State.{block_slot}
 use Rattle.nw_model.proofs.Finding.{none_some}
 use Rattle.nw_model.proofs.Kept.{after_insert, at_insert, same_digest}
 use Rattle.nw_model.proofs.Maps.{digests_total}
-use Rattle.sample_blocks.specs.Sample.{name_of, AreNamed, AreBases, NameBases, AreNext}
+use Rattle.samples.specs.Sample.{name_of, AreNamed, AreBases, NameBases, AreNext}
 
 -- the digests of two slots differ in their first byte
 pub names_apart : (s t : Slot) → name_of s ≡ name_of t → 16 * s.0 + s.1 ≡ 16 * t.0 + t.1
