@@ -1,3 +1,4 @@
+//! Messages that OpenSSL signed, from their bytes to a causal read.
 use hex::FromHex;
 use nw_book::{Book, Command, Limits};
 use nw_check::{Checked, check_message};
