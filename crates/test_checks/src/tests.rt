@@ -9,9 +9,14 @@ use std::alloc::Global;
 use std::test::Fail;
 
 mod altered;
+mod digests;
 mod errors;
 mod lengths;
-mod texts;
+mod limits;
+mod lines;
+mod messages;
+mod signatures;
+mod signed;
 mod threads;
 mod votes;
 

@@ -1,4 +1,5 @@
 //! Messages and their bytes.
+use super::signed::BODY;
 use nw_codec::{
     Block, Certificate, DecodeError, EncodeError, Message, Ref, Seal, Signature, Transactions,
     Vote, block_digest, decode_message, encode_body, encode_message,
@@ -6,16 +7,6 @@ use nw_codec::{
 use nw_digest::{Digest, Round, Sequence, digest_of};
 use std::alloc::{AllocError, Global};
 use std::test::Fail;
-
-/// The body of a block of author 0 and round 0, without parents and with one transaction, the byte `x`.
-const BODY: [u8; 18] = [
-    1, // version
-    0, 0, // author
-    0, 0, 0, 0, 0, 0, // round
-    0, 0, // parents
-    0, 1, // transactions
-    0, 0, 0, 1, 0x78, // `x`, with its length
-];
 
 /// The digest, round and author in votes and certificates, followed by the number of votes.
 const VOTED: [u8; 42] = [

@@ -1,4 +1,4 @@
-//! Messages, byte by byte.
+//! Signed messages, byte by byte.
 use super::*;
 use nw_codec::Signature;
 use nw_digest::digest_of;
