@@ -8,7 +8,7 @@ use Rattle.std_heap.specs.contracts.GlobalAllocator.TheImpl.{ghosts, dict}
 use Rattle.std_heap.proofs.Global.TheLaws as heap
 use Rattle.nw_c.specs.contracts.content.Content as Content
 use Rattle.nw_c.proofs.content.Content.TheLaws as content
-use Rattle.nw_parts.specs.contracts.Parts as Parts
+use Rattle.nw_c.specs.contracts.parts.Parts as Parts
 use Rattle.nw_c.specs.contracts.handle.Handle as Handle
 
 abbrev pub E : Bx

@@ -4,9 +4,7 @@ use Rattle.nw_book.specs.declared.error.NoStep.{NoStep}
 use Rattle.nw_book.specs.declared.error.NoStep.TheVariants as no_step
 use Rattle.nw_check.specs.declared.fault.GatherFault.{GatherFault}
 use Rattle.nw_check.specs.declared.fault.GatherFault.TheVariants as gather
-use Rattle.nw_codec.specs.declared.error.EncodeError.{EncodeError}
-use Rattle.nw_codec.specs.declared.error.EncodeError.TheVariants as encode
-use Rattle.nw_c.specs.declared.codes.TheConstants.{NO_MEMORY, OUT_OF_TURN, OTHER_COMMITTEE, HISTORY_FULL, OVER_LIMIT, NO_MEMBER, OTHER_BLOCK, REPEATED, BAD_SIGNATURE}
+use Rattle.nw_c.specs.declared.codes.TheConstants.{NO_MEMORY, OUT_OF_TURN, OTHER_COMMITTEE, HISTORY_FULL, NO_MEMBER, OTHER_BLOCK, REPEATED, BAD_SIGNATURE}
 
 -- the code of a step that is refused for this reason
 abbrev pub step_code : NoStep → ℤ
@@ -22,8 +20,3 @@ gather_code gather.Repeated = REPEATED
 gather_code gather.Signer = NO_MEMBER
 gather_code gather.Signature = BAD_SIGNATURE
 gather_code gather.NoMemory = NO_MEMORY
-
--- the code of a value that is not encoded for this reason
-abbrev pub text_code : EncodeError → ℤ
-text_code encode.OverLimit = OVER_LIMIT
-text_code encode.NoMemory = NO_MEMORY

@@ -1,10 +1,9 @@
 //! The codes that the functions return.
 ghost use Rattle.std.specs.Prelude.{◌≡◌, pos};
-ghost use Rattle.nw_c.specs.Codes.{gather_code, step_code, text_code};
+ghost use Rattle.nw_c.specs.Codes.{gather_code, step_code};
 
 use nw_book::NoStep;
 use nw_check::GatherFault;
-use nw_codec::EncodeError;
 
 /// Success.
 pub(crate) const DONE: i32 = 0;
@@ -69,15 +68,5 @@ pub(crate) fn code_of_vote(why: GatherFault) -> i32
         GatherFault::Signer => NO_MEMBER,
         GatherFault::Signature => BAD_SIGNATURE,
         GatherFault::NoMemory => NO_MEMORY,
-    }
-}
-
-/// The code of a value that cannot be encoded.
-pub(crate) fn code_of_text(why: EncodeError) -> i32
-    ensures { result ≡ text_code why }
-{
-    match why {
-        EncodeError::OverLimit => OVER_LIMIT,
-        EncodeError::NoMemory => NO_MEMORY,
     }
 }

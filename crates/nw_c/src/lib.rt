@@ -16,6 +16,7 @@ mod gathers;
 mod handed;
 mod handle;
 mod messages;
+mod parts;
 mod plain;
 mod replies;
 mod signing;

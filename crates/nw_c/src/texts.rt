@@ -6,7 +6,7 @@ ghost use Rattle.nw_codec.specs.Spelled.{Spells};
 ghost use Rattle.nw_codec.specs.declared.message.Message.TheVariants as Message;
 ghost use Rattle.nw_c.specs.declared.codes.TheConstants.{ABSENT, BAD_ROUND, CLOSED, OTHER_KIND, OVER_LIMIT, SMALL};
 
-use crate::codes::{DONE, SMALL, code_of_text};
+use crate::codes::{DONE, NO_MEMORY, OVER_LIMIT, SMALL};
 use nw_codec::{Certificate, EncodeError, Message, encode_message};
 use nw_digest::Sequence;
 use std::alloc::Global;
@@ -42,7 +42,8 @@ pub(crate) fn hand_out_encoded(
 {
     match text {
         Ok(text) => hand_out(&text, buffer, needed),
-        Err(why) => code_of_text(why),
+        Err(EncodeError::OverLimit) => OVER_LIMIT,
+        Err(EncodeError::NoMemory) => NO_MEMORY,
     }
 }
 

@@ -1,2 +1,7 @@
+mod Bits
+mod Digits
+mod Multiples
+mod Powers
+mod Products
 mod Remainders
 mod Verdicts

@@ -3,7 +3,7 @@ use Rattle.std.proofs.Common.{◌≡◌, ℕ, suc, ◌+◌, ◌-◌, ◌*◌, �
 use Rattle.std.proofs.Math.Nat.{mod-eq_of_lt, mod-add-mod, add-mul-mod_self_right, add-mod_right, mod-lt}
 use Rattle.std.proofs.lemmas.Nat.{mul-mod_second}
 use Rattle.std.proofs.lemmas.List.{drop_all}
-use Rattle.nw_field.specs.Bytes.{number_from_bytes}
+use Rattle.nw_ed25519.specs.Bytes.{number_from_bytes}
 use Rattle.nw_ed25519.specs.Accepts.{order}
 
 -- the order is above 2^252

@@ -1,12 +1,12 @@
 -- The results of a verification.
 use Rattle.std.proofs.Common.{◌≡◌, ℕ, Bool, true, false, List, Some, refl, take}
 use Rattle.std.specs.Prelude.{nat_lt, slice_range}
-use Rattle.nw_field.specs.Bytes.{number_from_bytes}
+use Rattle.nw_ed25519.specs.Bytes.{number_from_bytes}
 use Rattle.nw_codec.specs.Same.{same_bytes}
 use Rattle.nw_codec.specs.declared.certificate.Signature.{Signature}
 use Rattle.nw_committee.specs.declared.member.Key.{Key}
-use Rattle.nw_curve.specs.Coding.{decoded}
-use Rattle.nw_curve.specs.declared.point.Point.{Point}
+use Rattle.nw_ed25519.specs.Coding.{decoded}
+use Rattle.nw_ed25519.specs.declared.curve.point.Point.{Point}
 use Rattle.nw_ed25519.specs.Accepts.{order, challenge, expected, accepts}
 
 -- s is not below the order: the signature is not accepted

@@ -1,1 +1,7 @@
 pub mod Accepts
+pub mod Bytes
+pub mod Coding
+pub mod Completed
+pub mod Curve
+pub mod Field
+pub mod Weights

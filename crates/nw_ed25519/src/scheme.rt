@@ -2,11 +2,11 @@
 ghost use Rattle.std.specs.Prelude.{◌≡◌, ◌<◌, length, take};
 ghost use Rattle.nw_ed25519.specs.Accepts.{accepts, challenge, expected};
 
+use crate::curve::Point;
+use crate::field::Whole;
 use crate::order::{modulo_order, the_order};
 use nw_codec::Signature;
 use nw_committee::Key;
-use nw_curve::Point;
-use nw_field::Whole;
 use nw_sig::Scheme;
 use sha2::{Digest, Sha512};
 

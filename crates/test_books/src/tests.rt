@@ -2,7 +2,7 @@ use nw_book::{Book, Command, Done, Front, Limits, Move, NoStep, Ticket};
 use nw_committee::Committee;
 use nw_digest::{Digest, Round, Shared};
 use nw_sig::DemoScheme;
-use sample_checked::{block, certificate, committee};
+use samples::{block, certificate, committee};
 use std::alloc::Global;
 use std::test::Fail;
 

@@ -1,6 +1,7 @@
-//! Tests the checks of single messages, and of many messages in several threads, with the demonstration scheme.
+//! Tests formats and checks: digests, messages, signed texts, lines of a script, and the checks of messages.
 //!
-//! This crate contains only tests. No other crate uses it.
+//! The checks have the demonstration scheme. They are of single messages, and of many messages in several threads. The crate has only
+//! tests, and no crate uses it.
 #![tactic(auto)]
 
 #[cfg(test)]

@@ -3,15 +3,20 @@ use nw_codec::DecodeError;
 use nw_committee::{Committee, Member};
 use nw_digest::{NoMemory, Round, Shared};
 use nw_sig::DemoScheme;
-use sample_checked::key;
-use sample_checked::refused::Slot;
+use samples::key;
+use samples::refused::Slot;
 use std::alloc::Global;
 use std::test::Fail;
 
 mod altered;
+mod digests;
 mod errors;
 mod lengths;
-mod texts;
+mod limits;
+mod lines;
+mod messages;
+mod signatures;
+mod signed;
 mod threads;
 mod votes;
 

@@ -1,4 +1,5 @@
 mod edges;
+mod signed;
 mod standard;
 
 use hex::{FromHex, FromHexError};

@@ -1,8 +1,8 @@
 use nw_codec::Message;
 use nw_committee::Committee;
 use nw_digest::{NoMemory, Round, Shared};
-use sample_checked::refused::{Slot, VOTED, certificate, committee, signature, unsigned};
-use sample_checked::{allow_allocations, fail_allocations, retry};
+use samples::refused::{Slot, VOTED, certificate, committee, signature, unsigned};
+use samples::{allow_allocations, fail_allocations, retry};
 use std::alloc::Global;
 use std::test::Fail;
 

@@ -3,7 +3,7 @@ use nw_digest::{Digest, NoMemory, Round, Shared};
 use nw_model::Reply;
 use nw_sig::DemoScheme;
 use nw_store::{Block, Book, BookError, Command, Limits, NoStep, Ticket};
-use sample_checked::{allow_allocations, fail_allocations, retry};
+use samples::{allow_allocations, fail_allocations, retry};
 use std::alloc::{AllocError, Global};
 use std::test::Fail;
 

@@ -1,7 +1,6 @@
 use nw_codec::Block;
 use nw_digest::{Digest, NoMemory, Round, Shared};
-use sample_blocks::{name, round};
-use sample_checked::{allow_allocations, fail_allocations, retry};
+use samples::{allow_allocations, fail_allocations, name, retry, round};
 use std::alloc::Global;
 
 mod dags;

@@ -1,4 +1,7 @@
-//! Tests plays that worked scripts cannot show: failing readers and writers, the longest script, and allocation failures.
+//! Tests what worked scripts cannot show of plays and loads.
+//!
+//! Plays have failing readers and writers, the longest script, and allocation failures. Loads have the report of each node, bad
+//! arguments, and a client that walks without the lock while the link writes.
 //!
 //! It has only tests, and no crate uses it. Worked scripts and what they print are in `crates/nw/scripts`, and `.ci/scripts` plays
 //! them.

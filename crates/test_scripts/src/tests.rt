@@ -2,6 +2,7 @@ use nw_play::{PlayFault, play};
 use std::io::{self, Read, Write};
 use std::test::Fail;
 
+mod loads;
 mod words;
 
 /// A block is read back: a script, and what it prints.

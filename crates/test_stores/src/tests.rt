@@ -4,7 +4,7 @@ use nw_digest::{Digest, Shared};
 use nw_model::Reply;
 use nw_sig::DemoScheme;
 use nw_store::{Book, Done, Home, Limits, NoStep, Session, Store, Ticket};
-use sample_checked::{block, certificate, committee};
+use samples::{block, certificate, committee};
 use std::alloc::Global;
 use std::sync::Wait;
 use std::test::Fail;

@@ -5,7 +5,7 @@ ghost use Rattle.nw_c.specs.Lent.{handle_follows};
 
 use super::Handle;
 use crate::content::Content;
-use nw_parts::Parts;
+use crate::parts::Parts;
 use std::alloc::Global;
 
 impl Handle {

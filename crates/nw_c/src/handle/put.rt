@@ -6,7 +6,7 @@ ghost use Rattle.nw_c.specs.declared.codes.TheConstants.{NO_MEMORY};
 use super::Handle;
 use crate::codes::{DONE, NO_MEMORY};
 use crate::content::Content;
-use nw_parts::Parts;
+use crate::parts::Parts;
 use std::alloc::Global;
 
 /// Opens a closed handle with this content. If memory runs out, it drops the content and the handle stays closed.

@@ -2,7 +2,7 @@
 use super::*;
 use nw_book::Agreement;
 use nw_model::{Reply, WriteReply};
-use sample_checked::block_with;
+use samples::block_with;
 
 /// The reopened book.
 fn reopened(book: Book<DemoScheme>, alloc: Global) -> Option<Book<DemoScheme>> {

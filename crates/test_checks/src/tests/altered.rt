@@ -1,5 +1,5 @@
 //! Messages with one altered byte.
-use super::texts::{block, certificate};
+use super::signed::{block, certificate};
 use super::*;
 
 /// A change of one byte: what it shows, the place of the byte, counted from 0, the new byte, and the result of the check.

@@ -1,5 +1,5 @@
 //! Messages that are cut or lengthened.
-use super::texts::{block, certificate};
+use super::signed::{block, certificate};
 use super::*;
 
 /// Whether each proper prefix of the text has the fault `Short`, and the text with any byte added has the fault `Trailing`.

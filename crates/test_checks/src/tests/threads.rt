@@ -1,5 +1,5 @@
 //! Checks in several threads, and gates that hold them.
-use super::texts::{block, certificate, vote};
+use super::signed::{block, certificate, vote};
 use super::*;
 use nw_intake::{FreeGate, Gate, GateShut, IntakeFault, Point, check_all, pass_start};
 use std::sync::Wait;

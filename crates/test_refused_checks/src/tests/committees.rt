@@ -1,8 +1,8 @@
 //! Good and bad committees.
 use super::*;
 use nw_committee::{CommitteeFault, Member};
-use sample_checked::key;
-use sample_checked::refused::keys;
+use samples::key;
+use samples::refused::keys;
 
 /// The quorum of a committee of members of weight 1 with the keys of these numbers.
 fn quorum(alloc: Global, numbers: &[u8]) -> Result<u32, CommitteeFault> {

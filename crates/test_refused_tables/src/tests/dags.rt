@@ -4,7 +4,7 @@ use nw_codec::{Certificate, Ref};
 use nw_dag::{Dag, DagLimits};
 use nw_digest::Sequence;
 use nw_model::{CausalReply, CertifyReply, CollectReply, Counts, Wanted, WriteReply};
-use sample_blocks::block;
+use samples::shared_block;
 
 /// Bounds for 64 blocks and 64 rounds.
 const ROOM: DagLimits = DagLimits {
@@ -14,7 +14,7 @@ const ROOM: DagLimits = DagLimits {
 
 /// A block of author 0 in the round, with these parents.
 fn block_of(alloc: Global, round: Round, parents: &[Ref]) -> Result<Shared<Block>, NoMemory> {
-    block(alloc, (round, 0), parents.to_vec(alloc)?, b"x")
+    shared_block(alloc, (round, 0), parents.to_vec(alloc)?, b"x")
 }
 
 /// A certificate for the digest and the slot, without votes.

@@ -3,7 +3,7 @@ use super::dags::certificate_of;
 use super::*;
 use nw_model::{Call, CausalReply, CertifyReply, CollectReply, Reply, WriteReply};
 use nw_plain::{Base, Plain};
-use sample_blocks::{block, references};
+use samples::{references, shared_block};
 
 /// A call of the example. A round and an author name a block. Blocks of round 0 have no parents, and the block of round 1 has three.
 enum ExampleCall {
@@ -21,13 +21,13 @@ fn call_of(alloc: Global, call: &ExampleCall) -> Result<Call, NoMemory> {
             let slot = (Round::ZERO, u16::from(*author));
             Call::Write(
                 name(0, *author % 3),
-                block(alloc, slot, Vec::new(alloc), b"x")?,
+                shared_block(alloc, slot, Vec::new(alloc), b"x")?,
             )
         }
         ExampleCall::Write(_, _) => {
             Call::Write(
                 name(1, 0),
-                block(alloc, (round(1), 0), references(alloc)?, b"x")?,
+                shared_block(alloc, (round(1), 0), references(alloc)?, b"x")?,
             )
         }
         ExampleCall::Certify(number, author) => {

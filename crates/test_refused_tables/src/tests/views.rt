@@ -2,7 +2,7 @@
 use super::*;
 use nw_causal::{Agreement, agree, walk};
 use nw_generation::{Generation, View, freeze};
-use sample_blocks::{Blocks, older, view_of_both, view_of_one};
+use samples::{Blocks, older, view_of_both, view_of_one};
 
 /// Freezes the blocks, and returns one more owner of their generation. If the freeze runs out of memory, it returns the blocks.
 fn frozen(alloc: Global, trie: Blocks) -> Result<Generation, NoMemory> {

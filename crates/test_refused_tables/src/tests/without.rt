@@ -8,11 +8,11 @@ use nw_plain::{Base, Plain};
 use nw_rounds::Rounds;
 use nw_trie::Trie;
 use nw_waiting::Waiting;
-use sample_blocks::{Blocks, block, older, view_of_both};
+use samples::{Blocks, older, shared_block, view_of_both};
 
 /// A block of round 1 and author 0, without parents.
 fn of_round_one(alloc: Global) -> Result<Shared<Block>, NoMemory> {
-    block(alloc, (round(1), 0), Vec::new(alloc), b"y")
+    shared_block(alloc, (round(1), 0), Vec::new(alloc), b"y")
 }
 
 /// Whether an insertion of `newer` replaces the trie's block of round 0 and author 0.
@@ -137,7 +137,7 @@ fn store_of_one(alloc: Global) -> Result<Dag, NoMemory> {
         window: 64,
     };
     let mut dag = Dag::new(alloc, limits);
-    let only = block(alloc, (Round::ZERO, 0), Vec::new(alloc), b"x")?;
+    let only = shared_block(alloc, (Round::ZERO, 0), Vec::new(alloc), b"x")?;
     dag.write(digest(1, 0), &only)?;
     dag.certify(&certificate_of(alloc, digest(1, 0), (Round::ZERO, 0))?)?;
     Ok(dag)

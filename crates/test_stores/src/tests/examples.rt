@@ -7,7 +7,7 @@ use super::scripts::{PARENT, Row};
 use super::settling::Seen;
 use super::tasks::Crew;
 use super::*;
-use sample_checked::block_with;
+use samples::block_with;
 use std::sync::Wait;
 use std::thread::Threads;
 

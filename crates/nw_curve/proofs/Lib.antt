@@ -1,2 +1,0 @@
-mod Multiples
-mod Products

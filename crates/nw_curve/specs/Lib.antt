@@ -1,3 +1,0 @@
-pub mod Curve
-pub mod Coding
-pub mod Completed

@@ -1,3 +1,0 @@
-mod Bits
-mod Digits
-mod Powers

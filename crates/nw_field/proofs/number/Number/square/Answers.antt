@@ -1,9 +1,0 @@
-use Rattle.nw_field.specs.Weights.{value_of}
-use Rattle.nw_field.proofs.Digits.{times_is}
-use Rattle.nw_field.proofs.number.Number.square.Goals as goal
-
-pub returns : goal.returns
-returns c =
-    let a = value_of c.self.inside.limbs in
-    let x = c.args.self.now in
-    times_is (value_of c.wrapped.result) _ a a x x c.wrapped.ensures c.square.ensures c.self.view_is c.self.view_is

@@ -1,5 +1,0 @@
-use Rattle.sample_blocks.specs.Sample.{NameBases}
-use Rattle.sample_blocks.proofs.blocks.references.Given as goal
-
-abbrev pub invariant-loop-author : goal.invariant-loop-author
-invariant-loop-author l = NameBases 3 l.refs.items

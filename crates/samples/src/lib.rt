@@ -1,0 +1,25 @@
+//! Makes sample values for tests: committees, checked blocks and certificates, and tries and views of blocks.
+//!
+//! - [`block`], [`block_with`] and [`certificate`] return values that were checked under the given [`committee`]. Its members sign with
+//!   the demonstration scheme.
+//! - The functions in [`refused`] return an allocation failure as a distinct error, so that a test can recognize it and repeat the call
+//!   with [`retry`].
+//! - [`older`] returns blocks of round 0, and [`newer`] a block of round 1 that has them as parents. Each has the digest that [`name`]
+//!   returns for its round and author. [`view_of_both`] is the view of all these blocks, and [`view_of_one`] that of one block of round 0.
+//!
+//! Only tests use this crate. It uses `nw_trie` for tries, and `nw_generation` for views.
+#![tactic(auto)]
+
+mod asking;
+mod blocks;
+mod checked;
+pub mod refused;
+mod signing;
+mod tries;
+mod views;
+
+pub use asking::{allow_allocations, fail_allocations};
+pub use blocks::{name, references, round, shared_block};
+pub use checked::{block, block_with, certificate, committee, key};
+pub use tries::{Blocks, newer, older};
+pub use views::{view_of_both, view_of_one};

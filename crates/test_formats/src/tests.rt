@@ -1,6 +1,0 @@
-mod digests;
-mod errors;
-mod limits;
-mod lines;
-mod messages;
-mod signatures;

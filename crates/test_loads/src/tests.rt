@@ -1,3 +1,0 @@
-//! The reports of loads.
-mod gates;
-mod programs;

@@ -1,0 +1,3 @@
+//! Loads: the reports of nodes, and refusals.
+mod gates;
+mod programs;
