@@ -19,7 +19,7 @@ const LATE: Answers = &[
     ("walked", &[0, 1]),
 ];
 
-/// The answers of a run with a walk of a collected block.
+/// The answers if a run stops at a ticket that it lacks, after a walk of a collected block.
 const COLLECTED: Answers = &[
     ("stored vote", &[]),
     ("certified", &[]),
