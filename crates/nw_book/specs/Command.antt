@@ -9,14 +9,14 @@ use Rattle.nw_book.specs.declared.command.Command.TheVariants as command
 
 -- the committee under which the command's block or certificate was checked, if it has one
 abbrev pub committee_of : {S : Type 0} → Command S → Option (List Member)
-committee_of (command.Write b) = Some b.committee
-committee_of (command.Certify c) = Some c.committee
+committee_of (command.Write b) = Some b.now.committee
+committee_of (command.Certify c) = Some c.now.committee
 committee_of other = None
 
 -- the call of a command: a block is written under its digest
 abbrev pub call_of : {S : Type 0} → Command S → Call
-call_of (command.Write b) = call.Write (digest_of b.block) b.block
-call_of (command.Certify c) = call.Certify c.certificate
+call_of (command.Write b) = call.Write (digest_of b.now.block) b.now.block
+call_of (command.Certify c) = call.Certify c.now.certificate
 call_of (command.Certificate d) = call.Certificate d
 call_of (command.Read d) = call.Read d
 call_of (command.Collect round) = call.Collect round

@@ -12,14 +12,14 @@ use nw_digest::{Digest, NoMemory, Round};
 use nw_model::Call;
 use nw_sig::Scheme;
 
-/// A call of a session, other than a causal read. A block or certificate is a checked value, which carries the committee under which it
-/// was checked.
+/// A call of a session, other than a causal read. It borrows its block or certificate, a checked value, which carries the committee under
+/// which it was checked.
 #[derive(Drop)]
-pub enum Command<S: Scheme> {
+pub enum Command<'a, S: Scheme> {
     /// Store the block under its digest.
-    Write(CheckedBlock<S>),
+    Write(&'a CheckedBlock<S>),
     /// Keep the certificate for its digest.
-    Certify(CheckedCert<S>),
+    Certify(&'a CheckedCert<S>),
     /// Read the certificate for the digest.
     Certificate(Digest),
     /// Read the block under the digest.
@@ -32,7 +32,7 @@ pub enum Command<S: Scheme> {
     Status,
 }
 
-impl<S: Scheme> Command<S> {
+impl<S: Scheme> Command<'_, S> {
     /// The call of this command. It shares ownership of the command's block or certificate.
     ///
     /// `NoMemory`: an allocation failed.

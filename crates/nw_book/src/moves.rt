@@ -7,13 +7,13 @@ use std::alloc::AllocError;
 
 /// One move of a run. Each call and each causal read is its session's next call.
 #[derive(Drop)]
-pub enum Move<S: Scheme> {
+pub enum Move<'a, S: Scheme> {
     /// The session makes a call that is not a causal read.
     Call {
         /// The session's number.
         session: u16,
         /// The command to make.
-        command: Command<S>,
+        command: Command<'a, S>,
     },
     /// The session opens a causal read of the digest.
     Open {

@@ -5,17 +5,9 @@ use Rattle.nw_sig.specs.Signed.{Meaning}
 use Rattle.nw_model.specs.Checks.{digest_of}
 use Rattle.nw_model.specs.declared.call.Call.TheVariants as call
 use Rattle.nw_check.specs.declared.message.Checked.TheVariants as checked
-use Rattle.nw_book.specs.declared.command.Command.{Command}
-use Rattle.nw_book.specs.declared.command.Command.TheVariants as command
 use Rattle.nw_c.specs.declared.content.Content.{Content}
 use Rattle.nw_c.specs.declared.content.Content.TheVariants as kind
 use Rattle.nw_c.specs.Books.{IsTaken}
-
--- the command hands in the checked block or certificate
-abbrev pub IsCommandOf : {S : Type 0} → Content → Command S → Type 0
-IsCommandOf (kind.Checked (checked.Block b)) (command.Write c) = b ≡ c
-IsCommandOf (kind.Checked (checked.Cert b)) (command.Certify c) = b ≡ c
-IsCommandOf content other = ⊥
 
 -- the committee under which the block or certificate was checked
 abbrev pub committee_checked_under : Content → Option (List Member)

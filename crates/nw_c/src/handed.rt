@@ -1,11 +1,10 @@
 //! Handing blocks and certificates to a book.
-ghost use Rattle.std.specs.Prelude.{◌≡◌, ◌⊎◌, pos, IfOk, IfErr, true};
+ghost use Rattle.std.specs.Prelude.{◌≡◌, ◌⊎◌, pos, true};
 ghost use Rattle.nw_ed25519.specs.Accepts.{accepts};
 ghost use Rattle.nw_book.specs.declared.error.NoStep.{NoStep as Refusal};
-ghost use Rattle.nw_c.specs.declared.content.Content.{Content as Held};
 ghost use Rattle.nw_c.specs.Books.{IsRefusedBy};
 ghost use Rattle.nw_c.specs.Codes.{step_code};
-ghost use Rattle.nw_c.specs.Handed.{IsCommandOf, IsHandedIn, committee_checked_under};
+ghost use Rattle.nw_c.specs.Handed.{IsHandedIn, committee_checked_under};
 ghost use Rattle.nw_c.specs.Kinds.{IsUnchanged, HoldsBook, HoldsCheckedBlock, HoldsCheckedCert, HoldsRoom};
 ghost use Rattle.nw_c.specs.declared.codes.TheConstants.{CLOSED, OTHER_KIND};
 
@@ -15,35 +14,7 @@ use crate::content::Content;
 use crate::handle::{AnswerHandle, BookHandle, CheckedHandle};
 use nw_book::Command;
 use nw_check::Checked;
-use nw_ed25519::Ed25519;
 use std::alloc::Global;
-use std::mem;
-
-/// The command that hands in the checked block or certificate. The error is the content, if it is anything else.
-fn command_of(content: Content) -> Result<Command<Ed25519>, Content>
-    ensures command { IfOk result (IsCommandOf content) }
-    ensures back { IfErr result (λ back. back ≡ content) }
-    ensures neither { IfErr result
-        (λ _. (HoldsCheckedBlock content ⊎ HoldsCheckedCert content) → ⊥) }
-{
-    match content {
-        Content::Checked(Checked::Block(block)) => Ok(Command::Write(block)),
-        Content::Checked(Checked::Cert(certificate)) => Ok(Command::Certify(certificate)),
-        other => Err(other),
-    }
-}
-
-/// The checked block or certificate that the command hands in. `Room` for any other command.
-fn content_of(command: Command<Ed25519>) -> Content
-    ensures { (content : Held) → IsCommandOf content command → result ≡ content }
-{
-    match command {
-        Command::Write(block) => Content::Checked(Checked::Block(block)),
-        Command::Certify(certificate) => Content::Checked(Checked::Cert(certificate)),
-        Command::Certificate(_) | Command::Read(_) | Command::Collect(_) => Content::Room,
-        Command::Missing(_) | Command::Status => Content::Room,
-    }
-}
 
 /// Writes the checked block, or certifies the digest of the checked certificate. `number` must be that of the session's next call. The
 /// handle of the checked text stays open, and the text may be handed to other books. Returns `NW_OTHER_KIND` if the text is neither a valid
@@ -72,15 +43,15 @@ pub extern "C" fn nw_book_hand_in(
     if !checked.is_open() {
         return CLOSED;
     }
-    match command_of(mem::replace(checked.lend(), Content::Room)) {
-        Ok(command) => {
-            let code = take(alloc, book, answer, session, number, &command);
-            *checked.lend() = content_of(command);
-            code
+    match checked.lend() {
+        Content::Checked(Checked::Block(block)) => {
+            let write = Command::Write(block);
+            take(alloc, book, answer, session, number, &write)
         }
-        Err(other) => {
-            *checked.lend() = other;
-            OTHER_KIND
+        Content::Checked(Checked::Cert(certificate)) => {
+            let certify = Command::Certify(certificate);
+            take(alloc, book, answer, session, number, &certify)
         }
+        _ => OTHER_KIND,
     }
 }

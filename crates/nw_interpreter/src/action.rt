@@ -4,7 +4,7 @@ use crate::fault::LineFault;
 use crate::interpreter::Interpreter;
 use crate::print::Answer;
 use nw_book::Command;
-use nw_check::{Checked, check_message};
+use nw_check::{Checked, CheckedBlock, CheckedCert, check_message};
 use nw_committee::Committee;
 use nw_digest::{Digest, Shared};
 use nw_script::{Name, Request};
@@ -16,12 +16,12 @@ use std::alloc::Global;
 pub enum Action<'a> {
     /// Print the answer. The request needs no store.
     Print(Answer<'a>),
-    /// Make the call, and print its reply (`Interpreter::answer_to`).
-    Call {
-        /// The block that the answer names, if it names one.
-        name: Option<Name<'a>>,
-        command: Command<DemoScheme>,
-    },
+    /// Write the block, and print the reply (`Interpreter::answer_to`).
+    Write(Name<'a>, CheckedBlock<DemoScheme>),
+    /// Certify the block, and print the reply (`Interpreter::answer_to`).
+    Certify(Name<'a>, CheckedCert<DemoScheme>),
+    /// Make the call, and print its reply (`Interpreter::answer_to`). The answer names the block if there is a name.
+    Call(Option<Name<'a>>, Command<'a, DemoScheme>),
     /// Make a causal read of the digest. Print `Interpreter::answer_to_ticket` if it gives a ticket, and `Interpreter::answer_to` if it
     /// gives a reply.
     Open {
@@ -58,12 +58,15 @@ impl<'a> Interpreter<'a> {
             Request::Write { name, signer } => self.write(alloc, *name, *signer),
             Request::Certify { name, signers } => self.certify(alloc, *name, signers),
             Request::Certificate(name) => {
-                Ok(call(Some(*name), Command::Certificate(self.digest_of(*name)?)))
+                Ok(Action::Call(Some(*name), Command::Certificate(self.digest_of(*name)?)))
             }
-            Request::Read(name) => Ok(call(Some(*name), Command::Read(self.digest_of(*name)?))),
-            Request::Collect(round) => Ok(call(None, Command::Collect(*round))),
-            Request::Missing(most) => Ok(call(None, Command::Missing(*most))),
-            Request::Status => Ok(call(None, Command::Status)),
+            Request::Read(name) => Ok(Action::Call(
+                Some(*name),
+                Command::Read(self.digest_of(*name)?),
+            )),
+            Request::Collect(round) => Ok(Action::Call(None, Command::Collect(*round))),
+            Request::Missing(most) => Ok(Action::Call(None, Command::Missing(*most))),
+            Request::Status => Ok(Action::Call(None, Command::Status)),
             Request::Causal(name) => self.open(*name, *name, false),
             Request::Open { ticket, name } => self.open(*ticket, *name, true),
             Request::Session(id) => Ok(Action::Session(*id)),
@@ -80,7 +83,7 @@ impl<'a> Interpreter<'a> {
         signer: Option<u16>,
     ) -> Result<Action<'a>, LineFault> {
         let text = self.text_of_block(alloc, name, signer)?;
-        checked_command(alloc, &self.committee, name, &text)
+        handed_in(alloc, &self.committee, name, &text)
     }
 
     // The certification of the block, with the votes in the order of `signers`, after the message is encoded, decoded and checked.
@@ -91,7 +94,7 @@ impl<'a> Interpreter<'a> {
         signers: &[u16],
     ) -> Result<Action<'a>, LineFault> {
         match self.certificate_text(alloc, name, signers)? {
-            Some(text) => checked_command(alloc, &self.committee, name, &text),
+            Some(text) => handed_in(alloc, &self.committee, name, &text),
             None => Ok(Action::Print(Answer::over_limit(name))),
         }
     }
@@ -114,26 +117,20 @@ impl<'a> Interpreter<'a> {
     }
 }
 
-// The call that hands in the block or certificate of the message, or the answer with the rule that it breaks.
-fn checked_command<'a>(
+// The action that hands in the block or certificate of the message, or prints the rule that it breaks.
+fn handed_in<'a>(
     alloc: Global,
     committee: &Shared<Committee>,
     name: Name<'a>,
     text: &[u8],
 ) -> Result<Action<'a>, LineFault> {
-    let command = match check_message(alloc, committee, text)? {
-        Checked::Block(block) => Command::Write(block),
-        Checked::Cert(certificate) => Command::Certify(certificate),
-        Checked::BadBlock(fault) => return Ok(Action::Print(Answer::BadBlock { name, fault })),
-        Checked::BadCert(fault) => return Ok(Action::Print(Answer::BadCert { name, fault })),
-        Checked::Vote(_) | Checked::BadText(_) => return Err(LineFault::Bad),
-    };
-    Ok(call(Some(name), command))
-}
-
-// The action for the command. The answer names the block if `name` is given.
-fn call<'a>(name: Option<Name<'a>>, command: Command<DemoScheme>) -> Action<'a> {
-    Action::Call { name, command }
+    match check_message(alloc, committee, text)? {
+        Checked::Block(block) => Ok(Action::Write(name, block)),
+        Checked::Cert(certificate) => Ok(Action::Certify(name, certificate)),
+        Checked::BadBlock(fault) => Ok(Action::Print(Answer::BadBlock { name, fault })),
+        Checked::BadCert(fault) => Ok(Action::Print(Answer::BadCert { name, fault })),
+        Checked::Vote(_) | Checked::BadText(_) => Err(LineFault::Bad),
+    }
 }
 
 // An answer that needs no store.

@@ -8,7 +8,7 @@ use nw_digest::Digest;
 use nw_interpreter::{Action, Answer, Interpreter, LineFault};
 use nw_script::{Name, Request};
 use nw_sig::DemoScheme;
-use nw_store::{Command, Done, Home, NoStep, Opening, Session, Store, Ticket};
+use nw_store::{Command, Done, Home, NoStep, Opening, Session, Store};
 use std::alloc::Global;
 use std::sync::Wait;
 
@@ -62,11 +62,14 @@ impl<L: Home> Player<L> {
         self.may_set_limits = false;
         match interpreter.action_for(alloc, request)? {
             Action::Print(answer) => Ok(answer),
-            Action::Call { name, command } => {
-                let answer = self.call(rt, alloc, interpreter, name, &command);
-                drop(command);
-                answer
+            Action::Write(name, block) => {
+                self.call(rt, alloc, interpreter, Some(name), &Command::Write(&block))
             }
+            Action::Certify(name, certificate) => {
+                let command = Command::Certify(&certificate);
+                self.call(rt, alloc, interpreter, Some(name), &command)
+            }
+            Action::Call(name, command) => self.call(rt, alloc, interpreter, name, &command),
             Action::Open {
                 name,
                 digest,
@@ -77,7 +80,7 @@ impl<L: Home> Player<L> {
         }
     }
 
-    // Makes the call. The answer names the block if there is a name.
+    // Makes the call as the current session's next call. The answer names the block if there is a name. `Bad` if there is no session.
     fn call<'a, R: Wait>(
         &mut self,
         rt: &R,
@@ -86,26 +89,14 @@ impl<L: Home> Player<L> {
         name: Option<Name<'a>>,
         command: &Command<DemoScheme>,
     ) -> Result<Answer<'a>, LineFault> {
-        match self.make_call(rt, alloc, command) {
+        let session = self.sessions.get_mut(self.current).ok_or(LineFault::Bad)?;
+        match self.store.call(rt, alloc, session, command) {
             Ok(done) => answer_of(alloc, interpreter, name, done),
             Err(refusal) => answer_to_refusal(refusal),
         }
     }
 
-    // Calls the store with the command, as the current session's next call. `OutOfTurn` if there is no session.
-    fn make_call<R: Wait>(
-        &mut self,
-        rt: &R,
-        alloc: Global,
-        command: &Command<DemoScheme>,
-    ) -> Result<Done<DemoScheme>, NoStep> {
-        match self.sessions.get_mut(self.current) {
-            Some(session) => self.store.call(rt, alloc, session, command),
-            None => Err(NoStep::OutOfTurn),
-        }
-    }
-
-    // Makes a causal read, answered under the name.
+    // Makes a causal read as the current session's next call, answered under the name. `Bad` if there is no session.
     fn open<'a, R: Wait>(
         &mut self,
         rt: &R,
@@ -115,23 +106,11 @@ impl<L: Home> Player<L> {
         digest: Digest,
         is_kept: bool,
     ) -> Result<Answer<'a>, LineFault> {
-        match self.open_ticket(rt, alloc, digest) {
+        let session = self.sessions.get_mut(self.current).ok_or(LineFault::Bad)?;
+        match self.store.open_causal(rt, alloc, session, digest) {
             Ok(Ok(ticket)) => interpreter.answer_to_ticket(alloc, name, ticket, is_kept),
             Ok(Err(done)) => answer_of(alloc, interpreter, Some(name), done),
             Err(refusal) => answer_to_refusal(refusal),
-        }
-    }
-
-    // Opens a causal read, as the current session's next call. `OutOfTurn` if there is no session.
-    fn open_ticket<R: Wait>(
-        &mut self,
-        rt: &R,
-        alloc: Global,
-        digest: Digest,
-    ) -> Result<Result<Ticket<DemoScheme>, Done<DemoScheme>>, NoStep> {
-        match self.sessions.get_mut(self.current) {
-            Some(session) => self.store.open_causal(rt, alloc, session, digest),
-            None => Err(NoStep::OutOfTurn),
         }
     }
 

@@ -1,7 +1,6 @@
 //! Calls of sessions, for a caller that holds the lock.
-ghost use Rattle.std.specs.Prelude.{◌≡◌, Some, None, IfOk, IfErr, OnOk, OnErr};
+ghost use Rattle.std.specs.Prelude.{◌≡◌, None, IfOk, IfErr, OnOk, OnErr};
 ghost use Rattle.std.specs.Option.{option_copied};
-ghost use Rattle.nw_model.specs.Checks.{digest_of};
 ghost use Rattle.nw_model.specs.History.{IsAdmitted};
 ghost use Rattle.nw_history.specs.Story.{IsLegalStory};
 ghost use Rattle.nw_book.specs.Answer.{IsTicketFor, front_of, reply_of};
@@ -13,7 +12,6 @@ ghost use Rattle.nw_store.specs.Answered.{IsAnswered};
 use crate::session::Session;
 use crate::{Home, Locked};
 use nw_book::{Command, Done, NoStep, Ticket};
-use nw_check::{CheckedBlock, CheckedCert};
 use nw_committee::Committee;
 use nw_digest::{Digest, NoMemory};
 use nw_model::Call;
@@ -82,57 +80,6 @@ pub fn open_locked<S: Scheme, L: Home>(
 {
     let number = may_call(locked, session, None)?;
     Ok(take_open(locked, alloc, session, number, digest)?)
-}
-
-/// Does what `call_locked` does for a `Write` command, with a borrowed block.
-pub(crate) fn write_locked<S: Scheme, L: Home>(
-    locked: &mut Locked<S, L>,
-    alloc: Global,
-    session: &mut Session<S, L>,
-    block: &CheckedBlock<S>,
-) -> Result<Done<S>, NoStep>
-    ensures answered { IfOk result (λ done. IsAnswered S.accepts locked.old.history session.old
-        session.new
-        (Call.Write (digest_of block.now.block) block.now.block) done.event.reply done.front) }
-    ensures starts { origin_of locked.old.history ≡ L.origin }
-    ensures legal { IsLegalStory S.accepts locked.old.history }
-    ensures history { IfOk result (λ done.
-        locked.new ≡ record { history = done.front; made = locked.old.made }) }
-    ensures may { OnOk result (MayStep locked.old.history session.old.id
-        (next_number session.old) (Some block.now.committee)) }
-    ensures refused { IfErr result (IsRefusal locked.old.history session.old.id
-        (next_number session.old) (Some block.now.committee)) }
-    ensures unchanged { OnErr result (locked.new ≡ locked.old) }
-    ensures session { OnErr result (session.new ≡ session.old) }
-{
-    let number = may_call(locked, session, Some(block.committee().get()))?;
-    let call = Call::Write(block.digest(), block.block().try_clone()?);
-    Ok(take_call(locked, alloc, session, number, call)?)
-}
-
-/// Does what `call_locked` does for a `Certify` command, with a borrowed certificate.
-pub(crate) fn certify_locked<S: Scheme, L: Home>(
-    locked: &mut Locked<S, L>,
-    alloc: Global,
-    session: &mut Session<S, L>,
-    certificate: &CheckedCert<S>,
-) -> Result<Done<S>, NoStep>
-    ensures answered { IfOk result (λ done. IsAnswered S.accepts locked.old.history session.old
-        session.new (Call.Certify certificate.now.certificate) done.event.reply done.front) }
-    ensures starts { origin_of locked.old.history ≡ L.origin }
-    ensures legal { IsLegalStory S.accepts locked.old.history }
-    ensures history { IfOk result (λ done.
-        locked.new ≡ record { history = done.front; made = locked.old.made }) }
-    ensures may { OnOk result (MayStep locked.old.history session.old.id
-        (next_number session.old) (Some certificate.now.committee)) }
-    ensures refused { IfErr result (IsRefusal locked.old.history session.old.id
-        (next_number session.old) (Some certificate.now.committee)) }
-    ensures unchanged { OnErr result (locked.new ≡ locked.old) }
-    ensures session { OnErr result (session.new ≡ session.old) }
-{
-    let number = may_call(locked, session, Some(certificate.committee().get()))?;
-    let call = Call::Certify(certificate.certificate().try_clone()?);
-    Ok(take_call(locked, alloc, session, number, call)?)
 }
 
 /// The number of the session's next call, if the session may make it. `under` is the committee under which the block or

@@ -25,7 +25,7 @@ ghost use Rattle.nw_store.specs.Journal.{KnowsAll, origin_of};
 ghost use Rattle.nw_store.specs.Lock.{parts_of_a_ledger};
 ghost use Rattle.nw_store.specs.Answered.{IsExplained, TakesNoStep};
 
-use crate::calls::{call_locked, certify_locked, open_locked, write_locked};
+use crate::calls::{call_locked, open_locked};
 use crate::locked::{compact_locked, session_locked};
 use crate::notes::{hear_locked, note_locked};
 use crate::{Home, Locked, Note, Opening, Session, TooMany};
@@ -157,7 +157,7 @@ impl<S: Scheme, L: Home> Store<S, L> {
             (TakesNoStep S.accepts L.origin session.old (Some block.now.committee)) }
         ensures unchanged { OnErr result (session.new ≡ session.old) }
     {
-        write_locked(&mut *self.locked.lock(rt), alloc, session, block)
+        self.call(rt, alloc, session, &Command::Write(block))
     }
 
     /// Keeps the certificate: a call of the session. A refused call can be tried again.
@@ -176,7 +176,7 @@ impl<S: Scheme, L: Home> Store<S, L> {
             (TakesNoStep S.accepts L.origin session.old (Some certificate.now.committee)) }
         ensures unchanged { OnErr result (session.new ≡ session.old) }
     {
-        certify_locked(&mut *self.locked.lock(rt), alloc, session, certificate)
+        self.call(rt, alloc, session, &Command::Certify(certificate))
     }
 
     /// Reads the certificate for the digest, if there is one: a call of the session.

@@ -1,5 +1,6 @@
-use nw_book::{Book, Command, Done, Front, Limits, Move, NoStep, Ticket};
-use nw_committee::Committee;
+use nw_book::{
+    Book, CheckedBlock, CheckedCert, Command, Done, Front, Limits, Move, NoStep, Ticket,
+};
 use nw_digest::{Digest, Round, Shared};
 use nw_sig::DemoScheme;
 use samples::{block, certificate, committee};
@@ -24,86 +25,66 @@ fn book_of_one(alloc: Global, limits: Limits) -> Result<Book<DemoScheme>, Fail> 
     Ok(Book::new(alloc, committee(alloc, 1)?, limits)?)
 }
 
-/// A part of a plan for a chain of one author's blocks, one in each round.
-enum Plan {
-    /// Write, certify and open the next block.
-    Block,
-    /// Raise the garbage round to this one.
-    Collect(u64),
-    /// Walk the ticket with this number.
-    Walk(u32),
-}
-
-/// The plan of the first block of the chain and its child.
-const TWO: [Plan; 2] = [Plan::Block, Plan::Block];
-
-/// The moves of a plan, and the digests of the blocks.
+/// A block and its certificate.
 #[derive(Drop)]
-struct Planned {
-    moves: Vec<Move<DemoScheme>>,
-    digests: Vec<Digest>,
+struct Link {
+    block: CheckedBlock<DemoScheme>,
+    certificate: CheckedCert<DemoScheme>,
 }
 
-/// The moves and digests of the plan.
-fn plan_of(alloc: Global, plan: &[Plan]) -> Result<Planned, Fail> {
-    let mut planned = Planned {
-        moves: Vec::new(alloc),
-        digests: Vec::new(alloc),
-    };
-    match planned.add_all(alloc, plan) {
-        Ok(()) => Ok(planned),
-        Err(fail) => {
-            drop(planned);
-            Err(fail)
-        }
-    }
-}
-
-impl Planned {
-    /// Adds the moves of the plan.
-    fn add_all(&mut self, alloc: Global, plan: &[Plan]) -> Result<(), Fail> {
-        for part in plan {
-            match part {
-                Plan::Block => self.add_block(alloc)?,
-                Plan::Collect(number) => {
-                    let round = Round::new(*number).ok_or("a round has 48 bits")?;
-                    self.ask(Command::Collect(round))?;
-                }
-                Plan::Walk(ticket) => self.moves.push(Move::Walk { ticket: *ticket })?,
-            }
-        }
-        Ok(())
-    }
-
-    /// Adds the call of the command.
-    fn ask(&mut self, command: Command<DemoScheme>) -> Result<(), Fail> {
-        Ok(
-            self.moves.push(Move::Call {
-                session: 0,
-                command,
-            })?,
-        )
-    }
-
-    /// Adds the moves of the next block, whose parent is the last one so far.
-    fn add_block(&mut self, alloc: Global) -> Result<(), Fail> {
+impl Link {
+    /// The only member's block of this round with these parents, and its certificate.
+    fn new(alloc: Global, round: u64, parents: &[Digest]) -> Result<Link, Fail> {
         let one = committee(alloc, 1)?;
-        let added = self.add_block_of(alloc, &one);
-        drop(one);
-        added
+        let block = block(alloc, &one, 0, round, parents)?;
+        let certificate = certificate(alloc, &one, 0, round, block.digest())?;
+        Ok(Link { block, certificate })
     }
 
-    /// Does what `add_block` does, under this committee.
-    fn add_block_of(&mut self, alloc: Global, one: &Shared<Committee>) -> Result<(), Fail> {
-        let round = self.digests.len() as u64;
-        let parents = self.digests.chunks(1).last().unwrap_or(&[]);
-        let block = block(alloc, one, 0, round, parents)?;
-        let digest = block.digest();
-        self.ask(Command::Write(block))?;
-        self.ask(Command::Certify(certificate(alloc, one, 0, round, digest)?))?;
-        self.moves.push(Move::Open { session: 0, digest })?;
-        Ok(self.digests.push(digest)?)
+    /// The digest of the block.
+    fn digest(&self) -> Digest {
+        self.block.digest()
     }
+
+    /// The move that writes the block.
+    fn write(&self) -> Move<'_, DemoScheme> {
+        Move::Call {
+            session: 0,
+            command: Command::Write(&self.block),
+        }
+    }
+
+    /// The move that certifies the block.
+    fn certify(&self) -> Move<'_, DemoScheme> {
+        Move::Call {
+            session: 0,
+            command: Command::Certify(&self.certificate),
+        }
+    }
+
+    /// The move that opens a causal read of the block.
+    fn open(&self) -> Move<'_, DemoScheme> {
+        Move::Open {
+            session: 0,
+            digest: self.digest(),
+        }
+    }
+
+    /// The move that raises the garbage round above the block.
+    fn collect(&self) -> Move<'_, DemoScheme> {
+        let round = self.block.block().get().round.get() + 1;
+        Move::Call {
+            session: 0,
+            command: Command::Collect(Round::new(round).unwrap_or(Round::ZERO)),
+        }
+    }
+}
+
+/// A block of round 0 and its child.
+fn chain(alloc: Global) -> Result<[Link; 2], Fail> {
+    let first = Link::new(alloc, 0, &[])?;
+    let digest = first.digest();
+    Ok([first, Link::new(alloc, 1, &[digest])?])
 }
 
 /// Whether the book makes all moves.
@@ -130,15 +111,23 @@ fn open(book: &mut Book<DemoScheme>, alloc: Global, digest: Digest) -> Option<Ti
     book.open(alloc, 0, number, digest).ok()?.ok()
 }
 
-/// A ticket for the digest after the book made the moves, or `None` if one is refused.
+/// A ticket for the second block after the book wrote, certified and opened both, or `None` if a call is refused.
 fn opened(
     book: &mut Book<DemoScheme>,
     alloc: Global,
-    moves: &[Move<DemoScheme>],
-    digest: Digest,
+    chain: &[Link; 2],
 ) -> Option<Ticket<DemoScheme>> {
-    match are_made(book, alloc, moves) {
-        true => open(book, alloc, digest),
+    let [first, child] = chain;
+    let moves = [
+        first.write(),
+        first.certify(),
+        first.open(),
+        child.write(),
+        child.certify(),
+        child.open(),
+    ];
+    match are_made(book, alloc, &moves) {
+        true => open(book, alloc, child.digest()),
         false => None,
     }
 }

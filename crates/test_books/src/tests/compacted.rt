@@ -7,7 +7,7 @@ type Seen = (usize, usize, bool);
 /// What a book does between two tickets for a child, and what the second ticket then shows.
 struct Case {
     shows: &'static str,
-    between: &'static [Plan],
+    collects: bool,
     compacts: bool,
     later: Seen,
 }
@@ -18,25 +18,25 @@ const BEFORE: Seen = (2, 2, true);
 const CASES: [Case; 4] = [
     Case {
         shows: "a view of two blocks that were opened one after the other has two parts",
-        between: &[],
+        collects: false,
         compacts: false,
         later: (2, 2, true),
     },
     Case {
         shows: "after a collection the view still has both blocks",
-        between: &[Plan::Collect(1)],
+        collects: true,
         compacts: false,
         later: (2, 1, true),
     },
     Case {
         shows: "after compact a view has one part",
-        between: &[],
+        collects: false,
         compacts: true,
         later: (1, 2, true),
     },
     Case {
         shows: "after compact a view has no collected block",
-        between: &[Plan::Collect(1)],
+        collects: true,
         compacts: true,
         later: (1, 1, false),
     },
@@ -59,18 +59,16 @@ fn seen(alloc: Global, ticket: &Ticket<DemoScheme>, parent: &Digest) -> Seen {
     )
 }
 
-/// What the first and the second ticket show. The book makes the moves of two blocks, opens the first ticket, makes the moves between,
-/// and opens the second.
+/// What the first and the second ticket for the child show. The book does what the case says between them.
 fn seen_of(
     book: &mut Book<DemoScheme>,
     alloc: Global,
-    moves: [&[Move<DemoScheme>]; 2],
-    compacts: bool,
-    blocks: [Digest; 2],
+    chain: &[Link; 2],
+    case: &Case,
 ) -> Option<[Seen; 2]> {
-    let before = opened(book, alloc, moves[0], blocks[1])?;
-    let later = seen_later(book, alloc, moves[1], compacts, blocks);
-    let seen = seen(alloc, &before, &blocks[0]);
+    let before = opened(book, alloc, chain)?;
+    let later = seen_later(book, alloc, chain, case);
+    let seen = seen(alloc, &before, &chain[0].digest());
     drop(before);
     Some([seen, later?])
 }
@@ -79,54 +77,34 @@ fn seen_of(
 fn seen_later(
     book: &mut Book<DemoScheme>,
     alloc: Global,
-    moves: &[Move<DemoScheme>],
-    compacts: bool,
-    blocks: [Digest; 2],
+    chain: &[Link; 2],
+    case: &Case,
 ) -> Option<Seen> {
-    if compacts && !are_compacted(book, alloc, moves) {
+    let [parent, child] = chain;
+    if case.collects && !are_made(book, alloc, &[parent.collect()]) {
         return None;
     }
-    let moves = if compacts { &[] } else { moves };
-    let later = opened(book, alloc, moves, blocks[1])?;
-    let seen = seen(alloc, &later, &blocks[0]);
+    if case.compacts && book.compact(alloc).is_err() {
+        return None;
+    }
+    let later = open(book, alloc, child.digest())?;
+    let seen = seen(alloc, &later, &parent.digest());
     drop(later);
     Some(seen)
 }
 
-/// Whether the book makes the moves and is then compacted.
-fn are_compacted(book: &mut Book<DemoScheme>, alloc: Global, moves: &[Move<DemoScheme>]) -> bool {
-    are_made(book, alloc, moves) && book.compact(alloc).is_ok()
-}
-
-/// What the tickets of a new book show.
-fn seen_anew(
-    alloc: Global,
-    first: &Planned,
-    between: &Planned,
-    compacts: bool,
-) -> Result<Option<[Seen; 2]>, Fail> {
+/// What the tickets of a new book show in the case.
+fn seen_anew(alloc: Global, chain: &[Link; 2], case: &Case) -> Result<Option<[Seen; 2]>, Fail> {
     let mut book = book_of_one(alloc, LIMITS)?;
-    let moves = [first.moves.as_slice(), between.moves.as_slice()];
-    let seen = match first.digests.as_slice() {
-        [parent, child] => seen_of(&mut book, alloc, moves, compacts, [*parent, *child]),
-        _ => None,
-    };
+    let seen = seen_of(&mut book, alloc, chain, case);
     drop(book);
     Ok(seen)
 }
 
-/// What the tickets of the case show, after the moves of two blocks.
-fn seen_in(alloc: Global, first: &Planned, case: &Case) -> Result<Option<[Seen; 2]>, Fail> {
-    let between = plan_of(alloc, case.between)?;
-    let seen = seen_anew(alloc, first, &between, case.compacts);
-    drop(between);
-    seen
-}
-
 /// The first case whose tickets do not show what it expects, if there is one.
-fn first_other(alloc: Global, first: &Planned) -> Result<Option<&'static str>, Fail> {
+fn first_other(alloc: Global, chain: &[Link; 2]) -> Result<Option<&'static str>, Fail> {
     for case in &CASES {
-        if seen_in(alloc, first, case)? != Some([BEFORE, case.later]) {
+        if seen_anew(alloc, chain, case)? != Some([BEFORE, case.later]) {
             return Ok(Some(case.shows));
         }
     }
@@ -135,9 +113,9 @@ fn first_other(alloc: Global, first: &Planned) -> Result<Option<&'static str>, F
 
 #[test]
 fn views_after_compact_have_one_part(rt: HostRuntime) -> Result<(), Fail> {
-    let first = plan_of(rt.alloc(), &TWO)?;
-    let other = first_other(rt.alloc(), &first);
-    drop(first);
+    let chain = chain(rt.alloc())?;
+    let other = first_other(rt.alloc(), &chain);
+    drop(chain);
     assert_eq!(rt; other?, None);
     Ok(())
 }

@@ -9,19 +9,17 @@ fn reopened(book: Book<DemoScheme>, alloc: Global) -> Option<Book<DemoScheme>> {
     book.reopen(alloc).ok()
 }
 
-/// The replies to the two writes, and the front of the last answer.
+/// The replies to the writes of the other block and of the first one, and the front of the last answer.
 fn answers(
     book: &mut Book<DemoScheme>,
     alloc: Global,
-    writes: [&Command<DemoScheme>; 2],
+    other: &CheckedBlock<DemoScheme>,
+    first: &Link,
 ) -> Result<([Reply; 2], Front<DemoScheme>), NoStep> {
-    let first = ask(book, alloc, writes[0])?;
-    let second = ask(book, alloc, writes[1])?;
-    let replies = [
-        first.reply().try_clone(alloc)?,
-        second.reply().try_clone(alloc)?,
-    ];
-    Ok((replies, second.front().try_clone()?))
+    let one = ask(book, alloc, &Command::Write(other))?;
+    let two = ask(book, alloc, &Command::Write(&first.block))?;
+    let replies = [one.reply().try_clone(alloc)?, two.reply().try_clone(alloc)?];
+    Ok((replies, two.front().try_clone()?))
 }
 
 /// Whether the front's base has this certified block of round 0 and author 0. The base must have no first digest for author 1, and no
@@ -42,11 +40,12 @@ fn starts_with(front: &Front<DemoScheme>, digest: Digest) -> bool {
 fn votes_for_none(
     book: &mut Book<DemoScheme>,
     alloc: Global,
-    writes: [&Command<DemoScheme>; 2],
-    first: Digest,
+    other: &CheckedBlock<DemoScheme>,
+    first: &Link,
 ) -> Result<bool, NoStep> {
-    let (replies, front) = answers(book, alloc, writes)?;
-    let is_so = front.len() == 2 && starts_with(&front, first) && are_refused(&replies, first);
+    let (replies, front) = answers(book, alloc, other, first)?;
+    let digest = first.digest();
+    let is_so = front.len() == 2 && starts_with(&front, digest) && are_refused(&replies, digest);
     drop(replies);
     drop(front);
     Ok(is_so)
@@ -62,11 +61,11 @@ fn are_refused(replies: &[Reply; 2], first: Digest) -> bool {
 fn goes_on(
     alloc: Global,
     book: Book<DemoScheme>,
-    writes: [&Command<DemoScheme>; 2],
-    first: Digest,
+    other: &CheckedBlock<DemoScheme>,
+    first: &Link,
 ) -> Option<Book<DemoScheme>> {
     let mut book = reopened(book, alloc)?;
-    match votes_for_none(&mut book, alloc, writes, first) {
+    match votes_for_none(&mut book, alloc, other, first) {
         Ok(true) => Some(book),
         _ => {
             drop(book);
@@ -75,51 +74,36 @@ fn goes_on(
     }
 }
 
-/// Whether a book that made these moves does not vote for a second block after it is reopened, once and then once more.
+/// Whether a book with the first block does not vote for the other after it is reopened, once and then once more.
 fn goes_on_twice(
     alloc: Global,
-    moves: &[Move<DemoScheme>],
-    writes: [&Command<DemoScheme>; 2],
-    first: Digest,
+    other: &CheckedBlock<DemoScheme>,
+    first: &Link,
 ) -> Result<bool, Fail> {
     let mut book = book_of_one(alloc, LIMITS)?;
-    if !are_made(&mut book, alloc, moves) {
+    if !are_made(&mut book, alloc, &[first.write(), first.certify()]) {
         drop(book);
         return Ok(false);
     }
-    let Some(book) = goes_on(alloc, book, writes, first) else {
+    let Some(book) = goes_on(alloc, book, other, first) else {
         return Ok(false);
     };
-    Ok(goes_on(alloc, book, writes, first).is_some())
+    Ok(goes_on(alloc, book, other, first).is_some())
 }
 
-/// The writes of another block of the slot and of the first block.
-fn writes(alloc: Global) -> Result<[Command<DemoScheme>; 2], Fail> {
+/// Another block of the slot of a chain's first block.
+fn other_block(alloc: Global) -> Result<CheckedBlock<DemoScheme>, Fail> {
     let one = committee(alloc, 1)?;
-    let other = block_with(alloc, &one, b"x")?;
-    Ok([
-        Command::Write(other),
-        Command::Write(block(alloc, &one, 0, 0, &[])?),
-    ])
-}
-
-/// Whether a book with one block does not vote for a second one after it is reopened, once and then once more.
-fn goes_on_without_a_vote(alloc: Global, planned: &Planned) -> Result<bool, Fail> {
-    let [other, again] = writes(alloc)?;
-    let goes_on = match planned.digests.as_slice() {
-        [first] => goes_on_twice(alloc, &planned.moves, [&other, &again], *first),
-        _ => Ok(false),
-    };
-    drop(other);
-    drop(again);
-    goes_on
+    block_with(alloc, &one, b"x")
 }
 
 #[test]
 fn a_reopened_book_votes_for_no_second_block_of_a_slot(rt: HostRuntime) -> Result<(), Fail> {
-    let planned = plan_of(rt.alloc(), &[Plan::Block])?;
-    let goes_on = goes_on_without_a_vote(rt.alloc(), &planned);
-    drop(planned);
+    let first = Link::new(rt.alloc(), 0, &[])?;
+    let other = other_block(rt.alloc())?;
+    let goes_on = goes_on_twice(rt.alloc(), &other, &first);
+    drop(first);
+    drop(other);
     assert!(rt; goes_on?);
     Ok(())
 }
@@ -131,14 +115,13 @@ fn agree(alloc: Global, one: &Ticket<DemoScheme>, other: &Ticket<DemoScheme>) ->
         && matches!(one.agree(alloc, other), Ok(Agreement::Same))
 }
 
-/// A ticket for the digest from a new book that made the moves, and the book.
+/// A ticket for the second block from a new book, and the book.
 fn opened_anew(
     alloc: Global,
-    moves: &[Move<DemoScheme>],
-    digest: Digest,
+    chain: &[Link; 2],
 ) -> Result<(Ticket<DemoScheme>, Book<DemoScheme>), Fail> {
     let mut book = book_of_one(alloc, LIMITS)?;
-    match opened(&mut book, alloc, moves, digest) {
+    match opened(&mut book, alloc, chain) {
         Some(ticket) => Ok((ticket, book)),
         None => {
             drop(book);
@@ -176,37 +159,33 @@ fn later_agrees(
     }
 }
 
-/// Whether a ticket for the digest from another new book agrees with this one.
+/// Whether a ticket from another new book agrees with this one.
 fn other_agrees(
     alloc: Global,
-    moves: &[Move<DemoScheme>],
+    chain: &[Link; 2],
     ticket: &Ticket<DemoScheme>,
-    digest: Digest,
 ) -> Result<bool, Fail> {
-    let (other, book) = opened_anew(alloc, moves, digest)?;
+    let (other, book) = opened_anew(alloc, chain)?;
     drop(book);
     let agrees = agree(alloc, ticket, &other);
     drop(other);
     Ok(agrees)
 }
 
-/// Whether three tickets for the digest agree: those of two books, and one of the first book after it is reopened.
-fn three_agree(alloc: Global, moves: &[Move<DemoScheme>], digest: Digest) -> Result<bool, Fail> {
-    let (ticket, book) = opened_anew(alloc, moves, digest)?;
-    let later = later_agrees(alloc, book, &ticket, digest);
-    let other = other_agrees(alloc, moves, &ticket, digest);
+/// Whether three tickets for the second block agree: those of two books, and one of the first book after it is reopened.
+fn three_agree(alloc: Global, chain: &[Link; 2]) -> Result<bool, Fail> {
+    let (ticket, book) = opened_anew(alloc, chain)?;
+    let later = later_agrees(alloc, book, &ticket, chain[1].digest());
+    let other = other_agrees(alloc, chain, &ticket);
     drop(ticket);
     Ok(other? && later)
 }
 
 #[test]
 fn tickets_of_two_books_and_of_a_reopened_one_agree(rt: HostRuntime) -> Result<(), Fail> {
-    let planned = plan_of(rt.alloc(), &TWO)?;
-    let agree = match planned.digests.as_slice() {
-        [_, child] => three_agree(rt.alloc(), &planned.moves, *child),
-        _ => Ok(false),
-    };
-    drop(planned);
+    let chain = chain(rt.alloc())?;
+    let agree = three_agree(rt.alloc(), &chain);
+    drop(chain);
     assert!(rt; agree?);
     Ok(())
 }

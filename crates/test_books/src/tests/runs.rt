@@ -3,48 +3,29 @@ use super::*;
 use nw_book::{Answer, Block, Cause, Run, Stop};
 use nw_model::{CertifyReply, CollectReply, Reply, WriteReply};
 
-/// A run that stops at a missing ticket.
-struct Case {
-    shows: &'static str,
-    plan: &'static [Plan],
-    /// The answers to the moves before the stop, in order, with the rounds of the blocks that each walk lists.
-    answers: &'static [(&'static str, &'static [u64])],
-}
+/// The answers to moves before a stop, in order, with the rounds of the blocks that each walk lists.
+type Answers = &'static [(&'static str, &'static [u64])];
 
-const CASES: [Case; 2] = [
-    Case {
-        shows: "a run with late walks: before and after a child of the block is stored",
-        plan: &[
-            Plan::Block,
-            Plan::Walk(0),
-            Plan::Block,
-            Plan::Walk(0),
-            Plan::Walk(1),
-            Plan::Walk(5),
-        ],
-        answers: &[
-            ("stored vote", &[]),
-            ("certified", &[]),
-            ("opened", &[]),
-            ("walked", &[0]),
-            ("stored vote", &[]),
-            ("certified", &[]),
-            ("opened", &[]),
-            ("walked", &[0]),
-            ("walked", &[0, 1]),
-        ],
-    },
-    Case {
-        shows: "a run stops at a ticket that it lacks, after a walk of a collected block",
-        plan: &[Plan::Block, Plan::Collect(1), Plan::Walk(0), Plan::Walk(5)],
-        answers: &[
-            ("stored vote", &[]),
-            ("certified", &[]),
-            ("opened", &[]),
-            ("raised 1", &[]),
-            ("walked", &[0]),
-        ],
-    },
+/// The answers of a run with late walks: before and after a child of the block is stored.
+const LATE: Answers = &[
+    ("stored vote", &[]),
+    ("certified", &[]),
+    ("opened", &[]),
+    ("walked", &[0]),
+    ("stored vote", &[]),
+    ("certified", &[]),
+    ("opened", &[]),
+    ("walked", &[0]),
+    ("walked", &[0, 1]),
+];
+
+/// The answers if a run stops at a ticket that it lacks, after a walk of a collected block.
+const COLLECTED: Answers = &[
+    ("stored vote", &[]),
+    ("certified", &[]),
+    ("opened", &[]),
+    ("raised 1", &[]),
+    ("walked", &[0]),
 ];
 
 /// The answer in words, and the blocks that it lists. A reply that no case expects is `another reply`.
@@ -72,7 +53,7 @@ fn have_rounds(blocks: &[Shared<Block>], rounds: &[u64]) -> bool {
 }
 
 /// Whether these are the answers, in order.
-fn are_answers(given: &[Answer<DemoScheme>], expected: &[(&'static str, &'static [u64])]) -> bool {
+fn are_answers(given: &[Answer<DemoScheme>], expected: Answers) -> bool {
     for (answer, (text, rounds)) in given.iter().zip(expected) {
         let (word, blocks) = word(answer);
         if word != *text || !have_rounds(blocks, rounds) {
@@ -83,7 +64,7 @@ fn are_answers(given: &[Answer<DemoScheme>], expected: &[(&'static str, &'static
 }
 
 /// Whether the run has these answers in order, and then stopped at a missing ticket.
-fn has_answers(run: &Run<DemoScheme>, answers: &[(&'static str, &'static [u64])]) -> bool {
+fn has_answers(run: &Run<DemoScheme>, answers: Answers) -> bool {
     let stop = Stop {
         at: answers.len(),
         cause: Cause::NoTicket,
@@ -91,41 +72,66 @@ fn has_answers(run: &Run<DemoScheme>, answers: &[(&'static str, &'static [u64])]
     run.stop == Some(stop) && are_answers(run.answers.as_slice(), answers)
 }
 
-/// Whether a run of the moves has the answers of the case and then stops at a missing ticket.
-fn is_answered(
-    book: &mut Book<DemoScheme>,
-    alloc: Global,
-    moves: &[Move<DemoScheme>],
-    case: &Case,
-) -> bool {
-    let run = book.run(alloc, moves);
-    let has_answers = has_answers(&run, case.answers);
-    drop(run);
-    has_answers
-}
-
-/// Whether a run of the case's plan in a new book has the answers of the case and then stops at a missing ticket.
-fn is_answered_anew(alloc: Global, case: &Case) -> Result<bool, Fail> {
-    let planned = plan_of(alloc, case.plan)?;
-    let is_answered = is_answered_by(alloc, &planned.moves, case);
-    drop(planned);
-    is_answered
-}
-
-/// Whether a run of the moves in a new book has the answers of the case and then stops at a missing ticket.
-fn is_answered_by(alloc: Global, moves: &[Move<DemoScheme>], case: &Case) -> Result<bool, Fail> {
+/// Whether a run of the moves in a new book has these answers and then stops at a missing ticket.
+fn is_answered(alloc: Global, moves: &[Move<DemoScheme>], answers: Answers) -> Result<bool, Fail> {
     let mut book = book_of_one(alloc, LIMITS)?;
-    let is_answered = is_answered(&mut book, alloc, moves, case);
+    let run = book.run(alloc, moves);
     drop(book);
-    Ok(is_answered)
+    let has_answers = has_answers(&run, answers);
+    drop(run);
+    Ok(has_answers)
+}
+
+/// Whether the run with late walks is answered.
+fn is_late_answered(alloc: Global, chain: &[Link; 2]) -> Result<bool, Fail> {
+    let [first, child] = chain;
+    let moves = [
+        first.write(),
+        first.certify(),
+        first.open(),
+        Move::Walk { ticket: 0 },
+        child.write(),
+        child.certify(),
+        child.open(),
+        Move::Walk { ticket: 0 },
+        Move::Walk { ticket: 1 },
+        Move::Walk { ticket: 5 },
+    ];
+    is_answered(alloc, &moves, LATE)
+}
+
+/// Whether the run with a walk of a collected block is answered.
+fn is_collected_answered(alloc: Global, first: &Link) -> Result<bool, Fail> {
+    let moves = [
+        first.write(),
+        first.certify(),
+        first.open(),
+        first.collect(),
+        Move::Walk { ticket: 0 },
+        Move::Walk { ticket: 5 },
+    ];
+    is_answered(alloc, &moves, COLLECTED)
+}
+
+/// Whether each of both runs is answered.
+fn are_answered(alloc: Global, chain: &[Link; 2]) -> Result<[bool; 2], Fail> {
+    Ok([
+        is_late_answered(alloc, chain)?,
+        is_collected_answered(alloc, &chain[0])?,
+    ])
 }
 
 #[test]
 fn runs_of_moves_give_each_answer_and_stop_at_a_missing_ticket(
     rt: HostRuntime,
 ) -> Result<(), Fail> {
-    for case in &CASES {
-        assert!(rt; is_answered_anew(rt.alloc(), case)?, "{}", case.shows);
-    }
+    let chain = chain(rt.alloc())?;
+    let answered = are_answered(rt.alloc(), &chain);
+    drop(chain);
+    assert_eq!(rt;
+        answered?,
+        [true; 2],
+        "late walks, and a walk of a collected block"
+    );
     Ok(())
 }

@@ -21,10 +21,10 @@ fn refusals(
     number: u32,
     block: CheckedBlock<DemoScheme>,
 ) -> [Option<NoStep>; 2] {
-    let command = Command::Write(block);
+    let command = Command::Write(&block);
     let said = book.may_step(0, number, command.committee()).err();
     let refused = book.step(alloc, 0, number, &command).err();
-    drop(command);
+    drop(block);
     [said, refused]
 }
 

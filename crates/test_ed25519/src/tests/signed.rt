@@ -1,7 +1,7 @@
 //! Messages that OpenSSL signed, from their bytes to a causal read.
 use hex::FromHex;
 use nw_book::{Book, Command, Limits};
-use nw_check::{Checked, check_message};
+use nw_check::{Checked, CheckedBlock, CheckedCert, check_message};
 use nw_committee::{Committee, Key};
 use nw_digest::{Digest, Shared};
 use nw_ed25519::Ed25519;
@@ -69,10 +69,10 @@ fn checked(
     Ok(check_message(alloc, committee, text.as_slice())?)
 }
 
-/// The block's digest and its write, if the message is a block.
-fn block_of(checked: Checked<Ed25519>) -> Option<(Digest, Command<Ed25519>)> {
+/// The block, if the message is a block.
+fn block_of(checked: Checked<Ed25519>) -> Option<CheckedBlock<Ed25519>> {
     match checked {
-        Checked::Block(block) => Some((block.digest(), Command::Write(block))),
+        Checked::Block(block) => Some(block),
         other => {
             drop(other);
             None
@@ -80,10 +80,10 @@ fn block_of(checked: Checked<Ed25519>) -> Option<(Digest, Command<Ed25519>)> {
     }
 }
 
-/// The certificate's call, if the message is a certificate.
-fn certificate_of(checked: Checked<Ed25519>) -> Option<Command<Ed25519>> {
+/// The certificate, if the message is a certificate.
+fn certificate_of(checked: Checked<Ed25519>) -> Option<CheckedCert<Ed25519>> {
     match checked {
-        Checked::Cert(certificate) => Some(Command::Certify(certificate)),
+        Checked::Cert(certificate) => Some(certificate),
         other => {
             drop(other);
             None
@@ -96,11 +96,9 @@ fn step(
     alloc: Global,
     book: &mut Book<Ed25519>,
     number: u32,
-    command: Command<Ed25519>,
+    command: &Command<Ed25519>,
 ) -> Result<(), Fail> {
-    let done = book.step(alloc, 0, number, &command);
-    drop(command);
-    drop(done?);
+    drop(book.step(alloc, 0, number, command)?);
     Ok(())
 }
 
@@ -110,10 +108,17 @@ fn read_back(
     committee: &Shared<Committee>,
     book: &mut Book<Ed25519>,
 ) -> Result<usize, Fail> {
-    let (digest, write) = block_of(checked(alloc, committee, BLOCK)?).ok_or("a block")?;
-    step(alloc, book, 1, write)?;
-    let certify = certificate_of(checked(alloc, committee, CERTIFICATE)?).ok_or("a certificate")?;
-    step(alloc, book, 2, certify)?;
+    let block = block_of(checked(alloc, committee, BLOCK)?).ok_or("a block")?;
+    let digest = block.digest();
+    let written = step(alloc, book, 1, &Command::Write(&block));
+    drop(block);
+    written?;
+    let certificate = certificate_of(checked(alloc, committee, CERTIFICATE)?).ok_or(
+        "a certificate",
+    )?;
+    let certified = step(alloc, book, 2, &Command::Certify(&certificate));
+    drop(certificate);
+    certified?;
     let ticket = book.open(alloc, 0, 3, digest)?.ok().ok_or("complete")?;
     let blocks = ticket.walk(alloc);
     drop(ticket);

@@ -16,22 +16,23 @@ fn new_book(alloc: Global, committee: &Shared<Committee>) -> Result<Book<DemoSch
     Book::new(alloc, committee.try_clone()?, LIMITS)
 }
 
-/// A move of session 0 with this command.
-fn call(command: Command<DemoScheme>) -> Move<DemoScheme> {
-    Move::Call {
-        session: 0,
-        command,
-    }
-}
-
 /// Moves that write, certify and open the block, collect its round, and walk its ticket and then a missing ticket.
-fn moves(made: Link) -> [Move<DemoScheme>; 6] {
+fn moves(made: &Link) -> [Move<'_, DemoScheme>; 6] {
     let digest = made.block.digest();
     [
-        call(Command::Write(made.block)),
-        call(Command::Certify(made.certificate)),
+        Move::Call {
+            session: 0,
+            command: Command::Write(&made.block),
+        },
+        Move::Call {
+            session: 0,
+            command: Command::Certify(&made.certificate),
+        },
         Move::Open { session: 0, digest },
-        call(Command::Collect(Round::new(1).unwrap_or(Round::ZERO))),
+        Move::Call {
+            session: 0,
+            command: Command::Collect(Round::new(1).unwrap_or(Round::ZERO)),
+        },
         Move::Walk { ticket: 0 },
         Move::Walk { ticket: 5 },
     ]
@@ -129,18 +130,16 @@ fn stop_again(
 }
 
 /// The stop of a run with the moves for the last block of the fixture.
-fn stop_with(alloc: Global, fixture: &mut Fixture) -> Result<Option<Stop>, Fail> {
-    let moves = moves(fixture.links.pop().ok_or("an example has blocks")?);
-    let stop = stop_again(alloc, &fixture.committee, &moves);
-    drop(moves);
-    stop
+fn stop_with(alloc: Global, fixture: &Fixture) -> Result<Option<Stop>, Fail> {
+    let link = fixture.links.last().ok_or("an example has blocks")?;
+    stop_again(alloc, &fixture.committee, &moves(link))
 }
 
 #[test]
 fn a_run_of_moves_is_made_or_stops(rt: HostRuntime) -> Result<(), Fail> {
     let alloc = rt.alloc();
-    let mut fixture = Fixture::new(alloc, &[0], &TWO)?;
-    let stop = stop_with(alloc, &mut fixture);
+    let fixture = Fixture::new(alloc, &[0], &TWO)?;
+    let stop = stop_with(alloc, &fixture);
     drop(fixture);
     let stop = stop?;
     let cause = Cause::NoTicket;

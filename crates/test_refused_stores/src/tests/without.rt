@@ -8,7 +8,8 @@ use super::fixture::{FOUR, Fixture, TWO};
 use super::stores::played_anew;
 use super::*;
 use nw_store::{
-    Done, Home, Opening, Session, Settled, Store, Unsettled, session_locked, settle, settle_locked,
+    CheckedBlock, Done, Home, Opening, Session, Settled, Store, Unsettled, session_locked, settle,
+    settle_locked,
 };
 use std::marker::Brand;
 use std::sync::Wait;
@@ -86,21 +87,22 @@ fn are_read(book: &Book<DemoScheme>, fixture: &Fixture, first: &Done<DemoScheme>
     lengths && events && origins && begins
 }
 
-/// A fixture for members with these numbers, and the write of its block. The fixture no longer has the block.
-fn write_under(alloc: Global, members: &[u8]) -> Result<(Fixture, Command<DemoScheme>), Fail> {
+/// A fixture for members with these numbers, and its block, which it no longer has.
+fn block_under(alloc: Global, members: &[u8]) -> Result<(Fixture, CheckedBlock<DemoScheme>), Fail> {
     let mut fixture = Fixture::new(alloc, members, &TWO[..1])?;
     let link = fixture.links.pop().ok_or("an example has blocks")?;
-    Ok((fixture, Command::Write(link.block)))
+    Ok((fixture, link.block))
 }
 
 /// Whether books refuse calls, and histories and fronts can be read, without an allocation.
 fn of_books(alloc: Global) -> Result<bool, Fail> {
-    let (fixture, own) = write_under(alloc, &[0])?;
-    let (other, foreign) = write_under(alloc, &[1])?;
+    let (fixture, own) = block_under(alloc, &[0])?;
+    let (other, foreign) = block_under(alloc, &[1])?;
     drop(other);
     let mut book = retry!(BookError::NoMemory, narrow_book(alloc, &fixture))?;
     let first = fill(alloc, &mut book)?;
     fail_allocations(alloc);
+    let (own, foreign) = (Command::Write(&own), Command::Write(&foreign));
     let refusals = refusals_of(alloc, &mut book, &own, &foreign);
     let are_read = are_read(&book, &fixture, &first);
     allow_allocations(alloc);
