@@ -129,7 +129,8 @@ enum {
 	NW_HELD = 3,
 	/* Write: another block is stored under the digest. */
 	NW_CLASH = 4,
-	/* Write: another block of this round and author came first. digest is the digest of that block. */
+	/* Write: not stored, because another block of this round and author came first. digest is the digest of that
+	   block. Hand the block in again when its own digest is certified. */
 	NW_EQUIVOCATES = 5,
 	/* Certificate: it is now stored. */
 	NW_CERTIFIED = 6,
@@ -139,9 +140,10 @@ enum {
 	NW_CONFLICT = 8,
 	/* Write or certificate: the round is below the garbage round. number is the garbage round. */
 	NW_COLLECTED = 9,
-	/* Write or certificate: the round is at or above the garbage round plus the window. Hand it in again later. */
+	/* Write or certificate: the round is at or above the garbage round plus the window. Hand it in again after a
+	   collection. */
 	NW_TOO_FAR = 10,
-	/* Write or certificate: the block and the certificate of this digest have different rounds or authors. */
+	/* Write or certificate: a stored block or certificate of this digest has another round or author. */
 	NW_MISFIT = 11,
 	/* Write or certificate: the book has reached its limit on blocks or on certificates. Hand it in again after
 	   a collection. */
@@ -400,13 +402,14 @@ int32_t nw_book_new(nw_committee *committee, const nw_limits *limits, nw_book *o
 /* Writes how many events the history has. */
 int32_t nw_book_events(nw_book *book, size_t *out);
 
-/* Rebuilds the tables that later tickets share, without the blocks of collected rounds. It changes nothing
-   that a call can observe. */
+/* Rebuilds the list of complete blocks that tickets share, without collected blocks. Later tickets share the
+   new list, and earlier tickets keep theirs. It changes nothing that a call can observe. */
 int32_t nw_book_compact(nw_book *book);
 
-/* Empties the history. The book keeps its blocks, its certificates and its garbage round. The next call of
-   each session has number 1 again. Answers and tickets do not change. It takes as long as the writes and
-   certificates of the history took, without their checks. */
+/* Empties the history. The book keeps its blocks, certificates, votes and garbage round, so no round and
+   author gets a second vote. The next call of each session has number 1 again. Answers and tickets do not
+   change. It copies the maps with which the history began, and repeats the history's writes, certificates
+   and collections, without their checks. */
 int32_t nw_book_restart(nw_book *book);
 
 /* Writes the checked block, or certifies the digest of the checked certificate. number must be that of the
@@ -475,9 +478,9 @@ int32_t nw_answer_begins(nw_answer *answer, nw_answer *other, bool *out);
 /* Writes the digest that the ticket is for, and the garbage round at the call that gave the ticket. */
 int32_t nw_ticket_scope(nw_answer *ticket, nw_digest *digest, uint64_t *floor);
 
-/* Walks both tickets and writes whether their lists are equal. The tickets may come from two books. If the
-   lists differ, two different blocks have the same digest. Returns NW_NOT_COMPARABLE if the tickets have
-   different digests or garbage rounds. */
+/* Compares the lists of both tickets, and writes whether they are equal. The tickets may come from two
+   books. If the lists differ, two different blocks have the same digest. Returns NW_NOT_COMPARABLE if the
+   tickets have different digests or garbage rounds. */
 int32_t nw_ticket_agree(nw_answer *ticket, nw_answer *other, bool *out);
 
 /* Walks the ticket and opens the list of its block and all ancestors from the garbage round on. The list is

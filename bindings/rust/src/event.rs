@@ -30,7 +30,7 @@ pub enum Call {
     Read(Digest),
     /// [`Session::causal`](crate::Session::causal) of this digest.
     Causal(Digest),
-    /// [`Session::collect`](crate::Session::collect) up to this round.
+    /// [`Session::collect`](crate::Session::collect) to this round.
     Collect(u64),
     /// [`Session::missing`](crate::Session::missing) for at most this many.
     Missing(u16),

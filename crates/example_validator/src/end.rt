@@ -49,6 +49,7 @@ impl<T: Drop> From<AllocFailed<T>> for End {
     }
 }
 
+// The thread of the consensus ends early only if memory runs out. So a closed channel has this cause too.
 impl<T: Drop> From<SendError<T>> for End {
     fn from(_refused: SendError<T>) -> End {
         End::NoMemory

@@ -4,7 +4,7 @@
 //! status is
 //!
 //! - 0 if the script was played to its end, or the load has a report;
-//! - 1 if the script could not be read or was too long, output could not be written, or an allocation of a script failed;
+//! - 1 if the script could not be read or was too long, output could not be written, or an allocation failed outside a load;
 //! - 2 if a line of the script is bad, or the arguments are other words;
 //! - 3 if the load failed, or the sessions of a store differ, which no script can cause.
 #![tactic(auto)]

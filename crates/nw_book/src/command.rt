@@ -12,8 +12,7 @@ use nw_digest::{Digest, NoMemory, Round};
 use nw_model::Call;
 use nw_sig::Scheme;
 
-/// A call of a session, other than a causal read. It borrows its block or certificate, a checked value, which carries the committee under
-/// which it was checked.
+/// A call of a session, other than a causal read. It borrows its checked block or certificate, which carries the committee of its check.
 #[derive(Drop)]
 pub enum Command<'a, S: Scheme> {
     /// Store the block under its digest.

@@ -1,4 +1,4 @@
--- An open handle owns what a box of its content owns, and so do the parts of a handle.
+-- An open handle owns what a box of its content owns, and so do the parts of such a box.
 use mir.Syntax.{impl, tnil, dnil}
 use mathlib.Core.List.{[]}
 use denote.Signature.{Slot, plain}

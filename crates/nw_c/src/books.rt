@@ -156,7 +156,8 @@ pub(crate) fn take(
     }
 }
 
-/// Rebuilds the tables that later tickets share, without the blocks of collected rounds. It changes nothing that a call can observe.
+/// Rebuilds the list of complete blocks that tickets share, without collected blocks. Later tickets share the new list, and earlier
+/// tickets keep theirs. It changes nothing that a call can observe.
 #[unsafe(no_mangle)]
 pub extern "C" fn nw_book_compact(alloc: Global, book: &mut BookHandle) -> i32
     ensures same { IsUnchanged book.old book.new }
@@ -175,8 +176,9 @@ pub extern "C" fn nw_book_compact(alloc: Global, book: &mut BookHandle) -> i32
     }
 }
 
-/// Empties the history. The book keeps its blocks, its certificates and its garbage round. The next call of each session has number 1
-/// again. Answers and tickets do not change. It takes as long as the writes and certificates of the history took, without their checks.
+/// Empties the history. The book keeps its blocks, certificates, votes and garbage round, so no round and author gets a second vote.
+/// The next call of each session has number 1 again. Answers and tickets do not change. It copies the maps with which the history began,
+/// and repeats the history's writes, certificates and collections, without their checks.
 #[unsafe(no_mangle)]
 pub extern "C" fn nw_book_restart(alloc: Global, book: &mut BookHandle) -> i32
     ensures restarted { result ≡ pos 0 → IsRestarted book.old.value book.new.value }

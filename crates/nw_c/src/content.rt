@@ -17,8 +17,8 @@ pub enum Content {
     Checked(Checked<Ed25519>),
     /// The votes for one block.
     Gather(Gather<Ed25519>),
-    /// A book: a history, and the tables with the state after it. It is boxed because every handle, also that of an answer, has room for
-    /// the largest variant.
+    /// A book: a history, and the tables with the state after it. It is boxed because every content, also an answer, takes as much memory
+    /// as the largest variant.
     Book(Box<Book<Ed25519>>),
     /// The answer to a call.
     Answer(Done<Ed25519>),

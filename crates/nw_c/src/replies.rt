@@ -19,7 +19,8 @@ pub(crate) const STORED: i32 = 2;
 pub(crate) const HELD: i32 = 3;
 /// Write: another block is stored under the digest.
 pub(crate) const CLASH: i32 = 4;
-/// Write: another block of this round and author came first. `digest` is the digest of that block.
+/// Write: not stored, because another block of this round and author came first. `digest` is the digest of that block. Hand the block in
+/// again when its own digest is certified.
 pub(crate) const EQUIVOCATES: i32 = 5;
 /// Certificate: it is now stored.
 pub(crate) const CERTIFIED: i32 = 6;
@@ -29,9 +30,9 @@ pub(crate) const ALREADY: i32 = 7;
 pub(crate) const CONFLICT: i32 = 8;
 /// Write or certificate: the round is below the garbage round. `number` is the garbage round.
 pub(crate) const COLLECTED: i32 = 9;
-/// Write or certificate: the round is at or above the garbage round plus the window. Hand it in again later.
+/// Write or certificate: the round is at or above the garbage round plus the window. Hand it in again after a collection.
 pub(crate) const TOO_FAR: i32 = 10;
-/// Write or certificate: the block and the certificate of this digest have different rounds or authors.
+/// Write or certificate: a stored block or certificate of this digest has another round or author.
 pub(crate) const MISFIT: i32 = 11;
 /// Write or certificate: the book has reached its limit on blocks or on certificates. Hand it in again after a collection.
 pub(crate) const FULL: i32 = 12;

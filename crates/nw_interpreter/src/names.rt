@@ -28,7 +28,7 @@ struct Slot<'a> {
 pub struct Names<'a> {
     blocks: HashMap<&'a str, NamedBlock>,
     first_names: HashMap<[u8; 32], Name<'a>>,
-    /// By round and author. With it, most blocks of a long list get their name without a hash.
+    /// By round and author. With it, most blocks of a long list get their name without a computation of their digest.
     slots: HashMap<(u64, u16), Slot<'a>>,
 }
 

@@ -167,9 +167,8 @@ fn answer_of<'a>(
     answer
 }
 
-// A full history is an answer, and any other refusal ends the play. `OutOfTurn` never comes: a session exists before the first call, and
-// each call has its session's next number. `OtherCommittee` never comes: every block and certificate was checked under the store's
-// committee.
+// A full history is an answer, and any other refusal ends the play. `OutOfTurn` never comes: each session's id is below the limit, and each
+// call has its session's next number. `OtherCommittee` never comes: every block and certificate was checked under the store's committee.
 fn answer_to_refusal<'a>(refusal: NoStep) -> Result<Answer<'a>, LineFault> {
     match refusal {
         NoStep::HistoryFull => Ok(Answer::Words("refused history full")),

@@ -3,7 +3,7 @@ use thiserror::Error;
 
 /// The store has made as many sessions as its limit allows.
 #[derive(Clone, Copy, Debug, PartialEq, Eq, Error)]
-#[error("too many")]
+#[error("too many sessions")]
 pub struct TooMany;
 
 /// Why sessions do not settle. The variants are tested in order.

@@ -13,6 +13,7 @@ pub trait Home: LogName {
     ghost origin: { Origin };
 }
 
+// Only a placeholder: the proof of a call with `Brand` says which origin it has.
 impl Home for Brand {
     ghost use Rattle.nw_store.specs.Journal.{placeholder_origin};
 

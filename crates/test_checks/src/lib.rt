@@ -1,7 +1,7 @@
 //! Tests formats and checks: digests, messages, signed texts, lines of a script, and the checks of messages.
 //!
-//! The checks have the demonstration scheme. They are of single messages, and of many messages in several threads. The crate has only
-//! tests, and no crate uses it.
+//! The checks use the demonstration scheme, for single messages and for many messages in several threads. The crate has only tests, and
+//! no crate uses it.
 #![tactic(auto)]
 
 #[cfg(test)]

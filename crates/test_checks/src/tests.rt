@@ -20,7 +20,7 @@ mod signed;
 mod threads;
 mod votes;
 
-/// The slot of all votes and certificates.
+/// The slot of the certificates in `votes`.
 const SLOT: Slot = (Round::ZERO, 0);
 
 /// The result of a check, without the checked value.

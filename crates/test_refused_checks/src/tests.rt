@@ -13,7 +13,7 @@ mod texts;
 mod without;
 mod workers;
 
-/// The slot of all votes and certificates.
+/// The slot of most blocks, votes and certificates.
 const SLOT: Slot = (Round::ZERO, 0);
 
 /// A committee of four members.

@@ -8,7 +8,7 @@ use nw_ed25519::Ed25519;
 use std::alloc::Global;
 use std::test::Fail;
 
-/// Room for one block and its certificate.
+/// More room than one block, its certificate and three calls need.
 const LIMITS: Limits = Limits {
     blocks: 4,
     events: 8,

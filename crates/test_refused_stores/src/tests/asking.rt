@@ -68,7 +68,7 @@ fn open<L: Home, R: Wait>(
     }
 }
 
-/// The list of the ticket, or `OutOfTurn` if there is no ticket.
+/// The list of the ticket, or `OutOfTurn` if there is no ticket, which no row expects.
 fn walk(alloc: Global, ticket: Option<&Ticket<DemoScheme>>) -> Result<Reply, NoStep> {
     match ticket {
         Some(ticket) => Ok(Reply::List(Sequence::new(ticket.walk(alloc)?))),

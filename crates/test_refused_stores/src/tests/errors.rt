@@ -46,7 +46,7 @@ fn errors_have_their_texts(rt: HostRuntime) -> Result<(), Fail> {
     let wrong = [
         wrong_text(alloc, &OF_BOOKS)?,
         wrong_text(alloc, &OF_STEPS)?,
-        wrong_text(alloc, &[(TooMany, "too many")])?,
+        wrong_text(alloc, &[(TooMany, "too many sessions")])?,
         wrong_text(alloc, &OF_PICTURES)?,
     ];
     assert_eq!(rt; wrong, [None; 4]);

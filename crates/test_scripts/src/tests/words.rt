@@ -1,5 +1,5 @@
 //! Words that no script prints. They need two blocks with one digest, a vote signed with another member's key, or a settlement with
-//! sessions of another store.
+//! a stray id, which no program gets.
 use nw_check::CertFault;
 use nw_digest::Shared;
 use nw_interpreter::{Answer, Interpreter, committee};

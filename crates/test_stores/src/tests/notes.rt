@@ -164,8 +164,8 @@ const TWO: Limits = Limits {
     ..LIMITS
 };
 
-// Without a note there is no promise. This read finds no block, even if its thread learned by other means that the block was about
-// to be written. A note of the write can only be taken after the write, so a session that hears it reads after the write.
+// Without a note, no clause says which of two sessions' calls comes first. Here the write waits for the read, which finds no block. A
+// note of the write is taken after the write, so a session that hears it reads after the write.
 #[test]
 fn without_a_note_a_read_may_come_before_the_write(rt: HostRuntime) -> Result<(), Fail> {
     let tasks = [Task::Early, Task::Late];

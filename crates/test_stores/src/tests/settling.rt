@@ -109,7 +109,8 @@ fn withheld(fault: SettleFault, back: usize) -> (u16, usize) {
     }
 }
 
-/// The texts of the faults. No other test of this crate gets the second fault, because sessions of another store have another type.
+/// The texts of the faults. No program gets the second fault: sessions of another store have another type, and no
+/// session can be given twice.
 const FAULTS: [(SettleFault, &str); 2] = [
     (
         SettleFault::Unfinished { made: 2, given: 1 },

@@ -66,9 +66,9 @@ fn are_listed(alloc: Global, authors: u16, last: Name) -> bool {
     matches!(listed, Ok(true))
 }
 
-// Two diamonds and a chain. In the larger diamond, a walk that visited a block once for each path to it would follow 4^39 paths.
+// Two grids and a chain. In the larger grid, a walk that visited a block once for each path to it would follow 4^39 paths.
 #[test]
-fn a_diamond_and_a_chain_of_1000_blocks_list_each_block_once(rt: HostRuntime) {
+fn two_grids_and_a_chain_of_1000_blocks_list_each_block_once(rt: HostRuntime) {
     for (authors, last) in [(4, (3, 2, 0)), (4, (39, 2, 0)), (1, (999, 0, 0))] {
         assert!(rt; are_listed(rt.alloc(), authors, last), "{authors} authors");
     }
