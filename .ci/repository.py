@@ -35,8 +35,9 @@ def crates():
 
 @functools.cache
 def more_seconds():
-    """The flag that gives a test five minutes instead of one, if this kit has it: a test may be slow beside others."""
-    usage = subprocess.run(["rt", "help"], stdin=subprocess.DEVNULL, capture_output=True, text=True).stdout
+    """The flag that gives a test five minutes instead of one, if this kit has it: a test may be slow beside others. Some kits print their
+    usage to standard error."""
+    usage = subprocess.run(["rt", "help"], stdin=subprocess.DEVNULL, stdout=subprocess.PIPE, stderr=subprocess.STDOUT, text=True).stdout
     return ["--seconds", "300"] if "--seconds" in usage else []
 
 
