@@ -43,7 +43,8 @@ pub extern "C" fn nw_book_hand_in(
     if !checked.is_open() {
         return CLOSED;
     }
-    match checked.lend() {
+    let content: &Content = checked.lend();
+    match content {
         Content::Checked(Checked::Block(block)) => {
             let write = Command::Write(block);
             take(alloc, book, answer, session, number, &write)

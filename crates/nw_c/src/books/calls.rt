@@ -15,8 +15,17 @@ use crate::content::Content;
 use crate::handle::{AnswerHandle, BookHandle};
 use crate::plain::CDigest;
 use nw_book::Command;
+use nw_check::{CheckedBlock, CheckedCert};
 use nw_digest::Round;
+use nw_ed25519::Ed25519;
 use std::alloc::Global;
+
+// What a command may borrow. The prover finds these types only in the function that makes a command, so each such function has a value of
+// this type.
+type Lent<'a> = (
+    Option<&'a CheckedBlock<Ed25519>>,
+    Option<&'a CheckedCert<Ed25519>>,
+);
 
 /// Asks for the certificate of the digest. `number` must be that of the session's next call.
 #[unsafe(no_mangle)]
@@ -39,6 +48,7 @@ pub extern "C" fn nw_book_certificate(
     ensures closed { result ≡ CLOSED → book.old.held ≡ true → answer.old.held ≡ true → ⊥ }
     ensures other_kind { result ≡ OTHER_KIND → HoldsBook book.old.value → HoldsRoom answer.old.value → ⊥ }
 {
+    let _lent: Lent<'_> = (None, None);
     let command = Command::Certificate(digest.get());
     take(alloc, book, answer, session, number, &command)
 }
@@ -64,6 +74,7 @@ pub extern "C" fn nw_book_read(
     ensures closed { result ≡ CLOSED → book.old.held ≡ true → answer.old.held ≡ true → ⊥ }
     ensures other_kind { result ≡ OTHER_KIND → HoldsBook book.old.value → HoldsRoom answer.old.value → ⊥ }
 {
+    let _lent: Lent<'_> = (None, None);
     let command = Command::Read(digest.get());
     take(alloc, book, answer, session, number, &command)
 }
@@ -94,6 +105,7 @@ pub extern "C" fn nw_book_collect(
     let Some(round) = Round::new(round) else {
         return BAD_ROUND;
     };
+    let _lent: Lent<'_> = (None, None);
     let command = Command::Collect(round);
     take(alloc, book, answer, session, number, &command)
 }
@@ -120,6 +132,7 @@ pub extern "C" fn nw_book_missing(
     ensures closed { result ≡ CLOSED → book.old.held ≡ true → answer.old.held ≡ true → ⊥ }
     ensures other_kind { result ≡ OTHER_KIND → HoldsBook book.old.value → HoldsRoom answer.old.value → ⊥ }
 {
+    let _lent: Lent<'_> = (None, None);
     let command = Command::Missing(most);
     take(alloc, book, answer, session, number, &command)
 }
@@ -144,6 +157,7 @@ pub extern "C" fn nw_book_status(
     ensures closed { result ≡ CLOSED → book.old.held ≡ true → answer.old.held ≡ true → ⊥ }
     ensures other_kind { result ≡ OTHER_KIND → HoldsBook book.old.value → HoldsRoom answer.old.value → ⊥ }
 {
+    let _lent: Lent<'_> = (None, None);
     take(alloc, book, answer, session, number, &Command::Status)
 }
 
