@@ -7,7 +7,7 @@ use thiserror::Error;
 #[derive(Clone, Copy, Debug, PartialEq, Eq, Error)]
 pub enum BookError {
     /// A limit is outside its range.
-    #[error("bad limits")]
+    #[error("a limit is out of range")]
     BadLimits,
     /// An allocation failed.
     #[error("out of memory")]
@@ -43,10 +43,10 @@ pub enum NoStep {
     #[error("out of turn")]
     OutOfTurn,
     /// The block or certificate was checked under another committee than the book's.
-    #[error("other committee")]
+    #[error("checked under another committee")]
     OtherCommittee,
     /// The history has reached its limit of events.
-    #[error("history full")]
+    #[error("the history is full")]
     HistoryFull,
     /// An allocation failed.
     #[error("out of memory")]

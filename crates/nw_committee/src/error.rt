@@ -6,16 +6,16 @@ use thiserror::Error;
 #[derive(Clone, Copy, Debug, PartialEq, Eq, Error)]
 pub enum CommitteeFault {
     /// The constructor does not accept this number of members.
-    #[error("bad size")]
+    #[error("no committee has this number of members")]
     BadSize,
     /// Two members have the same key.
-    #[error("repeated key")]
+    #[error("two members have the same key")]
     RepeatedKey,
     /// An allocation failed.
     #[error("out of memory")]
     NoMemory,
     /// A weight is not from 1 to 1,000,000.
-    #[error("bad weight")]
+    #[error("a weight is not from 1 to 1,000,000")]
     BadWeight,
 }
 

@@ -15,7 +15,7 @@ unfoldable pub prepared : Point → Addend
 prepared p = record {
   difference = minus p.y p.x;
   sum = plus p.y p.x;
-  z = twice p.z;
-  t = times (twice curve_d) p.t;
+  twice_z = twice p.z;
+  twice_d_t = times (twice curve_d) p.t;
   has_unit_z = p.z == 1;
 }

@@ -5,23 +5,23 @@ use thiserror::Error;
 
 /// A gate did not let a thread pass a point.
 #[derive(Clone, Copy, Debug, PartialEq, Eq, Error)]
-#[error("gate shut")]
+#[error("a gate did not let a thread pass")]
 pub struct GateShut;
 
 /// Why `check_all` fails: the first of these faults that applies.
 #[derive(Clone, Copy, Debug, PartialEq, Eq, Error)]
 pub enum IntakeFault {
     /// The number of workers is not between 1 and 16.
-    #[error("bad workers")]
+    #[error("the number of workers is not from 1 to 16")]
     BadWorkers,
     /// An allocation failed.
     #[error("out of memory")]
     NoMemory,
     /// A thread could not be started, for example because memory ran out.
-    #[error("spawn")]
+    #[error("a thread could not be started")]
     Spawn,
     /// The gate did not let a check start.
-    #[error("gate shut")]
+    #[error("a gate did not let a thread pass")]
     GateShut,
 }
 

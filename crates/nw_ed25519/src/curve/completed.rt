@@ -87,7 +87,7 @@ impl CompletedPoint {
     {
         let a = point.y.minus(&point.x).times(&addend.difference);
         let b = point.y.plus(&point.x).times(&addend.sum);
-        let c = point.t.times(&addend.t);
+        let c = point.t.times(&addend.twice_d_t);
         let d = addend.twice_z_times(&point.z);
         CompletedPoint {
             e: b.minus(&a),
@@ -103,8 +103,8 @@ impl CompletedPoint {
 pub struct Addend {
     pub difference: Number,
     pub sum: Number,
-    pub z: Number,
-    pub t: Number,
+    pub twice_z: Number,
+    pub twice_d_t: Number,
     pub has_unit_z: bool,
 }
 
@@ -117,8 +117,8 @@ impl Addend {
         Addend {
             difference: point.y.minus(&point.x),
             sum: point.y.plus(&point.x),
-            z: point.z.plus(&point.z),
-            t: twice_d().times(&point.t),
+            twice_z: point.z.plus(&point.z),
+            twice_d_t: twice_d().times(&point.t),
             has_unit_z: point.z.equals(&Number::one()),
         }
     }
@@ -132,7 +132,7 @@ impl Addend {
         if self.has_unit_z {
             z.plus(z)
         } else {
-            z.times(&self.z)
+            z.times(&self.twice_z)
         }
     }
 }

@@ -21,6 +21,8 @@ fn refusals(
     number: u32,
     block: CheckedBlock<DemoScheme>,
 ) -> [Option<NoStep>; 2] {
+    // The prover finds the types that a command may borrow only in the function that makes the command.
+    let _certificate: Option<&CheckedCert<DemoScheme>> = None;
     let command = Command::Write(&block);
     let said = book.may_step(0, number, command.committee()).err();
     let refused = book.step(alloc, 0, number, &command).err();

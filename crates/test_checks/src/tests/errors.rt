@@ -29,10 +29,16 @@ const OF_ENCODING: [(EncodeError, &str); 2] = [
 ];
 
 const OF_COMMITTEES: [(CommitteeFault, &str); 4] = [
-    (CommitteeFault::BadSize, "bad size"),
-    (CommitteeFault::RepeatedKey, "repeated key"),
+    (
+        CommitteeFault::BadSize,
+        "no committee has this number of members",
+    ),
+    (CommitteeFault::RepeatedKey, "two members have the same key"),
     (CommitteeFault::NoMemory, "out of memory"),
-    (CommitteeFault::BadWeight, "bad weight"),
+    (
+        CommitteeFault::BadWeight,
+        "a weight is not from 1 to 1,000,000",
+    ),
 ];
 
 const OF_LINES: [(LineFault, &str); 2] = [
@@ -76,10 +82,13 @@ const OF_FINISHING: [(FinishFault, &str); 2] = [
 ];
 
 const OF_WORKERS: [(IntakeFault, &str); 4] = [
-    (IntakeFault::BadWorkers, "bad workers"),
+    (
+        IntakeFault::BadWorkers,
+        "the number of workers is not from 1 to 16",
+    ),
     (IntakeFault::NoMemory, "out of memory"),
-    (IntakeFault::Spawn, "spawn"),
-    (IntakeFault::GateShut, "gate shut"),
+    (IntakeFault::Spawn, "a thread could not be started"),
+    (IntakeFault::GateShut, "a gate did not let a thread pass"),
 ];
 
 /// The first text of the table that differs from the text of its error, if there is one.
@@ -119,7 +128,7 @@ fn errors_of_checks_have_their_texts(rt: HostRuntime) -> Result<(), Fail> {
         wrong_text(alloc, &OF_VOTES)?,
         wrong_text(alloc, &OF_FINISHING)?,
         wrong_text(alloc, &OF_WORKERS)?,
-        wrong_text(alloc, &[(GateShut, "gate shut")])?,
+        wrong_text(alloc, &[(GateShut, "a gate did not let a thread pass")])?,
     ];
     assert_eq!(rt; wrong, [None; 7]);
     Ok(())

@@ -5,14 +5,14 @@ use nw_store::TooMany;
 use std::fmt::Display;
 
 const OF_BOOKS: [(BookError, &str); 2] = [
-    (BookError::BadLimits, "bad limits"),
+    (BookError::BadLimits, "a limit is out of range"),
     (BookError::NoMemory, "out of memory"),
 ];
 
 const OF_STEPS: [(NoStep, &str); 4] = [
     (NoStep::OutOfTurn, "out of turn"),
-    (NoStep::OtherCommittee, "other committee"),
-    (NoStep::HistoryFull, "history full"),
+    (NoStep::OtherCommittee, "checked under another committee"),
+    (NoStep::HistoryFull, "the history is full"),
     (NoStep::NoMemory, "out of memory"),
 ];
 

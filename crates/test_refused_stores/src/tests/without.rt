@@ -27,10 +27,14 @@ fn narrow_book(alloc: Global, fixture: &Fixture) -> Result<Book<DemoScheme>, Boo
     Book::new(alloc, fixture.committee.try_clone()?, NARROW)
 }
 
-/// Fills the history of the book, and returns its first answer.
-fn fill(alloc: Global, book: &mut Book<DemoScheme>) -> Result<Done<DemoScheme>, NoStep> {
-    let first = retry!(NoStep::NoMemory, book.step(alloc, 0, 1, &Command::Status))?;
-    match retry!(NoStep::NoMemory, book.step(alloc, 0, 2, &Command::Status)) {
+/// Fills the history of the book with this call, made twice, and returns the first answer.
+fn fill(
+    alloc: Global,
+    book: &mut Book<DemoScheme>,
+    call: &Command<DemoScheme>,
+) -> Result<Done<DemoScheme>, NoStep> {
+    let first = retry!(NoStep::NoMemory, book.step(alloc, 0, 1, call))?;
+    match retry!(NoStep::NoMemory, book.step(alloc, 0, 2, call)) {
         Ok(second) => {
             drop(second);
             Ok(first)
@@ -100,7 +104,7 @@ fn of_books(alloc: Global) -> Result<bool, Fail> {
     let (other, foreign) = block_under(alloc, &[1])?;
     drop(other);
     let mut book = retry!(BookError::NoMemory, narrow_book(alloc, &fixture))?;
-    let first = fill(alloc, &mut book)?;
+    let first = fill(alloc, &mut book, &Command::Status)?;
     fail_allocations(alloc);
     let (own, foreign) = (Command::Write(&own), Command::Write(&foreign));
     let refusals = refusals_of(alloc, &mut book, &own, &foreign);
