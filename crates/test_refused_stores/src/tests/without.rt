@@ -8,8 +8,8 @@ use super::fixture::{FOUR, Fixture, TWO};
 use super::stores::played_anew;
 use super::*;
 use nw_store::{
-    CheckedBlock, Done, Home, Opening, Session, Settled, Store, Unsettled, session_locked, settle,
-    settle_locked,
+    CheckedBlock, CheckedCert, Done, Home, Opening, Session, Settled, Store, Unsettled,
+    session_locked, settle, settle_locked,
 };
 use std::marker::Brand;
 use std::sync::Wait;
@@ -106,6 +106,8 @@ fn of_books(alloc: Global) -> Result<bool, Fail> {
     let mut book = retry!(BookError::NoMemory, narrow_book(alloc, &fixture))?;
     let first = fill(alloc, &mut book, &Command::Status)?;
     fail_allocations(alloc);
+    // The prover finds the types that a command may borrow only in the function that makes the command.
+    let _certificate: Option<&CheckedCert<DemoScheme>> = None;
     let (own, foreign) = (Command::Write(&own), Command::Write(&foreign));
     let refusals = refusals_of(alloc, &mut book, &own, &foreign);
     let are_read = are_read(&book, &fixture, &first);
