@@ -35,16 +35,16 @@ def crates():
 
 @functools.cache
 def more_seconds():
-    """The flag that gives a test five minutes instead of one, if this kit has it: a test may be slow beside others. Some kits print their
-    usage to standard error."""
+    """The flag that gives the tests of a crate five minutes instead of one, if this kit has it: they may be slow beside others. Some kits
+    print their usage to standard error."""
     usage = subprocess.run(["rt", "help"], stdin=subprocess.DEVNULL, stdout=subprocess.PIPE, stderr=subprocess.STDOUT, text=True).stdout
     return ["--seconds", "300"] if "--seconds" in usage else []
 
 
-def tried(folder):
-    """Runs the tests of the crate in this folder without proofs. Returns the exit status and the output."""
+def tried(folder, flags=()):
+    """Runs the tests of the crate in this folder without proofs, with these flags. Returns the exit status and the output."""
     ran = subprocess.run(
-        ["rt", "try", "--test", *more_seconds()], cwd=folder, stdin=subprocess.DEVNULL, stdout=subprocess.PIPE, stderr=subprocess.STDOUT, text=True
+        ["rt", "try", "--test", *flags], cwd=folder, stdin=subprocess.DEVNULL, stdout=subprocess.PIPE, stderr=subprocess.STDOUT, text=True
     )
     return ran.returncode, ran.stdout
 
@@ -62,6 +62,31 @@ def below(crate):
         if name in used:
             found += [it for it in (*below(name), name) if it not in found]
     return found
+
+
+def is_static(crate):
+    """Whether the crate is a static library for C."""
+    return bool(re.search(rf"^{crate} staticlib:", content("crates.txt"), re.M))
+
+
+def rlib(crate):
+    """The folder of the library that `rt ci` or `rt lib` built from the crate."""
+    return f"{ROOT}/crates/{crate}/out/rlib"
+
+
+def rattle(command, crate, *more):
+    """A command of the compiler on the crate, over the libraries that `rt ci` or `rt lib` built. It keeps its proofs for the next command."""
+    documents = subprocess.run(["rt", "doc"], stdin=subprocess.DEVNULL, stdout=subprocess.PIPE, check=True, text=True).stdout
+    kit, libraries = os.path.dirname(documents.split()[0]), below(crate)
+    given = {name: f"{kit}/rlibs/{name}.rlib" for name in ("std", *uses()[crate]) if name not in libraries}
+    given |= {name: f"{rlib(name)}/{name}.rlib" for name in uses()[crate] if name in libraries}
+    kind = ["--crate-type", "staticlib"] if is_static(crate) else []
+    words = ["--crate-name", crate, "src/lib.rt", *kind, "--incremental", f"{ROOT}/crates/{crate}/out/proved"]
+    words += [word for name, path in given.items() for word in ("--extern", f"{name}={path}")]
+    words += [word for folder in (f"{kit}/rlibs", *map(rlib, libraries)) for word in ("-L", f"dependency={folder}")]
+    words += ["--antt-project", f"{kit}/rattle/logic/antt-project.json", "--logic-built", f"{kit}/logic_built"]
+    toolchain = ["--toolchain", f"{kit}/toolchain"] if command == "build" else []
+    return [f"{kit}/bin/rattle", command, *words, *toolchain, *more]
 
 
 def program(crate):

@@ -24,16 +24,16 @@ use Rattle.std.proofs.lemmas.Map.Views.{Contains-from_any, Contains-from_lookup,
 use Rattle.std.proofs.lemmas.Bool.Decides.{nat_tests}
 use lib.Dec.{leb, ltb}
 use Rattle.nw_digest.specs.declared.digest.Digest.{Digest}
-use Rattle.nw_rounds.specs.declared.table.Table.{Table}
-use Rattle.nw_rounds.specs.declared.table.Table.TheVariants.{First, Certified}
+use Rattle.nw_rounds.specs.declared.kind.DigestKind.{DigestKind}
+use Rattle.nw_rounds.specs.declared.kind.DigestKind.TheVariants.{First, Certified}
 use Rattle.nw_digest.specs.Order.{digest_cmp, Slot}
 use Rattle.nw_rounds.specs.Slots.{AreDigestsAt, AreDigestsBetween, IsDigestAt, Tables}
-use Rattle.nw_rounds.specs.Places.{ArePlacesBetween, BeginsBelow, Place, place_cmp, table_cmp, table_of, tables_of}
+use Rattle.nw_rounds.specs.Places.{ArePlacesBetween, BeginsBelow, Place, place_cmp, kind_cmp, map_of, tables_of}
 use Rattle.nw_rounds.proofs.SlotLemmas.{digests_apart, digests_total, places_apart, places_total}
-use Rattle.nw_rounds.proofs.TwoTables.{get_in, tie}
+use Rattle.nw_rounds.proofs.OfKind.{get_in, tie}
 
 -- no place of a round comes before its first place
-from_first : (author : ℕ) (t : Table) → is_le (ordering_then (nat_cmp 0 author) (table_cmp First t)) ≡ true
+from_first : (author : ℕ) (t : DigestKind) → is_le (ordering_then (nat_cmp 0 author) (kind_cmp First t)) ≡ true
 from_first author First = elim author as (λ a. is_le (ordering_then (nat_cmp 0 a) Equal) ≡ true) [ zero ↦ refl | suc n ↦ rw (sym (nat_cmp_is 0 (suc n) Less (omega arith))) refl ]
 from_first author Certified = elim author as (λ a. is_le (ordering_then (nat_cmp 0 a) Less) ≡ true) [ zero ↦ refl | suc n ↦ rw (sym (nat_cmp_is 0 (suc n) Less (omega arith))) refl ]
 
@@ -46,13 +46,13 @@ from_start n p = by (sides n p.0.0)
   where
     by : (n < p.0.0) ⊎ ((n ≡ p.0.0) ⊎ (p.0.0 < n)) → is_le (place_cmp ((n, 0), First) p) ≡ leb n p.0.0
     by (inl before) =
-        ap (λ r. is_le (ordering_then (ordering_then r (nat_cmp 0 p.0.1)) (table_cmp First p.1))) (sym (nat_cmp_is n p.0.0 Less before))
+        ap (λ r. is_le (ordering_then (ordering_then r (nat_cmp 0 p.0.1)) (kind_cmp First p.1))) (sym (nat_cmp_is n p.0.0 Less before))
         ∙ sym (le-leb n p.0.0 (omega arith))
     by (inr (inl here)) =
-        ap (λ r. is_le (ordering_then (ordering_then r (nat_cmp 0 p.0.1)) (table_cmp First p.1))) (sym (nat_cmp_is n p.0.0 Equal here))
+        ap (λ r. is_le (ordering_then (ordering_then r (nat_cmp 0 p.0.1)) (kind_cmp First p.1))) (sym (nat_cmp_is n p.0.0 Equal here))
         ∙ from_first p.0.1 p.1 ∙ sym (le-leb n p.0.0 (omega arith))
     by (inr (inr after)) =
-        ap (λ r. is_le (ordering_then (ordering_then r (nat_cmp 0 p.0.1)) (table_cmp First p.1))) (sym (nat_cmp_is n p.0.0 Greater after))
+        ap (λ r. is_le (ordering_then (ordering_then r (nat_cmp 0 p.0.1)) (kind_cmp First p.1))) (sym (nat_cmp_is n p.0.0 Greater after))
         ∙ sym (lt-leb n p.0.0 (omega arith))
 
 -- the first place of a round does not come after that of a higher round
@@ -60,7 +60,7 @@ pub begins_before : (a b : ℕ) → a ≤ b → is_gt (place_cmp ((a, 0), First)
 begins_before a b le = by (sides a b)
   where
     rounds : (r : Ordering) → nat_cmp a b ≡ r → is_gt (ordering_then (ordering_then r Equal) Equal) ≡ false → is_gt (place_cmp ((a, 0), First) ((b, 0), First)) ≡ false
-    rounds r is e = ap (λ o. is_gt (ordering_then (ordering_then o (nat_cmp 0 0)) (table_cmp First First))) is ∙ e
+    rounds r is e = ap (λ o. is_gt (ordering_then (ordering_then o (nat_cmp 0 0)) (kind_cmp First First))) is ∙ e
 
     by : (a < b) ⊎ ((a ≡ b) ⊎ (b < a)) → is_gt (place_cmp ((a, 0), First) ((b, 0), First)) ≡ false
     by (inl before) = rounds Less (sym (nat_cmp_is a b Less before)) refl
@@ -91,9 +91,9 @@ kept_only : (b : Bool) (found : Option Digest) (d : Digest) → cond b found Non
 kept_only true found d e = (refl, e)
 kept_only false found d e = cc
 
-at_table : (es : List (Place × Digest)) (slot : Slot) (t : Table) → get (table_of (tables_of es) t) slot ≡ lookup (is_at (place_cmp (slot, t))) es
-at_table es slot First = get_in First slot es
-at_table es slot Certified = get_in Certified slot es
+at_kind : (es : List (Place × Digest)) (slot : Slot) (t : DigestKind) → get (map_of (tables_of es) t) slot ≡ lookup (is_at (place_cmp (slot, t))) es
+at_kind es slot First = get_in First slot es
+at_kind es slot Certified = get_in Certified slot es
 
 -- rs has the entries from the first place of `from` on, before the first place of `to`
 module _ (es rs : List (Place × Digest)) (from to : ℕ) (sorted : IsStrictlySortedBy place_cmp (keys_of es))
@@ -114,10 +114,10 @@ module _ (es rs : List (Place × Digest)) (from to : ℕ) (sorted : IsStrictlySo
       (λ has.
           let both = kept_only (is_between from to p.0.0) _ d (sym (look p) ∙ lookup-from_Contains (eq_by_cmp_equiv places_total) p d rs apart has) in
           let here = is_in from to p.0.0 both.0 in
-          (here.0, here.1, at_table es p.0 p.1 ∙ both.1)),
+          (here.0, here.1, at_kind es p.0 p.1 ∙ both.1)),
       (λ (low, high, is).
           Contains-from_lookup (λ x y e. places_apart x y (tie (place_cmp x y) e)) p d rs
-          (look p ∙ ap (λ b. cond b (lookup (is_at (place_cmp p)) es) None) (in_is from to p.0.0 low high) ∙ sym (at_table es p.0 p.1) ∙ is)),
+          (look p ∙ ap (λ b. cond b (lookup (is_at (place_cmp p)) es) None) (in_is from to p.0.0 low high) ∙ sym (at_kind es p.0 p.1) ∙ is)),
     );
     once = apart;
   }
@@ -133,7 +133,7 @@ module _ (t : Tables) (from to : ℕ) (rs : List (Place × Digest)) (are : ArePl
       let is = (are.exactly entry.0 d).0 entry.1 in
       (entry.0.0.0, is.0, is.1, by entry.0.0.0 entry.0.0.1 entry.0.1 is.2)
     where
-      by : (r author : ℕ) (table : Table) → get (table_of t table) (r, author) ≡ Some d → IsDigestAt t r d
+      by : (r author : ℕ) (kind : DigestKind) → get (map_of t kind) (r, author) ≡ Some d → IsDigestAt t r d
       by r author First found = (author, inl found)
       by r author Certified found = (author, inr found)
 
@@ -200,7 +200,7 @@ not_less p q h = by (sides p.0.0 q.0.0)
     by (inl before) = omega arith
     by (inr (inl here)) = omega arith
     by (inr (inr after)) =
-        let no : true ≡ false = ap (λ r. is_gt (ordering_then (ordering_then r (nat_cmp p.0.1 q.0.1)) (table_cmp p.1 q.1))) (nat_cmp_is p.0.0 q.0.0 Greater after) ∙ h in cc
+        let no : true ≡ false = ap (λ r. is_gt (ordering_then (ordering_then r (nat_cmp p.0.1 q.0.1)) (kind_cmp p.1 q.1))) (nat_cmp_is p.0.0 q.0.0 Greater after) ∙ h in cc
 
 -- any entry belongs to a lower round exactly if the first one does
 pub first_tells : (round : ℕ) (es : List (Place × Digest)) (k : Place) (d : Digest) → slice_get es 0 ≡ Some (k, d) → All (IsLeBy place_cmp k) (keys_of es)

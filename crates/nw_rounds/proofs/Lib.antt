@@ -1,3 +1,3 @@
 mod AtRound
 pub mod SlotLemmas
-mod TwoTables
+mod OfKind

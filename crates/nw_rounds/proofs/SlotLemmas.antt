@@ -7,10 +7,10 @@ use Rattle.std.specs.FinMap.{IsAntisymmetric}
 use Rattle.std.proofs.lemmas.Cmp.{on_total, then_total, nat_cmp_total}
 use Rattle.std.proofs.lemmas.Map.Lookups.{exact_bytes, exact_unsigned, exact_pairs}
 use Rattle.nw_digest.specs.declared.digest.Digest.{Digest}
-use Rattle.nw_rounds.specs.declared.table.Table.{Table}
-use Rattle.nw_rounds.specs.declared.table.Table.TheVariants.{First, Certified}
+use Rattle.nw_rounds.specs.declared.kind.DigestKind.{DigestKind}
+use Rattle.nw_rounds.specs.declared.kind.DigestKind.TheVariants.{First, Certified}
 use Rattle.nw_digest.specs.Order.{digest_cmp, Slot, slot_cmp}
-use Rattle.nw_rounds.specs.Places.{Place, place_cmp, table_cmp}
+use Rattle.nw_rounds.specs.Places.{Place, place_cmp, kind_cmp}
 
 pub digests_total : IsTotalOrder digest_cmp
 digests_total = on_total (λ d. d.0) nat_list_cmp_total
@@ -24,27 +24,27 @@ digests_apart a b e = let bytes : a.0 ≡ b.0 = exact_bytes a.0 b.0 e in ap (λ 
 pub slots_apart : IsAntisymmetric slot_cmp
 slots_apart = exact_pairs nat_cmp nat_cmp exact_unsigned exact_unsigned
 
-tables_apart : IsAntisymmetric table_cmp
-tables_apart First First e = refl
-tables_apart First Certified e = cc
-tables_apart Certified First e = cc
-tables_apart Certified Certified e = refl
+kinds_apart : IsAntisymmetric kind_cmp
+kinds_apart First First e = refl
+kinds_apart First Certified e = cc
+kinds_apart Certified First e = cc
+kinds_apart Certified Certified e = refl
 
-abbrev rank : Table → ℕ
+abbrev rank : DigestKind → ℕ
 rank First = 0
 rank Certified = 1
 
-ranked : (s t : Table) → nat_cmp (rank s) (rank t) ≡ table_cmp s t
+ranked : (s t : DigestKind) → nat_cmp (rank s) (rank t) ≡ kind_cmp s t
 ranked First First = refl
 ranked First Certified = refl
 ranked Certified First = refl
 ranked Certified Certified = refl
 
-tables_total : IsTotalOrder table_cmp
-tables_total = subst IsTotalOrder (λ i s t. ranked s t i) (on_total rank nat_cmp_total)
+kinds_total : IsTotalOrder kind_cmp
+kinds_total = subst IsTotalOrder (λ i s t. ranked s t i) (on_total rank nat_cmp_total)
 
 pub places_total : IsTotalOrder place_cmp
-places_total = then_total (on_total (λ (p : Place). p.0) slots_total) (on_total (λ (p : Place). p.1) tables_total)
+places_total = then_total (on_total (λ (p : Place). p.0) slots_total) (on_total (λ (p : Place). p.1) kinds_total)
 
 pub places_apart : IsAntisymmetric place_cmp
-places_apart = exact_pairs slot_cmp table_cmp slots_apart tables_apart
+places_apart = exact_pairs slot_cmp kind_cmp slots_apart kinds_apart

@@ -3,8 +3,8 @@
 //! Its contract: `Rounds` is two finite maps from slots (a round and an author) to digests. It uses only `nw_digest`.
 #![tactic(auto)]
 
+mod kind;
 mod rounds;
-mod table;
 
+pub use kind::DigestKind;
 pub use rounds::{Place, Rounds};
-pub use table::Table;

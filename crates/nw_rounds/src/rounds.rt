@@ -7,7 +7,7 @@ ghost use Rattle.std.specs.FinMap as map;
 ghost use Rattle.nw_rounds.specs.Slots.{AreDigestsAt, AreDigestsBetween, no_digests};
 ghost use Rattle.nw_rounds.specs.Places.{ArePlacesBetween, BeginsBelow, tables_of};
 
-use crate::table::Table;
+use crate::kind::DigestKind;
 use nw_digest::{Digest, NoMemory, Round};
 use std::alloc::{Allocator, Global};
 use std::collections::btree_map::Range;
@@ -17,8 +17,8 @@ use std::marker::Model;
 // A round number and an author. The number is a `u64` because ranges end at the round after the last one, which no `Round` has.
 type Slot = (u64, u16);
 
-/// A slot, given by its round and author, and which of its two digests is meant.
-pub type Place = (Slot, Table);
+/// A slot, given by its round and author, and a kind of digest.
+pub type Place = (Slot, DigestKind);
 
 /// The first digest and the certified digest of each slot. All memory comes from one allocator.
 ///
@@ -41,7 +41,7 @@ impl<A: Allocator> Model for Rounds<A> {
 }
 
 impl<A: Allocator> Rounds<A> {
-    /// A table without digests. Allocates nothing.
+    /// Slots without digests. Allocates nothing.
     pub fn new_in(alloc: A) -> Rounds<A>
         ensures { result ≡ no_digests }
     {
@@ -55,7 +55,7 @@ impl<A: Allocator> Rounds<A> {
         ensures { result ≡ map.get self.now.firsts (round, author) }
     {
         self.digests
-            .get(&((round.get(), author), Table::First))
+            .get(&((round.get(), author), DigestKind::First))
             .copied()
     }
 
@@ -64,7 +64,7 @@ impl<A: Allocator> Rounds<A> {
         ensures { result ≡ map.get self.now.certified (round, author) }
     {
         self.digests
-            .get(&((round.get(), author), Table::Certified))
+            .get(&((round.get(), author), DigestKind::Certified))
             .copied()
     }
 
@@ -79,7 +79,7 @@ impl<A: Allocator> Rounds<A> {
         ensures unchanged { OnErr result (self.new ≡ self.old) }
     {
         self.digests
-            .insert(((round.get(), author), Table::First), digest)?;
+            .insert(((round.get(), author), DigestKind::First), digest)?;
         Ok(())
     }
 
@@ -100,7 +100,7 @@ impl<A: Allocator> Rounds<A> {
         ensures unchanged { OnErr result (self.new ≡ self.old) }
     {
         self.digests
-            .insert(((round.get(), author), Table::Certified), digest)?;
+            .insert(((round.get(), author), DigestKind::Certified), digest)?;
         Ok(())
     }
 
@@ -183,7 +183,7 @@ fn places_between<A: Allocator>(
     ensures places { ArePlacesBetween (tables_of digests.now.entries) from to result }
     ensures fits { length result < 2 ^ 63 }
 {
-    digests.range(((from, 0), Table::First)..((to, 0), Table::First))
+    digests.range(((from, 0), DigestKind::First)..((to, 0), DigestKind::First))
 }
 
 /// Whether the first place belongs to a lower round. If not, no place does.
@@ -193,6 +193,6 @@ fn begins_below<A: Allocator>(digests: &BTreeMap<Place, Digest, A>, round: u64) 
 {
     match digests.first_key_value() {
         None => false,
-        Some(((slot, _table), _digest)) => slot.0 < round,
+        Some(((slot, _kind), _digest)) => slot.0 < round,
     }
 }

@@ -16,8 +16,8 @@ use Rattle.std.proofs.lemmas.Map.Views.{Contains-from_any, list_any-from_Contain
 use Rattle.nw_digest.specs.declared.digest.Digest.{Digest}
 use Rattle.nw_codec.specs.declared.block.Block.{Block}
 use Rattle.nw_codec.specs.declared.certificate.Certificate.{Certificate}
-use Rattle.nw_rounds.specs.declared.table.Table.{Table}
-use Rattle.nw_rounds.specs.declared.table.Table.TheVariants.{First, Certified}
+use Rattle.nw_rounds.specs.declared.kind.DigestKind.{DigestKind}
+use Rattle.nw_rounds.specs.declared.kind.DigestKind.TheVariants.{First, Certified}
 use Rattle.nw_rounds.specs.Slots.{Tables}
 use Rattle.nw_rounds.specs.Places.{ArePlacesBetween, Place, place_cmp}
 use Rattle.nw_rounds.proofs.SlotLemmas.{places_total}
@@ -48,12 +48,12 @@ is_held : (found : Option Block) → is_some found ≡ true → (b : Block) × (
 is_held (Some b) e = (b, refl)
 is_held None e = cc
 
--- the table in which a digest with this certificate, if any, is counted
-abbrev table_for : Option Certificate → Table
-table_for None = First
-table_for (Some c) = Certified
+-- the kind under which a digest with this certificate, if any, is counted
+abbrev kind_for : Option Certificate → DigestKind
+kind_for None = First
+kind_for (Some c) = Certified
 
-not_certified : (found : Option Certificate) → not (is_some found) ≡ true → First ≡ table_for found
+not_certified : (found : Option Certificate) → not (is_some found) ≡ true → First ≡ kind_for found
 not_certified None e = refl
 not_certified (Some c) e = cc
 
@@ -101,7 +101,7 @@ module _ (blocks : List (Digest × Block)) (certificates : List (Digest × Certi
 
   -- the place at which the block under d is counted
   abbrev home : Digest → Block → Place
-  home d b = (block_slot b, table_for (get s.certificates d))
+  home d b = (block_slot b, kind_for (get s.certificates d))
 
   -- a counted digest has its block's place
   at_home : (p : Place) (d : Digest) → Contains counted (p, d) → (b : Block) × (get s.blocks d ≡ Some b) × (b.round < round) × (p ≡ home d b)
@@ -109,21 +109,21 @@ module _ (blocks : List (Digest × Block)) (certificates : List (Digest × Certi
       let both = filter_was test places ((slot, First), d) among in
       let is = (are.exactly (slot, First) d).0 both.0 in
       let (b, there, here) = held.voted slot d is.2 in
-      let table : First ≡ table_for (get s.certificates d) = not_certified (get s.certificates d) both.1 in
-      (b, there, omega (arith, is.1, ap (λ (q : Slot). q.0) here), λ i. (sym here i, table i))
+      let kind : First ≡ kind_for (get s.certificates d) = not_certified (get s.certificates d) both.1 in
+      (b, there, omega (arith, is.1, ap (λ (q : Slot). q.0) here), λ i. (sym here i, kind i))
   at_home (slot, Certified) d among =
       let both = filter_was test places ((slot, Certified), d) among in
       let is = (are.exactly (slot, Certified) d).0 both.0 in
       let (b, there) = is_held (get s.blocks d) both.1 in
       let here : block_slot b ≡ slot = certified_slot blocks certificates slots floor held slot d b is.2 there in
       let (c, kept, at) = (held.kept.indexed slot d).0 is.2 in
-      (b, there, omega (arith, is.1, ap (λ (q : Slot). q.0) here), λ i. (sym here i, table_for (sym kept i)))
+      (b, there, omega (arith, is.1, ap (λ (q : Slot). q.0) here), λ i. (sym here i, kind_for (sym kept i)))
 
   -- the digest of a dropped block is counted at its block's place
   home_counted : (d : Digest) (b : Block) → get s.blocks d ≡ Some b → b.round < round → Contains counted (home d b, d)
   home_counted d b there low = by (get s.certificates d) refl
     where
-      by : (found : Option Certificate) → get s.certificates d ≡ found → Contains counted ((block_slot b, table_for found), d)
+      by : (found : Option Certificate) → get s.certificates d ≡ found → Contains counted ((block_slot b, kind_for found), d)
       by None is = elim (held.listed d b there) [
         | inl first ↦ filter_has test places ((block_slot b, First), d) ((are.exactly (block_slot b, First) d).1 (omega arith, low, first)) (ap (λ found. not (is_some found)) is)
         | inr certified ↦ let (c, at, here) = (held.kept.indexed (block_slot b) d).0 certified in absurd (some_none c (sym at ∙ is))

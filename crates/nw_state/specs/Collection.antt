@@ -6,14 +6,14 @@ use Rattle.std.specs.FinMap.{get}
 use Rattle.nw_digest.specs.declared.digest.Digest.{Digest}
 use Rattle.nw_codec.specs.declared.block.Block.{Block}
 use Rattle.nw_codec.specs.declared.certificate.Certificate.{Certificate}
-use Rattle.nw_rounds.specs.declared.table.Table.{Table}
-use Rattle.nw_rounds.specs.declared.table.Table.TheVariants.{First, Certified}
+use Rattle.nw_rounds.specs.declared.kind.DigestKind.{DigestKind}
+use Rattle.nw_rounds.specs.declared.kind.DigestKind.TheVariants.{First, Certified}
 use Rattle.nw_digest.specs.Order.{digest_cmp}
 use Rattle.nw_model.specs.State.{State}
 
--- whether a digest that is listed in this table counts as a block there. A first digest counts if it is not certified. A certified digest
--- counts if its block is held. So each held block counts once
-abbrev pub counts_at : State → Table → Digest → Bool
+-- whether a digest of this kind counts as a block. A first digest counts if it is not certified. A certified digest counts if its block is
+-- held. So each held block counts once
+abbrev pub counts_at : State → DigestKind → Digest → Bool
 counts_at s First d = not (is_some (get s.certificates d))
 counts_at s Certified d = is_some (get s.blocks d)
 

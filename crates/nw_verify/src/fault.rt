@@ -5,7 +5,7 @@ use thiserror::Error;
 /// Why the program ends before the end of its input. It has answered the earlier lines.
 #[derive(Clone, Copy, Debug, Error)]
 pub enum VerifyFault {
-    /// The line with this number, from 1, is not a claim.
+    /// The line with this number, from 1, has another form.
     #[error("{line}")]
     BadLine { line: u64 },
     /// The input can't be read.

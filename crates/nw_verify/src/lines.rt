@@ -1,6 +1,6 @@
 //! Reads the input line by line, and answers each line.
-use crate::claim::{Claim, MAX_LINE};
 use crate::fault::VerifyFault;
+use crate::signed::{MAX_LINE, SignedMessage};
 use std::alloc::Global;
 use std::io::{BufWriter, ErrorKind, Read, Write};
 
@@ -77,15 +77,15 @@ impl Part {
 
     /// Answers the line, and begins the next one.
     fn finish<W: Write>(&mut self, alloc: Global, out: &mut W) -> Result<(), VerifyFault> {
-        let Some(claim) = Claim::parse(alloc, self.line.as_slice())? else {
+        let Some(signed) = SignedMessage::parse(alloc, self.line.as_slice())? else {
             return Err(VerifyFault::BadLine { line: self.number });
         };
-        let answer = if claim.holds() {
+        let answer = if signed.is_valid() {
             b"yes\n".as_slice()
         } else {
             b"no\n".as_slice()
         };
-        drop(claim);
+        drop(signed);
         self.line.clear();
         self.number = self.number.saturating_add(1);
         out.write_all(answer).map_err(|_error| VerifyFault::Write)

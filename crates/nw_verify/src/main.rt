@@ -5,9 +5,9 @@
 //! Standard error then has the number of the bad line, or the cause.
 #![tactic(auto)]
 
-mod claim;
 mod fault;
 mod lines;
+mod signed;
 
 use lines::answer_lines;
 use std::process::ExitCode;

@@ -2,8 +2,8 @@
 //!
 //! - [`block`], [`block_with`] and [`certificate`] return values that were checked under the given [`committee`]. Its members sign with
 //!   the demonstration scheme.
-//! - The functions in [`refused`] return an allocation failure as a distinct error, so that a test can recognize it and repeat the call
-//!   with [`retry`]. Only `refused::committee` has the same error for a bad size or a repeated key.
+//! - The functions in [`fallible`] return an allocation failure as a distinct error, so that a test can recognize it and repeat the call
+//!   with [`retry`]. Only `fallible::committee` has the same error for a bad size or a repeated key.
 //! - [`older`] returns blocks of round 0, and [`newer`] a block of round 1 that has them as parents. Each has the digest that [`name`]
 //!   returns for its round and author. [`view_of_both`] is the view of all these blocks, and [`view_of_one`] that of one block of round 0.
 //!
@@ -13,7 +13,7 @@
 mod asking;
 mod blocks;
 mod checked;
-pub mod refused;
+pub mod fallible;
 mod signing;
 mod tries;
 mod views;

@@ -4,7 +4,7 @@ use nw_committee::{Committee, Member};
 use nw_digest::{NoMemory, Round, Shared};
 use nw_sig::DemoScheme;
 use samples::key;
-use samples::refused::Slot;
+use samples::fallible::Slot;
 use std::alloc::Global;
 use std::test::Fail;
 

@@ -1,7 +1,7 @@
 use nw_codec::Message;
 use nw_committee::Committee;
 use nw_digest::{NoMemory, Round, Shared};
-use samples::refused::{Slot, VOTED, certificate, committee, signature, unsigned};
+use samples::fallible::{Slot, VOTED, certificate, committee, signature, unsigned};
 use samples::{allow_allocations, fail_allocations, retry};
 use std::alloc::Global;
 use std::test::Fail;

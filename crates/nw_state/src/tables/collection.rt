@@ -9,7 +9,7 @@ use super::StateTables;
 use super::dropping::drop_below;
 use nw_digest::{Digest, NoMemory, Round};
 use nw_model::CollectReply;
-use nw_rounds::Table;
+use nw_rounds::DigestKind;
 
 impl StateTables {
     /// The reply that a collection would get now. It visits only the entries of lower rounds, and none if the round is not above the
@@ -39,14 +39,14 @@ impl StateTables {
         count
     }
 
-    /// Whether a digest that is listed in this table counts as a block there. A certified digest counts in the table of certified
-    /// digests, if its block is held. Any other digest counts in the table of first digests. So each held block counts once.
-    fn counts_at(&self, table: Table, digest: &Digest) -> bool
-        ensures { result ≡ counts_at self.now.state table digest.now }
+    /// Whether a digest of this kind counts as a block. A first digest counts if it is not certified. A certified digest counts if its
+    /// block is held. So each held block counts once.
+    fn counts_at(&self, kind: DigestKind, digest: &Digest) -> bool
+        ensures { result ≡ counts_at self.now.state kind digest.now }
     {
-        match table {
-            Table::First => self.certificate(digest).is_none(),
-            Table::Certified => self.holds(digest),
+        match kind {
+            DigestKind::First => self.certificate(digest).is_none(),
+            DigestKind::Certified => self.holds(digest),
         }
     }
 

@@ -3,7 +3,7 @@ use super::*;
 use nw_check::check_cert;
 use nw_codec::{Certificate, Seal};
 use nw_digest::Sequence;
-use samples::refused::{VOTED, vote};
+use samples::fallible::{VOTED, vote};
 
 /// A certificate with one vote for each pair of members. The vote names the first member, and the second one signs it.
 fn certificate(

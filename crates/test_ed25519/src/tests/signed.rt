@@ -137,7 +137,7 @@ fn read_back_and_try_forged(
 }
 
 #[test]
-fn a_block_and_its_certificate_are_stored(rt: HostRuntime) -> Result<(), Fail> {
+fn a_block_and_its_certificate_are_stored_and_a_forged_one_is_refused(rt: HostRuntime) -> Result<(), Fail> {
     let members = committee(rt.alloc())?;
     let mut book = Book::new(rt.alloc(), members.try_clone()?, LIMITS)?;
     let outcome = read_back_and_try_forged(rt.alloc(), &members, &mut book);

@@ -1,7 +1,7 @@
 //! Checks of blocks and certificates.
 use super::*;
 use nw_check::{BlockFault, CertFault};
-use samples::refused::{checked_block, checked_certificate};
+use samples::fallible::{checked_block, checked_certificate};
 
 /// The author of a checked block, or `None` if it was checked under another committee.
 fn author_of(alloc: Global, four: &Shared<Committee>) -> Result<Option<u16>, BlockFault> {

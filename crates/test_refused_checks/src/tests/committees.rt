@@ -2,7 +2,7 @@
 use super::*;
 use nw_committee::{CommitteeFault, Member};
 use samples::key;
-use samples::refused::keys;
+use samples::fallible::keys;
 
 /// The quorum of a committee of members of weight 1 with the keys of these numbers.
 fn quorum(alloc: Global, numbers: &[u8]) -> Result<u32, CommitteeFault> {

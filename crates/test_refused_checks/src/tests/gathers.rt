@@ -5,7 +5,7 @@ use nw_check::{Counted, FinishFault, Gather, GatherFault, StartFault};
 use nw_codec::{Seal, Vote};
 use nw_digest::Digest;
 use nw_sig::DemoScheme;
-use samples::refused::vote;
+use samples::fallible::vote;
 
 /// Adds the vote of this signer.
 fn add(

@@ -3,7 +3,7 @@ use super::*;
 use nw_check::{BlockFault, CertFault, Checked, check_message};
 use nw_codec::{DecodeError, EncodeError, decode_message, encode_body, encode_message};
 use nw_sig::DemoScheme;
-use samples::refused::vote;
+use samples::fallible::vote;
 
 /// The text of the message.
 pub(super) fn text_of(alloc: Global, message: &Message) -> Result<Vec<u8>, EncodeError> {

@@ -7,7 +7,7 @@ use nw_codec::{
 };
 use nw_digest::digest_of;
 use nw_sig::{DemoScheme, DemoSigner, Scheme, Signer, text_of_block, text_of_vote};
-use samples::refused::{checked_block, checked_certificate, vote};
+use samples::fallible::{checked_block, checked_certificate, vote};
 
 /// A text and its fault. The text is a list of bytes, each with a repeat count.
 type Text = (&'static [(u8, usize)], DecodeError);

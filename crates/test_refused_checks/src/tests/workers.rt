@@ -4,7 +4,7 @@ use super::*;
 use nw_check::Checked;
 use nw_intake::{FreeGate, Gate, IntakeFault, Point, check_all};
 use nw_sig::DemoScheme;
-use samples::refused::vote;
+use samples::fallible::vote;
 use std::alloc::AllocError;
 use std::sync::Wait;
 use std::thread::Threads;

@@ -3,7 +3,7 @@ use super::*;
 use nw_check::{BlockFault, CertFault, CheckedBlock, CheckedCert};
 use nw_codec::{Certificate, Ref};
 use nw_model::{Wanted, WriteReply};
-use samples::refused::{checked_block, checked_certificate, committee};
+use samples::fallible::{checked_block, checked_certificate, committee};
 
 /// The round of a block, its author, its transactions of one byte each, and the places of its parents in the example.
 pub(super) struct Sketch(

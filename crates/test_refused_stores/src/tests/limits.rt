@@ -5,7 +5,7 @@ ghost use Rattle.nw_store.specs.Lock.{parts_of_a_ledger};
 
 use super::*;
 use nw_store::{Home, Opening, Store};
-use samples::refused::committee;
+use samples::fallible::committee;
 use std::marker::Brand;
 
 /// Limits of blocks, events, rounds and sessions, of which one is out of its range.

@@ -1,10 +1,10 @@
 use Rattle.std.proofs.Common.{◌∙◌, ℕ, ap, sym}
 use Rattle.std.specs.Prelude.{nat_le}
 use Rattle.std.specs.FinMap.{retain_keys}
-use Rattle.nw_rounds.specs.declared.table.Table.TheVariants.{First, Certified}
+use Rattle.nw_rounds.specs.declared.kind.DigestKind.TheVariants.{First, Certified}
 use Rattle.nw_rounds.specs.Slots.{Tables}
 use Rattle.nw_rounds.proofs.AtRound.{none_lower}
-use Rattle.nw_rounds.proofs.TwoTables.{kept_in}
+use Rattle.nw_rounds.proofs.OfKind.{kept_in}
 use Rattle.nw_rounds.proofs.rounds.Rounds.drop_below.Goals as goal
 
 pub returns-clause-firsts : goal.returns-clause-firsts

@@ -1,8 +1,8 @@
 use Rattle.std.proofs.Common.{◌∙◌, sym, ap}
 use Rattle.std.specs.FinMap.{get}
-use Rattle.nw_rounds.specs.declared.table.Table.TheVariants.{First}
+use Rattle.nw_rounds.specs.declared.kind.DigestKind.TheVariants.{First}
 use Rattle.nw_rounds.specs.Slots.{Tables}
-use Rattle.nw_rounds.proofs.TwoTables.{get_in}
+use Rattle.nw_rounds.proofs.OfKind.{get_in}
 use Rattle.nw_rounds.proofs.rounds.Rounds.first.Goals as goal
 
 pub returns : goal.returns

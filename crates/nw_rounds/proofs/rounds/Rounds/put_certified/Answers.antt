@@ -1,8 +1,8 @@
 use Rattle.std.proofs.Common.{◌∙◌, ap, refl}
 use Rattle.std.specs.FinMap.{insert}
-use Rattle.nw_rounds.specs.declared.table.Table.TheVariants.{First, Certified}
+use Rattle.nw_rounds.specs.declared.kind.DigestKind.TheVariants.{First, Certified}
 use Rattle.nw_rounds.specs.Slots.{Tables}
-use Rattle.nw_rounds.proofs.TwoTables.{put_elsewhere, put_there}
+use Rattle.nw_rounds.proofs.OfKind.{put_elsewhere, put_there}
 use Rattle.nw_rounds.proofs.rounds.Rounds.put_certified.Goals as goal
 
 pub returns-clause-certified : goal.returns-clause-certified

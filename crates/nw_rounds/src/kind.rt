@@ -1,0 +1,10 @@
+//! The two kinds of digests that a slot has.
+
+/// The kind of a slot's digest.
+#[derive(Clone, Copy, Debug, PartialEq, Eq, PartialOrd, Ord)]
+pub enum DigestKind {
+    /// The first digest.
+    First,
+    /// The certified digest.
+    Certified,
+}

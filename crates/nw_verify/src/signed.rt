@@ -1,0 +1,77 @@
+//! A signed message: one line with a key, a message and a signature.
+ghost use Rattle.std.specs.Prelude.{◌≡◌};
+ghost use Rattle.nw_ed25519.specs.Accepts.{accepts};
+
+use crate::fault::VerifyFault;
+use hex::{FromHex, FromHexError};
+use nw_codec::Signature;
+use nw_committee::Key;
+use nw_ed25519::Ed25519;
+use nw_sig::Scheme;
+use std::alloc::Global;
+
+/// The most bytes of a message.
+const MAX_MESSAGE: usize = 1_048_576;
+/// The number of hex digits of a key.
+const KEY: usize = 64;
+/// The number of hex digits of a signature.
+const SIGNATURE: usize = 128;
+/// The fewest characters of a line.
+const MIN_LINE: usize = KEY + SIGNATURE + 3;
+/// The most characters of a line.
+pub const MAX_LINE: usize = KEY + SIGNATURE + 2 + 2 * MAX_MESSAGE;
+
+/// A message with a key and a signature, which may be invalid.
+#[derive(Debug, Drop)]
+pub struct SignedMessage {
+    key: Key,
+    message: Vec<u8>,
+    signature: Signature,
+}
+
+impl SignedMessage {
+    /// Parses a line, or returns `None` if it has another form. The message is `-` or an even number of hex digits.
+    pub fn parse(alloc: Global, line: &[u8]) -> Result<Option<SignedMessage>, VerifyFault> {
+        if line.len() < MIN_LINE || line.len() > MAX_LINE {
+            return Ok(None);
+        }
+        let end = line.len() - SIGNATURE;
+        if line[KEY] != b' ' || line[end - 1] != b' ' {
+            return Ok(None);
+        }
+        let (key, signature) = (&line[..KEY], &line[end..]);
+        let Some(message) = message(alloc, &line[KEY + 1..end - 1])? else {
+            return Ok(None);
+        };
+        let Ok(key) = <[u8; 32] as FromHex>::from_hex(key) else {
+            return Ok(None);
+        };
+        let Ok(signature) = <[u8; 64] as FromHex>::from_hex(signature) else {
+            return Ok(None);
+        };
+        Ok(Some(SignedMessage {
+            key: Key(key),
+            message,
+            signature: Signature(signature),
+        }))
+    }
+
+    /// Whether Ed25519 accepts the signature.
+    pub fn is_valid(&self) -> bool
+        ensures { result ≡ accepts self.now.key self.now.message.items self.now.signature }
+    {
+        Ed25519::verify(&self.key, self.message.as_slice(), &self.signature)
+    }
+}
+
+/// The message that the text encodes, or `None` if it is neither `-` nor hex.
+fn message(alloc: Global, text: &[u8]) -> Result<Option<Vec<u8>>, VerifyFault> {
+    if text == b"-".as_slice() {
+        return Ok(Some(Vec::new(alloc)));
+    }
+    match hex::decode(alloc, text) {
+        Ok(message) => Ok(Some(message)),
+        Err(FromHexError::OutOfMemory) => Err(VerifyFault::NoMemory),
+        Err(_) => Ok(None),
+    }
+}
