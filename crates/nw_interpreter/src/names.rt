@@ -15,10 +15,11 @@ pub struct NamedBlock {
     pub digest: Digest,
 }
 
-// The first named block of a round and author.
+// The first named block of a round and author, and its digest.
 #[derive(Drop)]
 struct Slot<'a> {
     name: Name<'a>,
+    digest: Digest,
     // Whether all later named blocks of the slot have the same digest.
     is_unique: bool,
 }
@@ -91,11 +92,10 @@ impl<'a> Names<'a> {
         self.first_names.entry(digest.0)?.or_insert(name);
         let slot = self.slots.entry((round.get(), author))?.or_insert(Slot {
             name,
+            digest,
             is_unique: true,
         });
-        if let Some(first) = self.blocks.get(slot.name.as_str()) {
-            slot.is_unique &= first.digest == digest;
-        }
+        slot.is_unique &= slot.digest == digest;
         Ok(())
     }
 
@@ -110,7 +110,7 @@ impl<'a> Names<'a> {
     /// The first name of a block with the digest of this wanted parent.
     pub fn name_of_wanted(&self, wanted: &Wanted) -> Result<Name<'a>, LineFault> {
         match self.slots.get(&(wanted.round.get(), wanted.author)) {
-            Some(slot) if self.named_block(slot.name)?.digest == wanted.digest => Ok(slot.name),
+            Some(slot) if slot.digest == wanted.digest => Ok(slot.name),
             _ => self.first_name(&wanted.digest),
         }
     }
