@@ -35,8 +35,8 @@ def crates():
 
 @functools.cache
 def more_seconds():
-    """The flag that gives the tests of a crate five minutes instead of one, if this kit has it: they may be slow beside others. Some kits
-    print their usage to standard error."""
+    """The flag that gives the tests of a crate five minutes instead of one, or nothing if this kit does not have it. A test may need more
+    than the usual minute when others run. Some kits print their usage to standard error."""
     usage = subprocess.run(["rt", "help"], stdin=subprocess.DEVNULL, stdout=subprocess.PIPE, stderr=subprocess.STDOUT, text=True).stdout
     return ["--seconds", "300"] if "--seconds" in usage else []
 
@@ -75,7 +75,8 @@ def rlib(crate):
 
 
 def rattle(command, crate, *more):
-    """A command of the compiler on the crate, over the libraries that `rt ci` or `rt lib` built. It keeps its proofs for the next command."""
+    """The words of a command of the compiler for the crate, with the libraries that `rt ci` or `rt lib` built. The command keeps its proofs
+    for the next one."""
     documents = subprocess.run(["rt", "doc"], stdin=subprocess.DEVNULL, stdout=subprocess.PIPE, check=True, text=True).stdout
     kit, libraries = os.path.dirname(documents.split()[0]), below(crate)
     given = {name: f"{kit}/rlibs/{name}.rlib" for name in ("std", *uses()[crate]) if name not in libraries}
@@ -114,7 +115,8 @@ class Misfit(Exception):
 
 
 def plant(body, root, kind):
-    """Applies the wrong body to the copy of the repository at this root. Returns the names in its lines `KIND: NAME`."""
+    """Applies the wrong body to the copy of the repository or of a crate at this root. Returns the names in its lines `KIND: NAME`. Raises
+    `Misfit` if the body does not fit."""
     named, path, old = set(), "", None
     for line in content(body).splitlines():
         word, _, rest = line.partition(":")
@@ -134,6 +136,6 @@ def replace(path, old, new):
     with open(path) as file:
         text = file.read()
     if text.count(old) != 1:
-        raise Misfit(f"{old.strip()!r} stands {text.count(old)} times in {os.path.basename(path)}")
+        raise Misfit(f"{old.strip()!r} occurs {text.count(old)} times in {os.path.basename(path)}")
     with open(path, "w") as file:
         file.write(text.replace(old, new))

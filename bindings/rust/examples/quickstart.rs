@@ -12,7 +12,7 @@ fn main() -> Result<(), Box<dyn Error>> {
     let mut newest = Digest([0; 32]);
 
     for message in data::values("message") {
-        // A check verifies the signatures. It takes no lock of the store.
+        // A check verifies the signatures of blocks and certificates. It takes no lock.
         match Message::check(&committee, &message)? {
             Checked::Block(block) => {
                 let answer = session.write(&block)?;

@@ -17,7 +17,7 @@ pub struct NamedBlock {
 
 // The first named block of a round and author, and its digest.
 #[derive(Drop)]
-struct Slot<'a> {
+struct FirstNamed<'a> {
     name: Name<'a>,
     digest: Digest,
     // Whether all later named blocks of the slot have the same digest.
@@ -29,8 +29,8 @@ struct Slot<'a> {
 pub struct Names<'a> {
     blocks: HashMap<&'a str, NamedBlock>,
     first_names: HashMap<[u8; 32], Name<'a>>,
-    /// By round and author. With it, most blocks of a long list get their name without a computation of their digest.
-    slots: HashMap<(u64, u16), Slot<'a>>,
+    /// By round and author. With it, most blocks of a long list get their name without computing their digest.
+    slots: HashMap<(u64, u16), FirstNamed<'a>>,
 }
 
 impl<'a> Names<'a> {
@@ -53,7 +53,7 @@ impl<'a> Names<'a> {
         self.blocks.get(name.as_str()).ok_or(LineFault::Bad)
     }
 
-    /// References to the named blocks. `Bad` if a name is not bound.
+    /// References to the named blocks. `Bad` if a name is not bound, and `NoMemory` if an allocation fails.
     pub fn references(
         &self,
         alloc: Global,
@@ -70,7 +70,7 @@ impl<'a> Names<'a> {
         Ok(Sequence::new(references))
     }
 
-    /// Binds the free name to the block. `Bad` if the block does not fit.
+    /// Binds the name, which must not be bound, to the block. `Bad` if the block does not fit, and `NoMemory` if an allocation fails.
     pub fn bind(&mut self, name: Name<'a>, block: Block) -> Result<(), LineFault> {
         let digest = digest_of(&block)?;
         self.record_first(name, digest, block.round, block.author)?;
@@ -90,16 +90,20 @@ impl<'a> Names<'a> {
         author: u16,
     ) -> Result<(), LineFault> {
         self.first_names.entry(digest.0)?.or_insert(name);
-        let slot = self.slots.entry((round.get(), author))?.or_insert(Slot {
-            name,
-            digest,
-            is_unique: true,
-        });
+        let slot = self
+            .slots
+            .entry((round.get(), author))?
+            .or_insert(FirstNamed {
+                name,
+                digest,
+                is_unique: true,
+            });
         slot.is_unique &= slot.digest == digest;
         Ok(())
     }
 
     /// The first name of a block with this digest. Each digest in a reply has one, since a script hands in named blocks only.
+    /// `Bad` if there is none.
     pub fn first_name(&self, digest: &Digest) -> Result<Name<'a>, LineFault> {
         self.first_names
             .get(&digest.0)
@@ -107,7 +111,7 @@ impl<'a> Names<'a> {
             .ok_or(LineFault::Bad)
     }
 
-    /// The first name of a block with the digest of this wanted parent.
+    /// The first name of a block with the digest of this wanted parent. `Bad` if there is none.
     pub fn name_of_wanted(&self, wanted: &Wanted) -> Result<Name<'a>, LineFault> {
         match self.slots.get(&(wanted.round.get(), wanted.author)) {
             Some(slot) if slot.digest == wanted.digest => Ok(slot.name),
@@ -116,6 +120,7 @@ impl<'a> Names<'a> {
     }
 
     /// The first name of a block with this block's digest. Each block of a causal list has one, since it was handed in by name.
+    /// `Bad` if there is none.
     pub fn name_of(&self, block: &Block) -> Result<Name<'a>, LineFault> {
         match self.slots.get(&(block.round.get(), block.author)) {
             Some(slot) if slot.is_unique || self.named_block(slot.name)?.block == *block => Ok(

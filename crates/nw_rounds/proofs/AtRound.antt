@@ -1,4 +1,4 @@
--- The digests of rounds, by the entries of their places.
+-- Which digests belong to a range of rounds.
 use Rattle.std.proofs.Common.{◌≡◌, ◌∙◌, ◌⊎◌, inl, inr, ℕ, ◌+◌, ◌<◌, ◌≤◌, Bool, true, false, cond, not, ◌&&◌, ◌||◌, ◌++◌, List, [], ◌∷◌, map, Bor, Option, Some, None, Result, Ok, Err, zero, suc, refl, sym, ap, subst, arith}
 use Rattle.std.specs.Prelude.{All, filter, Contains, IfOk, nat_le, slice_get}
 use Rattle.std.specs.Bool.{MatchBool}
@@ -30,19 +30,19 @@ use Rattle.nw_digest.specs.Order.{digest_cmp, Slot}
 use Rattle.nw_rounds.specs.Slots.{AreDigestsAt, AreDigestsBetween, IsDigestAt, Tables}
 use Rattle.nw_rounds.specs.Places.{ArePlacesBetween, BeginsBelow, Place, place_cmp, kind_cmp, map_of, tables_of}
 use Rattle.nw_rounds.proofs.SlotLemmas.{digests_apart, digests_total, places_apart, places_total}
-use Rattle.nw_rounds.proofs.OfKind.{get_in, tie}
+use Rattle.nw_rounds.proofs.OfKind.{get_in, equal_from_is_eq}
 
 -- no place of a round comes before its first place
 from_first : (author : ℕ) (t : DigestKind) → is_le (ordering_then (nat_cmp 0 author) (kind_cmp First t)) ≡ true
 from_first author First = elim author as (λ a. is_le (ordering_then (nat_cmp 0 a) Equal) ≡ true) [ zero ↦ refl | suc n ↦ rw (sym (nat_cmp_is 0 (suc n) Less (omega arith))) refl ]
 from_first author Certified = elim author as (λ a. is_le (ordering_then (nat_cmp 0 a) Less) ≡ true) [ zero ↦ refl | suc n ↦ rw (sym (nat_cmp_is 0 (suc n) Less (omega arith))) refl ]
 
-sides : (a b : ℕ) → (a < b) ⊎ ((a ≡ b) ⊎ (b < a))
-sides a b = grind arith
+trichotomy : (a b : ℕ) → (a < b) ⊎ ((a ≡ b) ⊎ (b < a))
+trichotomy a b = grind arith
 
--- a place comes before the first place of a round exactly if its own round is lower
+-- the first place of round n is p or comes before p exactly if n is at most p's round
 from_start : (n : ℕ) (p : Place) → is_le (place_cmp ((n, 0), First) p) ≡ leb n p.0.0
-from_start n p = by (sides n p.0.0)
+from_start n p = by (trichotomy n p.0.0)
   where
     by : (n < p.0.0) ⊎ ((n ≡ p.0.0) ⊎ (p.0.0 < n)) → is_le (place_cmp ((n, 0), First) p) ≡ leb n p.0.0
     by (inl before) =
@@ -57,7 +57,7 @@ from_start n p = by (sides n p.0.0)
 
 -- the first place of a round does not come after that of a higher round
 pub begins_before : (a b : ℕ) → a ≤ b → is_gt (place_cmp ((a, 0), First) ((b, 0), First)) ≡ false
-begins_before a b le = by (sides a b)
+begins_before a b le = by (trichotomy a b)
   where
     rounds : (r : Ordering) → nat_cmp a b ≡ r → is_gt (ordering_then (ordering_then r Equal) Equal) ≡ false → is_gt (place_cmp ((a, 0), First) ((b, 0), First)) ≡ false
     rounds r is e = ap (λ o. is_gt (ordering_then (ordering_then o (nat_cmp 0 0)) (kind_cmp First First))) is ∙ e
@@ -67,21 +67,21 @@ begins_before a b le = by (sides a b)
     by (inr (inl here)) = rounds Equal (sym (nat_cmp_is a b Equal here)) refl
     by (inr (inr after)) = absurd (omega (arith, le, after))
 
--- whether a round is one from `from` on, below `to`
+-- whether a round is one of from..to
 abbrev pub is_between : ℕ → ℕ → ℕ → Bool
 is_between from to round = leb from round && not (leb to round)
 
--- the places from the first one of `from` on, before the first one of `to`, are those of the rounds between
+-- the places from the first one of `from` up to the first one of `to` are those of the rounds from..to
 pub in_rounds : (from to : ℕ) (p : Place) → range_contains place_cmp (Included ((from, 0), First)) (Excluded ((to, 0), First)) p ≡ is_between from to p.0.0
 in_rounds from to p =
     ap (λ b. b && not (is_le (place_cmp ((to, 0), First) p))) (from_start from p)
     ∙ ap (λ b. leb from p.0.0 && not b) (from_start to p)
 
-is_in : (from to round : ℕ) → is_between from to round ≡ true → (from ≤ round) × (round < to)
-is_in from to round e = grind (arith, nat_tests)
+bounds_of_between : (from to round : ℕ) → is_between from to round ≡ true → (from ≤ round) × (round < to)
+bounds_of_between from to round e = grind (arith, nat_tests)
 
-in_is : (from to round : ℕ) → from ≤ round → round < to → is_between from to round ≡ true
-in_is from to round low high = grind (arith, nat_tests)
+between_of_bounds : (from to round : ℕ) → from ≤ round → round < to → is_between from to round ≡ true
+between_of_bounds from to round low high = grind (arith, nat_tests)
 
 filter_same : {X : Type 0} (p q : X → Bool) (xs : List X) → ((x : X) → p x ≡ q x) → filter p xs ≡ filter q xs
 filter_same p q [] same = refl
@@ -95,29 +95,29 @@ at_kind : (es : List (Place × Digest)) (slot : Slot) (t : DigestKind) → get (
 at_kind es slot First = get_in First slot es
 at_kind es slot Certified = get_in Certified slot es
 
--- rs has the entries from the first place of `from` on, before the first place of `to`
+-- rs has the entries from the first place of `from` up to the first place of `to`
 module _ (es rs : List (Place × Digest)) (from to : ℕ) (sorted : IsStrictlySortedBy place_cmp (keys_of es))
     (part : rs ≡ filter (λ e. range_contains place_cmp (Included ((from, 0), First)) (Excluded ((to, 0), First)) e.0) es) where
-  there : rs ≡ filter (λ e. is_between from to e.0.0.0) es
-  there = part ∙ filter_same _ _ es (λ e. in_rounds from to e.0)
+  entries_between : rs ≡ filter (λ e. is_between from to e.0.0.0) es
+  entries_between = part ∙ filter_same _ _ es (λ e. in_rounds from to e.0)
 
   apart : IsDistinct (eq_by_cmp place_cmp) (keys_of rs)
-  apart = rw there (IsDistinct-keys_filter (eq_by_cmp place_cmp) _ es (IsDistinct-from_sorted place_cmp (keys_of es) sorted))
+  apart = rw entries_between (IsDistinct-keys_filter (eq_by_cmp place_cmp) _ es (IsDistinct-from_sorted place_cmp (keys_of es) sorted))
 
-  look : (p : Place) → lookup (is_at (place_cmp p)) rs ≡ cond (is_between from to p.0.0) (lookup (is_at (place_cmp p)) es) None
-  look p = ap (lookup (is_at (place_cmp p))) there
-      ∙ lookup-filter-keys (is_at (place_cmp p)) (λ (q : Place). is_between from to q.0.0) (is_between from to p.0.0) (λ q at. ap (λ (q : Place). is_between from to q.0.0) (sym (places_apart p q (tie (place_cmp p q) at)))) es
+  lookup_between : (p : Place) → lookup (is_at (place_cmp p)) rs ≡ cond (is_between from to p.0.0) (lookup (is_at (place_cmp p)) es) None
+  lookup_between p = ap (lookup (is_at (place_cmp p))) entries_between
+      ∙ lookup-filter-keys (is_at (place_cmp p)) (λ (q : Place). is_between from to q.0.0) (is_between from to p.0.0) (λ q at. ap (λ (q : Place). is_between from to q.0.0) (sym (places_apart p q (equal_from_is_eq (place_cmp p q) at)))) es
 
   pub are_places : ArePlacesBetween (tables_of es) from to rs
   are_places = record {
     exactly = λ p d. (
       (λ has.
-          let both = kept_only (is_between from to p.0.0) _ d (sym (look p) ∙ lookup-from_Contains (eq_by_cmp_equiv places_total) p d rs apart has) in
-          let here = is_in from to p.0.0 both.0 in
+          let both = kept_only (is_between from to p.0.0) _ d (sym (lookup_between p) ∙ lookup-from_Contains (eq_by_cmp_equiv places_total) p d rs apart has) in
+          let here = bounds_of_between from to p.0.0 both.0 in
           (here.0, here.1, at_kind es p.0 p.1 ∙ both.1)),
       (λ (low, high, is).
-          Contains-from_lookup (λ x y e. places_apart x y (tie (place_cmp x y) e)) p d rs
-          (look p ∙ ap (λ b. cond b (lookup (is_at (place_cmp p)) es) None) (in_is from to p.0.0 low high) ∙ sym (at_kind es p.0 p.1) ∙ is)),
+          Contains-from_lookup (λ x y e. places_apart x y (equal_from_is_eq (place_cmp x y) e)) p d rs
+          (lookup_between p ∙ ap (λ b. cond b (lookup (is_at (place_cmp p)) es) None) (between_of_bounds from to p.0.0 low high) ∙ sym (at_kind es p.0 p.1) ∙ is)),
     );
     once = apart;
   }
@@ -153,9 +153,9 @@ module _ (t : Tables) (from to : ℕ) (rs : List (Place × Digest)) (are : ArePl
   }
     where
       one : (a b : Digest) → eq_by_cmp digest_cmp a b ≡ true → a ≡ b
-      one a b e = digests_apart a b (tie (digest_cmp a b) e)
+      one a b e = digests_apart a b (equal_from_is_eq (digest_cmp a b) e)
 
--- the digests of one round are those of the rounds from it on, below the next one
+-- the digests of round n are those of the rounds n..n + 1
 pub at_one : (t : Tables) (round : ℕ) (ks : List Digest) → AreDigestsBetween t round (round + 1) ks → AreDigestsAt t round ks
 at_one t round ks are = record {
   exactly = λ d. (
@@ -194,7 +194,7 @@ values_read (x ∷ es) = ap (λ rest. x.1.now ∷ rest) (values_read es)
 
 -- ---- entries of lower rounds
 not_less : (p q : Place) → is_gt (place_cmp p q) ≡ false → p.0.0 ≤ q.0.0
-not_less p q h = by (sides p.0.0 q.0.0)
+not_less p q h = by (trichotomy p.0.0 q.0.0)
   where
     by : (p.0.0 < q.0.0) ⊎ ((p.0.0 ≡ q.0.0) ⊎ (q.0.0 < p.0.0)) → p.0.0 ≤ q.0.0
     by (inl before) = omega arith

@@ -1,4 +1,4 @@
--- The digests of each kind, by the entries of the one map that holds both.
+-- What a lookup by kind finds in the one map that holds the digests of both kinds.
 use Rattle.std.proofs.Common.{◌≡◌, ◌∙◌, ℕ, Bool, true, false, cond, ◌&&◌, List, [], ◌∷◌, Option, Some, None, refl, sym, ap}
 use Rattle.std.specs.Prelude.{filter, nat_le}
 use Rattle.std.specs.declared.cmp.Ordering.{Ordering}
@@ -35,14 +35,14 @@ and_false : (b : Bool) → (b && false) ≡ false
 and_false true = refl
 and_false false = refl
 
-both : (a b : Bool) → (a && b) ≡ true → a ≡ true
-both true b e = refl
-both false b e = cc
+and_left : (a b : Bool) → (a && b) ≡ true → a ≡ true
+and_left true b e = refl
+and_left false b e = cc
 
-pub tie : (r : Ordering) → is_eq r ≡ true → r ≡ Equal
-tie Less e = cc
-tie Equal e = refl
-tie Greater e = cc
+pub equal_from_is_eq : (r : Ordering) → is_eq r ≡ true → r ≡ Equal
+equal_from_is_eq Less e = cc
+equal_from_is_eq Equal e = refl
+equal_from_is_eq Greater e = cc
 
 -- places compare as equal exactly if their slots do and their kinds are the same
 pub place_tied : (q k : Slot) (s t : DigestKind) → is_at (place_cmp (q, s)) (k, t) ≡ (eq_by_cmp slot_cmp q k && is_kind s t)
@@ -89,6 +89,6 @@ module _ (m n : List (Place × Digest)) where
   kept_in round is t = same_map slots_total slots_apart _ _ (λ q.
       get_in t q n ∙ ap (lookup (is_at (place_cmp (q, t)))) is
       ∙ lookup-filter-keys (is_at (place_cmp (q, t))) (λ p. nat_le round p.0.0) (nat_le round q.0)
-      (λ p at. ap (λ (slot : Slot). nat_le round slot.0) (sym (slots_apart q p.0 (tie (slot_cmp q p.0) (both _ _ (sym (place_tied q p.0 t p.1) ∙ at)))))) m
+      (λ p at. ap (λ (slot : Slot). nat_le round slot.0) (sym (slots_apart q p.0 (equal_from_is_eq (slot_cmp q p.0) (and_left _ _ (sym (place_tied q p.0 t p.1) ∙ at)))))) m
       ∙ ap (λ found. cond (nat_le round q.0) found None) (sym (get_in t q m))
       ∙ sym (get-retain_keys (from_entries (of_kind t m)) (λ slot. nat_le round slot.0) q (λ x e. ap (λ (slot : Slot). nat_le round slot.0) (sym (slots_apart q x e)))))

@@ -45,7 +45,7 @@ abbrev pub map_of : Tables → DigestKind → FinMap slot_cmp Digest
 map_of t First = t.firsts
 map_of t Certified = t.certified
 
--- the places of the rounds from `from` on, below `to`, with their digests
+-- the places of the rounds from..to, with their digests
 pub record ArePlacesBetween (t : Tables) (from to : ℕ) (places : List (Place × Digest)) : Type 0 where
   -- exactly the places of these rounds that have a digest, with this digest
   pub exactly : (p : Place) (d : Digest) → Contains places (p, d) ↔ ((from ≤ p.0.0) × (p.0.0 < to) × (get (map_of t p.1) p.0 ≡ Some d))

@@ -7,14 +7,14 @@ use Rattle.std.specs.FinMap.{FinMap, empty, get}
 use Rattle.nw_digest.specs.Order.{digest_cmp, slot_cmp}
 use Rattle.nw_digest.specs.declared.digest.Digest.{Digest}
 
--- two tables of slots
+-- the first and the certified digests, by slot
 pub record Tables : Type 0 where
   -- the first digest of each slot
   pub firsts : FinMap slot_cmp Digest
   -- the certified digest of each slot
   pub certified : FinMap slot_cmp Digest
 
--- tables without digests
+-- no digests
 abbrev pub no_digests : Tables
 no_digests = record { firsts = empty; certified = empty }
 
@@ -22,16 +22,16 @@ no_digests = record { firsts = empty; certified = empty }
 abbrev pub IsDigestAt : Tables → ℕ → Digest → Type 0
 IsDigestAt t round d = (author : ℕ) × ((get t.firsts (round, author) ≡ Some d) ⊎ (get t.certified (round, author) ≡ Some d))
 
--- the digests of the round, first and certified
+-- the list of the digests of the round, first and certified
 pub record AreDigestsAt (t : Tables) (round : ℕ) (digests : List Digest) : Type 0 where
-  -- exactly these
+  -- a digest is listed exactly if it is one of these
   pub exactly : (d : Digest) → Contains digests d ↔ IsDigestAt t round d
   -- ascending, each once
   pub ascending : IsStrictlySortedBy digest_cmp digests
 
--- the digests of the rounds from `from` on, below `to`
+-- the list of the digests of the rounds from..to
 pub record AreDigestsBetween (t : Tables) (from to : ℕ) (digests : List Digest) : Type 0 where
-  -- exactly these
+  -- a digest is listed exactly if it is one of these
   pub exactly : (d : Digest) → Contains digests d ↔ ((round : ℕ) × (from ≤ round) × (round < to) × IsDigestAt t round d)
   -- ascending, each once
   pub ascending : IsStrictlySortedBy digest_cmp digests
@@ -40,7 +40,7 @@ pub record AreDigestsBetween (t : Tables) (from to : ℕ) (digests : List Digest
 abbrev pub coded_digest : Coded Digest
 coded_digest = code_by (List ℕ) (coded_list coded_ℕ) (λ d. d.0) (λ b. record { 0 = b }) (λ _. refl)
 
--- the code of two tables: tables with equal codes are equal
+-- the code of these digests: if the codes are equal, so are the digests
 abbrev pub coded_tables : Coded Tables
 coded_tables =
     code_by (FinMap slot_cmp Digest × FinMap slot_cmp Digest)

@@ -1,4 +1,4 @@
-//! The two kinds of digests that a slot has.
+//! The two kinds of digests that a slot can have.
 
 /// The kind of a slot's digest.
 #[derive(Clone, Copy, Debug, PartialEq, Eq, PartialOrd, Ord)]

@@ -68,7 +68,9 @@ impl<A: Allocator> Rounds<A> {
             .copied()
     }
 
-    /// Makes this the first digest of the round and author, which must not have one yet. If an allocation fails, nothing changes.
+    /// Makes this the first digest of the round and author, which must not have one yet.
+    ///
+    /// `NoMemory`: an allocation failed. Nothing changed.
     pub fn put_first(&mut self, round: Round, author: u16, digest: Digest) -> Result<(), NoMemory>
     where
         A: Clone,
@@ -83,8 +85,9 @@ impl<A: Allocator> Rounds<A> {
         Ok(())
     }
 
-    /// Makes this the certified digest of the round and author, which must not have one yet. If an allocation fails, nothing
-    /// changes.
+    /// Makes this the certified digest of the round and author, which must not have one yet.
+    ///
+    /// `NoMemory`: an allocation failed. Nothing changed.
     pub fn put_certified(
         &mut self,
         round: Round,
@@ -113,7 +116,7 @@ impl<A: Allocator> Rounds<A> {
     }
 
     /// All digests of this round and of lower ones, ascending and each once. `NoMemory` if an allocation fails. The cost
-    /// depends on the number of these digests, not on how many digests higher rounds have.
+    /// grows with the number of these digests. The digests of higher rounds add only one logarithmic search.
     pub fn digests_up_to(&self, alloc: Global, round: Round) -> Result<Vec<Digest>, NoMemory>
         ensures { IfOk result (λ list. AreDigestsBetween self.now 0 (round + 1) list.items) }
     {
@@ -129,7 +132,7 @@ impl<A: Allocator> Rounds<A> {
         places_between(&self.digests, 0, round.get())
     }
 
-    /// Drops the digests of all lower rounds. Allocates nothing. The cost depends on the number of dropped digests.
+    /// Drops the digests of all lower rounds. Allocates nothing. The cost grows with the number of dropped digests.
     pub fn drop_below(&mut self, round: Round)
         ensures firsts { self.new.firsts
             ≡ map.retain_keys self.old.firsts (λ slot. nat_le round slot.0) }
@@ -143,7 +146,7 @@ impl<A: Allocator> Rounds<A> {
     }
 }
 
-/// All digests of the round.
+/// All digests of the round. `NoMemory` if an allocation fails.
 fn digests_at<A: Allocator>(
     alloc: Global,
     digests: &BTreeMap<Place, Digest, A>,
@@ -155,7 +158,7 @@ fn digests_at<A: Allocator>(
     digests_between(alloc, digests, round, round + 1)
 }
 
-/// All digests of the rounds from `from` on, below `to`.
+/// All digests of the rounds `from..to`. `NoMemory` if an allocation fails.
 fn digests_between<A: Allocator>(
     alloc: Global,
     digests: &BTreeMap<Place, Digest, A>,
@@ -173,7 +176,7 @@ fn digests_between<A: Allocator>(
     Ok(found)
 }
 
-/// All digests of the rounds from `from` on, below `to`, with their places.
+/// All digests of the rounds `from..to`, with their places.
 fn places_between<A: Allocator>(
     digests: &BTreeMap<Place, Digest, A>,
     from: u64,

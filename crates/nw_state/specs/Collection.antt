@@ -17,13 +17,13 @@ abbrev pub counts_at : State → DigestKind → Digest → Bool
 counts_at s First d = not (is_some (get s.certificates d))
 counts_at s Certified d = is_some (get s.blocks d)
 
--- the digests are those of the blocks and certificates of this round and of lower rounds
+-- the digests include those of all blocks and certificates of this round and of lower rounds, and of no block of a higher round
 pub record AreDigestsUpTo (s : State) (round : ℕ) (digests : List Digest) : Type 0 where
-  -- each block up to this round is held under one of the digests
+  -- the digest of each held block up to this round is listed
   pub blocks : (d : Digest) (b : Block) → get s.blocks d ≡ Some b → b.round ≤ round → Contains digests d
-  -- each certificate up to this round is kept for one of the digests
+  -- the digest of each kept certificate up to this round is listed
   pub certificates : (d : Digest) (c : Certificate) → get s.certificates d ≡ Some c → c.round ≤ round → Contains digests d
-  -- no block of a higher round is held under one of them
+  -- the digest of no held block of a higher round is listed
   pub only : (d : Digest) (b : Block) → Contains digests d → get s.blocks d ≡ Some b → b.round ≤ round
   -- no digest is listed twice
   pub once : IsDistinct (eq_by_cmp digest_cmp) digests

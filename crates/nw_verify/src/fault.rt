@@ -2,10 +2,10 @@
 use std::alloc::{AllocError, AllocFailed};
 use thiserror::Error;
 
-/// Why the program ends before the end of its input. It has answered the earlier lines.
+/// Why the program fails.
 #[derive(Clone, Copy, Debug, Error)]
 pub enum VerifyFault {
-    /// The line with this number, from 1, has another form.
+    /// The line with this number, counted from 1, has another form. The earlier lines were answered.
     #[error("{line}")]
     BadLine { line: u64 },
     /// The input can't be read.
@@ -14,7 +14,7 @@ pub enum VerifyFault {
     /// The answers can't be written.
     #[error("the answers can't be written")]
     Write,
-    /// Memory ran out.
+    /// An allocation failed.
     #[error("out of memory")]
     NoMemory,
 }

@@ -5,7 +5,7 @@ use std::alloc::Global;
 use std::io::{BufWriter, ErrorKind, Read, Write};
 
 /// Writes a line `yes` or `no` for each line of the reader. It keeps only one line in memory. It flushes the output even if it
-/// fails.
+/// fails. The error says why it stopped early.
 pub fn answer_lines<R: Read, W: Write + Drop>(
     alloc: Global,
     reader: &mut R,
@@ -56,7 +56,7 @@ struct Part {
 }
 
 impl Part {
-    /// Adds bytes, and answers each line that ends in them.
+    /// Adds bytes, and answers each line that ends in them. `BadLine` if a line is too long.
     fn take<W: Write>(
         &mut self,
         alloc: Global,
@@ -75,7 +75,7 @@ impl Part {
         Ok(())
     }
 
-    /// Answers the line, and begins the next one.
+    /// Answers the line, and begins the next one. `BadLine` if the line has another form.
     fn finish<W: Write>(&mut self, alloc: Global, out: &mut W) -> Result<(), VerifyFault> {
         let Some(signed) = SignedMessage::parse(alloc, self.line.as_slice())? else {
             return Err(VerifyFault::BadLine { line: self.number });

@@ -1,6 +1,7 @@
 //! A program that verifies Ed25519 signatures.
 //!
-//! Each line of standard input is `key message signature` in hex, with `-` for an empty message. For each line the program prints `yes` or
+//! Each line of standard input is `key message signature` in hex, with `-` for an empty message, which has at most
+//! 1,048,576 bytes. For each line the program prints `yes` or
 //! `no`. The exit status is 0 at the end of the input. It is 1 if a line has another form, or if reading, writing or an allocation fails.
 //! Standard error then has the number of the bad line, or the cause.
 #![tactic(auto)]

@@ -10,16 +10,16 @@ use nw_ed25519::Ed25519;
 use nw_sig::Scheme;
 use std::alloc::Global;
 
-/// The most bytes of a message.
+/// The maximum length of a message, in bytes.
 const MAX_MESSAGE: usize = 1_048_576;
 /// The number of hex digits of a key.
-const KEY: usize = 64;
+const KEY_DIGITS: usize = 64;
 /// The number of hex digits of a signature.
-const SIGNATURE: usize = 128;
-/// The fewest characters of a line.
-const MIN_LINE: usize = KEY + SIGNATURE + 3;
-/// The most characters of a line.
-pub const MAX_LINE: usize = KEY + SIGNATURE + 2 + 2 * MAX_MESSAGE;
+const SIGNATURE_DIGITS: usize = 128;
+/// The minimum length of a line, in bytes.
+const MIN_LINE: usize = KEY_DIGITS + SIGNATURE_DIGITS + 3;
+/// The maximum length of a line, in bytes.
+pub const MAX_LINE: usize = KEY_DIGITS + SIGNATURE_DIGITS + 2 + 2 * MAX_MESSAGE;
 
 /// A message with a key and a signature, which may be invalid.
 #[derive(Debug, Drop)]
@@ -30,17 +30,18 @@ pub struct SignedMessage {
 }
 
 impl SignedMessage {
-    /// Parses a line, or returns `None` if it has another form. The message is `-` or an even number of hex digits.
+    /// Parses a line, or returns `None` if it has another form. The message is `-` or an even number of hex digits. `NoMemory` if an
+    /// allocation fails.
     pub fn parse(alloc: Global, line: &[u8]) -> Result<Option<SignedMessage>, VerifyFault> {
         if line.len() < MIN_LINE || line.len() > MAX_LINE {
             return Ok(None);
         }
-        let end = line.len() - SIGNATURE;
-        if line[KEY] != b' ' || line[end - 1] != b' ' {
+        let end = line.len() - SIGNATURE_DIGITS;
+        if line[KEY_DIGITS] != b' ' || line[end - 1] != b' ' {
             return Ok(None);
         }
-        let (key, signature) = (&line[..KEY], &line[end..]);
-        let Some(message) = message(alloc, &line[KEY + 1..end - 1])? else {
+        let (key, signature) = (&line[..KEY_DIGITS], &line[end..]);
+        let Some(message) = message(alloc, &line[KEY_DIGITS + 1..end - 1])? else {
             return Ok(None);
         };
         let Ok(key) = <[u8; 32] as FromHex>::from_hex(key) else {
@@ -64,7 +65,7 @@ impl SignedMessage {
     }
 }
 
-/// The message that the text encodes, or `None` if it is neither `-` nor hex.
+/// The message that the text encodes, or `None` if it is neither `-` nor hex. `NoMemory` if an allocation fails.
 fn message(alloc: Global, text: &[u8]) -> Result<Option<Vec<u8>>, VerifyFault> {
     if text == b"-".as_slice() {
         return Ok(Some(Vec::new(alloc)));

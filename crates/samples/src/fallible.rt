@@ -24,8 +24,8 @@ pub fn keys(alloc: Global, numbers: &[u8]) -> Result<Vec<Key>, NoMemory> {
     Ok(keys)
 }
 
-/// A committee of members of weight 1 with the keys of these numbers. The numbers must be distinct, and 1, 4, 7, .. or 100 of them;
-/// otherwise the error is `NoMemory` too.
+/// A committee of members of weight 1 with the keys of these numbers. There must be 1, 4, 7, .. or 100 numbers, which are distinct.
+/// Otherwise, or if an allocation fails, the error is `NoMemory`.
 pub fn committee(alloc: Global, numbers: &[u8]) -> Result<Shared<Committee>, NoMemory> {
     match Committee::new(alloc, keys(alloc, numbers)?) {
         Ok(committee) => Shared::new(alloc, committee),

@@ -3,8 +3,8 @@ use nw_codec::DecodeError;
 use nw_committee::{Committee, Member};
 use nw_digest::{NoMemory, Round, Shared};
 use nw_sig::DemoScheme;
-use samples::key;
 use samples::fallible::Slot;
+use samples::key;
 use std::alloc::Global;
 use std::test::Fail;
 

@@ -91,7 +91,7 @@ fn certificate_of(checked: Checked<Ed25519>) -> Option<CheckedCert<Ed25519>> {
     }
 }
 
-/// Makes the call as the session's call with this number.
+/// Makes the call as session 0's call with this number.
 fn step(
     alloc: Global,
     book: &mut Book<Ed25519>,
@@ -108,18 +108,18 @@ fn read_back(
     committee: &Shared<Committee>,
     book: &mut Book<Ed25519>,
 ) -> Result<usize, Fail> {
-    let block = block_of(checked(alloc, committee, BLOCK)?).ok_or("a block")?;
+    let block = block_of(checked(alloc, committee, BLOCK)?).ok_or("not a block")?;
     let digest = block.digest();
     let written = step(alloc, book, 1, &Command::Write(&block));
     drop(block);
     written?;
     let certificate = certificate_of(checked(alloc, committee, CERTIFICATE)?).ok_or(
-        "a certificate",
+        "not a certificate",
     )?;
     let certified = step(alloc, book, 2, &Command::Certify(&certificate));
     drop(certificate);
     certified?;
-    let ticket = book.open(alloc, 0, 3, digest)?.ok().ok_or("complete")?;
+    let ticket = book.open(alloc, 0, 3, digest)?.ok().ok_or("incomplete")?;
     let blocks = ticket.walk(alloc);
     drop(ticket);
     Ok(blocks?.len())
@@ -137,7 +137,9 @@ fn read_back_and_try_forged(
 }
 
 #[test]
-fn a_block_and_its_certificate_are_stored_and_a_forged_one_is_refused(rt: HostRuntime) -> Result<(), Fail> {
+fn a_block_and_its_certificate_are_stored_and_a_forged_one_is_refused(
+    rt: HostRuntime,
+) -> Result<(), Fail> {
     let members = committee(rt.alloc())?;
     let mut book = Book::new(rt.alloc(), members.try_clone()?, LIMITS)?;
     let outcome = read_back_and_try_forged(rt.alloc(), &members, &mut book);

@@ -1,8 +1,8 @@
 //! Good and bad committees.
 use super::*;
 use nw_committee::{CommitteeFault, Member};
-use samples::key;
 use samples::fallible::keys;
+use samples::key;
 
 /// The quorum of a committee of members of weight 1 with the keys of these numbers.
 fn quorum(alloc: Global, numbers: &[u8]) -> Result<u32, CommitteeFault> {
