@@ -1,4 +1,4 @@
-//! Entries: blocks under their digests, ascending. Each entry is one allocation, shared by all lists that contain it.
+//! Entries: blocks under their digests, ascending.
 ghost use Rattle.std.specs.Prelude.{◌≡◌, ◌≤◌, IfOk, IfSome, [], drop, filter, length, nat_le};
 ghost use Rattle.std.specs.Option.{MatchOption};
 ghost use Rattle.std.specs.FinMap as map;
@@ -13,7 +13,7 @@ use std::cmp::Ordering;
 use std::marker::Model;
 
 /// A block under its digest, with shared ownership.
-pub(crate) type Entry = Shared<(Digest, Shared<Block>)>;
+pub(crate) type Entry = (Digest, Shared<Block>);
 
 /// A borrowed entry. Contracts see the entry.
 #[derive(Drop)]
@@ -39,7 +39,7 @@ pub(crate) fn of_trie<A: Allocator>(
 {
     let mut entries = Vec::with_capacity(alloc, trie.len())?;
     for (digest, block) in trie.iter() {
-        entries.push(Shared::new(alloc, (*digest, block.try_clone()?))?)?;
+        entries.push((*digest, block.try_clone()?))?;
     }
     Ok(entries)
 }
@@ -87,7 +87,7 @@ fn first_of_both<'a>(
         (None, Some((two, _left))) => Some((two, 0, 1)),
         (Some((one, _newer_left)), Some((two, _older_left))) => {
             let one = one.entry;
-            Some(match one.get().0.cmp(&two.get().0) {
+            Some(match one.0.cmp(&two.0) {
                 Ordering::Less => (one, 1, 0),
                 Ordering::Equal => (one, 1, 1),
                 Ordering::Greater => (two, 0, 1),
@@ -96,7 +96,7 @@ fn first_of_both<'a>(
     }
 }
 
-/// A clone of each entry whose block is at or above the round.
+/// Each entry whose block is at or above the round. The blocks are shared.
 pub(crate) fn owned(
     alloc: Global,
     entries: &[EntryRef],
@@ -107,9 +107,9 @@ pub(crate) fn owned(
 {
     let mut kept = Vec::with_capacity(alloc, entries.len())?;
     for lent in entries {
-        let entry = lent.entry;
-        if round <= entry.get().1.round() {
-            kept.push(entry.try_clone()?)?;
+        let (digest, block) = lent.entry;
+        if round <= block.round() {
+            kept.push((*digest, block.try_clone()?))?;
         }
     }
     kept.shrink_to_fit();

@@ -91,7 +91,7 @@ fn find<'a>(heads: &[u16], entries: &'a [Entry], digest: &Digest) -> Option<&'a 
         let (before, entry, after) = split_around(left, place);
         match order(head, digest, *other, entry) {
             Ordering::Less => (heads, left, high) = (heads_before, before, *other),
-            Ordering::Equal => return Some(&entry.get().1),
+            Ordering::Equal => return Some(&entry.1),
             Ordering::Greater => (heads, left, low) = (heads_after, after, *other),
         }
         looks = looks.wrapping_add(1);
@@ -121,7 +121,7 @@ fn order(head: u16, digest: &Digest, other: u16, entry: &Entry) -> Ordering
     if head != other {
         return head.cmp(&other);
     }
-    let key = &entry.get().0;
+    let key = &entry.0;
     // Two digests with the same head are usually equal, and equality is faster to test than order.
     if digest == key {
         Ordering::Equal
@@ -167,7 +167,7 @@ fn heads_of(alloc: Global, entries: &[Entry]) -> Result<Vec<u16>, NoMemory>
 {
     let mut heads = Vec::with_capacity(alloc, entries.len())?;
     for entry in entries {
-        heads.push(head_of(&entry.get().0))?;
+        heads.push(head_of(&entry.0))?;
     }
     Ok(heads)
 }

@@ -99,7 +99,7 @@ fn slots_of(alloc: Global, entries: &[Entry]) -> Result<Vec<Slot>, NoMemory>
 {
     let mut slots = Vec::with_capacity(alloc, entries.len())?;
     for entry in entries {
-        let (digest, block) = entry.get();
+        let (digest, block) = entry;
         slots.push(Slot {
             round: block.get().round,
             author: block.get().author,

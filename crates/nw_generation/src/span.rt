@@ -12,7 +12,7 @@ pub(crate) fn rounds_of(entries: &[Entry]) -> Option<(Round, Round)>
 {
     let mut rounds = None;
     for entry in entries {
-        rounds = Some(widened(rounds, entry.get().1.round()));
+        rounds = Some(widened(rounds, entry.1.round()));
     }
     rounds
 }

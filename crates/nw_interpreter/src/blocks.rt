@@ -4,18 +4,18 @@ use crate::fault::LineFault;
 use crate::interpreter::Interpreter;
 use crate::members::block_message;
 use crate::print::Answer;
+use nw_check::{Checked, check_message};
 use nw_codec::{Block, EncodeError, Transactions, encode_body};
 use nw_digest::Digest;
 use nw_script::{BlockLine, Name};
+use nw_sig::DemoScheme;
 use std::alloc::Global;
 
 impl<'a> Interpreter<'a> {
-    /// Binds the name of the line to its block. The name stays free if the block is over a limit. `Bad` if the name is bound.
-    pub(crate) fn block(
-        &mut self,
-        alloc: Global,
-        line: &BlockLine<'a>,
-    ) -> Result<Answer<'a>, LineFault> {
+    /// Binds the name of the line to its block. The name stays free if the block is over a limit. `Bad` if the name is bound or the name
+    /// of a parent is not. `NoMemory` if an allocation fails.
+    #[inline(never)]
+    pub fn block(&mut self, alloc: Global, line: &BlockLine<'a>) -> Result<Answer<'a>, LineFault> {
         let name = line.name;
         if self.names.has(name) {
             return Err(LineFault::Bad);
@@ -39,28 +39,32 @@ impl<'a> Interpreter<'a> {
         })
     }
 
-    /// The answer with the body of the block in hex.
-    pub(crate) fn body(&self, alloc: Global, name: Name<'a>) -> Result<Answer<'a>, LineFault> {
+    /// The answer with the body of the block in hex. `Bad` if the name is not bound, `NoMemory` if an allocation fails.
+    #[inline(never)]
+    pub fn body(&self, alloc: Global, name: Name<'a>) -> Result<Answer<'a>, LineFault> {
         let text = encode_body(alloc, &self.named_block(name)?.block)?;
         in_hex(alloc, name, text.as_slice())
     }
 
-    /// The answer with the digest of the block in hex.
-    pub(crate) fn digest(&self, alloc: Global, name: Name<'a>) -> Result<Answer<'a>, LineFault> {
+    /// The answer with the digest of the block in hex. `Bad` if the name is not bound, `NoMemory` if an allocation fails.
+    #[inline(never)]
+    pub fn digest(&self, alloc: Global, name: Name<'a>) -> Result<Answer<'a>, LineFault> {
         let Digest(bytes) = self.digest_of(name)?;
         in_hex(alloc, name, bytes.as_slice())
     }
 
-    /// The encoded message of the block, signed by the given member, or by its author if none is given.
-    pub(crate) fn text_of_block(
+    /// The check of the block after its message is encoded and decoded. The given member signs it, or its author if none is given. `Bad`
+    /// if the name is not bound, `NoMemory` if an allocation fails.
+    pub fn checked_block(
         &self,
         alloc: Global,
         name: Name<'a>,
         signer: Option<u16>,
-    ) -> Result<Vec<u8>, LineFault> {
+    ) -> Result<Checked<DemoScheme>, LineFault> {
         let named = self.named_block(name)?;
         let signer = signer.unwrap_or(named.block.author);
-        Ok(block_message(alloc, signer, &named.digest, &named.block)?)
+        let text = block_message(alloc, signer, &named.digest, &named.block)?;
+        Ok(check_message(alloc, &self.committee, &text)?)
     }
 }
 

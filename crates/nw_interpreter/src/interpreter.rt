@@ -35,7 +35,7 @@ impl<'a> Interpreter<'a> {
     }
 
     /// The digest of the named block. `Bad` if the name is not bound.
-    pub(crate) fn digest_of(&self, name: Name<'a>) -> Result<Digest, LineFault> {
+    pub fn digest_of(&self, name: Name<'a>) -> Result<Digest, LineFault> {
         Ok(self.named_block(name)?.digest)
     }
 
@@ -45,7 +45,7 @@ impl<'a> Interpreter<'a> {
     }
 
     /// Whether the name is bound to a ticket.
-    pub(crate) fn has_ticket(&self, name: Name<'a>) -> bool {
+    pub fn has_ticket(&self, name: Name<'a>) -> bool {
         self.tickets.contains_key(name.as_str())
     }
 
@@ -71,14 +71,16 @@ impl<'a> Interpreter<'a> {
         })
     }
 
-    /// The answer with the list of the named ticket. `Bad` if the name is not bound to a ticket.
-    pub(crate) fn walk(&self, alloc: Global, name: Name<'a>) -> Result<Answer<'a>, LineFault> {
+    /// The answer with the list of the named ticket. `Bad` if the name is not bound to a ticket, `NoMemory` if an allocation fails.
+    #[inline(never)]
+    pub fn walk(&self, alloc: Global, name: Name<'a>) -> Result<Answer<'a>, LineFault> {
         let ticket = self.tickets.get(name.as_str()).ok_or(LineFault::Bad)?;
         self.walk_ticket(alloc, name, ticket)
     }
 
-    /// The answer with SHA-256 of the word's bytes in hex.
-    pub(crate) fn hash(alloc: Global, word: &str) -> Result<Answer<'a>, LineFault> {
+    /// The answer with SHA-256 of the word's bytes in hex. `NoMemory` if an allocation fails.
+    #[inline(never)]
+    pub fn hash(alloc: Global, word: &str) -> Result<Answer<'a>, LineFault> {
         let Digest(bytes) = digest_of(word.as_bytes());
         Ok(Answer::Hash(hex::encode(alloc, bytes.as_slice())?))
     }

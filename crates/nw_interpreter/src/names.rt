@@ -19,9 +19,9 @@ pub struct NamedBlock {
 #[derive(Drop)]
 struct FirstNamed<'a> {
     name: Name<'a>,
-    digest: Digest,
     // Whether all later named blocks of the slot have the same digest.
     is_unique: bool,
+    digest: Digest,
 }
 
 /// The named blocks of a script, and the first name of each digest.
@@ -95,8 +95,8 @@ impl<'a> Names<'a> {
             .entry((round.get(), author))?
             .or_insert(FirstNamed {
                 name,
-                digest,
                 is_unique: true,
+                digest,
             });
         slot.is_unique &= slot.digest == digest;
         Ok(())

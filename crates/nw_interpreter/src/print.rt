@@ -1,10 +1,12 @@
 //! Answers, and the lines that they print.
 
+use crate::fault::LineFault;
 use itoa::Buffer;
 use nw_check::{BlockFault, CertFault};
 use nw_model::{Counts, Wanted};
 use nw_script::Name;
-use std::io::{self, Write};
+use std::fmt::Display;
+use std::io::Write;
 
 /// The answer to a request, printed on a line of its own. `words` include the spaces next to a name or a number.
 #[derive(Drop)]
@@ -83,7 +85,7 @@ pub enum Answer<'a> {
 
 impl<'a> Answer<'a> {
     /// The answer for a block or a certificate that is over a limit or out of order.
-    pub(crate) fn over_limit(name: Name<'a>) -> Answer<'a> {
+    pub fn over_limit(name: Name<'a>) -> Answer<'a> {
         Answer::Named {
             name,
             words: " refused over limit",
@@ -92,117 +94,138 @@ impl<'a> Answer<'a> {
 }
 
 impl Answer<'_> {
-    /// Writes the answer and a line end. The error is that of the writer.
-    pub fn write<W: Write>(&self, out: &mut W) -> io::Result<()> {
-        self.write_words(out)?;
-        out.write_all(b"\n")
+    /// Appends the answer and a line end to the text. `NoMemory` if an allocation fails. Then the text may have a part of the answer.
+    pub fn append_to(&self, text: &mut Vec<u8>) -> Result<(), LineFault> {
+        self.append_words(text)?;
+        text.push(b'\n')?;
+        Ok(())
     }
 
-    fn write_words<W: Write>(&self, out: &mut W) -> io::Result<()> {
+    fn append_words(&self, text: &mut Vec<u8>) -> Result<(), LineFault> {
         match self {
-            Answer::Words(words) => out.write_all(words.as_bytes()),
+            Answer::Words(words) => append(text, words),
             Answer::Count { words, number } => {
-                out.write_all(words.as_bytes())?;
-                write_number(out, *number)
+                append(text, words)?;
+                append_number(text, *number)
             }
-            Answer::Named { name, words } => write_two(out, name.as_str(), words),
+            Answer::Named { name, words } => append_two(text, name.as_str(), words),
             Answer::NamedPair { name, words, other } => {
-                write_two(out, name.as_str(), words)?;
-                out.write_all(other.as_str().as_bytes())
+                append_two(text, name.as_str(), words)?;
+                append(text, other.as_str())
             }
             Answer::NamedCount {
                 name,
                 words,
                 number,
             } => {
-                write_two(out, name.as_str(), words)?;
-                write_number(out, *number)
+                append_two(text, name.as_str(), words)?;
+                append_number(text, *number)
             }
             Answer::Block { name, body } => {
-                write_two(out, "block ", name.as_str())?;
-                write_number_after(out, b' ', *body as u64)
+                append_two(text, "block ", name.as_str())?;
+                append_number_after(text, b' ', *body as u64)
             }
-            Answer::BadBlock { name, fault } => write!(out, "{name} refused {fault}"),
-            Answer::BadCert { name, fault } => write!(out, "{name} refused {fault}"),
+            Answer::BadBlock { name, fault } => append_refusal(text, *name, fault),
+            Answer::BadCert { name, fault } => append_refusal(text, *name, fault),
             Answer::Hex { name, hex } => {
-                out.write_all(name.as_str().as_bytes())?;
-                write_after_space(out, hex.as_str())
+                append(text, name.as_str())?;
+                append_after_space(text, hex.as_str())
             }
-            Answer::Hash(hex) => out.write_all(hex.as_bytes()),
-            Answer::Gathered { name, votes } => write_list(out, name.as_str(), votes),
-            Answer::Signers { name, signers } => write_signers(out, name.as_str(), signers),
+            Answer::Hash(hex) => append(text, hex.as_str()),
+            Answer::Gathered { name, votes } => append_list(text, name.as_str(), votes),
+            Answer::Signers { name, signers } => append_signers(text, name.as_str(), signers),
             Answer::Listed { name, names } => {
-                write_two(out, name.as_str(), " causal")?;
-                out.write_all(names)
+                append_two(text, name.as_str(), " causal")?;
+                Ok(text.extend_from_slice(names)?)
             }
-            Answer::Missing { wanted, names } => write_missing(out, wanted, names),
-            Answer::Status(counts) => write_status(out, counts),
-            Answer::Settled(counts) => write_settled(out, counts),
+            Answer::Missing { wanted, names } => append_missing(text, wanted, names),
+            Answer::Status(counts) => append_status(text, counts),
+            Answer::Settled(counts) => append_settled(text, counts),
         }
     }
 }
 
-fn write_two<W: Write>(out: &mut W, one: &str, two: &str) -> io::Result<()> {
-    out.write_all(one.as_bytes())?;
-    out.write_all(two.as_bytes())
+fn append(text: &mut Vec<u8>, words: &str) -> Result<(), LineFault> {
+    Ok(text.extend_from_slice(words.as_bytes())?)
+}
+
+fn append_two(text: &mut Vec<u8>, one: &str, two: &str) -> Result<(), LineFault> {
+    append(text, one)?;
+    append(text, two)
 }
 
 // A space and the word.
-fn write_after_space<W: Write>(out: &mut W, word: &str) -> io::Result<()> {
-    out.write_all(b" ")?;
-    out.write_all(word.as_bytes())
+fn append_after_space(text: &mut Vec<u8>, word: &str) -> Result<(), LineFault> {
+    text.push(b' ')?;
+    append(text, word)
 }
 
-fn write_number<W: Write>(out: &mut W, number: u64) -> io::Result<()> {
-    out.write_all(Buffer::new().format(number).as_bytes())
+fn append_number(text: &mut Vec<u8>, number: u64) -> Result<(), LineFault> {
+    append(text, Buffer::new().format(number))
 }
 
 // The byte and the number.
-fn write_number_after<W: Write>(out: &mut W, before: u8, number: u64) -> io::Result<()> {
-    out.write_all(&[before])?;
-    write_number(out, number)
+fn append_number_after(text: &mut Vec<u8>, before: u8, number: u64) -> Result<(), LineFault> {
+    text.push(before)?;
+    append_number(text, number)
+}
+
+// The name of a block or certificate that breaks a rule, and the rule.
+fn append_refusal<F: Display>(
+    text: &mut Vec<u8>,
+    name: Name<'_>,
+    fault: &F,
+) -> Result<(), LineFault> {
+    match write!(text, "{name} refused {fault}") {
+        Ok(()) => Ok(()),
+        Err(_) => Err(LineFault::NoMemory),
+    }
 }
 
 // The name and the items, each item after a space.
-fn write_list<W: Write>(out: &mut W, name: &str, items: &[&str]) -> io::Result<()> {
-    out.write_all(name.as_bytes())?;
+fn append_list(text: &mut Vec<u8>, name: &str, items: &[&str]) -> Result<(), LineFault> {
+    append(text, name)?;
     for item in items {
-        write_after_space(out, item)?;
+        append_after_space(text, item)?;
     }
     Ok(())
 }
 
 // Numbers separated by commas.
-fn write_signers<W: Write>(out: &mut W, name: &str, signers: &[u16]) -> io::Result<()> {
-    write_two(out, name, " certified by")?;
+fn append_signers(text: &mut Vec<u8>, name: &str, signers: &[u16]) -> Result<(), LineFault> {
+    append_two(text, name, " certified by")?;
     let mut before = b' ';
     for signer in signers {
-        write_number_after(out, before, u64::from(*signer))?;
+        append_number_after(text, before, u64::from(*signer))?;
         before = b',';
     }
     Ok(())
 }
 
-fn write_settled<W: Write>(out: &mut W, counts: &[usize]) -> io::Result<()> {
-    out.write_all(b"settled")?;
+fn append_settled(text: &mut Vec<u8>, counts: &[usize]) -> Result<(), LineFault> {
+    append(text, "settled")?;
     for count in counts {
-        write_number_after(out, b' ', *count as u64)?;
+        append_number_after(text, b' ', *count as u64)?;
     }
     Ok(())
 }
 
-fn write_missing<W: Write>(out: &mut W, wanted: &[Wanted], names: &[Name<'_>]) -> io::Result<()> {
-    out.write_all(b"missing")?;
+fn append_missing(
+    text: &mut Vec<u8>,
+    wanted: &[Wanted],
+    names: &[Name<'_>],
+) -> Result<(), LineFault> {
+    append(text, "missing")?;
     for (parent, name) in wanted.iter().zip(names) {
-        write_number_after(out, b' ', parent.round.get())?;
-        write_number_after(out, b'.', u64::from(parent.author))?;
-        out.write_all(b".")?;
-        out.write_all(name.as_str().as_bytes())?;
+        append_number_after(text, b' ', parent.round.get())?;
+        append_number_after(text, b'.', u64::from(parent.author))?;
+        text.push(b'.')?;
+        append(text, name.as_str())?;
     }
     Ok(())
 }
 
-fn write_status<W: Write>(out: &mut W, counts: &Counts) -> io::Result<()> {
+fn append_status(text: &mut Vec<u8>, counts: &Counts) -> Result<(), LineFault> {
     let counts = [
         ("status g=", counts.floor.get()),
         (" blocks=", counts.blocks),
@@ -211,8 +234,8 @@ fn write_status<W: Write>(out: &mut W, counts: &Counts) -> io::Result<()> {
         (" wanted=", counts.wanted),
     ];
     for (words, count) in counts {
-        out.write_all(words.as_bytes())?;
-        write_number(out, count)?;
+        append(text, words)?;
+        append_number(text, count)?;
     }
     Ok(())
 }

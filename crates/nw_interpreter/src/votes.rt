@@ -5,15 +5,29 @@ use crate::interpreter::Interpreter;
 use crate::members::{certificate, vote};
 use crate::names::NamedBlock;
 use crate::print::Answer;
-use nw_check::{Counted, Gather, GatherFault, StartFault, valid};
+use nw_check::{Checked, Counted, Gather, GatherFault, StartFault, check_message, valid};
 use nw_codec::{Message, encode_message};
 use nw_script::Name;
 use nw_sig::DemoScheme;
 use std::alloc::Global;
 
 impl<'a> Interpreter<'a> {
-    /// The encoded message of a certificate for the block, with the signers' votes in the given order, or `None` if it does not fit.
-    pub(crate) fn certificate_text(
+    /// The check of a certificate for the block, with the signers' votes in the given order, after its message is encoded and decoded.
+    /// `None` if the message is over a limit. `Bad` if the name is not bound, `NoMemory` if an allocation fails.
+    pub fn checked_certificate(
+        &self,
+        alloc: Global,
+        name: Name<'a>,
+        signers: &[u16],
+    ) -> Result<Option<Checked<DemoScheme>>, LineFault> {
+        match self.certificate_text(alloc, name, signers)? {
+            Some(text) => Ok(Some(check_message(alloc, &self.committee, &text)?)),
+            None => Ok(None),
+        }
+    }
+
+    // The encoded message of a certificate for the block, with the signers' votes in the given order, or `None` if it does not fit.
+    fn certificate_text(
         &self,
         alloc: Global,
         name: Name<'a>,
@@ -31,8 +45,10 @@ impl<'a> Interpreter<'a> {
         within_limits(text)
     }
 
-    /// The answer that says whether a certificate for the block, with the signers' votes in the given order, is valid.
-    pub(crate) fn valid(
+    /// The answer that says whether a certificate for the block, with the signers' votes in the given order, is valid. `Bad` if the name
+    /// is not bound, `NoMemory` if an allocation fails.
+    #[inline(never)]
+    pub fn valid(
         &self,
         alloc: Global,
         name: Name<'a>,
@@ -46,8 +62,10 @@ impl<'a> Interpreter<'a> {
         Ok(Answer::Named { name, words })
     }
 
-    /// Gathers the signers' votes for the block in the given order. Returns the answer with the result of each.
-    pub(crate) fn gather(
+    /// Gathers the signers' votes for the block in the given order. Returns the answer with the result of each. `Bad` if the name is not
+    /// bound, `NoMemory` if an allocation fails.
+    #[inline(never)]
+    pub fn gather(
         &self,
         alloc: Global,
         name: Name<'a>,

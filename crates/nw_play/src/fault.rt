@@ -2,10 +2,10 @@
 ghost use Rattle.std.specs.Prelude.{◌≡◌};
 
 use nw_digest::NoMemory;
-use nw_interpreter::{Answer, LineFault};
+use nw_interpreter::LineFault;
 use nw_store::SettleFault;
 use std::alloc::{AllocError, AllocFailed};
-use std::io::{self, Write};
+use std::io;
 use thiserror::Error;
 
 /// Why a script was not played to its end. The answers printed before the fault remain.
@@ -71,11 +71,6 @@ impl PlayFault {
             SettleFault::Differs { session, .. } => PlayFault::Differs { session },
         }
     }
-}
-
-/// Prints the answer on a line.
-pub(crate) fn print<W: Write>(out: &mut W, answer: &Answer<'_>) -> Result<(), PlayFault> {
-    write_outcome(answer.write(out))
 }
 
 /// The outcome of writing, with `Write` for any error of the writer.

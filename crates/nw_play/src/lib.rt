@@ -9,6 +9,7 @@ mod books;
 mod fault;
 mod input;
 mod lines;
+mod output;
 mod player;
 mod script;
 mod settlement;

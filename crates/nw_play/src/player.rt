@@ -4,8 +4,8 @@ ghost use Rattle.nw_store.specs.Journal.{origin_of};
 ghost use Rattle.nw_store.specs.Lock.{parts_of_a_ledger};
 
 use crate::books::Start;
-use nw_digest::Digest;
-use nw_interpreter::{Action, Answer, Interpreter, LineFault};
+use nw_check::Checked;
+use nw_interpreter::{Answer, Interpreter, LineFault};
 use nw_script::{Name, Request};
 use nw_sig::DemoScheme;
 use nw_store::{Command, Done, Home, NoStep, Opening, Session, Store};
@@ -52,6 +52,7 @@ impl<L: Home> Player<L> {
     }
 
     /// Plays the request and returns its answer. `Bad` if it can't be played, `NoMemory` if an allocation fails.
+    // A function clears all its locals when it is called, also those of functions that are inlined. So those with large locals are not.
     pub fn answer<'a, R: Wait>(
         &mut self,
         rt: &R,
@@ -60,23 +61,92 @@ impl<L: Home> Player<L> {
         request: &Request<'a>,
     ) -> Result<Answer<'a>, LineFault> {
         self.may_set_limits = false;
-        match interpreter.action_for(alloc, request)? {
-            Action::Print(answer) => Ok(answer),
-            Action::Write(name, block) => {
+        match request {
+            Request::Block(line) => interpreter.block(alloc, line),
+            Request::Body(name) => interpreter.body(alloc, *name),
+            Request::Digest(name) => interpreter.digest(alloc, *name),
+            Request::Hash(word) => Interpreter::hash(alloc, word),
+            Request::Valid { name, signers } => interpreter.valid(alloc, *name, signers),
+            Request::Gather { name, signers } => interpreter.gather(alloc, *name, signers),
+            Request::Walk(ticket) => interpreter.walk(alloc, *ticket),
+            Request::Write { name, signer } => self.write(rt, alloc, interpreter, *name, *signer),
+            Request::Certify { name, signers } => {
+                self.certify(rt, alloc, interpreter, *name, signers)
+            }
+            Request::Certificate(name) => {
+                let command = Command::Certificate(interpreter.digest_of(*name)?);
+                self.call(rt, alloc, interpreter, Some(*name), &command)
+            }
+            Request::Read(name) => {
+                let command = Command::Read(interpreter.digest_of(*name)?);
+                self.call(rt, alloc, interpreter, Some(*name), &command)
+            }
+            Request::Collect(round) => {
+                self.call(rt, alloc, interpreter, None, &Command::Collect(*round))
+            }
+            Request::Missing(most) => {
+                self.call(rt, alloc, interpreter, None, &Command::Missing(*most))
+            }
+            Request::Status => self.call(rt, alloc, interpreter, None, &Command::Status),
+            Request::Causal(name) => self.open(rt, alloc, interpreter, *name, *name, false),
+            Request::Open { ticket, name } => {
+                self.open(rt, alloc, interpreter, *ticket, *name, true)
+            }
+            Request::Session(id) => self.select_session(rt, alloc, *id),
+            Request::Compact => self.compact(rt, alloc),
+        }
+    }
+
+    // Writes the named block after its message is encoded, decoded and checked. The given member signs it, or its author if none is given.
+    #[inline(never)]
+    fn write<'a, R: Wait>(
+        &mut self,
+        rt: &R,
+        alloc: Global,
+        interpreter: &Interpreter<'a>,
+        name: Name<'a>,
+        signer: Option<u16>,
+    ) -> Result<Answer<'a>, LineFault> {
+        let checked = interpreter.checked_block(alloc, name, signer)?;
+        self.hand_in(rt, alloc, interpreter, name, checked)
+    }
+
+    // Certifies the named block, with the votes in the order of `signers`, after the message is encoded, decoded and checked.
+    #[inline(never)]
+    fn certify<'a, R: Wait>(
+        &mut self,
+        rt: &R,
+        alloc: Global,
+        interpreter: &Interpreter<'a>,
+        name: Name<'a>,
+        signers: &[u16],
+    ) -> Result<Answer<'a>, LineFault> {
+        match interpreter.checked_certificate(alloc, name, signers)? {
+            Some(checked) => self.hand_in(rt, alloc, interpreter, name, checked),
+            None => Ok(Answer::over_limit(name)),
+        }
+    }
+
+    // Hands in the checked block or certificate of the name, or answers with the rule that it breaks.
+    fn hand_in<'a, R: Wait>(
+        &mut self,
+        rt: &R,
+        alloc: Global,
+        interpreter: &Interpreter<'a>,
+        name: Name<'a>,
+        checked: Checked<DemoScheme>,
+    ) -> Result<Answer<'a>, LineFault> {
+        match checked {
+            Checked::Block(block) => {
                 self.call(rt, alloc, interpreter, Some(name), &Command::Write(&block))
             }
-            Action::Certify(name, certificate) => {
+            Checked::Cert(certificate) => {
                 let command = Command::Certify(&certificate);
                 self.call(rt, alloc, interpreter, Some(name), &command)
             }
-            Action::Call(name, command) => self.call(rt, alloc, interpreter, name, &command),
-            Action::Open {
-                name,
-                digest,
-                is_kept,
-            } => self.open(rt, alloc, interpreter, name, digest, is_kept),
-            Action::Session(id) => self.select_session(rt, alloc, id),
-            Action::Compact => self.compact(rt, alloc),
+            Checked::BadBlock(fault) => Ok(Answer::BadBlock { name, fault }),
+            Checked::BadCert(fault) => Ok(Answer::BadCert { name, fault }),
+            Checked::Vote(_) | Checked::BadText(_) => Err(LineFault::Bad),
         }
     }
 
@@ -96,20 +166,25 @@ impl<L: Home> Player<L> {
         }
     }
 
-    // Makes a causal read as the current session's next call, answered under the name. `Bad` if there is no session.
+    // Makes a causal read of the block `name` as the current session's next call, answered under `printed_as`. If the ticket is kept under
+    // that name, it must be free. `Bad` if there is no session.
     fn open<'a, R: Wait>(
         &mut self,
         rt: &R,
         alloc: Global,
         interpreter: &mut Interpreter<'a>,
+        printed_as: Name<'a>,
         name: Name<'a>,
-        digest: Digest,
         is_kept: bool,
     ) -> Result<Answer<'a>, LineFault> {
+        if is_kept && interpreter.has_ticket(printed_as) {
+            return Err(LineFault::Bad);
+        }
+        let digest = interpreter.digest_of(name)?;
         let session = self.sessions.get_mut(self.current).ok_or(LineFault::Bad)?;
         match self.store.open_causal(rt, alloc, session, digest) {
-            Ok(Ok(ticket)) => interpreter.answer_to_ticket(alloc, name, ticket, is_kept),
-            Ok(Err(done)) => answer_of(alloc, interpreter, Some(name), done),
+            Ok(Ok(ticket)) => interpreter.answer_to_ticket(alloc, printed_as, ticket, is_kept),
+            Ok(Err(done)) => answer_of(alloc, interpreter, Some(printed_as), done),
             Err(refusal) => answer_to_refusal(refusal),
         }
     }

@@ -4,14 +4,15 @@ ghost use Rattle.nw_play.specs.declared.input.TheConstants.{MAX_SCRIPT};
 ghost use Rattle.nw_play.specs.Unread.{IsUnread};
 
 use crate::books::{Start, default_start, read_committee};
-use crate::fault::{PlayFault, write_outcome};
+use crate::fault::PlayFault;
 use crate::input::read_script;
 use crate::lines::Lines;
+use crate::output::Output;
 use crate::stores::play_store;
 use nw_interpreter::Interpreter;
 use nw_store::Opening;
 use std::alloc::Global;
-use std::io::{BufWriter, Read, Write};
+use std::io::{Read, Write};
 use std::marker::Brand;
 use std::mem::forget;
 use std::sync::Wait;
@@ -34,38 +35,33 @@ pub fn play<Rt: Wait, R: Read + Drop, W: Write + Drop>(
         (λ bytes. MAX_SCRIPT < length bytes → IsErrAnd result IsUnread) }
 {
     let script = read_script(alloc, &mut reader)?;
-    let Ok(mut out) = BufWriter::new(alloc, writer) else {
-        return Err(PlayFault::NoMemory);
-    };
+    let mut out = Output::new(alloc, writer);
     let played = play_script(rt, alloc, script.as_slice(), &mut out);
-    let outcome = match played {
+    match played {
         Err(PlayFault::Write) => Err(PlayFault::Write),
-        _ => write_outcome(out.flush()).and(played),
-    };
-    // Dropping the parts does not flush again after a failed write.
-    drop(out.into_parts());
-    outcome
+        _ => out.finish().and(played),
+    }
 }
 
-fn play_script<Rt: Wait, W: Write>(
+fn play_script<Rt: Wait, W: Write + Drop>(
     rt: &Rt,
     alloc: Global,
     script: &[u8],
-    out: &mut W,
+    out: &mut Output<W>,
 ) -> Result<(), PlayFault> {
     let played = play_stores(rt, alloc, script, out);
     if let Err(fault @ (PlayFault::BadLine { .. } | PlayFault::Differs { .. })) = played {
-        write_outcome(writeln!(out, "{fault}"))?;
+        out.print_fault(fault)?;
     }
     played
 }
 
 // Each store after the first has a line that starts it, so there are at most as many stores as lines.
-fn play_stores<Rt: Wait, W: Write>(
+fn play_stores<Rt: Wait, W: Write + Drop>(
     rt: &Rt,
     alloc: Global,
     script: &[u8],
-    out: &mut W,
+    out: &mut Output<W>,
 ) -> Result<(), PlayFault> {
     let mut lines = Lines::new(script);
     let committee = read_committee(alloc, &mut lines)?;
@@ -85,13 +81,13 @@ fn play_stores<Rt: Wait, W: Write>(
 }
 
 // Plays a store, and at most `more` stores after it.
-fn play_from<'a, Rt: Wait, W: Write>(
+fn play_from<'a, Rt: Wait, W: Write + Drop>(
     rt: &Rt,
     alloc: Global,
     start: Start,
     interpreter: &mut Interpreter<'a>,
     lines: &mut Lines<'a>,
-    out: &mut W,
+    out: &mut Output<W>,
     more: usize,
 ) -> Result<(), PlayFault> {
     let mut start = start;
@@ -105,13 +101,13 @@ fn play_from<'a, Rt: Wait, W: Write>(
 }
 
 // Plays a store under a new brand, and returns the start of the next one.
-fn play_next<'a, Rt: Wait, W: Write>(
+fn play_next<'a, Rt: Wait, W: Write + Drop>(
     rt: &Rt,
     alloc: Global,
     start: Start,
     interpreter: &mut Interpreter<'a>,
     lines: &mut Lines<'a>,
-    out: &mut W,
+    out: &mut Output<W>,
 ) -> Result<Option<Start>, PlayFault> {
     match Opening::new(alloc) {
         Ok(opening) => play_store::<Brand, Rt, W>(

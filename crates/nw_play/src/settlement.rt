@@ -1,7 +1,8 @@
 //! Settlement, and the store that a script reopens after it.
 use crate::books::Start;
-use crate::fault::{PlayFault, print};
+use crate::fault::PlayFault;
 use crate::lines::Lines;
+use crate::output::Output;
 use crate::player::Player;
 use nw_interpreter::Answer;
 use nw_script::Line;
@@ -12,11 +13,11 @@ use std::io::Write;
 use std::mem::forget;
 
 /// Settles the store with all its sessions and prints the counts. Returns the start of the reopened store if the next line is `reopen`.
-pub fn settle_store<L: Home, W: Write>(
+pub fn settle_store<L: Home, W: Write + Drop>(
     alloc: Global,
     player: Player<L>,
     lines: &mut Lines<'_>,
-    out: &mut W,
+    out: &mut Output<W>,
 ) -> Result<Option<Start>, PlayFault> {
     match settle(player.store, player.sessions) {
         Ok(settled) => finish(alloc, settled, lines, out),
@@ -29,11 +30,11 @@ pub fn settle_store<L: Home, W: Write>(
 }
 
 // Prints the counts of the settlement. Returns the start of the reopened store if the next line is `reopen`.
-fn finish<L: Home, W: Write>(
+fn finish<L: Home, W: Write + Drop>(
     alloc: Global,
     settled: Settled<DemoScheme, L>,
     lines: &mut Lines<'_>,
-    out: &mut W,
+    out: &mut Output<W>,
 ) -> Result<Option<Start>, PlayFault> {
     match is_reopened(alloc, &settled, lines, out) {
         Ok(true) => reopen(alloc, settled, out),
@@ -49,13 +50,13 @@ fn finish<L: Home, W: Write>(
 }
 
 // Prints the counts of the settlement, and returns whether the next line reopens the store. Any other line is bad.
-fn is_reopened<L: Home, W: Write>(
+fn is_reopened<L: Home, W: Write + Drop>(
     alloc: Global,
     settled: &Settled<DemoScheme, L>,
     lines: &mut Lines<'_>,
-    out: &mut W,
+    out: &mut Output<W>,
 ) -> Result<bool, PlayFault> {
-    print(out, &tally(alloc, settled)?)?;
+    out.print(&tally(alloc, settled)?)?;
     match lines.next_line(alloc)? {
         None => Ok(false),
         Some(Line::Reopen) => Ok(true),
@@ -64,10 +65,10 @@ fn is_reopened<L: Home, W: Write>(
 }
 
 // Reopens the settled store. Returns the start of the next store.
-fn reopen<L: Home, W: Write>(
+fn reopen<L: Home, W: Write + Drop>(
     alloc: Global,
     settled: Settled<DemoScheme, L>,
-    out: &mut W,
+    out: &mut Output<W>,
 ) -> Result<Option<Start>, PlayFault> {
     match settled.reopen(alloc) {
         Ok(book) => print_reopened(Start::without_limits_line(book), out),
@@ -79,8 +80,11 @@ fn reopen<L: Home, W: Write>(
 }
 
 // Prints the line of the reopened store, and returns its start.
-fn print_reopened<W: Write>(start: Start, out: &mut W) -> Result<Option<Start>, PlayFault> {
-    match print(out, &Answer::Words("reopened")) {
+fn print_reopened<W: Write + Drop>(
+    start: Start,
+    out: &mut Output<W>,
+) -> Result<Option<Start>, PlayFault> {
+    match out.print(&Answer::Words("reopened")) {
         Ok(()) => Ok(Some(start)),
         Err(fault) => {
             drop(start);

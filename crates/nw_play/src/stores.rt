@@ -4,8 +4,9 @@ ghost use Rattle.nw_store.specs.Journal.{origin_of};
 ghost use Rattle.nw_store.specs.Lock.{parts_of_a_ledger};
 
 use crate::books::{Start, start_with_limits};
-use crate::fault::{PlayFault, print};
+use crate::fault::PlayFault;
 use crate::lines::{Lines, read_line};
+use crate::output::Output;
 use crate::player::Player;
 use crate::settlement::settle_store;
 use nw_interpreter::Interpreter;
@@ -28,14 +29,14 @@ enum End {
 }
 
 /// Plays lines on a new store. Returns the start of the store that continues the script, or `None` at its end.
-pub fn play_store<'a, L: Home, R: Wait, W: Write>(
+pub fn play_store<'a, L: Home, R: Wait, W: Write + Drop>(
     rt: &R,
     alloc: Global,
     opening: Opening<DemoScheme>,
     start: Start,
     interpreter: &mut Interpreter<'a>,
     lines: &mut Lines<'a>,
-    out: &mut W,
+    out: &mut Output<W>,
 ) -> Result<Option<Start>, PlayFault>
     requires log { opening.log ≡ L.log }
     requires ledger { (opening.ledger ≡ L.name) × (L.parts ≡ parts_of_a_ledger) }
@@ -48,13 +49,13 @@ pub fn play_store<'a, L: Home, R: Wait, W: Write>(
 }
 
 // Plays lines on the store until it ends, and then settles, replaces or leaks it.
-fn play_to_end<'a, L: Home, R: Wait, W: Write>(
+fn play_to_end<'a, L: Home, R: Wait, W: Write + Drop>(
     rt: &R,
     alloc: Global,
     mut player: Player<L>,
     interpreter: &mut Interpreter<'a>,
     lines: &mut Lines<'a>,
-    out: &mut W,
+    out: &mut Output<W>,
 ) -> Result<Option<Start>, PlayFault> {
     match play_all(rt, alloc, &mut player, interpreter, lines, out) {
         Ok(End::Settle) => settle_store(alloc, player, lines, out),
@@ -74,13 +75,13 @@ fn play_to_end<'a, L: Home, R: Wait, W: Write>(
 }
 
 // Makes the first session and plays lines.
-fn play_all<'a, L: Home, R: Wait, W: Write>(
+fn play_all<'a, L: Home, R: Wait, W: Write + Drop>(
     rt: &R,
     alloc: Global,
     player: &mut Player<L>,
     interpreter: &mut Interpreter<'a>,
     lines: &mut Lines<'a>,
-    out: &mut W,
+    out: &mut Output<W>,
 ) -> Result<End, PlayFault> {
     match player.add_session(rt, alloc) {
         Ok(_) => play_lines(rt, alloc, player, interpreter, lines, out),
@@ -89,21 +90,22 @@ fn play_all<'a, L: Home, R: Wait, W: Write>(
 }
 
 // Plays lines on the store, up to and including the line that ends it.
-fn play_lines<'a, L: Home, R: Wait, W: Write>(
+fn play_lines<'a, L: Home, R: Wait, W: Write + Drop>(
     rt: &R,
     alloc: Global,
     player: &mut Player<L>,
     interpreter: &mut Interpreter<'a>,
     lines: &mut Lines<'a>,
-    out: &mut W,
+    out: &mut Output<W>,
 ) -> Result<End, PlayFault> {
     for (number, text) in lines.by_ref() {
-        match read_line(alloc, number, text)? {
+        let line = read_line(alloc, number, text)?;
+        match &line {
             Line::Skipped => {}
             Line::Request(request) => {
-                play_request(rt, alloc, player, interpreter, number, &request, out)?;
+                play_request(rt, alloc, player, interpreter, number, request, out)?;
             }
-            line => return end_of(line, player.may_set_limits, number),
+            _ => return end_of(line, player.may_set_limits, number),
         }
     }
     Ok(End::Script)
@@ -119,17 +121,17 @@ fn end_of(line: Line<'_>, may_set_limits: bool, number: usize) -> Result<End, Pl
 }
 
 // Plays the request of the line with this number, and prints the answer.
-fn play_request<'a, L: Home, R: Wait, W: Write>(
+fn play_request<'a, L: Home, R: Wait, W: Write + Drop>(
     rt: &R,
     alloc: Global,
     player: &mut Player<L>,
     interpreter: &mut Interpreter<'a>,
     number: usize,
     request: &Request<'a>,
-    out: &mut W,
+    out: &mut Output<W>,
 ) -> Result<(), PlayFault> {
     match player.answer(rt, alloc, interpreter, request) {
-        Ok(answer) => print(out, &answer),
+        Ok(answer) => out.print(&answer),
         Err(fault) => Err(PlayFault::at(number, fault)),
     }
 }

@@ -120,6 +120,7 @@ pub fn parse_line(alloc: Global, bytes: &[u8]) -> Result<Line<'_>, LineFault> {
 }
 
 // The request with this keyword and these further words.
+#[inline(always)]
 fn read_request<'a>(
     alloc: Global,
     keyword: &[u8],
@@ -168,6 +169,7 @@ fn open<'a>(words: &mut Words<'a>) -> Result<Request<'a>, LineFault> {
 }
 
 // The request with this keyword, which takes one name.
+#[inline(always)]
 fn request_of_name<'a>(keyword: &[u8], name: Name<'a>) -> Request<'a> {
     match keyword {
         b"body" => Request::Body(name),

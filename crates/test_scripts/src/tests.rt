@@ -110,6 +110,24 @@ fn readers_and_writers_fail(rt: HostRuntime) {
     }
 }
 
+// The answers take more than one piece of the player's text (8,192 bytes).
+#[test]
+fn many_answers_are_printed_once_and_in_order(rt: HostRuntime) -> Result<(), Fail> {
+    let alloc = rt.alloc();
+    let (mut script, mut prints) = (SCRIPT.to_vec(alloc)?, PRINTS.to_vec(alloc)?);
+    for number in 0..2000 {
+        script.extend_from_slice(format!(in alloc; "block b{number} 0 0 - x\n")?.as_bytes())?;
+        prints.extend_from_slice(format!(in alloc; "block b{number} 18\n")?.as_bytes())?;
+    }
+    let mut printed = Vec::new(alloc);
+    assert_eq!(rt; play(&rt, alloc, script.as_slice(), &mut printed), Ok(()));
+    assert_eq!(rt; printed.as_slice(), prints.as_slice());
+    let mut page = empty_page(9);
+    let played = play(&rt, alloc, script.as_slice(), &mut page);
+    assert_eq!(rt; (played, page.failed), (Err(PlayFault::Write), 1));
+    Ok(())
+}
+
 #[test]
 fn the_longest_script_is_played_and_a_longer_one_is_not(rt: HostRuntime) -> Result<(), Fail> {
     let script = vec![in rt.alloc(); b'\n'; 2_000_000]?;

@@ -42,8 +42,9 @@ impl<S: Scheme> Book<S> {
         }) }
         ensures unchanged { OnErr result (self.new ≡ self.old) }
     {
+        let mut call = call;
         let reply = self.reply(alloc, &call)?;
-        let call = with_kept(&self.tables, call, &reply)?;
+        share_kept(&self.tables, &mut call, &reply)?;
         let event = Event {
             session,
             number,
@@ -170,33 +171,33 @@ fn read_event(session: u16, number: u32, digest: Digest, reply: Reply) -> Event
     }
 }
 
-/// The call. If the tables have an equal block or certificate, the call shares that one, so that the history keeps no second copy.
-fn with_kept(tables: &Dag, call: Call, reply: &Reply) -> Result<Call, NoMemory>
-    requires reply { IsReply tables.now.bounds tables.now.state call reply.now }
-    ensures { IfOk result (λ shared. shared ≡ call) }
+/// If the tables have an equal block or certificate, the call shares that one from now on, so that the history keeps no second copy.
+fn share_kept(tables: &Dag, call: &mut Call, reply: &Reply) -> Result<(), NoMemory>
+    requires reply { IsReply tables.now.bounds tables.now.state call.old reply.now }
+    ensures { call.new ≡ call.old }
 {
-    match (&call, reply) {
-        (Call::Write(digest, _), Reply::Write(WriteReply::Held)) => match tables.read(digest)? {
-            Some(held) => Ok(Call::Write(*digest, held)),
-            None => Ok(call),
-        },
-        (Call::Certify(certificate), Reply::Certify(CertifyReply::Already)) => {
-            match tables.certificate(&certificate.get().digest)? {
-                Some(kept) => Ok(same_or(Call::Certify(kept), call)),
-                None => Ok(call),
+    match (&*call, reply) {
+        (Call::Write(digest, _), Reply::Write(WriteReply::Held)) => {
+            let digest = *digest;
+            if let Some(held) = tables.read(&digest)? {
+                *call = Call::Write(digest, held);
             }
         }
-        _ => Ok(call),
+        (Call::Certify(certificate), Reply::Certify(CertifyReply::Already)) => {
+            if let Some(kept) = tables.certificate(&certificate.get().digest)? {
+                replace_same(call, Call::Certify(kept));
+            }
+        }
+        _ => {}
     }
+    Ok(())
 }
 
-/// The first call if both are equal, and otherwise the second.
-fn same_or(first: Call, second: Call) -> Call
-    ensures { result ≡ second }
+/// Replaces the call by the other one if both are equal.
+fn replace_same(call: &mut Call, other: Call)
+    ensures { call.new ≡ call.old }
 {
-    if first.is_same(&second) {
-        first
-    } else {
-        second
+    if other.is_same(call) {
+        *call = other;
     }
 }

@@ -32,8 +32,10 @@ const REFUSED: [(CertFault, &str); 2] = [
 /// The line that the answer prints.
 fn line_of(alloc: Global, answer: &Answer<'_>) -> Result<Vec<u8>, Fail> {
     let mut line = Vec::new(alloc);
-    answer.write(&mut line)?;
-    Ok(line)
+    match answer.append_to(&mut line) {
+        Ok(()) => Ok(line),
+        Err(_) => Err(Fail::from("an answer has its text")),
+    }
 }
 
 /// The line for the reply to a call on the named block.

@@ -27,9 +27,7 @@ returns-after-cmp-clause-next c =
     let older : List (Digest × Block) = c.in-Some-Some._older_left.now in
     let is : c.args.newer.now ≡ one ∷ newer = c.in-Some-Some.ensures.cases.0 in
     let are : c.args.older.now ≡ two ∷ older = c.in-Some-Some.ensures'.cases.0 in
-    let first : c.get.result.now ≡ one = c.get.ensures ∙ c.one-in-Some-Some.view_is in
-    let compared : c.cmp.result ≡ digest_cmp one.0 two.0 =
-    c.cmp.ensures ∙ ap (λ (e : Digest × Block). digest_cmp e.0 c.get-in-Some-Some.result.now.0) first ∙ ap (λ (e : Digest × Block). digest_cmp one.0 e.0) c.get-in-Some-Some.ensures in
+    let compared : c.cmp.result ≡ digest_cmp one.0 two.0 = c.cmp.ensures ∙ ap (λ (e : Digest × Block). digest_cmp e.0 two.0) c.one-in-Some-Some.view_is in
     elim c.match-cmp.branch [
       | in-Less w ↦ rw (w.result-is, c.one-in-Some-Some.view_is)
           (newer_next c.args.newer.now one newer c.args.older.now is c.requires.newer c.requires.older (first_below one.0 c.args.older.now two older are c.requires.older (sym compared ∙ w.in-Less.is)))

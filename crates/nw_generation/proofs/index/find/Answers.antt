@@ -21,7 +21,7 @@ returns-in-Equal c =
     let e : Digest × Block = two.1.now in
     let d : Digest = c.args.digest.now in
     let is : two.0.now ++ e ∷ two.2.now ≡ c.loop-heads.left.now = c.split_around-in-loop-heads.ensures.parts in
-    rw c.get.ensures (sym (found_at d e.0 e.1 two.2.now two.0.now (subst Ascend (sym is) c.loop-heads.invariant.1) (sym c.order.ensures ∙ c.in-Equal.is)) ∙ ap (λ es. under es d) is ∙ c.loop-heads.invariant.2)
+    sym (found_at d e.0 e.1 two.2.now two.0.now (subst Ascend (sym is) c.loop-heads.invariant.1) (sym c.order.ensures ∙ c.in-Equal.is)) ∙ ap (λ es. under es d) is ∙ c.loop-heads.invariant.2
 
 pub loop-heads-preserved : goal.loop-heads-preserved
 loop-heads-preserved c =

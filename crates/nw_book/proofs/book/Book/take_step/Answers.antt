@@ -6,7 +6,7 @@ use Rattle.nw_book.proofs.book.Book.take_step.Goals as goal
 
 pub of-requires : goal.of-requires
 of-requires g c is =
-    let e : Event = record { session = c.args.session; number = c.args.number; call = c.in_ok-call.call; reply = c.in_ok-reply.reply } in
+    let e : Event = record { session = c.args.session; number = c.args.number; call = c.share_kept.new.call; reply = c.in_ok-reply.reply } in
     let events : c.in_ok-front.front.events ≡ c.args.self.now.events ++ e ∷ [] = ap (λ (s : Story). s.events) (c.in_ok-front.ensures.front ∙ c.in_ok-front.ensures.history) in
     let event_is = c.of-answer.ensures.event c.args.self.now.events e events in
     not_ready _ _ c.args.call c.in_ok-reply.reply c.requires.no_read c.in_ok-reply.ensures.reply (sym (ap (λ (x : Event). x.reply) event_is) ∙ is)

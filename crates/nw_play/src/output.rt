@@ -1,0 +1,64 @@
+//! Printing the answers of a play.
+
+use crate::fault::{PlayFault, write_outcome};
+use nw_interpreter::Answer;
+use std::alloc::Global;
+use std::io::Write;
+
+// The answers are written when their text has this size.
+const PIECE: usize = 8192;
+
+/// The answers of a play. They are collected in memory and written many at a time.
+#[derive(Drop)]
+pub struct Output<W: Write + Drop> {
+    writer: W,
+    /// The answers that are not written yet.
+    text: Vec<u8>,
+}
+
+impl<W: Write + Drop> Output<W> {
+    /// Answers to the writer, none yet. Allocates nothing.
+    pub fn new(alloc: Global, writer: W) -> Output<W> {
+        Output {
+            writer,
+            text: Vec::new(alloc),
+        }
+    }
+
+    /// Prints the answer on a line. `NoMemory` if an allocation fails; then nothing of the answer is printed. `Write` if the writer fails.
+    pub fn print(&mut self, answer: &Answer<'_>) -> Result<(), PlayFault> {
+        let before = self.text.len();
+        if answer.append_to(&mut self.text).is_err() {
+            self.text.truncate(before);
+            return Err(PlayFault::NoMemory);
+        }
+        if self.text.len() < PIECE {
+            return Ok(());
+        }
+        self.write_text()
+    }
+
+    /// Prints the fault on a line. The errors are those of `print`.
+    pub fn print_fault(&mut self, fault: PlayFault) -> Result<(), PlayFault> {
+        let before = self.text.len();
+        let text = &mut self.text;
+        if writeln!(text, "{fault}").is_err() {
+            self.text.truncate(before);
+            return Err(PlayFault::NoMemory);
+        }
+        Ok(())
+    }
+
+    /// Writes what is not written yet, and flushes the writer. `Write` if the writer fails.
+    pub fn finish(&mut self) -> Result<(), PlayFault> {
+        self.write_text()?;
+        write_outcome(self.writer.flush())
+    }
+
+    // Writes what is not written yet.
+    fn write_text(&mut self) -> Result<(), PlayFault> {
+        let written = self.writer.write_all(&self.text);
+        self.text.clear();
+        write_outcome(written)
+    }
+}
