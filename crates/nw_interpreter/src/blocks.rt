@@ -41,20 +41,20 @@ impl<'a> Interpreter<'a> {
 
     /// The answer with the body of the block in hex. `Bad` if the name is not bound, `NoMemory` if an allocation fails.
     #[inline(never)]
-    pub fn body(&self, alloc: Global, name: Name<'a>) -> Result<Answer<'a>, LineFault> {
+    pub fn body_in_hex(&self, alloc: Global, name: Name<'a>) -> Result<Answer<'a>, LineFault> {
         let text = encode_body(alloc, &self.named_block(name)?.block)?;
         in_hex(alloc, name, text.as_slice())
     }
 
     /// The answer with the digest of the block in hex. `Bad` if the name is not bound, `NoMemory` if an allocation fails.
     #[inline(never)]
-    pub fn digest(&self, alloc: Global, name: Name<'a>) -> Result<Answer<'a>, LineFault> {
+    pub fn digest_in_hex(&self, alloc: Global, name: Name<'a>) -> Result<Answer<'a>, LineFault> {
         let Digest(bytes) = self.digest_of(name)?;
         in_hex(alloc, name, bytes.as_slice())
     }
 
-    /// The check of the block after its message is encoded and decoded. The given member signs it, or its author if none is given. `Bad`
-    /// if the name is not bound, `NoMemory` if an allocation fails.
+    /// Encodes the message of the named block, and returns the result of its check. The given member signs it, or its author if none is
+    /// given. `Bad` if the name is not bound, `NoMemory` if an allocation fails.
     pub fn checked_block(
         &self,
         alloc: Global,

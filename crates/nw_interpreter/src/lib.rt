@@ -1,7 +1,7 @@
 //! Interprets the lines of a script, as far as they need no store: names, numbers, messages, and the printed answers.
 //!
-//! An `Interpreter` holds the committee and the names of a script. It makes the checked values that a call hands in, and the `Answer` to a
-//! request or to the reply of a call. An answer writes itself. No function of this crate takes a lock or waits.
+//! An `Interpreter` holds the committee and the names of a script. It makes the checked values that a call hands in, and the `Answer` that a
+//! request or a reply prints. An answer appends itself to a text. No function of this crate takes a lock or waits.
 //!
 //! It is proved that a committee has the members or weights of its line (`committee`). Worked scripts test the printed answers. Loads
 //! (`nw_load`) take their committee and messages from here too.

@@ -15,7 +15,7 @@ pub struct NamedBlock {
     pub digest: Digest,
 }
 
-// The first named block of a round and author, and its digest.
+// The first named block of a round and author, and its digest. The fields that every walk reads come first, in one cache line.
 #[derive(Drop)]
 struct FirstNamed<'a> {
     name: Name<'a>,

@@ -1,8 +1,8 @@
 //! Answers, and the lines that they print.
 
-use crate::fault::LineFault;
 use itoa::Buffer;
 use nw_check::{BlockFault, CertFault};
+use nw_digest::NoMemory;
 use nw_model::{Counts, Wanted};
 use nw_script::Name;
 use std::fmt::Display;
@@ -95,13 +95,13 @@ impl<'a> Answer<'a> {
 
 impl Answer<'_> {
     /// Appends the answer and a line end to the text. `NoMemory` if an allocation fails. Then the text may have a part of the answer.
-    pub fn append_to(&self, text: &mut Vec<u8>) -> Result<(), LineFault> {
+    pub fn append_to(&self, text: &mut Vec<u8>) -> Result<(), NoMemory> {
         self.append_words(text)?;
         text.push(b'\n')?;
         Ok(())
     }
 
-    fn append_words(&self, text: &mut Vec<u8>) -> Result<(), LineFault> {
+    fn append_words(&self, text: &mut Vec<u8>) -> Result<(), NoMemory> {
         match self {
             Answer::Words(words) => append(text, words),
             Answer::Count { words, number } => {
@@ -145,27 +145,27 @@ impl Answer<'_> {
     }
 }
 
-fn append(text: &mut Vec<u8>, words: &str) -> Result<(), LineFault> {
+fn append(text: &mut Vec<u8>, words: &str) -> Result<(), NoMemory> {
     Ok(text.extend_from_slice(words.as_bytes())?)
 }
 
-fn append_two(text: &mut Vec<u8>, one: &str, two: &str) -> Result<(), LineFault> {
+fn append_two(text: &mut Vec<u8>, one: &str, two: &str) -> Result<(), NoMemory> {
     append(text, one)?;
     append(text, two)
 }
 
 // A space and the word.
-fn append_after_space(text: &mut Vec<u8>, word: &str) -> Result<(), LineFault> {
+fn append_after_space(text: &mut Vec<u8>, word: &str) -> Result<(), NoMemory> {
     text.push(b' ')?;
     append(text, word)
 }
 
-fn append_number(text: &mut Vec<u8>, number: u64) -> Result<(), LineFault> {
+fn append_number(text: &mut Vec<u8>, number: u64) -> Result<(), NoMemory> {
     append(text, Buffer::new().format(number))
 }
 
 // The byte and the number.
-fn append_number_after(text: &mut Vec<u8>, before: u8, number: u64) -> Result<(), LineFault> {
+fn append_number_after(text: &mut Vec<u8>, before: u8, number: u64) -> Result<(), NoMemory> {
     text.push(before)?;
     append_number(text, number)
 }
@@ -175,15 +175,15 @@ fn append_refusal<F: Display>(
     text: &mut Vec<u8>,
     name: Name<'_>,
     fault: &F,
-) -> Result<(), LineFault> {
+) -> Result<(), NoMemory> {
     match write!(text, "{name} refused {fault}") {
         Ok(()) => Ok(()),
-        Err(_) => Err(LineFault::NoMemory),
+        Err(_) => Err(NoMemory),
     }
 }
 
 // The name and the items, each item after a space.
-fn append_list(text: &mut Vec<u8>, name: &str, items: &[&str]) -> Result<(), LineFault> {
+fn append_list(text: &mut Vec<u8>, name: &str, items: &[&str]) -> Result<(), NoMemory> {
     append(text, name)?;
     for item in items {
         append_after_space(text, item)?;
@@ -192,7 +192,7 @@ fn append_list(text: &mut Vec<u8>, name: &str, items: &[&str]) -> Result<(), Lin
 }
 
 // Numbers separated by commas.
-fn append_signers(text: &mut Vec<u8>, name: &str, signers: &[u16]) -> Result<(), LineFault> {
+fn append_signers(text: &mut Vec<u8>, name: &str, signers: &[u16]) -> Result<(), NoMemory> {
     append_two(text, name, " certified by")?;
     let mut before = b' ';
     for signer in signers {
@@ -202,7 +202,7 @@ fn append_signers(text: &mut Vec<u8>, name: &str, signers: &[u16]) -> Result<(),
     Ok(())
 }
 
-fn append_settled(text: &mut Vec<u8>, counts: &[usize]) -> Result<(), LineFault> {
+fn append_settled(text: &mut Vec<u8>, counts: &[usize]) -> Result<(), NoMemory> {
     append(text, "settled")?;
     for count in counts {
         append_number_after(text, b' ', *count as u64)?;
@@ -214,7 +214,7 @@ fn append_missing(
     text: &mut Vec<u8>,
     wanted: &[Wanted],
     names: &[Name<'_>],
-) -> Result<(), LineFault> {
+) -> Result<(), NoMemory> {
     append(text, "missing")?;
     for (parent, name) in wanted.iter().zip(names) {
         append_number_after(text, b' ', parent.round.get())?;
@@ -225,7 +225,7 @@ fn append_missing(
     Ok(())
 }
 
-fn append_status(text: &mut Vec<u8>, counts: &Counts) -> Result<(), LineFault> {
+fn append_status(text: &mut Vec<u8>, counts: &Counts) -> Result<(), NoMemory> {
     let counts = [
         ("status g=", counts.floor.get()),
         (" blocks=", counts.blocks),

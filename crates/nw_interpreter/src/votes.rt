@@ -12,8 +12,9 @@ use nw_sig::DemoScheme;
 use std::alloc::Global;
 
 impl<'a> Interpreter<'a> {
-    /// The check of a certificate for the block, with the signers' votes in the given order, after its message is encoded and decoded.
-    /// `None` if the message is over a limit. `Bad` if the name is not bound, `NoMemory` if an allocation fails.
+    /// Encodes the message of a certificate for the block, with the signers' votes in the given order, and returns the result of its check.
+    /// `None` if the certificate is over a limit or its votes are out of order. `Bad` if the name is not bound, `NoMemory` if an allocation
+    /// fails.
     pub fn checked_certificate(
         &self,
         alloc: Global,

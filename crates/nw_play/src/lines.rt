@@ -66,6 +66,7 @@ impl<'a> Iterator for Lines<'a> {
 }
 
 /// Parses the line, which has this number.
+// A `Line` is large. It is inlined, so that it is made in its place.
 #[inline(always)]
 pub fn read_line(alloc: Global, number: usize, text: &[u8]) -> Result<Line<'_>, PlayFault> {
     match parse_line(alloc, text) {

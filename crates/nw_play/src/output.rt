@@ -5,7 +5,7 @@ use nw_interpreter::Answer;
 use std::alloc::Global;
 use std::io::Write;
 
-// The answers are written when their text has this size.
+// The text of the answers is written when it has at least this many bytes.
 const PIECE: usize = 8192;
 
 /// The answers of a play. They are collected in memory and written many at a time.
@@ -17,7 +17,7 @@ pub struct Output<W: Write + Drop> {
 }
 
 impl<W: Write + Drop> Output<W> {
-    /// Answers to the writer, none yet. Allocates nothing.
+    /// An output to the writer, without answers. Allocates nothing.
     pub fn new(alloc: Global, writer: W) -> Output<W> {
         Output {
             writer,
@@ -38,7 +38,7 @@ impl<W: Write + Drop> Output<W> {
         self.write_text()
     }
 
-    /// Prints the fault on a line. The errors are those of `print`.
+    /// Prints the fault on a line. `NoMemory` if an allocation fails; then nothing of the fault is printed.
     pub fn print_fault(&mut self, fault: PlayFault) -> Result<(), PlayFault> {
         let before = self.text.len();
         let text = &mut self.text;

@@ -52,7 +52,7 @@ impl<L: Home> Player<L> {
     }
 
     /// Plays the request and returns its answer. `Bad` if it can't be played, `NoMemory` if an allocation fails.
-    // A function clears all its locals when it is called, also those of functions that are inlined. So those with large locals are not.
+    // A call clears the locals of the function and of all functions inlined into it. So functions with large locals are not inlined.
     pub fn answer<'a, R: Wait>(
         &mut self,
         rt: &R,
@@ -63,8 +63,8 @@ impl<L: Home> Player<L> {
         self.may_set_limits = false;
         match request {
             Request::Block(line) => interpreter.block(alloc, line),
-            Request::Body(name) => interpreter.body(alloc, *name),
-            Request::Digest(name) => interpreter.digest(alloc, *name),
+            Request::Body(name) => interpreter.body_in_hex(alloc, *name),
+            Request::Digest(name) => interpreter.digest_in_hex(alloc, *name),
             Request::Hash(word) => Interpreter::hash(alloc, word),
             Request::Valid { name, signers } => interpreter.valid(alloc, *name, signers),
             Request::Gather { name, signers } => interpreter.gather(alloc, *name, signers),
@@ -127,7 +127,7 @@ impl<L: Home> Player<L> {
         }
     }
 
-    // Hands in the checked block or certificate of the name, or answers with the rule that it breaks.
+    // Hands in the checked block or certificate of the name, or answers with the rule that it breaks. `Bad` if the message was neither.
     fn hand_in<'a, R: Wait>(
         &mut self,
         rt: &R,
@@ -166,8 +166,8 @@ impl<L: Home> Player<L> {
         }
     }
 
-    // Makes a causal read of the block `name` as the current session's next call, answered under `printed_as`. If the ticket is kept under
-    // that name, it must be free. `Bad` if there is no session.
+    // Makes a causal read of the block `name` as the current session's next call, answered under `printed_as`. If the ticket is kept,
+    // `printed_as` must not be bound to a ticket. `Bad` if it is, if `name` is not bound, or if there is no session.
     fn open<'a, R: Wait>(
         &mut self,
         rt: &R,

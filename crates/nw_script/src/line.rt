@@ -119,7 +119,7 @@ pub fn parse_line(alloc: Global, bytes: &[u8]) -> Result<Line<'_>, LineFault> {
     Err(LineFault::Bad)
 }
 
-// The request with this keyword and these further words.
+// The request with this keyword and these further words. A `Request` is large. It is inlined, so that it is made in its place.
 #[inline(always)]
 fn read_request<'a>(
     alloc: Global,
@@ -168,7 +168,7 @@ fn open<'a>(words: &mut Words<'a>) -> Result<Request<'a>, LineFault> {
     })
 }
 
-// The request with this keyword, which takes one name.
+// The request with this keyword, which takes one name. It is inlined for the same reason.
 #[inline(always)]
 fn request_of_name<'a>(keyword: &[u8], name: Name<'a>) -> Request<'a> {
     match keyword {

@@ -34,7 +34,7 @@ fn line_of(alloc: Global, answer: &Answer<'_>) -> Result<Vec<u8>, Fail> {
     let mut line = Vec::new(alloc);
     match answer.append_to(&mut line) {
         Ok(()) => Ok(line),
-        Err(_) => Err(Fail::from("an answer has its text")),
+        Err(_) => Err(Fail::from("an allocation failed")),
     }
 }
 
