@@ -15,7 +15,7 @@ use std::marker::Model;
 /// Blocks under their digests, ascending. Contracts see the list of entries.
 #[derive(Drop)]
 pub(crate) struct Index {
-    /// The head of each digest: its first two bytes. Heads are adjacent in memory, so that a search follows few pointers.
+    /// The head of each digest: its first two bytes. Heads are small and adjacent in memory, so that a search reads little memory.
     heads: Vec<u16>,
     entries: Vec<Entry>,
     /// The same blocks by round and author.
@@ -75,7 +75,7 @@ impl Index {
 /// The block under the digest, or `None` if there is no such block.
 ///
 /// Digests are spread evenly, so a head tells roughly where its digest is. The search compares heads, which are adjacent in memory.
-/// It follows a pointer only if the heads are equal. If many digests are close together, guesses are poor; so every eighth look halves
+/// It looks at an entry only if the heads are equal. If many digests are close together, guesses are poor; so every eighth look halves
 /// the rest.
 fn find<'a>(heads: &[u16], entries: &'a [Entry], digest: &Digest) -> Option<&'a Shared<Block>>
     requires heads { AreHeads heads.now entries.now }
