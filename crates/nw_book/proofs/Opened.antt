@@ -1,6 +1,6 @@
 -- Tickets: their digests are complete, and walks in their views give the lists of their causal reads.
 use Rattle.std.proofs.Common.{◌≡◌, ℕ, List, [], ◌∷◌, ◌++◌, Result, Ok, Err, ap, sym, subst, ◌∙◌}
-use Rattle.std.specs.Prelude.{Vec, IfOk}
+use Rattle.std.specs.Prelude.{IfOk}
 use Rattle.nw_digest.specs.declared.digest.Digest.{Digest}
 use Rattle.nw_codec.specs.declared.block.Block.{Block}
 use Rattle.nw_sig.specs.Signed.{Meaning}
@@ -65,8 +65,8 @@ opened accepts old front session number d v is legal shows =
       shows = subst (Shows v) (sym same) shows;
     }
 
--- if a walk in a ticket's view succeeds, it is the list of the ticket's causal read
-pub ticket_walks : {Z E : Type 0} (accepts : Meaning) (t : TicketView) (v : Frozen) (r : Result (Vec Block Z) E) → IsTicketWith accepts t v → IfOk r (λ blocks. IsWalk v t.digest blocks.items)
-    → IfOk r (λ blocks. IsReply (bounds_of t.front.limits) (state_of t.front) (calls.Causal t.digest) (replies.List blocks.items))
-ticket_walks accepts t v (Ok blocks) h walked = ticket_walk accepts t v blocks.items h walked
-ticket_walks accepts t v (Err e) h walked = tt
+-- if a walk in a ticket's view succeeds, its blocks are the list of the ticket's causal read
+pub ticket_walks : {W E : Type 0} (blocks : W → List Block) (accepts : Meaning) (t : TicketView) (v : Frozen) (r : Result W E) → IsTicketWith accepts t v → IfOk r (λ walk. IsWalk v t.digest (blocks walk))
+    → IfOk r (λ walk. IsReply (bounds_of t.front.limits) (state_of t.front) (calls.Causal t.digest) (replies.List (blocks walk)))
+ticket_walks blocks accepts t v (Ok walk) h walked = ticket_walk accepts t v (blocks walk) h walked
+ticket_walks blocks accepts t v (Err e) h walked = tt

@@ -1,5 +1,5 @@
 //! Tickets: opened causal reads, which are walked later.
-ghost use Rattle.std.specs.Prelude.{◌≡◌, IfOk};
+ghost use Rattle.std.specs.Prelude.{◌≡◌, IfOk, map};
 ghost use Rattle.nw_model.specs.Step.{IsReply};
 ghost use Rattle.nw_model.specs.View.{Shows};
 ghost use Rattle.nw_model.specs.declared.call.Call.TheVariants as Call;
@@ -7,7 +7,7 @@ ghost use Rattle.nw_model.specs.declared.reply.Reply.TheVariants as Reply;
 ghost use Rattle.nw_history.specs.Story.{bounds_of, state_of};
 ghost use Rattle.nw_book.specs.Ticket.{IsAgreed, IsTicket, IsTicketWith};
 
-use nw_causal::{Agreement, agree, walk};
+use nw_causal::{Agreement, agree, walk, walk_lent};
 use nw_codec::Block;
 use nw_digest::{Digest, NoMemory, Shared};
 use nw_generation::View;
@@ -88,6 +88,18 @@ impl<S: Scheme> Ticket<S> {
         ensures ticket { IsTicket S.accepts self.now }
     {
         walk(alloc, &self.view, self.digest)
+    }
+
+    /// The same list, with blocks that the ticket lends. It takes no owner of a block, so it takes less time.
+    ///
+    /// `NoMemory`: an allocation failed. A later walk may succeed.
+    pub fn walk_lent(&self, alloc: Global) -> Result<Vec<&Shared<Block>>, NoMemory>
+        ensures list { IfOk result (λ blocks. IsReply (bounds_of self.now.front.limits)
+            (state_of self.now.front) (Call.Causal self.now.digest)
+            (Reply.List (map (λ b. b.now) blocks.items))) }
+        ensures ticket { IsTicket S.accepts self.now }
+    {
+        walk_lent(alloc, &self.view, &self.digest)
     }
 
     /// Compares the lists of two tickets for one digest, which may come from two books. Their fronts must leave the same garbage round.

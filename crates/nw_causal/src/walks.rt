@@ -1,5 +1,5 @@
 //! Walks: lists of the ancestors of a digest in a view.
-ghost use Rattle.std.specs.Prelude.{◌≡◌, ◌+◌, ◌≤◌, IfOk, OnOk, [], All, length};
+ghost use Rattle.std.specs.Prelude.{◌≡◌, ◌+◌, ◌≤◌, IfOk, OnOk, [], All, length, map};
 ghost use Rattle.std.specs.List.Sorted.{IsBinarySearchResult, IsSearchInRange};
 ghost use Rattle.std.specs.Ordering.{nat_cmp};
 ghost use Rattle.nw_model.specs.View.{HasParent, IsClosed, HasBlock, IsWalk};
@@ -24,10 +24,30 @@ pub fn walk(alloc: Global, view: &View, digest: Digest) -> Result<Vec<Shared<Blo
     requires { (b : Block) × HasBlock view.now.frozen digest b }
     ensures { IfOk result (λ blocks. IsWalk view.now.frozen digest blocks.items) }
 {
-    let found = ancestors(alloc, view, &digest)?;
+    let lent = walk_lent(alloc, view, &digest)?;
+    let mut blocks = Vec::with_capacity(alloc, lent.len())?;
+    for block in lent {
+        blocks.push(block.try_clone()?)?;
+    }
+    Ok(blocks)
+}
+
+/// The same walk, with blocks that the view lends. It takes no owner of a block.
+///
+/// `NoMemory`: an allocation failed.
+pub fn walk_lent<'a>(
+    alloc: Global,
+    view: &'a View,
+    digest: &'a Digest,
+) -> Result<Vec<&'a Shared<Block>>, NoMemory>
+    requires { (b : Block) × HasBlock view.now.frozen digest.now b }
+    ensures { IfOk result
+        (λ blocks. IsWalk view.now.frozen digest.now (map (λ b. b.now) blocks.items)) }
+{
+    let found = ancestors(alloc, view, digest)?;
     let mut blocks = Vec::with_capacity(alloc, found.len())?;
     for ancestor in found.iter().rev() {
-        blocks.push(ancestor.block.try_clone()?)?;
+        blocks.push(ancestor.block)?;
     }
     Ok(blocks)
 }

@@ -3,6 +3,7 @@ ghost use Rattle.std.specs.Prelude.{◌≡◌, ◌↔◌, IfOk, IsTrue};
 ghost use Rattle.std.specs.FinMap as map;
 ghost use Rattle.nw_model.specs.State.{opening};
 ghost use Rattle.nw_model.specs.Paths.{IsComplete};
+ghost use Rattle.nw_model.specs.Sound.{IsSound};
 ghost use Rattle.nw_model.specs.Missing.{AreFirstWanted, AreCounts};
 
 mod calls;
@@ -69,7 +70,8 @@ impl Dag {
     /// Whether the digest is complete: it stands, and each ancestor above the garbage round has all its references satisfied. It looks
     /// up no other digest.
     pub fn is_complete(&self, digest: &Digest) -> bool
-        ensures { IsTrue result ↔ IsComplete self.now.state digest.now }
+        ensures complete { IsTrue result ↔ IsComplete self.now.state digest.now }
+        ensures sound { IsTrue result → IsSound self.now.state }
     {
         is_ready(&self.held, &self.waits.lacking, *digest)
     }

@@ -120,17 +120,13 @@ impl<'a> Interpreter<'a> {
         name: Name<'a>,
         ticket: &Ticket<DemoScheme>,
     ) -> Result<Answer<'a>, LineFault> {
-        let walked = ticket.walk(alloc)?;
-        let names = self.names_of(alloc, &walked);
-        drop(walked);
-        Ok(Answer::Listed {
-            name,
-            names: names?,
-        })
+        let walked = ticket.walk_lent(alloc)?;
+        let names = self.names_of(alloc, &walked)?;
+        Ok(Answer::Listed { name, names })
     }
 
     // The first names of the blocks, each after a space.
-    fn names_of(&self, alloc: Global, blocks: &[Shared<Block>]) -> Result<Vec<u8>, LineFault> {
+    fn names_of(&self, alloc: Global, blocks: &[&Shared<Block>]) -> Result<Vec<u8>, LineFault> {
         let mut names = Vec::new(alloc);
         for block in blocks {
             names.push(b' ')?;

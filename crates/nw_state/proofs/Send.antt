@@ -11,16 +11,16 @@ use Rattle.nw_codec.specs.contracts.block.Block as block
 use Rattle.nw_codec.proofs.block.Block.TheSendSync as block_crosses
 use Rattle.nw_codec.specs.contracts.certificate.Certificate as certificate
 use Rattle.nw_codec.proofs.certificate.Certificate.TheSendSync as certificate_crosses
-use Rattle.nw_trie.specs.contracts.trie.Trie as trie
-use Rattle.nw_trie.proofs.Send.{trie_send}
+use Rattle.nw_trie.specs.contracts.map.DigestMap as map
+use Rattle.nw_trie.proofs.Send.{map_send}
 use Rattle.nw_rounds.proofs.rounds.Rounds.TheSendSync as rounds
 use Rattle.nw_state.specs.contracts.tables.StateTables as held
 use Rattle.nw_state.specs.contracts.tables.StateTables.TheInside as held_inside
 
--- a trie of shared values may be sent if the values may
-shared_send : (V : RattleType) → IsSend V → IsSync V → IsSend (trie.the_row (owner.the_row V) global.the_row ghosts)
+-- a map of shared values may be sent if the values may
+shared_send : (V : RattleType) → IsSend V → IsSync V → IsSend (map.the_row (owner.the_row V) global.the_row ghosts)
 shared_send V value_send value_sync =
-    trie_send (owner.the_row V) global.the_row ghosts (owner_crosses.the_send V value_send value_sync) (owner_crosses.the_sync V value_send value_sync) send sync frees
+    map_send (owner.the_row V) global.the_row ghosts (owner_crosses.the_send V value_send value_sync) send frees
 
 pub held_send : IsSend held.the_row
 held_send = view_send held_inside.the_row _ _ _ _ (declared_send held_inside.the_type (

@@ -19,15 +19,15 @@ use nw_codec::{Block, Certificate};
 use nw_digest::{Digest, NoMemory, Round, Shared};
 use nw_model::Wanted;
 use nw_rounds::Rounds;
-use nw_trie::Trie;
+use nw_trie::DigestMap;
 use std::alloc::Global;
 use std::marker::Model;
 
 /// The blocks, certificates and slots of one state, with the bounds of a store. Contracts see the state and the bounds.
 #[derive(Drop)]
 pub struct StateTables {
-    blocks: Trie<Shared<Block>, Global>,
-    certificates: Trie<Shared<Certificate>, Global>,
+    blocks: DigestMap<Shared<Block>, Global>,
+    certificates: DigestMap<Shared<Certificate>, Global>,
     /// The first and the certified digest of each round and author.
     slots: Rounds<Global>,
     floor: Round,
@@ -64,8 +64,8 @@ impl StateTables {
         } }
     {
         StateTables {
-            blocks: Trie::new_in(alloc),
-            certificates: Trie::new_in(alloc),
+            blocks: DigestMap::new_in(alloc),
+            certificates: DigestMap::new_in(alloc),
             slots: Rounds::new_in(alloc),
             floor: Round::ZERO,
             limit: blocks,

@@ -9,3 +9,5 @@ pub mod Removals
 pub mod After
 pub mod Send
 pub mod Descents
+pub mod Halves
+pub mod Places

@@ -38,15 +38,15 @@ module _ {V : Type 0} where
   entries_filter : (test : Digest × V → Bool) (es : List (Digest × V)) → AreEntries es → AreEntries (filter test es)
   entries_filter test es h = record { ascending = sorted_filter test es h.ascending; bytes = each_filter _ test es h.bytes }
 
-  remove_past : (test : Digest → Bool) (l r : List (Digest × V)) → EachKey (λ k. test k ≡ false) l → remove_entry test (l ++ r) ≡ l ++ remove_entry test r
+  pub remove_past : (test : Digest → Bool) (l r : List (Digest × V)) → EachKey (λ k. test k ≡ false) l → remove_entry test (l ++ r) ≡ l ++ remove_entry test r
   remove_past test [] r h = refl
   remove_past test (e ∷ l) r h = rw h.0 (ap (λ es. e ∷ es) (remove_past test l r h.1))
 
-  remove_none : (test : Digest → Bool) (es : List (Digest × V)) → EachKey (λ k. test k ≡ false) es → remove_entry test es ≡ es
+  pub remove_none : (test : Digest → Bool) (es : List (Digest × V)) → EachKey (λ k. test k ≡ false) es → remove_entry test es ≡ es
   remove_none test [] h = refl
   remove_none test (e ∷ es) h = rw h.0 (ap (λ rest. e ∷ rest) (remove_none test es h.1))
 
-  remove_before : (test : Digest → Bool) (l r : List (Digest × V)) → EachKey (λ k. test k ≡ false) r → remove_entry test (l ++ r) ≡ remove_entry test l ++ r
+  pub remove_before : (test : Digest → Bool) (l r : List (Digest × V)) → EachKey (λ k. test k ≡ false) r → remove_entry test (l ++ r) ≡ remove_entry test l ++ r
   remove_before test [] r h = remove_none test r h
   remove_before test (e ∷ l) r h =
       elim (test e.0) as (λ b. cond b (l ++ r) (e ∷ remove_entry test (l ++ r)) ≡ cond b l (e ∷ remove_entry test l) ++ r) [

@@ -4,3 +4,4 @@ pub mod After
 pub mod Tree
 pub mod TreeFalls
 pub mod Lent
+pub mod Places

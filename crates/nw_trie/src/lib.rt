@@ -5,8 +5,10 @@
 
 mod bits;
 mod iter;
+mod map;
 mod tree;
 mod trie;
 
 pub use iter::Iter;
+pub use map::DigestMap;
 pub use trie::Trie;

@@ -15,6 +15,8 @@ ghost use Rattle.nw_trie.specs.contracts.tree.Sides as sides;
 ghost use Rattle.nw_trie.specs.Tree.{side_of, with_side};
 
 mod descent;
+mod halves;
+mod insertion;
 mod removal;
 
 use crate::bits::{first_difference, is_set, note_bytes};
@@ -101,16 +103,6 @@ impl<V: Drop, A: Allocator> Tree<V, A> {
         }
     }
 
-    /// A box for a fork, with empty sides, or `None` if an allocation fails.
-    pub(crate) fn spare(alloc: &A) -> Option<Box<Sides<V, A>, A>>
-    where
-        A: Clone,
-    {
-        let alloc = alloc.clone().ok()?;
-        let (left, right) = (Tree::empty(), Tree::empty());
-        Box::new(alloc, Sides { left, right }).ok()
-    }
-
     /// Whether the tree is empty.
     pub(crate) fn is_empty(&self) -> bool
         ensures { MatchBool result (self.now ≡ []) (0 < length self.now) }
@@ -168,107 +160,6 @@ impl<V: Drop, A: Allocator> Tree<V, A> {
             return Some(found);
         }
         right.first()
-    }
-
-    /// The first bit at which the digest differs from the digest nearest to it, or `None` if the tree has the digest.
-    pub(crate) fn branch(&self, digest: &Digest) -> Option<u8>
-        requires { 0 < length self.now }
-        ensures { MatchOption result (HasKey digest.now self.now)
-            (λ bit. BranchesAt digest.now bit self.now) }
-    {
-        let mut near = self;
-        while let Link::Fork(bit, sides) = &near.link {
-            let Sides { left, right } = &**sides;
-            near = if is_set(digest, *bit) { right } else { left };
-        }
-        let Link::Leaf(leaf) = &near.link else {
-            return None;
-        };
-        let Entry {
-            digest: key,
-            value: _,
-        } = &**leaf;
-        first_difference(digest, key)
-    }
-
-    /// Replaces the value of the digest, and returns the old value.
-    pub(crate) fn replace(&mut self, digest: &Digest, value: V) -> V
-        requires { HasKey digest.now self.old }
-        ensures old { lookup (is_at (digest_cmp digest.now)) self.old ≡ Some result }
-        ensures entries { self.new ≡ insert_entry digest_cmp self.old digest.now value }
-        ensures len { length self.new ≡ length self.old }
-    {
-        match &mut self.link {
-            Link::Empty => unreachable!(),
-            Link::Leaf(leaf) => mem::replace(&mut leaf.value, value),
-            Link::Fork(bit, sides) => {
-                let Sides { left, right } = &mut **sides;
-                if is_set(digest, *bit) {
-                    right.replace(digest, value)
-                } else {
-                    left.replace(digest, value)
-                }
-            }
-        }
-    }
-
-    /// Inserts the leaf at a new fork at this bit, which must be the result of `branch` for the digest.
-    pub(crate) fn graft(
-        &mut self,
-        digest: &Digest,
-        bit: u8,
-        fork: Box<Sides<V, A>, A>,
-        leaf: Tree<V, A>,
-    )
-        requires branches { BranchesAt digest.now bit self.old }
-        requires leaf { (value : V) × (leaf ≡ (digest.now, value) ∷ []) }
-        ensures entries { (value : V) → leaf ≡ (digest.now, value) ∷ []
-            → self.new ≡ insert_entry digest_cmp self.old digest.now value }
-        ensures len { length self.new ≡ length self.old + 1 }
-    {
-        if let Link::Fork(at, sides) = &mut self.link {
-            if *at < bit {
-                let side = sides.side_mut(is_set(digest, *at));
-                side.graft(digest, bit, fork, leaf);
-                return;
-            }
-        }
-        self.split(digest, bit, fork, leaf);
-    }
-
-    /// Makes a fork at this bit, with the leaf on one side and all other entries on the other. This must be the first bit at
-    /// which the leaf's digest differs from each of theirs.
-    fn split(&mut self, digest: &Digest, bit: u8, fork: Box<Sides<V, A>, A>, leaf: Tree<V, A>)
-        requires differ { EachKey (λ k. DifferFirst bit digest.now k) self.old }
-        requires full { 0 < length self.old }
-        requires leaf { (value : V) × (leaf ≡ (digest.now, value) ∷ []) }
-        ensures entries { (value : V) → leaf ≡ (digest.now, value) ∷ []
-            → self.new ≡ insert_entry digest_cmp self.old digest.now value }
-        ensures len { length self.new ≡ length self.old + 1 }
-    {
-        let _ = &self.link;
-        let old = mem::replace(self, Tree::empty());
-        *self = if is_set(digest, bit) {
-            Tree::forked(fork, bit, old, leaf)
-        } else {
-            Tree::forked(fork, bit, leaf, old)
-        };
-    }
-
-    /// A fork at this bit with these sides, in the given box.
-    fn forked(
-        mut sides: Box<Sides<V, A>, A>,
-        bit: u8,
-        left: Tree<V, A>,
-        right: Tree<V, A>,
-    ) -> Tree<V, A>
-        requires fork { IsFork bit left right }
-        requires entries { AreEntries (left ++ right) }
-        ensures { result ≡ left ++ right }
-    {
-        let _empty = Box::replace(&mut sides, Sides { left, right });
-        let link = Link::Fork(bit, sides);
-        Tree { link }
     }
 }
 

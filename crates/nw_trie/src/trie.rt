@@ -106,24 +106,16 @@ impl<V: Drop, A: Allocator> Trie<V, A> {
         ensures absent { OnErr result (lookup (is_at (digest_cmp digest)) self.old ≡ None) }
         ensures unchanged { OnErr result (self.new ≡ self.old) }
     {
-        if self.tree.is_empty() {
-            return self.insert_first(digest, value);
-        }
-        let Some(bit) = self.tree.branch(&digest) else {
-            return Ok(Some(self.tree.replace(&digest, value)));
-        };
-        if self.len == usize::MAX {
+        if self.len == usize::MAX && self.get(&digest).is_none() {
             return Err((NoMemory, value));
         }
-        let Some(fork) = Tree::spare(&self.alloc) else {
-            return Err((NoMemory, value));
-        };
-        match Tree::leaf(&self.alloc, digest, value) {
+        match self.tree.insert(&self.alloc, digest, value) {
             Err(value) => Err((NoMemory, value)),
-            Ok(leaf) => {
-                self.tree.graft(&digest, bit, fork, leaf);
-                self.len += 1;
-                Ok(None)
+            Ok(old) => {
+                if old.is_none() {
+                    self.len += 1;
+                }
+                Ok(old)
             }
         }
     }
@@ -140,26 +132,6 @@ impl<V: Drop, A: Allocator> Trie<V, A> {
         match self.insert(digest, value) {
             Ok(_before) => Ok(()),
             Err((refused, _value)) => Err(refused),
-        }
-    }
-
-    /// The same as `insert`, for an empty trie.
-    fn insert_first(&mut self, digest: Digest, value: V) -> Result<Option<V>, (NoMemory, V)>
-    where
-        A: Clone,
-        requires { self.old ≡ [] }
-        ensures entries { OnOk result (self.new ≡ insert_entry digest_cmp [] digest value) }
-        ensures new { IfOk result (λ old. old ≡ None) }
-        ensures value_returned { IfErr result (λ refused. refused.1 ≡ value) }
-        ensures unchanged { OnErr result (self.new ≡ self.old) }
-    {
-        match Tree::leaf(&self.alloc, digest, value) {
-            Err(refused) => Err((NoMemory, refused)),
-            Ok(leaf) => {
-                self.tree = leaf;
-                self.len = 1;
-                Ok(None)
-            }
         }
     }
 

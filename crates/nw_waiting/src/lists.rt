@@ -1,5 +1,6 @@
 //! Maps from keys to lists.
-ghost use Rattle.std.specs.Prelude.{◌≡◌, [], ◌∷◌, ◌++◌, ◌&&◌};
+ghost use Rattle.std.specs.Prelude.{◌≡◌, ◌<◌, [], ◌∷◌, ◌++◌, ◌&&◌};
+ghost use Rattle.std.specs.Vec.{vec_len, vec_capacity};
 ghost use Rattle.std.specs.Prelude.{OnOk, OnErr, filter, not, if◌then◌else◌};
 ghost use Rattle.std.specs.BTreeMap.{get, is_at, IsOrdered};
 ghost use Rattle.std.specs.List.{IsDistinct, list_any};
@@ -10,8 +11,20 @@ use nw_digest::NoMemory;
 use std::alloc::Allocator;
 use std::collections::BTreeMap;
 
-/// The capacity of a new list.
-const ROOM: usize = 4;
+/// Makes room for one more value. An empty list gets room for just one, since most lists stay that short.
+///
+/// `NoMemory` if an allocation fails. The values stay the same in any case.
+pub fn make_room<V: Copy, A: Allocator>(list: &mut Vec<V, A>) -> Result<(), NoMemory>
+    ensures items { list.new.items ≡ list.old.items }
+    ensures room { OnOk result (vec_len list.new < vec_capacity list.new) }
+{
+    if list.is_empty() {
+        list.reserve_exact(1)?;
+    } else {
+        list.reserve(1)?;
+    }
+    Ok(())
+}
 
 /// Appends the value to the list of the key. If an allocation fails, each list keeps the values that it had.
 pub fn add<K: Ord + Copy, V: Copy, A: Allocator + Copy>(
@@ -32,7 +45,7 @@ pub fn add<K: Ord + Copy, V: Copy, A: Allocator + Copy>(
 {
     let list = lists
         .entry(key)?
-        .or_try_insert_with(|| Vec::with_capacity(alloc, ROOM))?;
+        .or_try_insert_with(|| Vec::with_capacity(alloc, 1))?;
     list.push(value)?;
     Ok(())
 }

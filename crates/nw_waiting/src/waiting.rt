@@ -5,7 +5,7 @@ ghost use Rattle.std.specs.FinSet as set;
 ghost use Rattle.nw_waiting.specs.Pairs.{AreFirst, AreHolders, LacksCount, WantedCount};
 ghost use Rattle.nw_waiting.specs.Pairs.{without_holder, without_wanted};
 
-use crate::lists::{add, has, remove_from_each};
+use crate::lists::{add, has, make_room, remove_from_each};
 use nw_digest::{Digest, NoMemory};
 use nw_model::Wanted;
 use std::alloc::{AllocError, Allocator, Global};
@@ -60,7 +60,7 @@ impl<A: Allocator + Copy> Waiting<A> {
         if has(missing, &wanted) {
             return Ok(());
         }
-        missing.reserve(1)?;
+        make_room(missing)?;
         add(&mut self.holders, self.alloc, wanted, holder)?;
         missing.push_reserved(wanted);
         Ok(())

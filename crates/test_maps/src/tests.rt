@@ -7,6 +7,7 @@ use std::process::Abort;
 
 mod chunks;
 mod log;
+mod map;
 mod rounds;
 mod trie;
 mod waiting;

@@ -54,16 +54,16 @@ impl Dag {
             (λ refusal. IsCausalReply self.now.state digest.now (Reply.Causal refusal)) }
         ensures sound { IsSound self.now.state }
     {
+        if self.is_complete(digest) {
+            return None;
+        }
         if self.held.block(digest).is_none() {
             return Some(CausalReply::Unknown);
         }
         if self.held.certificate(digest).is_none() {
             return Some(CausalReply::Uncertified);
         }
-        if !self.is_complete(digest) {
-            return Some(CausalReply::Incomplete);
-        }
-        None
+        Some(CausalReply::Incomplete)
     }
 
     /// The reply that a causal read would get now, with `Ready` in place of a list.

@@ -1,4 +1,4 @@
-//! Dropping the values of lower rounds from a trie.
+//! Dropping the values of lower rounds from a map.
 ghost use Rattle.std.specs.Prelude.{◌↔◌, IsTrue, [], ◌∷◌};
 ghost use Rattle.std.specs.List.Sorted.{IsStrictlySortedBy};
 ghost use Rattle.std.specs.Map.{keys_of, lookup};
@@ -7,12 +7,12 @@ ghost use Rattle.nw_digest.specs.Order.{digest_cmp};
 ghost use Rattle.nw_state.specs.Dropping.{DropsBelow, IsBelowRound};
 
 use nw_digest::{Digest, InRound, Round};
-use nw_trie::Trie;
+use nw_trie::DigestMap;
 use std::alloc::Global;
 
 /// Drops the values of these digests that belong to rounds below this one.
 pub(super) fn drop_below<V: InRound + Drop>(
-    entries: &mut Trie<V, Global>,
+    entries: &mut DigestMap<V, Global>,
     digests: &[Digest],
     round: Round,
 )
@@ -25,7 +25,11 @@ pub(super) fn drop_below<V: InRound + Drop>(
 }
 
 /// Drops the value of the digest if it belongs to a round below this one.
-fn drop_if_below<V: InRound + Drop>(entries: &mut Trie<V, Global>, digest: &Digest, round: Round)
+fn drop_if_below<V: InRound + Drop>(
+    entries: &mut DigestMap<V, Global>,
+    digest: &Digest,
+    round: Round,
+)
     requires { IsStrictlySortedBy digest_cmp (keys_of entries.old) }
     ensures { DropsBelow V.round_of round (digest.now ∷ []) entries.old entries.new }
 {
@@ -35,7 +39,11 @@ fn drop_if_below<V: InRound + Drop>(entries: &mut Trie<V, Global>, digest: &Dige
 }
 
 /// Whether the digest has a value of a round below this one.
-fn is_below<V: InRound + Drop>(entries: &Trie<V, Global>, digest: &Digest, round: Round) -> bool
+fn is_below<V: InRound + Drop>(
+    entries: &DigestMap<V, Global>,
+    digest: &Digest,
+    round: Round,
+) -> bool
     ensures { IsTrue result
         ↔ IsBelowRound V.round_of round (lookup (is_at (digest_cmp digest.now)) entries.now) }
 {

@@ -1,8 +1,8 @@
-//! Examples of the tables: a trie, slots, and wanted parents.
+//! Examples of the tables: a trie, a map, slots, and wanted parents.
 use super::*;
 use nw_model::Wanted;
 use nw_rounds::Rounds;
-use nw_trie::Trie;
+use nw_trie::{DigestMap, Trie};
 use nw_waiting::Waiting;
 
 /// Inserts the value. If memory runs out, inserts the value that the first attempt returned.
@@ -37,6 +37,21 @@ fn a_trie_of_three_keys(rt: HostRuntime) {
     assert!(rt; has(&trie, &[(k1, 9), (k2, 2), (k3, 3)]));
     assert_eq!(rt; trie.remove(&k2), Some(2));
     assert_eq!(rt; trie.len(), 2);
+}
+
+#[test]
+fn a_map_of_three_keys(rt: HostRuntime) {
+    let (k1, k2, k3) = (digest(0, 0), digest(0, 1), digest(128, 0));
+    let mut map = DigestMap::new_in(rt.alloc());
+    for (key, value) in [(k1, 1), (k2, 2), (k3, 3), (k1, 9)] {
+        assert_eq!(rt; retry!(NoMemory, map.put(key, value)), Ok(()));
+    }
+    assert_eq!(rt; map.len(), 3);
+    for (key, value) in [(k1, 9), (k2, 2), (k3, 3)] {
+        assert_eq!(rt; map.get(&key).copied(), Some(value));
+        assert_eq!(rt; map.remove(&key), Some(value));
+    }
+    assert_eq!(rt; map.len(), 0);
 }
 
 /// Makes the digest the first of round 3 and the author. Returns `false` if there is one already.

@@ -6,7 +6,7 @@ use nw_dag::{Dag, DagLimits};
 use nw_generation::{Generation, View, freeze};
 use nw_plain::{Base, Plain};
 use nw_rounds::Rounds;
-use nw_trie::Trie;
+use nw_trie::{DigestMap, Trie};
 use nw_waiting::Waiting;
 use samples::{Blocks, older, shared_block, view_of_both};
 
@@ -62,6 +62,20 @@ fn tries_pass(alloc: Global) -> Result<bool, NoMemory> {
         && Trie::<u64, Global>::new_in(alloc).is_empty();
     allow_allocations(alloc);
     Ok(are_right)
+}
+
+/// Whether a map's calls allocate nothing, except the insertion of a new key.
+fn maps_pass(alloc: Global) -> Result<bool, NoMemory> {
+    let (present, absent) = (digest(1, 0), digest(2, 0));
+    let mut map = DigestMap::new_in(alloc);
+    retry!(NoMemory, map.put(present, 1))?;
+    fail_allocations(alloc);
+    let replaced = map.put(present, 2).is_ok();
+    let read = map.get(&present) == Some(&2) && map.get(&absent).is_none() && map.len() == 1;
+    let removed = map.remove(&present) == Some(2) && map.remove(&present).is_none();
+    let is_new = DigestMap::<u64, Global>::new_in(alloc).len() == 0;
+    allow_allocations(alloc);
+    Ok(replaced && read && removed && is_new && map.len() == 0)
 }
 
 /// The first and the certified digest of round 3 and author 1.
@@ -175,6 +189,7 @@ fn bases_pass(alloc: Global) -> bool {
 fn calls_without_allocation(rt: HostRuntime) {
     let alloc = rt.alloc();
     assert_eq!(rt; tries_pass(alloc), Ok(true));
+    assert_eq!(rt; maps_pass(alloc), Ok(true));
     assert_eq!(rt; slots_pass(alloc), Ok(true));
     assert_eq!(rt; holders_pass(alloc), Ok(true));
     assert_eq!(rt; views_pass(alloc), Ok(true));

@@ -5,4 +5,4 @@ pub walk-requires : goal.walk-requires
 walk-requires g c = ticket_there g.S.Scheme.accepts _ _ c.self.invariant
 
 pub returns-clause-list : goal.returns-clause-list
-returns-clause-list g c = rw (← c.self.view_is) (ticket_walks g.S.Scheme.accepts _ _ _ c.self.invariant c.walk.ensures)
+returns-clause-list g c = rw (← c.self.view_is) (ticket_walks (λ walk. walk.items) g.S.Scheme.accepts _ _ _ c.self.invariant c.walk.ensures)

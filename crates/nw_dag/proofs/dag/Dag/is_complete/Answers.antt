@@ -1,8 +1,8 @@
 use Rattle.nw_dag.proofs.Complete.{complete_ready, ready_complete}
 use Rattle.nw_dag.proofs.dag.Dag.is_complete.Goals as goal
 
-pub returns : goal.returns
-returns c =
+pub returns-clause-complete : goal.returns-clause-complete
+returns-clause-complete c =
     let s = c.self.inside.held.state in
     let lacking = c.self.inside.waits.lacking in
     let promoted = c.self.invariant.settled.settling.promoted in

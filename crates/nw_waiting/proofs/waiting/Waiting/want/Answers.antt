@@ -25,18 +25,18 @@ returns-then-has-clause-added g c =
     c.self.view_is ∙ insert_same c.args.self.now c.args.wanted c.args.holder (sym (missing_member (λ v. v.items) (λ v. v.items) c.self.inside.holders.entries c.self.inside.missing.entries c.self.invariant c.args.self.now c.self.view_is c.args.wanted c.args.holder)
     ∙ ap (list_any (eq_by_cmp wanted_cmp c.args.wanted)) (sym (c.deref.ensures.value ∙ was)) ∙ sym c.has.ensures ∙ c.if-has.true)
 
-pub invariant_of-self-in_err-reserve : goal.invariant_of-self-in_err-reserve
-invariant_of-self-in_err-reserve g c =
+pub invariant_of-self-in_err-make_room : goal.invariant_of-self-in_err-make_room
+invariant_of-self-in_err-make_room g c =
     let was : c.or_insert-missing.result.now.items ≡ list_of (λ v. v.items) (get digest_cmp c.self.inside.missing c.args.holder) = grind (arith, common_steps) in
     kept (λ v. v.items) (λ v. v.items) c.self.inside.holders.entries c.self.inside.missing.entries c.self.invariant c.args.self.now c.self.view_is c.self.inside.holders.entries _ (λ w. refl)
-    (rewritten digests_total (λ v. v.items) c.self.inside.missing.entries _ c.args.holder c.reserve.new.self (λ q. grind (arith, c.in_ok-self-inside.ensures.update.0 c.reserve.new.self)) (c.in_err-reserve.ensures.items ∙ was))
+    (rewritten digests_total (λ v. v.items) c.self.inside.missing.entries _ c.args.holder c.make_room.new.list (λ q. grind (arith, c.in_ok-self-inside.ensures.update.0 c.make_room.new.list)) (c.in_err-make_room.ensures.items ∙ was))
     c.self.invariant.filled c.self.invariant.ordered
 
 pub invariant_of-self-in_err-add : goal.invariant_of-self-in_err-add
 invariant_of-self-in_err-add g c =
     let was : c.or_insert-missing.result.now.items ≡ list_of (λ v. v.items) (get digest_cmp c.self.inside.missing c.args.holder) = grind (arith, common_steps) in
     kept (λ v. v.items) (λ v. v.items) c.self.inside.holders.entries c.self.inside.missing.entries c.self.invariant c.args.self.now c.self.view_is c.add.new.lists.entries _ c.in_err-add.ensures.kept
-    (rewritten digests_total (λ v. v.items) c.self.inside.missing.entries _ c.args.holder c.reserve.new.self (λ q. grind (arith, c.in_ok-self-inside.ensures.update.0 c.reserve.new.self)) (c.in_ok-reserve.ensures.items ∙ was))
+    (rewritten digests_total (λ v. v.items) c.self.inside.missing.entries _ c.args.holder c.make_room.new.list (λ q. grind (arith, c.in_ok-self-inside.ensures.update.0 c.make_room.new.list)) (c.in_ok-make_room.ensures.items ∙ was))
     (c.add.ensures.filled c.self.invariant.filled) c.add.ensures.ordered
 
 pub returns-in_err-add-clause-unchanged : goal.returns-in_err-add-clause-unchanged
@@ -49,7 +49,7 @@ invariant_of-self-2 g c =
     added (λ v. v.items) (λ v. v.items) c.self.inside.holders.entries c.self.inside.missing.entries c.self.invariant c.args.self.now c.self.view_is c.add.new.lists.entries _ c.args.wanted c.args.holder
     (ap (list_any (eq_by_cmp wanted_cmp c.args.wanted)) (sym (c.deref.ensures.value ∙ was)) ∙ sym c.has.ensures ∙ c.if-has.false) c.in_ok-add.ensures.added
     (written digests_total (λ v. v.items) c.self.inside.missing.entries _ c.args.holder c.push_reserved.new.self (λ q. grind (arith, c.in_ok-self-inside.ensures.update.0 c.push_reserved.new.self)) (λ xs. xs ++ c.args.wanted ∷ [])
-    (c.push_reserved.ensures.items ∙ ap (λ xs. xs ++ c.args.wanted ∷ []) (c.in_ok-reserve.ensures.items ∙ was)))
+    (c.push_reserved.ensures.items ∙ ap (λ xs. xs ++ c.args.wanted ∷ []) (c.in_ok-make_room.ensures.items ∙ was)))
     (c.add.ensures.filled c.self.invariant.filled) c.add.ensures.ordered
 
 pub returns-clause-added : goal.returns-clause-added

@@ -1,0 +1,19 @@
+use Rattle.std.proofs.Common.{◌∙◌, [], ap, arith, length}
+use Rattle.std.specs.BTreeMap.{insert_entry}
+use Rattle.nw_digest.specs.Order.{digest_cmp}
+use Rattle.nw_trie.proofs.Places.{length_set, put_there}
+use Rattle.nw_trie.proofs.map.insert_at.Goals as goal
+
+pub returns-in-Ok-clause-entries : goal.returns-in-Ok-clause-entries
+returns-in-Ok-clause-entries g c =
+    let put = c.in-Ok.ensures.entries ∙ ap (λ es. insert_entry digest_cmp es c.args.digest c.args.value) (c.in-Some.ensures.item.3.1 []) in
+    (put_there c.args.bits c.args.trees.now.items c.args.digest c.place-place.result c.requires.places c.place-place.ensures.place c.args.value c.insert.new.self c.place-place.ensures.bytes c.in-Some.ensures.item.3.0 put).0
+
+pub returns-in-Ok-clause-len : goal.returns-in-Ok-clause-len
+returns-in-Ok-clause-len g c =
+    omega (arith, length_set c.args.trees.now.items c.place-place.result c.insert.new.self c.in-Some.ensures.item.3.0, c.in-Ok.ensures.len, ap length (c.in-Some.ensures.item.3.1 []))
+
+pub returns-in-Ok-clause-places : goal.returns-in-Ok-clause-places
+returns-in-Ok-clause-places g c =
+    let put = c.in-Ok.ensures.entries ∙ ap (λ es. insert_entry digest_cmp es c.args.digest c.args.value) (c.in-Some.ensures.item.3.1 []) in
+    (put_there c.args.bits c.args.trees.now.items c.args.digest c.place-place.result c.requires.places c.place-place.ensures.place c.args.value c.insert.new.self c.place-place.ensures.bytes c.in-Some.ensures.item.3.0 put).1
