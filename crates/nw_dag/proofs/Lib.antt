@@ -1,3 +1,4 @@
+pub mod Ascending
 pub mod Opening
 pub mod Pairs
 pub mod Cascade

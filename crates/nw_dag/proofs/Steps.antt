@@ -11,7 +11,7 @@ use Rattle.nw_model.specs.declared.wanted.Wanted.{Wanted}
 use Rattle.nw_waiting.specs.Pairs.{Pairs, Lacks, AreHolders, without_wanted}
 use Rattle.nw_model.specs.State.{State}
 use Rattle.nw_model.proofs.Listed.{contains_cases, contains_first, contains_none}
-use Rattle.nw_state.specs.Standing.{Stands, name_of}
+use Rattle.nw_state.specs.Standing.{IsMet, Stands, name_of}
 use Rattle.nw_dag.specs.Lacking.{IsReady, AreUnmet, AreUnmetWithout}
 use Rattle.nw_dag.specs.Changes.{AppendsThose, Promotes}
 use Rattle.nw_dag.specs.Frozen.{Grows}
@@ -170,6 +170,12 @@ pub met_by_name : (s : State) (d : Digest) (v : Wanted) (old new : Pairs) → So
 met_by_name s d v old new name stands but is =
     let (b, held, same) = name_is d (get s.blocks d) v name in
     met_now s d b old new (held, stands.1.1) but (is ∙ ap (without_wanted old) same)
+
+-- the name of a digest that stands is met
+pub met_at : (s : State) (d : Digest) (v : Wanted) → Some v ≡ option_map (name_of d) (get s.blocks d) → Stands s d → IsMet s v
+met_at s d v name stands =
+    let (b, held, same) = name_is d (get s.blocks d) v name in
+    subst (IsMet s) (sym same) (b, (held, stands.1.1), refl, refl)
 
 -- d does not stand, or lacks a parent
 pub not_standing : (s : State) (d : Digest) (unmet lacking : Pairs) (pending : ℕ) → (Stands s d → ⊥) → IsSettledWithout s d unmet lacking pending → IsSettled s unmet lacking pending

@@ -1,6 +1,6 @@
 -- The parents that a holder lacks after one more reference is tested.
 use Rattle.std.proofs.Common.{◌≡◌, ◌↔◌, ℕ, List, [], ◌∷◌, ◌++◌, length, Bool, true, false, Result, Ok, Err, sym, ◌∙◌, subst, arith, inl, inr}
-use Rattle.std.specs.Prelude.{Contains, OnOk, OnErr, IsTrue, nat_eq}
+use Rattle.std.specs.Prelude.{Contains, OnOk, IsTrue, nat_eq}
 use Rattle.std.specs.FinSet.{insert}
 use Rattle.std.proofs.lemmas.List.Elements.{Contains-push_cases, Contains-append_left, Contains-push}
 use Rattle.nw_digest.specs.declared.digest.Digest.{Digest}
@@ -9,10 +9,11 @@ use Rattle.nw_model.specs.declared.wanted.Wanted.{Wanted}
 use Rattle.nw_waiting.specs.Pairs.{Pairs, Lacks, LacksCount}
 use Rattle.nw_model.specs.State.{State}
 use Rattle.nw_model.proofs.Listed.{contains_first, contains_none}
-use Rattle.nw_state.specs.Standing.{Stands}
-use Rattle.nw_dag.specs.Lacking.{IsNamedAmong, LacksNothing, LacksSomething, IsReady}
+use Rattle.nw_state.specs.Standing.{Stands, IsMet}
+use Rattle.nw_dag.specs.Lacking.{AreSplit, IsNamedAmong, LacksNothing, LacksSomething, IsReady}
 use Rattle.nw_model.specs.Missing.{IsNamedBy}
 use Rattle.nw_dag.specs.Changes.{AreSameExcept, LacksAlso}
+use Rattle.nw_waiting.specs.Parted.{Parted}
 use Rattle.nw_dag.proofs.Pairs.{lacks_more, lacks_new, lacks_still}
 
 -- ---- counts
@@ -53,32 +54,46 @@ lacks_some pairs d n (all, are, counts) fails = first all counts (λ w among. (a
 pub refuted : (b : Bool) (P : Type 0) → IsTrue b ↔ P → b ≡ false → P → ⊥
 refuted b P decides fails p = let yes : b ≡ true = decides.1 p in cc
 
-pub on_ok : {T E : Type 0} (r : Result T E) {P : Type 0} → P → OnOk r P
-on_ok (Ok x) p = p
-on_ok (Err e) p = tt
-
 -- ---- one pair
-
--- nothing changed
-pub same_itself : (holder : Digest) (pairs : Pairs) → AreSameExcept holder pairs pairs
-same_itself holder pairs h w other = (λ lacks. lacks, λ lacks. lacks)
 
 pub same_through : (holder : Digest) (a b c : Pairs) → AreSameExcept holder a b → AreSameExcept holder b c → AreSameExcept holder a c
 same_through holder a b c one two h w other = (λ lacks. (one h w other).0 ((two h w other).0 lacks), λ lacks. (two h w other).1 ((one h w other).1 lacks))
 
-pub same_inserted : (holder : Digest) (v : Wanted) (old new : Pairs) → new ≡ insert old (v, holder) → AreSameExcept holder old new
-same_inserted holder v old new is h w other = (
-  λ lacks. elim (lacks_more old v w holder h (subst (λ (m : Pairs). Lacks m h w) is lacks)) [ inl more ↦ absurd (other more.1) | inr was ↦ was ],
-  λ lacks. subst (λ (m : Pairs). Lacks m h w) (sym is) (lacks_still old v w holder h lacks),
+-- a pair of a met parent is added
+split_met : (s : State) (v : Wanted) (holder : Digest) (unmet lacking more : Pairs) → IsMet s v → more ≡ insert lacking (v, holder) → AreSplit s unmet lacking → AreSplit s unmet more
+split_met s v holder unmet lacking more met is split d w = (
+  λ lacks. let both = (split d w).0 lacks in (subst (λ (m : Pairs). Lacks m d w) (sym is) (lacks_still lacking v w holder d both.0), both.1),
+  λ (lacks, fails). elim (lacks_more lacking v w holder d (subst (λ (m : Pairs). Lacks m d w) is lacks)) [ inl new ↦ absurd (fails (subst (IsMet s) (sym new.0) met)) | inr was ↦ (split d w).1 (was, fails) ],
 )
 
--- whether the insertion succeeded or failed
-pub same_either : {E : Type 0} (r : Result (Unit {0}) E) (holder : Digest) (v : Wanted) (old new : Pairs) → OnOk r (new ≡ insert old (v, holder)) → OnErr r (new ≡ old) → AreSameExcept holder old new
-same_either (Ok x) holder v old new ok err = same_inserted holder v old new ok
-same_either (Err e) holder v old new ok err = subst (λ (m : Pairs). AreSameExcept holder old m) (sym err) (same_itself holder old)
+-- a pair of a parent that is not met is added to both sets
+split_unmet : (s : State) (v : Wanted) (holder : Digest) (unmet lacking one more : Pairs) → (IsMet s v → ⊥) → one ≡ insert unmet (v, holder) → more ≡ insert lacking (v, holder) → AreSplit s unmet lacking → AreSplit s one more
+split_unmet s v holder unmet lacking one more fails is_one is_more split d w = (
+  λ lacks. elim (lacks_more unmet v w holder d (subst (λ (m : Pairs). Lacks m d w) is_one lacks)) [
+    | inl new ↦ (added lacking more is_more new.0 new.1, λ met. fails (subst (IsMet s) new.0 met))
+    | inr was ↦ let both = (split d w).0 was in (subst (λ (m : Pairs). Lacks m d w) (sym is_more) (lacks_still lacking v w holder d both.0), both.1)
+  ],
+  λ (lacks, none). elim (lacks_more lacking v w holder d (subst (λ (m : Pairs). Lacks m d w) is_more lacks)) [
+    | inl new ↦ added unmet one is_one new.0 new.1
+    | inr was ↦ subst (λ (m : Pairs). Lacks m d w) (sym is_one) (lacks_still unmet v w holder d ((split d w).1 (was, none)))
+  ],
+)
+  where
+    added : (old new : Pairs) → new ≡ insert old (v, holder) → w ≡ v → d ≡ holder → Lacks new d w
+    added old new is named here = subst (λ (m : Pairs). Lacks m d w) (sym is) (subst (λ (x : Wanted). Lacks (insert old (v, holder)) d x) (sym named) (subst (λ h. Lacks (insert old (v, holder)) h v) (sym here) (lacks_new old v holder)))
+
+pub split_met_on_ok : {E : Type 0} (r : Result (Unit {0}) E) (s : State) (v : Wanted) (holder : Digest) (old new : Parted) → IsMet s v → OnOk r (new.unmet ≡ old.unmet) → OnOk r (new.lacking ≡ insert old.lacking (v, holder))
+    → AreSplit s old.unmet old.lacking → OnOk r (AreSplit s new.unmet new.lacking)
+split_met_on_ok (Ok x) s v holder old new met same more split = subst (λ (m : Pairs). AreSplit s m new.lacking) (sym same) (split_met s v holder old.unmet old.lacking new.lacking met more split)
+split_met_on_ok (Err e) s v holder old new met same more split = tt
+
+pub split_unmet_on_ok : {E : Type 0} (r : Result (Unit {0}) E) (s : State) (v : Wanted) (holder : Digest) (old new : Parted) → (IsMet s v → ⊥) → OnOk r (new.unmet ≡ insert old.unmet (v, holder)) → OnOk r (new.lacking ≡ insert old.lacking (v, holder))
+    → AreSplit s old.unmet old.lacking → OnOk r (AreSplit s new.unmet new.lacking)
+split_unmet_on_ok (Ok x) s v holder old new fails one more split = split_unmet s v holder old.unmet old.lacking new.unmet new.lacking fails one more split
+split_unmet_on_ok (Err e) s v holder old new fails one more split = tt
 
 -- a parent without Q is lacked
-pub wants_inserted : (Q : Wanted → Type 0) (v : Wanted) (holder : Digest) (old new : Pairs) → (Q v → ⊥) → new ≡ insert old (v, holder) → LacksAlso Q (λ w. w ≡ v) holder old new
+wants_inserted : (Q : Wanted → Type 0) (v : Wanted) (holder : Digest) (old new : Pairs) → (Q v → ⊥) → new ≡ insert old (v, holder) → LacksAlso Q (λ w. w ≡ v) holder old new
 wants_inserted Q v holder old new lacks_it is = record {
   each = λ w named. inl (subst (λ (m : Pairs). Lacks m holder w) (sym is) (subst (λ (x : Wanted). Lacks (insert old (v, holder)) holder x) (sym named) (lacks_new old v holder)));
   only = λ h w lacks. elim (lacks_more old v w holder h (subst (λ (m : Pairs). Lacks m h w) is lacks)) [

@@ -1,5 +1,5 @@
 -- The tables after a block or a certificate is added.
-use Rattle.std.proofs.Common.{◌≡◌, ◌⊎◌, ℕ, ◌+◌, ◌<◌, Bool, true, false, [], Option, Some, None, IsSome, is_some, cond, refl, ap, sym, ◌∙◌, subst, arith, inl, inr}
+use Rattle.std.proofs.Common.{◌≡◌, ◌⊎◌, ℕ, ◌+◌, ◌<◌, Bool, true, false, List, [], Option, Some, None, IsSome, is_some, cond, refl, ap, sym, ◌∙◌, subst, arith, inl, inr}
 use Rattle.std.specs.Ordering.{eq_by_cmp}
 use Rattle.std.specs.FinMap.{FinMap, get, insert, len, get-insert, len-insert}
 use Rattle.std.specs.FinSet.{contains, same_set}
@@ -7,7 +7,7 @@ use Rattle.nw_digest.specs.declared.digest.Digest.{Digest}
 use Rattle.nw_codec.specs.declared.block.Block.{Block}
 use Rattle.nw_codec.specs.declared.certificate.Certificate.{Certificate}
 use Rattle.nw_model.specs.declared.wanted.Wanted.{Wanted}
-use Rattle.nw_waiting.specs.Pairs.{Pairs, Lacks, without_holder}
+use Rattle.nw_waiting.specs.Pairs.{Pairs, Lacks, without_holder, without_wanted}
 use Rattle.nw_digest.specs.Order.{digest_cmp}
 use Rattle.nw_model.specs.State.{State}
 use Rattle.nw_model.specs.Step.{Bounds, certify_reply, with_block, with_certificate}
@@ -17,11 +17,11 @@ use Rattle.nw_model.proofs.Listed.{contains_none}
 use Rattle.nw_model.proofs.Maps.{digests_total}
 use Rattle.nw_model.proofs.Replayed.{past, is_certified}
 use Rattle.nw_state.specs.Standing.{IsMet}
-use Rattle.nw_dag.specs.Lacking.{ReferencesParent, IsNamedAmong, IsReady, AreUnmet, AreLacking}
+use Rattle.nw_dag.specs.Lacking.{ReferencesParent, IsNamedAmong, IsReady, AreSplit, AreUnmet, AreLacking}
 use Rattle.nw_dag.specs.Changes.{AreSameExcept, LacksAlso}
 use Rattle.nw_dag.specs.Settled.{IsSettling, IsSettled, IsSettledWithout}
 use Rattle.nw_waiting.proofs.Orders.{pairs_apart, pairs_total}
-use Rattle.nw_dag.proofs.Pairs.{without_holder_lacks}
+use Rattle.nw_dag.proofs.Pairs.{without_holder_lacks, without_wanted_lacks}
 use Rattle.nw_dag.proofs.Arrival.{Arrives, AreLackingSince, arrived, listed_arrived, listed_apart, ready_was, unmet_arrived}
 
 some_none : {X : Type 0} (x : X) → Some x ≡ None → ⊥
@@ -151,6 +151,15 @@ module _ (s : State) (c : Certificate) (absent : get s.certificates c.digest ≡
         counts = known.counts;
       }
 
+-- between two calls, the unmet pairs are those of the lacking ones whose parents are not met
+pub split_settled : (s : State) (unmet lacking : Pairs) (due : List Digest) → AreUnmet s unmet → AreLacking s lacking due → AreSplit s unmet lacking
+split_settled s unmet lacking due are all d w = (
+  λ lacks.
+      let both = (are d w).0 lacks in
+      (elim (all.each d w both.0) [ inl is ↦ is | inr has ↦ absurd (both.1 has.0) ], both.1),
+  λ (lacks, fails). (are d w).1 ((all.only d w lacks).0, fails),
+)
+
 -- ---- a write with a failed allocation
 
 same_truth : (a b : Bool) → (a ≡ true → b ≡ true) → (b ≡ true → a ≡ true) → a ≡ b
@@ -166,6 +175,13 @@ forgotten holder old new same nothing = same_set pairs_total pairs_apart (withou
     (λ lacks. let both = (without_holder_lacks new holder q.1 q.0).0 lacks in (same q.1 q.0 (λ here. both.1 (sym here))).0 both.0)
     (λ lacks. let other : holder ≡ q.1 → ⊥ = λ here. nothing q.0 (subst (λ h. Lacks old h q.0) (sym here) lacks) in
     (without_holder_lacks new holder q.1 q.0).1 ((same q.1 q.0 (λ here. other (sym here))).1 lacks, other)))
+
+-- the set is as before if no holder is missing the parent
+pub nobody_wants : (pairs : Pairs) (v : Wanted) → ((h : Digest) → Lacks pairs h v → ⊥) → without_wanted pairs v ≡ pairs
+nobody_wants pairs v never = same_set pairs_total pairs_apart (without_wanted pairs v) pairs (λ q.
+    same_truth (contains (without_wanted pairs v) q) (contains pairs q)
+    (λ lacks. ((without_wanted_lacks pairs v q.0 q.1).0 lacks).0)
+    (λ lacks. (without_wanted_lacks pairs v q.0 q.1).1 (lacks, λ same. never q.1 (subst (λ w. Lacks pairs q.1 w) (sym same) lacks))))
 
 pub nothing_unmet : (s : State) (d : Digest) (unmet : Pairs) → get s.blocks d ≡ None → AreUnmet s unmet → (w : Wanted) → Lacks unmet d w → ⊥
 nothing_unmet s d unmet absent are w lacks = let names = ((are d w).0 lacks).0 in some_none names.0 (sym names.1 ∙ absent)

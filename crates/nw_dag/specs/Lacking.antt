@@ -1,6 +1,6 @@
 -- Which blocks lack which parents.
 --
--- A store keeps two sets of pairs (Pairs). A pair is a parent and a holder that lacks it: the digest of a block that names the parent.
+-- Contracts see two sets of pairs (Pairs). A pair is a parent and a holder that lacks it: the digest of a block that names the parent.
 -- `unmet` has the parents that are not met: their digests do not stand with a block of their round and author (IsMet). `lacking` has the
 -- parents that are not met or not complete.
 use Rattle.std.specs.Prelude.{◌≡◌, ◌↔◌, ℕ, ◌<◌, ◌⊎◌, List, Some, Contains}
@@ -41,6 +41,14 @@ IsPromoted s lacking due d = IsReady s lacking d × (Contains due d → ⊥)
 -- each block lacks exactly the parents that it names and that are not met
 abbrev pub AreUnmet : State → Pairs → Type 0
 AreUnmet s unmet = (d : Digest) (w : Wanted) → Lacks unmet d w ↔ (ReferencesParent s d w × (IsMet s w → ⊥))
+
+-- no parent among these pairs is met
+abbrev pub AreNotMet : State → Pairs → Type 0
+AreNotMet s unmet = (d : Digest) (w : Wanted) → Lacks unmet d w → IsMet s w → ⊥
+
+-- the unmet pairs are those of the lacking ones whose parents are not met
+abbrev pub AreSplit : State → Pairs → Pairs → Type 0
+AreSplit s unmet lacking = (d : Digest) (w : Wanted) → Lacks unmet d w ↔ (Lacks lacking d w × (IsMet s w → ⊥))
 
 -- the parent w is met without counting d: it is met, and its digest is not d
 abbrev pub IsMetWithout : State → Digest → Wanted → Type 0

@@ -2,19 +2,22 @@
 ghost use Rattle.std.specs.Prelude.{◌≡◌, ◌↔◌, ◌+◌, ◌-◌, ◌<◌, ◌≤◌, [], ◌∷◌, ◌++◌};
 ghost use Rattle.std.specs.Prelude.{OnOk, MatchOption, IsTrue, false, length, get_or, Contains};
 ghost use Rattle.std.specs.Vec.{vec_capacity};
+ghost use Rattle.std.specs.List.Sorted.{IsStrictlySortedBy};
+ghost use Rattle.nw_digest.specs.Order.{digest_cmp};
 ghost use Rattle.nw_model.specs.Sound.{IsSound};
 ghost use Rattle.nw_dag.specs.Lacking.{IsReady, LacksNothing, LacksSomething};
 
 use nw_digest::{Digest, NoMemory};
 use nw_state::StateTables;
-use nw_waiting::Waiting;
+use nw_waiting::MissingParents;
 use std::alloc::Global;
 
 /// The digests of the blocks that became complete since the last freeze (by a causal read or `compact`), and the number of
 /// *pending* blocks: those that are held but not complete.
 #[derive(Drop)]
 pub(crate) struct Completions {
-    /// The digests, in the order in which the blocks became complete. Blocks that were collected since may still be listed.
+    /// The digests, in the order in which the blocks became complete. A freeze that fails may leave them sorted. Blocks that were collected
+    /// since may still be listed.
     pub(crate) fresh: Vec<Digest>,
     pub(crate) pending: usize,
     // The list has room for each pending block, so listing a block never allocates.
@@ -62,10 +65,10 @@ impl Completions {
     pub(crate) fn reserve(
         &mut self,
         held: &StateTables,
-        lacking: &Waiting<Global>,
+        missing: &MissingParents<Global>,
     ) -> Result<(), NoMemory>
         ensures kept { (d : Digest) → Contains self.old.fresh.items d
-            → IsReady held.now.state lacking.now d → Contains self.new.fresh.items d }
+            → IsReady held.now.state missing.now.lacking d → Contains self.new.fresh.items d }
         ensures pending { self.new.pending ≡ self.old.pending }
         ensures room { OnOk result
             (length self.new.fresh.items + self.new.pending < vec_capacity self.new.fresh) }
@@ -74,7 +77,7 @@ impl Completions {
             return Ok(());
         }
         if self.most() > held.blocks() {
-            self.drop_stale(held, lacking);
+            self.drop_stale(held, missing);
         }
         let Some(more) = self.most().checked_add(1) else {
             return Err(NoMemory);
@@ -112,12 +115,22 @@ impl Completions {
     }
 
     /// Removes the blocks from the list that are no longer complete, because they were collected.
-    pub(crate) fn drop_stale(&mut self, held: &StateTables, lacking: &Waiting<Global>)
+    pub(crate) fn drop_stale(&mut self, held: &StateTables, missing: &MissingParents<Global>)
         ensures fresh { (d : Digest) → Contains self.new.fresh.items d
-            ↔ (Contains self.old.fresh.items d × IsReady held.now.state lacking.now d) }
+            ↔ (Contains self.old.fresh.items d × IsReady held.now.state missing.now.lacking d) }
         ensures pending { self.new.pending ≡ self.old.pending }
     {
-        self.fresh.retain(|digest| is_ready(held, lacking, *digest));
+        self.fresh.retain(|digest| is_ready(held, missing, *digest));
+    }
+
+    /// Sorts the digests in ascending order, and removes repetitions. Allocates nothing.
+    pub(crate) fn sort(&mut self)
+        ensures same { (d : Digest) → Contains self.new.fresh.items d ↔ Contains self.old.fresh.items d }
+        ensures ascending { IsStrictlySortedBy digest_cmp self.new.fresh.items }
+        ensures pending { self.new.pending ≡ self.old.pending }
+    {
+        self.fresh.sort_unstable();
+        self.fresh.dedup();
     }
 
     /// Empties the list.
@@ -130,17 +143,17 @@ impl Completions {
 }
 
 /// Whether the digest stands and lacks no parent. Its block is looked up only if it lacks no parent.
-pub(crate) fn is_ready(held: &StateTables, lacking: &Waiting<Global>, digest: Digest) -> bool
-    ensures ready { IsTrue result ↔ IsReady held.now.state lacking.now digest }
+pub(crate) fn is_ready(held: &StateTables, missing: &MissingParents<Global>, digest: Digest) -> bool
+    ensures ready { IsTrue result ↔ IsReady held.now.state missing.now.lacking digest }
     ensures sound { IsTrue result → IsSound held.now.state }
 {
-    lacks_nothing(lacking, digest) && held.standing(&digest).is_some()
+    lacks_nothing(missing, digest) && held.standing(&digest).is_some()
 }
 
 /// Whether the holder lacks no parent.
-pub(crate) fn lacks_nothing(lacking: &Waiting<Global>, holder: Digest) -> bool
-    ensures nothing { IsTrue result ↔ LacksNothing lacking.now holder }
-    ensures something { result ≡ false → LacksSomething lacking.now holder }
+pub(crate) fn lacks_nothing(missing: &MissingParents<Global>, holder: Digest) -> bool
+    ensures nothing { IsTrue result ↔ LacksNothing missing.now.lacking holder }
+    ensures something { result ≡ false → LacksSomething missing.now.lacking holder }
 {
-    lacking.lacks(holder) == 0
+    missing.lacks(holder) == 0
 }

@@ -48,7 +48,7 @@ impl Model for Dag {
 
     ghost view = { λ d. d.held };
 
-    ghost invariant = { λ d. AreTables d.held.state d.waits.unmet d.waits.lacking
+    ghost invariant = { λ d. AreTables d.held.state d.waits.missing.unmet d.waits.missing.lacking
         d.waits.completions.fresh.items d.waits.completions.pending d.generations.blocks };
 }
 
@@ -73,7 +73,7 @@ impl Dag {
         ensures complete { IsTrue result ↔ IsComplete self.now.state digest.now }
         ensures sound { IsTrue result → IsSound self.now.state }
     {
-        is_ready(&self.held, &self.waits.lacking, *digest)
+        is_ready(&self.held, &self.waits.missing, *digest)
     }
 
     /// The block that is held under the digest, if there is one. `NoMemory` if it has too many owners.
@@ -98,7 +98,7 @@ impl Dag {
     pub fn missing(&self, alloc: Global, most: u16) -> Result<Sequence<Wanted>, NoMemory>
         ensures { IfOk result (AreFirstWanted self.now.state most) }
     {
-        Ok(Sequence::new(self.waits.unmet.first_wanted(alloc, most)?))
+        Ok(Sequence::new(self.waits.missing.first_unmet(alloc, most)?))
     }
 
     /// The garbage round, and how many blocks, certificates, complete blocks and wanted parents there are. Allocates nothing, and
@@ -111,7 +111,7 @@ impl Dag {
             blocks: self.held.blocks() as u64,
             certificates: self.held.certificates() as u64,
             complete: (self.held.blocks() - self.waits.completions.pending) as u64,
-            wanted: self.waits.unmet.count() as u64,
+            wanted: self.waits.missing.count() as u64,
         }
     }
 }

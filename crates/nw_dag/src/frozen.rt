@@ -1,6 +1,7 @@
 //! Frozen blocks: generations of complete blocks, which views share.
 ghost use Rattle.std.specs.Prelude.{◌≡◌, ◌<◌, ◌≤◌, IfOk, OnOk, OnErr};
-ghost use Rattle.std.specs.FinMap as map;
+ghost use Rattle.std.specs.List.Sorted.{IsStrictlySortedBy};
+ghost use Rattle.nw_digest.specs.Order.{digest_cmp};
 ghost use Rattle.nw_model.specs.Step.{from_round};
 ghost use Rattle.nw_dag.specs.Frozen.{AreFrozen, AreFrozenExcept, AreAllOrFrom, AreHeldUnder};
 
@@ -9,35 +10,35 @@ use nw_codec::Block;
 use nw_digest::{Digest, NoMemory, Round, Shared};
 use nw_generation::{Generation, Generations, MAX_GENERATIONS};
 use nw_state::StateTables;
-use nw_trie::Trie;
 use std::alloc::Global;
 
 /// Freezes the blocks that became complete since the last freeze as one more generation, and empties their list. If there are no
 /// such blocks, it adds no generation. If there are [`MAX_GENERATIONS`] generations already, it first joins some of them into
 /// one.
 ///
-/// `NoMemory` if allocation fails. Then only collected blocks may have been removed from the list.
+/// `NoMemory` if allocation fails. Then the generations are unchanged. The list may be sorted, without collected blocks and repetitions.
 pub(crate) fn freeze(
     generations: &mut Generations,
     alloc: Global,
     held: &StateTables,
     waits: &mut Waits,
 ) -> Result<(), NoMemory>
-    requires { AreFrozenExcept held.now.state waits.old.lacking waits.old.completions.fresh.items
+    requires { AreFrozenExcept held.now.state waits.old.missing.lacking waits.old.completions.fresh.items
         generations.old.blocks }
     ensures all { OnOk result
-        (AreFrozen held.now.state waits.old.lacking generations.new.blocks) }
-    ensures frozen { AreFrozenExcept held.now.state waits.old.lacking
+        (AreFrozen held.now.state waits.old.missing.lacking generations.new.blocks) }
+    ensures frozen { AreFrozenExcept held.now.state waits.old.missing.lacking
         waits.new.completions.fresh.items generations.new.blocks }
-    ensures unmet { waits.new.unmet ≡ waits.old.unmet }
-    ensures lacking { waits.new.lacking ≡ waits.old.lacking }
+    ensures unmet { waits.new.missing.unmet ≡ waits.old.missing.unmet }
+    ensures lacking { waits.new.missing.lacking ≡ waits.old.missing.lacking }
     ensures pending { waits.new.completions.pending ≡ waits.old.completions.pending }
     ensures unchanged { OnErr result (generations.new ≡ generations.old) }
 {
-    waits.completions.drop_stale(held, &waits.lacking);
+    waits.completions.drop_stale(held, &waits.missing);
     if waits.completions.listed() == 0 {
         return Ok(());
     }
+    waits.completions.sort();
     let fresh = freeze_held(alloc, held, waits.completions.fresh.as_slice())?;
     if generations.parts() == MAX_GENERATIONS {
         let mut all = fewer(generations, alloc, held.floor())?;
@@ -78,34 +79,20 @@ pub(crate) fn as_one(
     Ok(one)
 }
 
-/// A generation of the blocks held under these digests.
+/// A generation of the blocks held under these digests, which must ascend strictly.
 fn freeze_held(
     alloc: Global,
     held: &StateTables,
     digests: &[Digest],
 ) -> Result<Generation, NoMemory>
+    requires { IsStrictlySortedBy digest_cmp digests.now }
     ensures { IfOk result (AreHeldUnder held.now.state digests.now) }
 {
-    match nw_generation::freeze(alloc, held_blocks(alloc, held, digests)?) {
-        Ok(generation) => Ok(generation),
-        Err((refused, _trie)) => Err(refused),
-    }
-}
-
-/// The blocks held under these digests.
-fn held_blocks(
-    alloc: Global,
-    held: &StateTables,
-    digests: &[Digest],
-) -> Result<Trie<Shared<Block>, Global>, NoMemory>
-    ensures { IfOk result
-        (λ trie. AreHeldUnder held.now.state digests.now (map.from_entries trie)) }
-{
-    let mut trie = Trie::new_in(alloc);
+    let mut entries = Vec::with_capacity(alloc, digests.len())?;
     for digest in digests {
         if let Some(block) = held.block(digest) {
-            trie.put(*digest, block.try_clone()?)?;
+            entries.push((*digest, block.try_clone()?))?;
         }
     }
-    Ok(trie)
+    Generation::of(alloc, entries)
 }

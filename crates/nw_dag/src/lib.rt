@@ -2,7 +2,7 @@
 //! freezes complete blocks for views.
 //!
 //! Its contract: each call of [`Dag`] takes the step that the step table of `nw_model` gives. It keeps the state with `nw_state`, the
-//! missing parents with `nw_waiting`, and the frozen blocks with `nw_trie` and `nw_generation`.
+//! missing parents with `nw_waiting`, and the frozen blocks with `nw_generation`.
 #![tactic(auto)]
 
 mod completions;

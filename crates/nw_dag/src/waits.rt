@@ -6,7 +6,7 @@ ghost use Rattle.std.specs.Prelude.{◌≡◌, ◌<◌, ◌+◌, [], OnOk, OnErr
 ghost use Rattle.std.specs.FinSet as set;
 ghost use Rattle.nw_waiting.specs.Pairs.{without_holder};
 ghost use Rattle.nw_state.specs.Standing.{Stands, IsMet};
-ghost use Rattle.nw_dag.specs.Lacking.{IsReady, IsNamedAmong, LacksNothing};
+ghost use Rattle.nw_dag.specs.Lacking.{AreSplit, IsReady, IsNamedAmong, LacksNothing};
 ghost use Rattle.nw_model.specs.Missing.{IsNamedBy};
 ghost use Rattle.nw_dag.specs.Changes.{AreSameExcept, LacksAlso};
 
@@ -18,16 +18,14 @@ use nw_codec::{Block, Ref};
 use nw_digest::{Digest, NoMemory, Round};
 use nw_model::Wanted;
 use nw_state::StateTables;
-use nw_waiting::Waiting;
+use nw_waiting::MissingParents;
 use std::alloc::Global;
 
 /// Which held blocks lack which parents, and which blocks are complete.
 #[derive(Drop)]
 pub(crate) struct Waits {
-    /// The parents that are not met, and the holders that name them.
-    pub(crate) unmet: Waiting<Global>,
-    /// The parents that are not met or not complete, and the holders that name them.
-    pub(crate) lacking: Waiting<Global>,
+    /// The missing parents, which are not met or not complete, and the holders that name them. Its unmet parents are those that are not met.
+    pub(crate) missing: MissingParents<Global>,
     /// The blocks that became complete since the last freeze, and the number of blocks that are not complete.
     pub(crate) completions: Completions,
 }
@@ -35,38 +33,41 @@ pub(crate) struct Waits {
 impl Waits {
     /// Empty sets: no block lacks a parent. Allocates nothing.
     pub(crate) fn new(alloc: Global) -> Waits
-        ensures unmet { result.unmet ≡ set.empty }
-        ensures lacking { result.lacking ≡ set.empty }
+        ensures unmet { result.missing.unmet ≡ set.empty }
+        ensures lacking { result.missing.lacking ≡ set.empty }
         ensures fresh { result.completions.fresh.items ≡ [] }
         ensures pending { result.completions.pending ≡ 0 }
     {
         Waits {
-            unmet: Waiting::new_in(alloc),
-            lacking: Waiting::new_in(alloc),
+            missing: MissingParents::new_in(alloc),
             completions: Completions::new(alloc),
         }
     }
 
     /// Records that the holder lacks the parent, if the parent is not met or not complete.
     ///
-    /// `NoMemory` if allocation fails. Then one of the two sets may have the pair.
+    /// `NoMemory` if allocation fails. Then the pair may be recorded, but not as one of an unmet parent.
     fn want(&mut self, held: &StateTables, wanted: Wanted, holder: Digest) -> Result<(), NoMemory>
+        requires { AreSplit held.now.state self.old.missing.unmet self.old.missing.lacking }
         ensures unmet { OnOk result
             (LacksAlso (IsMet held.now.state) (λ w. w ≡ wanted) holder
-            self.old.unmet self.new.unmet) }
+            self.old.missing.unmet self.new.missing.unmet) }
         ensures lacking { OnOk result
             (LacksAlso (λ w. IsMet held.now.state w
-            × IsReady held.now.state self.old.lacking w.digest)
-            (λ w. w ≡ wanted) holder self.old.lacking self.new.lacking) }
-        ensures same_unmet { AreSameExcept holder self.old.unmet self.new.unmet }
-        ensures same_lacking { AreSameExcept holder self.old.lacking self.new.lacking }
+            × IsReady held.now.state self.old.missing.lacking w.digest)
+            (λ w. w ≡ wanted) holder self.old.missing.lacking self.new.missing.lacking) }
+        ensures split { OnOk result
+            (AreSplit held.now.state self.new.missing.unmet self.new.missing.lacking) }
+        ensures same_unmet { AreSameExcept holder
+            self.old.missing.unmet self.new.missing.unmet }
+        ensures same_lacking { AreSameExcept holder
+            self.old.missing.lacking self.new.missing.lacking }
         ensures completions { self.new.completions ≡ self.old.completions }
     {
         if !held.is_met(&wanted) {
-            self.unmet.want(wanted, holder)?;
-            self.lacking.want(wanted, holder)
-        } else if !lacks_nothing(&self.lacking, wanted.digest) {
-            self.lacking.want(wanted, holder)
+            self.missing.want(wanted, holder, false)
+        } else if !lacks_nothing(&self.missing, wanted.digest) {
+            self.missing.want(wanted, holder, true)
         } else {
             Ok(())
         }
@@ -84,14 +85,15 @@ impl Waits {
         holder: Digest,
     ) -> Result<(), NoMemory>
         requires absent { Stands held.now.state holder → ⊥ }
+        requires split { AreSplit held.now.state self.old.missing.unmet self.old.missing.lacking }
         ensures unmet { OnOk result (LacksAlso (IsMet held.now.state)
-            (IsNamedAmong (round + 1) references.now) holder self.old.unmet self.new.unmet) }
+            (IsNamedAmong (round + 1) references.now) holder self.old.missing.unmet self.new.missing.unmet) }
         ensures lacking { OnOk result
             (LacksAlso (λ w. IsMet held.now.state w
-            × IsReady held.now.state self.old.lacking w.digest)
-            (IsNamedAmong (round + 1) references.now) holder self.old.lacking self.new.lacking) }
-        ensures same_unmet { AreSameExcept holder self.old.unmet self.new.unmet }
-        ensures same_lacking { AreSameExcept holder self.old.lacking self.new.lacking }
+            × IsReady held.now.state self.old.missing.lacking w.digest)
+            (IsNamedAmong (round + 1) references.now) holder self.old.missing.lacking self.new.missing.lacking) }
+        ensures same_unmet { AreSameExcept holder self.old.missing.unmet self.new.missing.unmet }
+        ensures same_lacking { AreSameExcept holder self.old.missing.lacking self.new.missing.lacking }
         ensures completions { self.new.completions ≡ self.old.completions }
     {
         for reference in references {
@@ -111,19 +113,20 @@ impl Waits {
         holder: Digest,
     ) -> Result<(), NoMemory>
         requires absent { Stands held.now.state holder → ⊥ }
-        requires unmet { LacksNothing self.old.unmet holder }
-        requires lacking { LacksNothing self.old.lacking holder }
+        requires split { AreSplit held.now.state self.old.missing.unmet self.old.missing.lacking }
+        requires unmet { LacksNothing self.old.missing.unmet holder }
+        requires lacking { LacksNothing self.old.missing.lacking holder }
         ensures unmet { OnOk result (LacksAlso (IsMet held.now.state)
             (λ w. (held.now.state.floor < block.now.round) × IsNamedAmong block.now.round
-            block.now.parents w) holder self.old.unmet self.new.unmet) }
+            block.now.parents w) holder self.old.missing.unmet self.new.missing.unmet) }
         ensures lacking { OnOk result
             (LacksAlso (λ w. IsMet held.now.state w
-            × IsReady held.now.state self.old.lacking w.digest)
+            × IsReady held.now.state self.old.missing.lacking w.digest)
             (λ w. (held.now.state.floor < block.now.round) × IsNamedAmong block.now.round
-            block.now.parents w) holder self.old.lacking self.new.lacking) }
+            block.now.parents w) holder self.old.missing.lacking self.new.missing.lacking) }
         ensures completions { self.new.completions ≡ self.old.completions }
         ensures unchanged { OnErr result
-            ((self.new.unmet ≡ self.old.unmet) × (self.new.lacking ≡ self.old.lacking)) }
+            ((self.new.missing.unmet ≡ self.old.missing.unmet) × (self.new.missing.lacking ≡ self.old.missing.lacking)) }
     {
         if block.round <= held.floor() {
             return Ok(());
@@ -140,12 +143,11 @@ impl Waits {
 
     /// Forgets which parents the holder lacks. From now on it lacks nothing.
     pub(crate) fn forget(&mut self, holder: Digest)
-        ensures unmet { self.new.unmet ≡ without_holder self.old.unmet holder }
-        ensures lacking { self.new.lacking ≡ without_holder self.old.lacking holder }
+        ensures unmet { self.new.missing.unmet ≡ without_holder self.old.missing.unmet holder }
+        ensures lacking { self.new.missing.lacking ≡ without_holder self.old.missing.lacking holder }
         ensures completions { self.new.completions ≡ self.old.completions }
     {
-        self.unmet.unwant(holder);
-        self.lacking.unwant(holder);
+        self.missing.unwant(holder);
     }
 }
 

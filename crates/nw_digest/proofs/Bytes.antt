@@ -1,15 +1,16 @@
 -- Lists of bytes, compared index by index.
-use Rattle.std.proofs.Common.{◌≡◌, ◌∙◌, ℕ, ◌<◌, Bool, true, false, List, [], ◌∷◌, zero, suc, length, get_or, refl, sym, ap, arith}
+use Rattle.std.proofs.Common.{◌≡◌, ◌∙◌, ℕ, ◌<◌, Bool, true, false, ◌≤◌, ◌+◌, ◌*◌, drop, List, zero, suc, length, get_or, refl, sym, ap, arith}
 use Rattle.std.specs.Bool.{MatchBool}
 use Rattle.std.specs.declared.cmp.Ordering.{Ordering}
 use Rattle.std.specs.declared.cmp.Ordering.TheVariants.{Less, Equal, Greater}
-use Rattle.std.specs.Ordering.{nat_cmp, ordering_then}
-use Rattle.std.specs.Cmp.{nat_cmp_is}
+use Rattle.std.specs.Ordering.{nat_cmp, ordering_then, MatchOrdering}
+use Rattle.std.specs.Cmp.{nat_cmp_is, ranks}
 use Rattle.std.specs.Cmp.Lexicographic.{slice_cmp}
 use Rattle.std.specs.Str.{bytes_eq}
+use Rattle.std.specs.Int.{w64, from_be_bytes}
 use Rattle.std.specs.Cmp.Lexicographic.{bytes_decides}
 use Rattle.std.specs.FinMap.{nat_cmp-IsAntisymmetric}
-use Rattle.std.proofs.lemmas.List.{ext_get_or}
+use Rattle.std.proofs.lemmas.List.{ext_get_or, drop_more, get_or-drop}
 
 -- lists of 32 bytes with the same byte at each index are equal
 pub same_bytes : (xs ys : List ℕ) → length xs ≡ 32 → length ys ≡ 32 → ((k : ℕ) → k < 32 → get_or xs k 0 ≡ get_or ys k 0) → xs ≡ ys
@@ -27,8 +28,12 @@ test_is_bytes_eq false xs ys apart =
 equal : (x : ℕ) → nat_cmp x x ≡ Equal
 equal x = sym (nat_cmp_is x x Equal refl)
 
+-- if the first numbers are the same, the rest decides
+pub passes : (x y : ℕ) (rest : Ordering) → x ≡ y → ordering_then (nat_cmp x y) rest ≡ rest
+passes x y rest same = rw same (ap (λ o. ordering_then o rest) (equal y))
+
 -- if the first numbers differ, the rest of a comparison does not matter
-decides : (x y : ℕ) (rest : Ordering) → (x ≡ y → ⊥) → ordering_then (nat_cmp x y) rest ≡ nat_cmp x y
+pub decides : (x y : ℕ) (rest : Ordering) → (x ≡ y → ⊥) → ordering_then (nat_cmp x y) rest ≡ nat_cmp x y
 decides x y rest apart =
     elim (nat_cmp x y) as (λ o. nat_cmp x y ≡ o → ordering_then o rest ≡ o) [
       | Less ↦ λ e. refl
@@ -36,22 +41,49 @@ decides x y rest apart =
       | Greater ↦ λ e. refl
     ] refl
 
--- the comparison of two lists is that of the first bytes that differ
-pub first_decides : (xs ys : List ℕ) (i : ℕ) → i < length xs → i < length ys → ((k : ℕ) → k < i → get_or xs k 0 ≡ get_or ys k 0) → (get_or xs i 0 ≡ get_or ys i 0 → ⊥)
-    → slice_cmp nat_cmp xs ys ≡ nat_cmp (get_or xs i 0) (get_or ys i 0)
-first_decides [] ys i in_xs in_ys same apart = absurd (omega (arith, in_xs))
-first_decides (x ∷ xs) [] i in_xs in_ys same apart = absurd (omega (arith, in_ys))
-first_decides (x ∷ xs) (y ∷ ys) zero in_xs in_ys same apart = decides x y (slice_cmp nat_cmp xs ys) apart
-first_decides (x ∷ xs) (y ∷ ys) (suc i) in_xs in_ys same apart =
-    let heads : x ≡ y = same 0 (omega arith) in
-    rw heads (ap (λ o. ordering_then o (slice_cmp nat_cmp xs ys)) (equal y)
-    ∙ first_decides xs ys i (omega (arith, in_xs)) (omega (arith, in_ys)) (λ k h. same (suc k) (omega arith)) apart)
+-- the number that n bytes from byte i on spell after a
+abbrev spelt : ℕ → List ℕ → ℕ → ℕ → ℕ
+spelt a xs i zero = a
+spelt a xs i (suc n) = spelt (a * 256 + get_or xs i 0) xs (i + 1) n
 
--- a list compares as equal to itself
-ties : (xs : List ℕ) → slice_cmp nat_cmp xs xs ≡ Equal
-ties [] = refl
-ties (x ∷ xs) = ap (λ o. ordering_then o (slice_cmp nat_cmp xs xs)) (equal x) ∙ ties xs
+-- the greater number before n bytes makes the greater number after them
+rises : (n a b i : ℕ) (xs ys : List ℕ) → ((k : ℕ) → get_or xs k 0 < 256) → a < b → spelt a xs i n < spelt b ys i n
+rises zero a b i xs ys small below = below
+rises (suc n) a b i xs ys small below =
+    let least : get_or xs i 0 < 256 = small i in
+    rises n (a * 256 + get_or xs i 0) (b * 256 + get_or ys i 0) (i + 1) xs ys small (omega arith)
 
--- equal lists compare as equal
-pub same_ties : (xs ys : List ℕ) → xs ≡ ys → slice_cmp nat_cmp xs ys ≡ Equal
-same_ties xs ys e = rw e (ties ys)
+-- two lists compare as the numbers that their bytes from i up to e spell, and then as their other bytes
+by_words : (n a i e : ℕ) (xs ys : List ℕ) → i + n ≡ e → e ≤ length xs → e ≤ length ys → ((k : ℕ) → get_or xs k 0 < 256) → ((k : ℕ) → get_or ys k 0 < 256)
+    → slice_cmp nat_cmp (drop i xs) (drop i ys) ≡ ordering_then (nat_cmp (spelt a xs i n) (spelt a ys i n)) (slice_cmp nat_cmp (drop e xs) (drop e ys))
+by_words zero a i e xs ys ends in_xs in_ys small_xs small_ys =
+    let here : e ≡ i = omega arith in
+    rw here (sym (ap (λ o. ordering_then o (slice_cmp nat_cmp (drop i xs) (drop i ys))) (equal a)))
+by_words (suc n) a i e xs ys ends in_xs in_ys small_xs small_ys =
+    let x = get_or xs i 0 in
+    let y = get_or ys i 0 in
+    let rest = slice_cmp nat_cmp (drop e xs) (drop e ys) in
+    rw (drop_more xs i 0 (omega arith)) (rw (drop_more ys i 0 (omega arith)) (
+    elim (nat_cmp x y) as (λ o. MatchOrdering o (x < y) (x ≡ y) (y < x)
+    → ordering_then o (slice_cmp nat_cmp (drop (i + 1) xs) (drop (i + 1) ys)) ≡ ordering_then (nat_cmp (spelt (a * 256 + x) xs (i + 1) n) (spelt (a * 256 + y) ys (i + 1) n)) rest) [
+      | Less ↦ λ below. ap (λ o. ordering_then o rest) (nat_cmp_is _ _ Less (rises n (a * 256 + x) (a * 256 + y) (i + 1) xs ys small_xs (omega arith)))
+      | Equal ↦ λ same. rw same (by_words n (a * 256 + y) (i + 1) e xs ys (omega (arith, ends)) in_xs in_ys small_xs small_ys)
+      | Greater ↦ λ above. ap (λ o. ordering_then o rest) (nat_cmp_is _ _ Greater (rises n (a * 256 + y) (a * 256 + x) (i + 1) ys xs small_ys (omega arith)))
+    ] (ranks x y)))
+
+later : (n a i j k : ℕ) (xs : List ℕ) → j + i ≡ k → spelt a (drop j xs) i n ≡ spelt a xs k n
+later zero a i j k xs from = refl
+later (suc n) a i j k xs from =
+    rw (get_or-drop j xs i 0 ∙ ap (λ m. get_or xs m 0) from) (later n (a * 256 + get_or xs k 0) (i + 1) j (k + 1) xs (omega (arith, from)))
+
+-- the word of eight bytes from byte i on
+word_is : (zs : List ℕ) → from_be_bytes w64 zs ≡ spelt 0 zs 0 8
+word_is zs = omega arith
+
+-- two lists of bytes compare as their words v and w at i, and then as what follows these
+pub next_word : (xs ys : List ℕ) (i e v w : ℕ) → i + 8 ≡ e → e ≤ length xs → e ≤ length ys → ((k : ℕ) → get_or xs k 0 < 256) → ((k : ℕ) → get_or ys k 0 < 256)
+    → v ≡ from_be_bytes w64 (drop i xs) → w ≡ from_be_bytes w64 (drop i ys)
+    → slice_cmp nat_cmp (drop i xs) (drop i ys) ≡ ordering_then (nat_cmp v w) (slice_cmp nat_cmp (drop e xs) (drop e ys))
+next_word xs ys i e v w ends in_xs in_ys small_xs small_ys is_v is_w =
+    let number : (zs : List ℕ) → from_be_bytes w64 (drop i zs) ≡ spelt 0 zs i 8 = λ zs. word_is (drop i zs) ∙ later 8 0 0 i i zs (omega arith) in
+    rw (is_v ∙ number xs) (rw (is_w ∙ number ys) (by_words 8 0 i e xs ys ends in_xs in_ys small_xs small_ys))

@@ -1,5 +1,8 @@
 //! SHA-256 digests.
-ghost use Rattle.std.specs.Prelude.{◌≡◌};
+ghost use Rattle.std.specs.Prelude.{◌≡◌, ◌≤◌, ◌+◌, ◌*◌, drop, length};
+ghost use Rattle.std.specs.Cmp.Lexicographic.{slice_cmp};
+ghost use Rattle.std.specs.Ordering.{nat_cmp};
+ghost use Rattle.std.specs.Int.{w64, from_be_bytes};
 ghost use Rattle.sha2.specs.Sha256.{sha256};
 
 use sha2::Sha256;
@@ -19,6 +22,7 @@ impl PartialEq for Digest {
     ghost laws = { on_per (λ d. d.0) (partial_equiv_from_equiv nat_list_eq_equiv) };
 
     /// Compares all bytes, even after the first difference, so that the compiler can vectorize the loop.
+    #[inline(always)]
     fn eq(&self, other: &Digest) -> bool {
         let mut same = true;
         for index in 0..32 {
@@ -64,16 +68,44 @@ impl Ord for Digest {
 
     ghost matches_eq = { λ a b. texts_ties a.0 b.0 };
 
-    /// The order of the first two bytes that differ, or `Equal` if none do.
+    #[inline(always)]
     fn cmp(&self, other: &Digest) -> Ordering {
-        for index in 0..32 {
-            let (one, two) = (self.0[index], other.0[index]);
-            if one != two {
-                return one.cmp(&two);
-            }
-        }
-        Ordering::Equal
+        order(&self.0, &other.0)
     }
+}
+
+// The order of the first two words of eight bytes that differ, or `Equal` if none do.
+#[inline(always)]
+fn order(these: &[u8], those: &[u8]) -> Ordering
+    requires { (length these.now ≡ 32) × (length those.now ≡ 32) }
+    ensures { result ≡ slice_cmp nat_cmp these.now those.now }
+{
+    for index in 0..4 {
+        let (one, two) = (word(these, index), word(those, index));
+        if one != two {
+            return one.cmp(&two);
+        }
+    }
+    Ordering::Equal
+}
+
+// The number that eight bytes from byte 8 * `index` on spell, the first the most significant.
+#[inline(always)]
+fn word(bytes: &[u8], index: usize) -> u64
+    requires { 8 * index + 8 ≤ length bytes.now }
+    ensures { result ≡ from_be_bytes w64 (drop (8 * index) bytes.now) }
+{
+    let at = 8 * index;
+    u64::from_be_bytes([
+        bytes[at],
+        bytes[at + 1],
+        bytes[at + 2],
+        bytes[at + 3],
+        bytes[at + 4],
+        bytes[at + 5],
+        bytes[at + 6],
+        bytes[at + 7],
+    ])
 }
 
 /// The SHA-256 digest (FIPS 180-4) of the bytes. Allocates nothing.

@@ -13,7 +13,7 @@ use std::cmp::Ordering;
 use std::marker::Model;
 
 /// A block under its digest, with shared ownership.
-pub(crate) type Entry = (Digest, Shared<Block>);
+pub type Entry = (Digest, Shared<Block>);
 
 /// A borrowed entry. Contracts see the entry.
 #[derive(Drop)]

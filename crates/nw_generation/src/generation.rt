@@ -1,5 +1,5 @@
 //! Generations: blocks that were frozen at one moment.
-ghost use Rattle.std.specs.Prelude.{◌≡◌, ◌<◌, IfOk, IfErr, IsTrue, Some, None};
+ghost use Rattle.std.specs.Prelude.{◌≡◌, ◌<◌, IfOk, IfErr, IsTrue, Some};
 ghost use Rattle.std.specs.Option.{option_copied};
 ghost use Rattle.std.specs.FinMap as map;
 ghost use Rattle.nw_generation.specs.Entries.{Ascend};
@@ -7,7 +7,6 @@ ghost use Rattle.nw_generation.specs.Seen.{IsOfRound};
 
 use crate::entries::{Entry, of_trie};
 use crate::index::Index;
-use crate::span::{is_within, rounds_of};
 use nw_codec::Block;
 use nw_digest::{Digest, NoMemory, Round, Shared};
 use nw_trie::Trie;
@@ -18,8 +17,6 @@ use std::marker::Model;
 #[derive(Drop)]
 pub struct Generation {
     index: Shared<Index>,
-    /// The lowest and the highest round of the blocks.
-    rounds: Option<(Round, Round)>,
 }
 
 impl Model for Generation {
@@ -33,11 +30,6 @@ impl Model for Generation {
     ghost coded = { map.code coded_digest coded_block };
 
     ghost view = { λ g. map.from_entries g.index };
-
-    ghost use Rattle.std.specs.Prelude.{All};
-    ghost use Rattle.nw_generation.specs.Seen.{IsWithin};
-
-    ghost invariant = { λ g. All (λ e. IsWithin g.rounds e.1.round) g.index };
 }
 
 /// Freezes the blocks of the trie into a generation, which shares them.
@@ -68,15 +60,15 @@ fn frozen<A: Allocator>(
 }
 
 impl Generation {
-    /// The generation of these entries.
-    pub(crate) fn of(alloc: Global, entries: Vec<Entry>) -> Result<Generation, NoMemory>
+    /// Freezes these entries, each a digest and an owner of its block, into a generation. The digests must ascend strictly.
+    ///
+    /// `NoMemory`: an allocation failed. The entries are dropped.
+    pub fn of(alloc: Global, entries: Vec<Entry>) -> Result<Generation, NoMemory>
         requires { Ascend entries.items }
         ensures { IfOk result (λ generation. generation ≡ map.from_entries entries.items) }
     {
-        let rounds = rounds_of(&entries);
         let index = Index::of(alloc, entries)?;
         Ok(Generation {
-            rounds,
             index: Shared::new(alloc, index)?,
         })
     }
@@ -87,7 +79,6 @@ impl Generation {
     {
         Ok(Generation {
             index: self.index.try_clone()?,
-            rounds: self.rounds,
         })
     }
 
@@ -112,31 +103,13 @@ impl Generation {
         requires { IsOfRound slot (map.get self.now digest.now) }
         ensures { option_copied result ≡ map.get self.now digest.now }
     {
-        let named = &slot;
-        if self.excludes(named) {
-            return None;
-        }
-        self.index.get().get(named, digest)
+        self.index.get().get(&slot, digest)
     }
 
     /// Whether all blocks are of higher rounds than this one.
     pub(crate) fn is_above(&self, round: Round) -> bool
         ensures { IsTrue result → (d : Digest) (b : Block) → map.get self.now d ≡ Some b → round < b.round }
     {
-        match self.rounds {
-            Some((least, _greatest)) => round < least,
-            None => true,
-        }
-    }
-
-    /// Whether a slot is given whose round is outside the range of the generation's rounds.
-    fn excludes(&self, slot: &Option<(Round, u16)>) -> bool
-        ensures { IsTrue result → (d : Digest) → IsOfRound slot.now (map.get self.now d)
-            → map.get self.now d ≡ None }
-    {
-        match slot {
-            Some((round, _author)) if !is_within(self.rounds, *round) => true,
-            _ => false,
-        }
+        self.index.get().is_above(round)
     }
 }

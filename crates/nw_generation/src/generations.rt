@@ -82,8 +82,9 @@ impl Generations {
 
     /// The index of the first generation to join with all later ones.
     ///
-    /// This is the oldest generation with at most as many blocks as all later ones together. So each block is joined only a few
-    /// times. At least the last two generations are joined.
+    /// This is the oldest generation with at most half as many blocks as all later ones together, or the very oldest if it has at most as
+    /// many. So each block is joined only a few times, and collected blocks, which leave only when all are joined, do not stay for long.
+    /// At least the last two generations are joined.
     pub fn join_start(&self) -> usize
         requires several { 2 ≤ self.now.parts }
         ensures { result + 2 ≤ self.now.parts }
@@ -92,7 +93,8 @@ impl Generations {
         let (mut first, mut later) = (last, 0usize);
         let mut left = self.list.as_slice();
         while let Some((generation, older)) = left.split_last() {
-            if generation.len() <= later {
+            let most = if older.is_empty() { later } else { later / 2 };
+            if generation.len() <= most {
                 first = older.len();
             }
             later = later.saturating_add(generation.len());

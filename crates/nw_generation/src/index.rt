@@ -1,11 +1,13 @@
 //! Searches blocks by their digests.
-ghost use Rattle.std.specs.Prelude.{◌≡◌, ◌<◌, ◌++◌, ◌∷◌, IfOk, length};
+ghost use Rattle.std.specs.Prelude.{◌≡◌, ◌<◌, ◌++◌, ◌∷◌, IfOk, IsTrue, Some, None, length};
 ghost use Rattle.std.specs.Option.{option_copied};
 ghost use Rattle.nw_digest.specs.Order.{digest_cmp};
 ghost use Rattle.nw_generation.specs.Entries.{AreHeads, Ascend, IsHead, under};
+ghost use Rattle.nw_generation.specs.Seen.{IsOfRound};
 
 use crate::entries::Entry;
 use crate::slots::Slots;
+use crate::span::{is_within, rounds_of};
 use nw_codec::Block;
 use nw_digest::{Digest, NoMemory, Round, Shared};
 use std::alloc::Global;
@@ -18,8 +20,10 @@ pub(crate) struct Index {
     /// The head of each digest: its first two bytes. Heads are small and adjacent in memory, so that a search reads little memory.
     heads: Vec<u16>,
     entries: Vec<Entry>,
-    /// The same blocks by round and author.
+    /// The same blocks by round and author, if there are more than eight.
     slots: Slots,
+    /// The lowest and the highest round of the blocks.
+    rounds: Option<(Round, Round)>,
 }
 
 impl Model for Index {
@@ -33,9 +37,12 @@ impl Model for Index {
 
     ghost use Rattle.nw_generation.specs.Entries.{AreHeads, Ascend};
     ghost use Rattle.nw_generation.specs.Slots.{AreSlotsOf};
+    ghost use Rattle.std.specs.Prelude.{All};
+    ghost use Rattle.nw_generation.specs.Seen.{IsWithin};
 
     ghost invariant = { λ i. AreHeads i.heads.items i.entries.items × Ascend i.entries.items
-        × AreSlotsOf i.slots.slots.items i.entries.items };
+        × AreSlotsOf i.slots.slots.items i.entries.items
+        × All (λ e. IsWithin i.rounds e.1.round) i.entries.items };
 }
 
 impl Index {
@@ -47,6 +54,7 @@ impl Index {
         Ok(Index {
             heads: heads_of(alloc, &entries)?,
             slots: Slots::of(alloc, &entries)?,
+            rounds: rounds_of(&entries),
             entries,
         })
     }
@@ -59,16 +67,44 @@ impl Index {
         self.entries.as_slice()
     }
 
-    /// The block under the digest, or `None` if there is no such block. If a slot is given, the search tries its place first.
+    /// The block under the digest, or `None` if there is no such block.
+    ///
+    /// `slot` makes the search fast. Its round must be that of the block, if there is one. Its author is only a guess. If no block can
+    /// be of that round, nothing is searched.
     pub(crate) fn get(&self, slot: &Option<(Round, u16)>, digest: &Digest) -> Option<&Shared<Block>>
+        requires { IsOfRound slot.now (under self.now digest.now) }
         ensures { option_copied result ≡ under self.now digest.now }
     {
+        if self.excludes(slot) {
+            return None;
+        }
         if let Some((round, author)) = slot
             && let Some(block) = self.slots.get(*round, *author, digest)
         {
             return Some(block);
         }
         find(self.heads.as_slice(), self.entries.as_slice(), digest)
+    }
+
+    /// Whether all blocks are of higher rounds than this one.
+    pub(crate) fn is_above(&self, round: Round) -> bool
+        ensures { IsTrue result → (d : Digest) (b : Block) → under self.now d ≡ Some b → round < b.round }
+    {
+        match self.rounds {
+            Some((least, _greatest)) => round < least,
+            None => true,
+        }
+    }
+
+    /// Whether a slot is given whose round is outside the range of the rounds.
+    fn excludes(&self, slot: &Option<(Round, u16)>) -> bool
+        ensures { IsTrue result → (d : Digest) → IsOfRound slot.now (under self.now d)
+            → under self.now d ≡ None }
+    {
+        match slot {
+            Some((round, _author)) if !is_within(self.rounds, *round) => true,
+            _ => false,
+        }
     }
 }
 

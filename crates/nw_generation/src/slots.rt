@@ -10,6 +10,9 @@ use nw_codec::Block;
 use nw_digest::{Digest, NoMemory, Round, Shared};
 use std::alloc::Global;
 
+/// The least number of blocks that are listed by round and author. Fewer are found as fast by their digests.
+const FEWEST: usize = 9;
+
 /// A block under its digest, with its round and author.
 #[derive(Drop)]
 pub(crate) struct Slot {
@@ -19,7 +22,14 @@ pub(crate) struct Slot {
     block: Shared<Block>,
 }
 
-/// The blocks of an index by round and author. They are adjacent in memory, so that a walk follows few pointers.
+impl Slot {
+    /// The round and author in one number, which is ordered as they are. A round is below 2^48.
+    fn key(&self) -> u64 {
+        self.round.get() << 16 | u64::from(self.author)
+    }
+}
+
+/// The blocks of an index by round and author, or none if there are few. They are adjacent in memory, so that a walk follows few pointers.
 #[derive(Drop)]
 pub(crate) struct Slots {
     /// Ascending by round and author.
@@ -29,16 +39,19 @@ pub(crate) struct Slots {
 }
 
 impl Slots {
-    /// The slots of these entries.
+    /// The slots of these entries, or none if there are fewer than `FEWEST`.
     pub(crate) fn of(alloc: Global, entries: &[Entry]) -> Result<Slots, NoMemory>
         requires { Ascend entries.now }
         ensures { IfOk result (λ made. AreSlotsOf made.slots.items entries.now) }
     {
+        if entries.len() < FEWEST {
+            return Ok(Slots {
+                slots: Vec::new(alloc),
+                starts: Vec::new(alloc),
+            });
+        }
         let mut slots = slots_of(alloc, entries)?;
-        slots.sort_by(|one: &Slot, other: &Slot| {
-            let by_round = one.round.cmp(&other.round);
-            by_round.then(one.author.cmp(&other.author))
-        })?;
+        slots.sort_by(|one: &Slot, other: &Slot| one.key().cmp(&other.key()))?;
         let starts = starts_of(alloc, slots.as_slice())?;
         Ok(Slots { slots, starts })
     }

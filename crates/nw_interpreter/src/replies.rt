@@ -61,8 +61,9 @@ impl<'a> Interpreter<'a> {
         wanted: &[Wanted],
     ) -> Result<Vec<Name<'a>>, LineFault> {
         let mut names = Vec::with_capacity(alloc, wanted.len())?;
+        let mut search = self.names.in_list();
         for parent in wanted {
-            names.push(self.names.name_of_wanted(parent)?)?;
+            names.push(search.name_of_wanted(parent)?)?;
         }
         Ok(names)
     }
@@ -128,9 +129,10 @@ impl<'a> Interpreter<'a> {
     // The first names of the blocks, each after a space.
     fn names_of(&self, alloc: Global, blocks: &[&Shared<Block>]) -> Result<Vec<u8>, LineFault> {
         let mut names = Vec::new(alloc);
+        let mut search = self.names.in_list();
         for block in blocks {
             names.push(b' ')?;
-            names.extend_from_slice(self.names.name_of(block.get())?.as_str().as_bytes())?;
+            names.extend_from_slice(search.name_of(block.get())?.as_str().as_bytes())?;
         }
         Ok(names)
     }

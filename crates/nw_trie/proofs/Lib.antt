@@ -11,3 +11,4 @@ pub mod Send
 pub mod Descents
 pub mod Halves
 pub mod Places
+pub mod Fronts

@@ -1,8 +1,6 @@
 -- Digests and their places among many trees.
 use Rattle.std.proofs.Common.{◌≡◌, ◌∙◌, inl, inr, ℕ, zero, suc, ◌+◌, ◌-◌, ◌*◌, ◌^◌, ◌<◌, ◌≤◌, Bool, true, false, cond, List, [], ◌∷◌, ◌++◌, Option, Some, None, length, refl, sym, ap, subst, arith, get_or, slice_set, append_assoc, append-nil, length-append}
 use Rattle.std.proofs.lemmas.Bool.{cases_lt}
-use Rattle.std.proofs.Math.Pow.{pow_mono}
-use Rattle.std.proofs.Math.Nat.{two-pow-succ}
 use Rattle.std.specs.Map.{lookup, remove_entry}
 use Rattle.std.specs.BTreeMap.{insert_entry, is_at}
 use Rattle.std.specs.Ordering.{ordering_reverse}
@@ -41,21 +39,6 @@ unset_below false false h = absurd (omega (arith, h))
 -- the place by one bit more
 pub next_place : (n : ℕ) (d : Digest) → place_of (n + 1) d ≡ 2 * place_of n d + digit (bit_of d n)
 next_place n d = rw Rattle.std.proofs.Common.add-one refl
-
-place_below : (n : ℕ) (d : Digest) → place_of n d < 2 ^ n
-place_below zero d = omega arith
-place_below (suc n) d =
-    let low = place_below n d in
-    let bit = small_digit (bit_of d n) in
-    let twice : 2 ^ suc n ≡ 2 ^ n + 2 ^ n = two-pow-succ n in
-    rw twice (omega (arith, low, bit))
-
--- a place of few bits is small
-pub small_place : (n : ℕ) (d : Digest) → n ≤ 24 → place_of n d < 2 ^ 24
-small_place n d few =
-    let low = place_below n d in
-    let most : 2 ^ n ≤ 2 ^ 24 = pow_mono few in
-    omega (arith, low, most)
 
 -- digests of one place have the same first bits
 pub same_place : (n : ℕ) (a b : Digest) → place_of n a ≡ place_of n b → AgreeBelow n a b

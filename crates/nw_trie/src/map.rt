@@ -9,15 +9,12 @@ ghost use Rattle.nw_digest.specs.Order.{digest_cmp};
 ghost use Rattle.nw_trie.specs.Bits.{AreBytes};
 ghost use Rattle.nw_trie.specs.Places.{AreAtPlaces, joined, place_of};
 
-use crate::bits::{is_set, note_bytes};
+use crate::bits::note_bytes;
 use crate::tree::Tree;
 use nw_digest::{Digest, NoMemory};
 use std::alloc::Allocator;
 use std::marker::Model;
 use std::mem;
-
-/// How many entries there are for each tree before there are twice as many trees.
-const ENTRIES: usize = 2;
 
 /// The largest number of bits by which digests are spread over trees.
 const MOST_BITS: u8 = 24;
@@ -25,8 +22,8 @@ const MOST_BITS: u8 = 24;
 /// A map from digests to values, for many look-ups. It takes all its memory from one allocator. Contracts see the entries, ascending by
 /// digest.
 ///
-/// The entries are spread over many trees by the first bits of their digests. So a look-up passes few forks: one or two on average, if the
-/// digests are spread evenly, and at most 256 in any case.
+/// The first bits of a digest tell the tree of its entry. There are at least as many trees as entries, up to 2^24 trees, unless an
+/// allocation failed. So a look-up passes less than one fork on average, if the digests are spread evenly, and at most 256 in any case.
 #[derive(Drop)]
 pub struct DigestMap<V: Drop, A: Allocator> {
     /// In the order of the bits. There is a tree for each value of these bits, or there is no tree at all.
@@ -91,7 +88,7 @@ impl<V: Drop, A: Allocator + Copy> DigestMap<V, A> {
         if self.len == usize::MAX {
             return Err(NoMemory);
         }
-        if self.len / ENTRIES >= self.trees.len() {
+        if self.len >= self.trees.len() {
             self.spread();
         }
         let old = insert_at(&self.alloc, &mut self.trees, self.bits, digest, value)?;
@@ -212,12 +209,7 @@ fn place(digest: &Digest, bits: u8) -> usize
     ensures bytes { AreBytes digest.now.0 }
 {
     note_bytes(digest);
-    let mut place = 0;
-    for bit in 0..bits {
-        place *= 2;
-        if is_set(digest, bit) {
-            place += 1;
-        }
-    }
-    place
+    let bytes = &digest.0;
+    let front = (usize::from(bytes[0]) * 256 + usize::from(bytes[1])) * 256 + usize::from(bytes[2]);
+    front >> (24 - bits)
 }

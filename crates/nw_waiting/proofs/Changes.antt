@@ -1,6 +1,5 @@
 -- The indexes and the pairs after each call.
 use Rattle.std.proofs.Common.{◌≡◌, ◌∙◌, true, false, cond, not, ◌&&◌, ◌||◌, List, [], ◌∷◌, ◌++◌, None, sym, ap, subst}
-use Rattle.std.specs.Prelude.{filter}
 use Rattle.std.specs.List.{IsDistinct, list_any}
 use Rattle.std.specs.List.Sorted.{IsStrictlySortedBy}
 use Rattle.std.specs.Map.{lookup, keys_of}
@@ -14,7 +13,7 @@ use Rattle.nw_waiting.specs.Lists.{AreFilled, list_of}
 use Rattle.nw_digest.specs.Order.{digest_cmp}
 use Rattle.nw_waiting.specs.Pairs.{AreHolders, AreMissing, AreWanted, Pairs, without_holder, without_wanted}
 use Rattle.nw_model.specs.Missing.{wanted_cmp}
-use Rattle.nw_waiting.proofs.Members.{member_added, member_removed, once_added, once_removed}
+use Rattle.nw_waiting.proofs.Members.{member_added, once_added}
 use Rattle.nw_model.proofs.Maps.{digests_total}
 use Rattle.nw_model.proofs.WantedOrder.{one_wanted, wanted_total}
 use Rattle.nw_waiting.proofs.Relation.{are_holders, are_missing, are_wanted, contains_added, contains_in, contains_without_holder, contains_without_wanted, filled_taken, is_pair, member_taken, nobody, once_taken, one_digest, same_added, same_satisfied, same_unwanted, view_is}

@@ -1,4 +1,5 @@
 mod Changes
 mod Members
 pub mod Orders
+mod Parted
 pub mod Relation

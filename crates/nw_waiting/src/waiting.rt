@@ -1,8 +1,9 @@
 //! The table of wanted parents.
-ghost use Rattle.std.specs.Prelude.{◌≡◌, IfOk, OnOk, OnErr, take};
+ghost use Rattle.std.specs.Prelude.{◌≡◌, ◌↔◌, IfOk, IsTrue, OnOk, OnErr, take};
 ghost use Rattle.std.specs.BTreeMap.{keys};
 ghost use Rattle.std.specs.FinSet as set;
-ghost use Rattle.nw_waiting.specs.Pairs.{AreFirst, AreHolders, LacksCount, WantedCount};
+ghost use Rattle.nw_digest.specs.declared.digest.Digest.{Digest};
+ghost use Rattle.nw_waiting.specs.Pairs.{AreFirst, AreHolders, AreMissing, Lacks, LacksCount, WantedCount};
 ghost use Rattle.nw_waiting.specs.Pairs.{without_holder, without_wanted};
 
 use crate::lists::{add, has, make_room, remove_from_each};
@@ -78,13 +79,23 @@ impl<A: Allocator + Copy> Waiting<A> {
         holders
     }
 
-    /// Removes all missing parents of the holder. Allocates nothing.
-    pub fn unwant(&mut self, holder: Digest)
-        ensures { self.new ≡ without_holder self.old holder }
+    /// Removes all missing parents of the holder, and returns them, each once. Allocates nothing.
+    pub fn unwant(&mut self, holder: Digest) -> Vec<Wanted, A>
+        ensures missing { AreMissing self.old holder result.items }
+        ensures rest { self.new ≡ without_holder self.old holder }
     {
-        if let Some(missing) = self.missing.remove(&holder) {
-            remove_from_each(&mut self.holders, &missing, &holder);
-        }
+        let Some(missing) = self.missing.remove(&holder) else {
+            return Vec::new(self.alloc);
+        };
+        remove_from_each(&mut self.holders, &missing, &holder);
+        missing
+    }
+
+    /// Whether any holder is missing the parent. Allocates nothing.
+    pub fn is_wanted(&self, wanted: &Wanted) -> bool
+        ensures { IsTrue result ↔ ((holder : Digest) × Lacks self.now holder wanted.now) }
+    {
+        self.holders.contains_key(wanted)
     }
 
     /// The number of the holder's missing parents. Allocates nothing.

@@ -28,7 +28,7 @@ impl Dag {
         let owner = block.try_clone()?;
         self.waits
             .completions
-            .reserve(&self.held, &self.waits.lacking)?;
+            .reserve(&self.held, &self.waits.missing)?;
         self.waits.want_parents(&self.held, block.get(), digest)?;
         if let Err(refused) = self.held.put_block(digest, owner, *vote) {
             self.waits.forget(digest);

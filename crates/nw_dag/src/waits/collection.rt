@@ -19,11 +19,11 @@ use nw_state::StateTables;
 impl Waits {
     /// Whether the digest is complete, and its block belongs to a round below this one.
     fn is_complete_below(&self, held: &StateTables, digest: Digest, round: Round) -> bool
-        ensures { IsTrue result ↔ IsCompleteBelow held.now.state self.now.lacking round digest }
+        ensures { IsTrue result ↔ IsCompleteBelow held.now.state self.now.missing.lacking round digest }
     {
         match held.block(&digest) {
             None => false,
-            Some(block) => block.get().round < round && is_ready(held, &self.lacking, digest),
+            Some(block) => block.get().round < round && is_ready(held, &self.missing, digest),
         }
     }
 
@@ -35,7 +35,7 @@ impl Waits {
         round: Round,
     ) -> usize
         requires { IsDistinct (eq_by_cmp digest_cmp) digests.now }
-        ensures { HasCompleteBelow held.now.state self.now.lacking round digests.now result }
+        ensures { HasCompleteBelow held.now.state self.now.missing.lacking round digests.now result }
     {
         let mut count = 0;
         for digest in digests {
@@ -48,15 +48,15 @@ impl Waits {
 
     /// Releases the holder: it lacks nothing from now on, and is listed if it becomes ready as a result.
     fn release(&mut self, held: &StateTables, holder: Digest)
-        requires tally { HasPendingCount held.now.state self.old.lacking [] self.old.completions.pending }
-        ensures unmet { self.new.unmet ≡ without_holder self.old.unmet holder }
-        ensures lacking { self.new.lacking ≡ without_holder self.old.lacking holder }
-        ensures added { AppendsThose (StandsButLacks held.now.state self.old.lacking)
+        requires tally { HasPendingCount held.now.state self.old.missing.lacking [] self.old.completions.pending }
+        ensures unmet { self.new.missing.unmet ≡ without_holder self.old.missing.unmet holder }
+        ensures lacking { self.new.missing.lacking ≡ without_holder self.old.missing.lacking holder }
+        ensures added { AppendsThose (StandsButLacks held.now.state self.old.missing.lacking)
             (holder ∷ []) self.old.completions.fresh.items self.new.completions.fresh.items }
         ensures most { length self.new.completions.fresh.items + self.new.completions.pending
             ≡ length self.old.completions.fresh.items + self.old.completions.pending }
     {
-        let lacked_nothing = lacks_nothing(&self.lacking, holder);
+        let lacked_nothing = lacks_nothing(&self.missing, holder);
         self.forget(holder);
         if !lacked_nothing {
             self.add_if_ready(held, holder);
@@ -65,11 +65,11 @@ impl Waits {
 
     /// Releases the holders: they lack nothing from now on, and those that become ready as a result are listed.
     fn release_each(&mut self, held: &StateTables, holders: &[Digest])
-        requires tally { HasPendingCount held.now.state self.old.lacking [] self.old.completions.pending }
+        requires tally { HasPendingCount held.now.state self.old.missing.lacking [] self.old.completions.pending }
         requires once { IsDistinct (eq_by_cmp digest_cmp) holders.now }
-        ensures unmet { AreReleased holders.now self.old.unmet self.new.unmet }
-        ensures lacking { AreReleased holders.now self.old.lacking self.new.lacking }
-        ensures added { AppendsThose (StandsButLacks held.now.state self.old.lacking) holders.now
+        ensures unmet { AreReleased holders.now self.old.missing.unmet self.new.missing.unmet }
+        ensures lacking { AreReleased holders.now self.old.missing.lacking self.new.missing.lacking }
+        ensures added { AppendsThose (StandsButLacks held.now.state self.old.missing.lacking) holders.now
             self.old.completions.fresh.items self.new.completions.fresh.items }
         ensures most { length self.new.completions.fresh.items + self.new.completions.pending
             ≡ length self.old.completions.fresh.items + self.old.completions.pending }
@@ -82,12 +82,12 @@ impl Waits {
     /// Updates the sets after the garbage round was raised. The holders are the digests of rounds up to it, and `dropped` is the number of
     /// dropped blocks that were not complete. Blocks that become complete as a result are listed and promoted. Allocates nothing.
     pub(crate) fn collect(&mut self, held: &StateTables, holders: &[Digest], dropped: usize)
-        requires { IsCollecting held.now.state self.old.unmet self.old.lacking
+        requires { IsCollecting held.now.state self.old.missing.unmet self.old.missing.lacking
             self.old.completions.pending holders.now dropped }
-        ensures settled { IsSettled held.now.state self.new.unmet self.new.lacking
+        ensures settled { IsSettled held.now.state self.new.missing.unmet self.new.missing.lacking
             self.new.completions.pending }
-        ensures grown { Grows held.now.state (IsReady held.now.state self.old.lacking)
-            self.old.lacking self.new.lacking
+        ensures grown { Grows held.now.state (IsReady held.now.state self.old.missing.lacking)
+            self.old.missing.lacking self.new.missing.lacking
             self.old.completions.fresh.items self.new.completions.fresh.items }
     {
         self.completions.drop_pending(dropped);

@@ -35,6 +35,25 @@ fn satisfy_in_both(
     Ok(holders.as_slice() == expected.as_slice())
 }
 
+/// Removes the missing parents of the holder from both. Returns whether both had the same.
+fn unwant_in_both(
+    alloc: Global,
+    waiting: &mut Waiting<Global>,
+    pairs: &mut Pairs,
+    holder: Digest,
+) -> Result<bool, NoMemory> {
+    let mut expected = Vec::new(alloc);
+    for pair in pairs.iter() {
+        if pair.1 == holder {
+            expected.push(pair.0)?;
+        }
+    }
+    let mut missing = waiting.unwant(holder);
+    missing.sort()?;
+    pairs.retain(|pair| pair.1 != holder);
+    Ok(missing.as_slice() == expected.as_slice())
+}
+
 /// Whether both have the same first wanted parents, and the same numbers of wanted parents and of the holder's missing ones.
 fn are_same(
     alloc: Global,
@@ -79,10 +98,7 @@ fn step(
     let (wanted, holder) = random_pair(word)?;
     let mut answered = true;
     match word / 512 % 64 {
-        0 => {
-            waiting.unwant(holder);
-            pairs.retain(|pair| pair.1 != holder);
-        }
+        0 => answered = unwant_in_both(alloc, waiting, pairs, holder)?,
         1..9 => answered = satisfy_in_both(alloc, waiting, pairs, wanted)?,
         _ => {
             waiting.want(wanted, holder)?;
@@ -90,6 +106,8 @@ fn step(
         }
     }
     let most = (word / 32_768 % 32) as u16;
+    let is_wanted = pairs.iter().any(|pair| pair.0 == wanted);
+    answered &= waiting.is_wanted(&wanted) == is_wanted;
     Ok(answered && are_same(alloc, waiting, pairs, holder, most)?)
 }
 

@@ -153,7 +153,8 @@ fn holders_of_a_wanted_parent(rt: HostRuntime) {
     let holders = waiting.satisfy(&wanted(0, 1));
     assert_eq!(rt; holders.as_slice(), [digest(8, 0), digest(9, 0)].as_slice());
     assert_eq!(rt; missing_counts(&waiting), [1, 1, 0]);
-    waiting.unwant(digest(8, 0));
+    let missing = waiting.unwant(digest(8, 0));
+    assert_eq!(rt; missing.as_slice(), [wanted(1, 2)].as_slice());
     assert_eq!(rt; missing_counts(&waiting), [0, 0, 0]);
     let last = retry!(NoMemory, waiting.first_wanted(rt.alloc(), 5));
     assert!(rt; last.is_ok_and(|wanted| wanted.is_empty()));

@@ -105,10 +105,10 @@ fn holders_pass(alloc: Global) -> Result<bool, NoMemory> {
     fail_allocations(alloc);
     let before = missing_counts(&waiting);
     let satisfied = waiting.satisfy(&wanted(0, 1)).len();
-    waiting.unwant(digest(8, 0));
+    let missing = waiting.unwant(digest(8, 0)).len();
     let left = (waiting.count(), Waiting::new_in(alloc).count());
     allow_allocations(alloc);
-    Ok(before == [2, 2, 1] && satisfied == 2 && left == (0, 0))
+    Ok(before == [2, 2, 1] && satisfied == 2 && missing == 1 && left == (0, 0))
 }
 
 /// A list with one generation of three blocks of round 0.

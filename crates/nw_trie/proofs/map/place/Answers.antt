@@ -1,13 +1,8 @@
-use Rattle.std.proofs.Common.{arith}
-use Rattle.nw_trie.proofs.Places.{small_place}
+use Rattle.std.proofs.Common.{◌≡◌, ◌∙◌, ◌+◌, ◌-◌, ◌*◌, ◌/◌, ◌^◌, ap, arith}
+use Rattle.nw_trie.proofs.Fronts.{below, first_bits, front}
 use Rattle.nw_trie.proofs.map.place.Goals as goal
 
-pub overflow_mul-place : goal.overflow_mul-place
-overflow_mul-place c =
-    let small = small_place c.loop-bit.bit c.args.digest.now (omega (arith, c.loop-bit-test.true, c.requires)) in
-    omega (arith, small, c.loop-bit.invariant)
-
-pub overflow_add-place : goal.overflow_add-place
-overflow_add-place c =
-    let small = small_place c.loop-bit.bit c.args.digest.now (omega (arith, c.loop-bit-test.true, c.requires)) in
-    omega (arith, small, c.loop-bit.invariant)
+pub returns-clause-place : goal.returns-clause-place
+returns-clause-place c =
+    let read : (c.from.result * 256 + c.from-2.result) * 256 + c.from-3.result ≡ front c.args.digest.now = omega (arith, c.from.ensures, c.from-2.ensures, c.from-3.ensures) in
+    ap (λ n. n / 2 ^ (24 - c.args.bits)) read ∙ first_bits c.args.digest.now (below c.args.digest.now.0 c.note_bytes.ensures) c.args.bits (24 - c.args.bits) (omega (arith, c.requires))

@@ -4,7 +4,7 @@ use Rattle.nw_dag.proofs.dag.Dag.is_complete.Goals as goal
 pub returns-clause-complete : goal.returns-clause-complete
 returns-clause-complete c =
     let s = c.self.inside.held.state in
-    let lacking = c.self.inside.waits.lacking in
+    let lacking = c.self.inside.waits.missing.lacking in
     let promoted = c.self.invariant.settled.settling.promoted in
     rw (← c.self.view_is) (
       λ true. (ready_complete s lacking promoted (c.is_ready.ensures.sound true) c.args.digest.now).0 (c.is_ready.ensures.ready.0 true),

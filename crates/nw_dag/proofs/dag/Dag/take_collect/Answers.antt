@@ -11,7 +11,7 @@ use Rattle.nw_dag.proofs.dag.Dag.take_collect.Goals as goal
 pub overflow_sub-dropped-2 : goal.overflow_sub-dropped-2
 overflow_sub-dropped-2 c =
     let s : State = c.self.inside.held.state in
-    let fits = lost_fits s c.self.inside.waits.lacking c.args.round c.deref.result.now c.complete_below-complete.result c.complete_below-complete.ensures in
+    let fits = lost_fits s c.self.inside.waits.missing.lacking c.args.round c.deref.result.now c.complete_below-complete.result c.complete_below-complete.ensures in
     omega (arith, fits, c.blocks-blocks.ensures, c.blocks-2.ensures, ap (λ (t : State). len t.blocks) c.raise.ensures.state)
 
 pub collect-requires : goal.collect-requires
@@ -19,10 +19,10 @@ collect-requires c =
     let s : State = c.self.inside.held.state in
     let waits = c.self.inside.waits in
     let low = c.in_ok-holders.holders.items in
-    let fits = lost_fits s waits.lacking c.args.round c.deref.result.now c.complete_below-complete.result c.complete_below-complete.ensures in
-    collecting s c.raise.new.self.state c.args.round waits.unmet waits.lacking waits.completions.pending low c.deref-3.result.now c.complete_below-complete.result _ c.raise.ensures.state c.digests_up_to.ensures.sound c.self.invariant.settled
+    let fits = lost_fits s waits.missing.lacking c.args.round c.deref.result.now c.complete_below-complete.result c.complete_below-complete.ensures in
+    collecting s c.raise.new.self.state c.args.round waits.missing.unmet waits.missing.lacking waits.completions.pending low c.deref-3.result.now c.complete_below-complete.result _ c.raise.ensures.state c.digests_up_to.ensures.sound c.self.invariant.settled
     (higher c.self.inside.held.state c.args.round _ (rw (← c.self.view_is) at (sym c.requires ∙ c.in-Raised.is))) c.in_ok-holders.ensures.digests c.deref-3.ensures.value
-    (subst (λ xs. HasCompleteBelow s waits.lacking c.args.round xs c.complete_below-complete.result) c.deref.ensures.value c.complete_below-complete.ensures)
+    (subst (λ xs. HasCompleteBelow s waits.missing.lacking c.args.round xs c.complete_below-complete.result) c.deref.ensures.value c.complete_below-complete.ensures)
     (omega (arith, fits, c.blocks-blocks.ensures, c.blocks-2.ensures, ap (λ (t : State). len t.blocks) c.raise.ensures.state))
 
 pub invariant_of-self : goal.invariant_of-self
@@ -32,7 +32,7 @@ invariant_of-self c =
     let new = c.collect.new.self in
     record {
       settled = c.collect.ensures.settled;
-      frozen = subst (λ (t : State). AreFrozenExcept t new.lacking new.completions.fresh.items c.self.inside.generations.blocks) (sym c.raise.ensures.state)
-          (frozen_raised s c.args.round c.digests_up_to.ensures.sound (higher c.self.inside.held.state c.args.round _ (rw (← c.self.view_is) at (sym c.requires ∙ c.in-Raised.is))) c.in_ok-holders.holders.items c.in_ok-holders.ensures.digests waits.lacking new.lacking waits.completions.fresh.items new.completions.fresh.items
+      frozen = subst (λ (t : State). AreFrozenExcept t new.missing.lacking new.completions.fresh.items c.self.inside.generations.blocks) (sym c.raise.ensures.state)
+          (frozen_raised s c.args.round c.digests_up_to.ensures.sound (higher c.self.inside.held.state c.args.round _ (rw (← c.self.view_is) at (sym c.requires ∙ c.in-Raised.is))) c.in_ok-holders.holders.items c.in_ok-holders.ensures.digests waits.missing.lacking new.missing.lacking waits.completions.fresh.items new.completions.fresh.items
           c.self.inside.generations.blocks c.self.invariant.frozen (rw c.raise.ensures.state at c.collect.ensures.grown));
     }

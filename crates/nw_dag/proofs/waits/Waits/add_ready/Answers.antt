@@ -19,7 +19,7 @@ add_if_ready-requires c =
     let d : Digest = get_or digests i none in
     let inv = c.loop-digest.invariant in
     record {
-      pending = λ ready. pending_next s c.args.self.now.lacking digests (take i digests) c.args.self.now.completions.fresh.items c.loop-digest.self.completions.fresh.items c.args.self.now.completions.pending c.loop-digest.self.completions.pending d
+      pending = λ ready. pending_next s c.args.self.now.missing.lacking digests (take i digests) c.args.self.now.completions.fresh.items c.loop-digest.self.completions.fresh.items c.args.self.now.completions.pending c.loop-digest.self.completions.pending d
           c.requires.tally inv.added (λ x among. among_front i digests x among) inv.most (Contains-get_or digests i none c.loop-digest-test.true)
           (not_before digests i none c.loop-digest-test.true c.requires.once) (subst (λ (m : Pairs). IsReady s m d) inv.lacking ready);
     }
@@ -33,16 +33,16 @@ loop-digest-preserved c =
     let more : take (c.loop-digest.digest-index + 1) c.args.digests.now ≡ seen ++ d ∷ [] = take_more c.args.digests.now c.loop-digest.digest-index none c.loop-digest-test.true in
     let inv = c.loop-digest.invariant in
     let new = c.add_if_ready.new.self.completions.fresh.items in
-    let one : AppendsThose (P c.args.self.now.lacking) (d ∷ []) c.loop-digest.self.completions.fresh.items new =
+    let one : AppendsThose (P c.args.self.now.missing.lacking) (d ∷ []) c.loop-digest.self.completions.fresh.items new =
     subst (λ (m : Pairs). AppendsThose (P m) (d ∷ []) c.loop-digest.self.completions.fresh.items new) inv.lacking c.add_if_ready.ensures.added in
     record {
       unmet = c.add_if_ready.ensures.unmet ∙ inv.unmet;
       lacking = c.add_if_ready.ensures.lacking ∙ inv.lacking;
-      added = subst (λ xs. AppendsThose (P c.args.self.now.lacking) xs c.args.self.now.completions.fresh.items new) (sym more)
-          (adds_more (P c.args.self.now.lacking) seen d c.args.self.now.completions.fresh.items c.loop-digest.self.completions.fresh.items new
+      added = subst (λ xs. AppendsThose (P c.args.self.now.missing.lacking) xs c.args.self.now.completions.fresh.items new) (sym more)
+          (adds_more (P c.args.self.now.missing.lacking) seen d c.args.self.now.completions.fresh.items c.loop-digest.self.completions.fresh.items new
           (not_before c.args.digests.now c.loop-digest.digest-index none c.loop-digest-test.true c.requires.once) inv.added one);
       most = c.add_if_ready.ensures.most ∙ inv.most;
     }
 
 pub loop-digest-init : goal.loop-digest-init
-loop-digest-init c = record { unmet = refl; lacking = refl; added = adds_none (IsReady c.args.held.now.state c.args.self.now.lacking) c.args.self.now.completions.fresh.items; most = refl }
+loop-digest-init c = record { unmet = refl; lacking = refl; added = adds_none (IsReady c.args.held.now.state c.args.self.now.missing.lacking) c.args.self.now.completions.fresh.items; most = refl }

@@ -1,4 +1,7 @@
-use Rattle.std.proofs.Common.{IsSome, refl, sym, subst}
+use Rattle.std.proofs.Common.{◌≡◌, IsSome, drop, refl, sym, subst}
+use Rattle.nw_waiting.specs.Pairs.{Pairs}
+use Rattle.nw_dag.specs.Frozen.{Grows}
+use Rattle.nw_dag.specs.Settled.{IsCascading, IsSettled}
 use Rattle.nw_model.specs.State.{State}
 use Rattle.nw_state.specs.Standing.{Stands}
 use Rattle.nw_dag.specs.Lacking.{LacksNothing, IsReady}
@@ -13,15 +16,18 @@ returns-in_default c =
     let self = c.args.self.now in
     let never : Stands s c.args.digest → ⊥ = λ stands. none_is c.standing.result c.in_default.is (c.standing.ensures.stands.1 stands) in
     record {
-      settled = not_standing s c.args.digest self.unmet self.lacking self.completions.pending never c.requires;
-      grown = grown_none s c.args.digest self.lacking self.completions.fresh.items (λ ready. never ready.0);
+      settled = not_standing s c.args.digest self.missing.unmet self.missing.lacking self.completions.pending never c.requires;
+      grown = grown_none s c.args.digest self.missing.lacking self.completions.fresh.items (λ ready. never ready.0);
     }
 
 pub add-requires : goal.add-requires
 add-requires c =
     let s : State = c.args.held.now.state in
     let self = c.args.self.now in
-    pending_but s c.args.digest self.unmet self.lacking self.completions.pending c.requires (c.standing.ensures.stands.0 (subst IsSome (sym c.in-Some.is) refl), c.lacks_nothing.ensures.nothing.0 c.if-lacks_nothing.true)
+    pending_but s c.args.digest self.missing.unmet self.missing.lacking self.completions.pending c.requires (
+      c.standing.ensures.stands.0 (subst IsSome (sym c.in-Some.is) refl),
+      subst (λ (m : Pairs). LacksNothing m c.args.digest) c.meet.ensures.lacking (c.lacks_nothing.ensures.nothing.0 c.if-lacks_nothing.true),
+    )
 
 pub cascade-requires : goal.cascade-requires
 cascade-requires c =
@@ -29,10 +35,10 @@ cascade-requires c =
     let self = c.args.self.now in
     let stands : Stands s c.args.digest = c.standing.ensures.stands.0 (subst IsSome (sym c.in-Some.is) refl) in
     record {
-      due = now_ready s c.args.digest self.unmet c.satisfy-met.new.self self.lacking self.completions.fresh.items c.add.new.self.fresh.items self.completions.pending c.add.new.self.pending c.listed-first.result
-          (met_by_name s c.args.digest c.in-Some.name self.unmet c.satisfy-met.new.self c.in-Some.ensures.name stands c.requires.standing c.satisfy-met.ensures.rest)
-          (stands, c.lacks_nothing.ensures.nothing.0 c.if-lacks_nothing.true)
-          c.add.ensures.fresh c.add.ensures.pending c.listed-first.ensures c.requires;
+      due = subst (λ (m : Pairs). IsCascading s c.meet.new.self.unmet m (drop c.listed-first.result c.add.new.self.fresh.items) c.add.new.self.pending) (sym c.meet.ensures.lacking) (now_ready s c.args.digest self.missing.unmet c.meet.new.self.unmet self.missing.lacking self.completions.fresh.items c.add.new.self.fresh.items self.completions.pending c.add.new.self.pending c.listed-first.result
+          (met_by_name s c.args.digest c.in-Some.name self.missing.unmet c.meet.new.self.unmet c.in-Some.ensures.name stands c.requires.standing c.meet.ensures.unmet)
+          (stands, subst (λ (m : Pairs). LacksNothing m c.args.digest) c.meet.ensures.lacking (c.lacks_nothing.ensures.nothing.0 c.if-lacks_nothing.true))
+          c.add.ensures.fresh c.add.ensures.pending c.listed-first.ensures c.requires);
     }
 
 pub returns-then-lacks_nothing : goal.returns-then-lacks_nothing
@@ -40,17 +46,19 @@ returns-then-lacks_nothing c =
     let self = c.args.self.now in
     record {
       settled = c.cascade.ensures.settled;
-      grown = grown_from c.args.held.now.state c.args.digest self.lacking c.cascade.new.self.lacking self.completions.fresh.items c.add.new.self.fresh.items c.cascade.new.self.completions.fresh.items c.add.ensures.fresh c.cascade.ensures.grown;
+      grown = grown_from c.args.held.now.state c.args.digest self.missing.lacking c.cascade.new.self.missing.lacking self.completions.fresh.items c.add.new.self.fresh.items c.cascade.new.self.completions.fresh.items c.add.ensures.fresh
+          (subst (λ (m : Pairs). Grows c.args.held.now.state (IsReady c.args.held.now.state m) m c.cascade.new.self.missing.lacking c.add.new.self.fresh.items c.cascade.new.self.completions.fresh.items) c.meet.ensures.lacking c.cascade.ensures.grown);
     }
 
-pub returns : goal.returns
-returns c =
+pub returns-else-lacks_nothing : goal.returns-else-lacks_nothing
+returns-else-lacks_nothing c =
     let s : State = c.args.held.now.state in
     let self = c.args.self.now in
-    let lacks = refuted c.lacks_nothing.result (LacksNothing self.lacking c.args.digest) c.lacks_nothing.ensures.nothing c.if-lacks_nothing.false in
-    let never : IsReady s self.lacking c.args.digest → ⊥ = λ ready. lacks ready.1 in
+    let lacks = refuted c.lacks_nothing.result (LacksNothing c.meet.new.self.lacking c.args.digest) c.lacks_nothing.ensures.nothing c.if-lacks_nothing.false in
+    let never : IsReady s self.missing.lacking c.args.digest → ⊥ = λ ready. lacks (subst (λ (m : Pairs). LacksNothing m c.args.digest) (sym c.meet.ensures.lacking) ready.1) in
     record {
-      settled = not_ready s c.args.digest self.unmet c.satisfy-met.new.self self.lacking self.completions.pending never
-          (met_by_name s c.args.digest c.in-Some.name self.unmet c.satisfy-met.new.self c.in-Some.ensures.name (c.standing.ensures.stands.0 (subst IsSome (sym c.in-Some.is) refl)) c.requires.standing c.satisfy-met.ensures.rest) c.requires;
-      grown = grown_none s c.args.digest self.lacking self.completions.fresh.items never;
+      settled = subst (λ (m : Pairs). IsSettled s c.meet.new.self.unmet m self.completions.pending) (sym c.meet.ensures.lacking) (not_ready s c.args.digest self.missing.unmet c.meet.new.self.unmet self.missing.lacking self.completions.pending never
+          (met_by_name s c.args.digest c.in-Some.name self.missing.unmet c.meet.new.self.unmet c.in-Some.ensures.name (c.standing.ensures.stands.0 (subst IsSome (sym c.in-Some.is) refl)) c.requires.standing c.meet.ensures.unmet) c.requires);
+      grown = subst (λ (m : Pairs). Grows s (λ d. IsReady s self.missing.lacking d × (d ≡ c.args.digest → ⊥)) self.missing.lacking m self.completions.fresh.items self.completions.fresh.items) (sym c.meet.ensures.lacking)
+          (grown_none s c.args.digest self.missing.lacking self.completions.fresh.items never);
     }

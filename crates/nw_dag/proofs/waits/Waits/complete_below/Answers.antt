@@ -10,11 +10,11 @@ use Rattle.nw_dag.proofs.waits.Waits.complete_below.Goals.{then-is_complete_belo
 use Rattle.nw_dag.proofs.waits.Waits.complete_below.Goals as goal
 
 pub loop-digest-init : goal.loop-digest-init
-loop-digest-init c = record { counts = ([], adds_none (IsCompleteBelow c.args.held.now.state c.args.self.now.lacking c.args.round) [], refl); below = omega arith }
+loop-digest-init c = record { counts = ([], adds_none (IsCompleteBelow c.args.held.now.state c.args.self.now.missing.lacking c.args.round) [], refl); below = omega arith }
 
 pub loop-digest-preserved : goal.loop-digest-preserved
 loop-digest-preserved c =
-    let P = IsCompleteBelow c.args.held.now.state c.args.self.now.lacking c.args.round in
+    let P = IsCompleteBelow c.args.held.now.state c.args.self.now.missing.lacking c.args.round in
     let none : Digest = record { 0 = [] } in
     let i = c.loop-digest.digest-index in
     let digests : List Digest = c.args.digests.now in
@@ -45,4 +45,4 @@ loop-digest-preserved c =
 
 pub returns : goal.returns
 returns c =
-    subst (λ xs. HasCompleteBelow c.args.held.now.state c.args.self.now.lacking c.args.round xs c.loop-digest.count) (take_all c.loop-digest.digest-index c.args.digests.now c.loop-digest-test.false) c.loop-digest.invariant.counts
+    subst (λ xs. HasCompleteBelow c.args.held.now.state c.args.self.now.missing.lacking c.args.round xs c.loop-digest.count) (take_all c.loop-digest.digest-index c.args.digests.now c.loop-digest-test.false) c.loop-digest.invariant.counts

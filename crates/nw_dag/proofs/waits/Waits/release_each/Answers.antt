@@ -10,9 +10,9 @@ use Rattle.nw_dag.proofs.waits.Waits.release_each.Goals as goal
 
 pub loop-holder-init : goal.loop-holder-init
 loop-holder-init c = record {
-  unmet = without_none c.args.self.now.unmet;
-  lacking = without_none c.args.self.now.lacking;
-  added = adds_none (StandsButLacks c.args.held.now.state c.args.self.now.lacking) c.args.self.now.completions.fresh.items;
+  unmet = without_none c.args.self.now.missing.unmet;
+  lacking = without_none c.args.self.now.missing.lacking;
+  added = adds_none (StandsButLacks c.args.held.now.state c.args.self.now.missing.lacking) c.args.self.now.completions.fresh.items;
   most = refl;
 }
 
@@ -20,7 +20,7 @@ pub release-requires : goal.release-requires
 release-requires c =
     let inv = c.loop-holder.invariant in
     record {
-      tally = tally_released c.args.held.now.state c.args.self.now.lacking c.loop-holder.self.lacking (take c.loop-holder.holder-index c.args.holders.now) c.args.self.now.completions.fresh.items c.loop-holder.self.completions.fresh.items c.args.self.now.completions.pending
+      tally = tally_released c.args.held.now.state c.args.self.now.missing.lacking c.loop-holder.self.missing.lacking (take c.loop-holder.holder-index c.args.holders.now) c.args.self.now.completions.fresh.items c.loop-holder.self.completions.fresh.items c.args.self.now.completions.pending
           c.loop-holder.self.completions.pending inv.lacking inv.added inv.most c.requires.tally;
     }
 
@@ -35,16 +35,16 @@ loop-holder-preserved c =
     let old = c.args.self.now in
     let new = c.release.new.self in
     record {
-      unmet = subst (λ xs. AreReleased xs old.unmet new.unmet) (sym more) (without_more seen d old.unmet c.loop-holder.self.unmet new.unmet inv.unmet c.release.ensures.unmet);
-      lacking = subst (λ xs. AreReleased xs old.lacking new.lacking) (sym more) (without_more seen d old.lacking c.loop-holder.self.lacking new.lacking inv.lacking c.release.ensures.lacking);
-      added = subst (λ xs. AppendsThose (StandsButLacks s old.lacking) xs old.completions.fresh.items new.completions.fresh.items) (sym more)
-          (stuck_more s seen d old.lacking c.loop-holder.self.lacking old.completions.fresh.items c.loop-holder.self.completions.fresh.items new.completions.fresh.items inv.lacking
+      unmet = subst (λ xs. AreReleased xs old.missing.unmet new.missing.unmet) (sym more) (without_more seen d old.missing.unmet c.loop-holder.self.missing.unmet new.missing.unmet inv.unmet c.release.ensures.unmet);
+      lacking = subst (λ xs. AreReleased xs old.missing.lacking new.missing.lacking) (sym more) (without_more seen d old.missing.lacking c.loop-holder.self.missing.lacking new.missing.lacking inv.lacking c.release.ensures.lacking);
+      added = subst (λ xs. AppendsThose (StandsButLacks s old.missing.lacking) xs old.completions.fresh.items new.completions.fresh.items) (sym more)
+          (stuck_more s seen d old.missing.lacking c.loop-holder.self.missing.lacking old.completions.fresh.items c.loop-holder.self.completions.fresh.items new.completions.fresh.items inv.lacking
           (not_before c.args.holders.now c.loop-holder.holder-index none c.loop-holder-test.true c.requires.once) inv.added c.release.ensures.added);
       most = c.release.ensures.most ∙ inv.most;
     }
 
 pub returns-clause-unmet : goal.returns-clause-unmet
-returns-clause-unmet c = subst (λ xs. AreReleased xs c.args.self.now.unmet c.loop-holder.self.unmet) (take_all c.loop-holder.holder-index c.args.holders.now c.loop-holder-test.false) c.loop-holder.invariant.unmet
+returns-clause-unmet c = subst (λ xs. AreReleased xs c.args.self.now.missing.unmet c.loop-holder.self.missing.unmet) (take_all c.loop-holder.holder-index c.args.holders.now c.loop-holder-test.false) c.loop-holder.invariant.unmet
 
 pub returns-clause-lacking : goal.returns-clause-lacking
-returns-clause-lacking c = subst (λ xs. AreReleased xs c.args.self.now.lacking c.loop-holder.self.lacking) (take_all c.loop-holder.holder-index c.args.holders.now c.loop-holder-test.false) c.loop-holder.invariant.lacking
+returns-clause-lacking c = subst (λ xs. AreReleased xs c.args.self.now.missing.lacking c.loop-holder.self.missing.lacking) (take_all c.loop-holder.holder-index c.args.holders.now c.loop-holder-test.false) c.loop-holder.invariant.lacking

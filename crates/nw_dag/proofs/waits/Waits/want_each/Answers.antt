@@ -17,19 +17,20 @@ loop-reference-preserved c =
     let r : Ref = get_or c.args.references.now c.loop-reference.reference-index none in
     let more : take (c.loop-reference.reference-index + 1) c.args.references.now ≡ seen ++ r ∷ [] = take_more c.args.references.now c.loop-reference.reference-index none c.loop-reference-test.true in
     let met : Wanted → Type 0 = IsMet s in
-    let whole : Wanted → Type 0 = λ w. IsMet s w × IsReady s c.args.self.now.lacking w.digest in
-    let whole_now : Wanted → Type 0 = λ w. IsMet s w × IsReady s c.loop-reference.self.lacking w.digest in
+    let whole : Wanted → Type 0 = λ w. IsMet s w × IsReady s c.args.self.now.missing.lacking w.digest in
+    let whole_now : Wanted → Type 0 = λ w. IsMet s w × IsReady s c.loop-reference.self.missing.lacking w.digest in
     let v : Wanted = c.named_by.result in
     let inv = c.loop-reference.invariant in
     record {
-      unmet = subst (λ xs. LacksAlso met (IsNamedAmong (c.args.round + 1) xs) c.args.holder c.args.self.now.unmet c.want.new.self.unmet) (sym more)
-          (wants_more met met (c.args.round + 1) seen r v c.args.holder c.args.self.now.unmet c.loop-reference.self.unmet c.want.new.self.unmet c.named_by.ensures (λ x. x) (λ x. x) inv.unmet c.in_ok-want.ensures.unmet);
-      lacking = subst (λ xs. LacksAlso whole (IsNamedAmong (c.args.round + 1) xs) c.args.holder c.args.self.now.lacking c.want.new.self.lacking) (sym more)
-          (wants_more whole whole_now (c.args.round + 1) seen r v c.args.holder c.args.self.now.lacking c.loop-reference.self.lacking c.want.new.self.lacking c.named_by.ensures
-          (λ (is, ready). (is, ready_back s c.args.holder v.digest c.args.self.now.lacking c.loop-reference.self.lacking inv.same_lacking c.requires.absent ready))
-          (λ (is, ready). (is, ready_same s c.args.holder v.digest c.args.self.now.lacking c.loop-reference.self.lacking inv.same_lacking c.requires.absent ready))
+      unmet = subst (λ xs. LacksAlso met (IsNamedAmong (c.args.round + 1) xs) c.args.holder c.args.self.now.missing.unmet c.want.new.self.missing.unmet) (sym more)
+          (wants_more met met (c.args.round + 1) seen r v c.args.holder c.args.self.now.missing.unmet c.loop-reference.self.missing.unmet c.want.new.self.missing.unmet c.named_by.ensures (λ x. x) (λ x. x) inv.unmet c.in_ok-want.ensures.unmet);
+      lacking = subst (λ xs. LacksAlso whole (IsNamedAmong (c.args.round + 1) xs) c.args.holder c.args.self.now.missing.lacking c.want.new.self.missing.lacking) (sym more)
+          (wants_more whole whole_now (c.args.round + 1) seen r v c.args.holder c.args.self.now.missing.lacking c.loop-reference.self.missing.lacking c.want.new.self.missing.lacking c.named_by.ensures
+          (λ (is, ready). (is, ready_back s c.args.holder v.digest c.args.self.now.missing.lacking c.loop-reference.self.missing.lacking inv.same_lacking c.requires.absent ready))
+          (λ (is, ready). (is, ready_same s c.args.holder v.digest c.args.self.now.missing.lacking c.loop-reference.self.missing.lacking inv.same_lacking c.requires.absent ready))
           inv.lacking c.in_ok-want.ensures.lacking);
-      same_unmet = same_through c.args.holder c.args.self.now.unmet c.loop-reference.self.unmet c.want.new.self.unmet inv.same_unmet c.want.ensures.same_unmet;
-      same_lacking = same_through c.args.holder c.args.self.now.lacking c.loop-reference.self.lacking c.want.new.self.lacking inv.same_lacking c.want.ensures.same_lacking;
+      split = c.in_ok-want.ensures.split;
+      same_unmet = same_through c.args.holder c.args.self.now.missing.unmet c.loop-reference.self.missing.unmet c.want.new.self.missing.unmet inv.same_unmet c.want.ensures.same_unmet;
+      same_lacking = same_through c.args.holder c.args.self.now.missing.lacking c.loop-reference.self.missing.lacking c.want.new.self.missing.lacking inv.same_lacking c.want.ensures.same_lacking;
       completions = c.want.ensures.completions ∙ inv.completions;
     }

@@ -1,14 +1,20 @@
-use Rattle.std.proofs.Common.{List, ap, sym, ◌∙◌}
+use Rattle.std.proofs.Common.{List, ap, sym, subst, ◌∙◌}
 use Rattle.std.specs.FinMap.{FinMap, get}
 use Rattle.nw_digest.specs.declared.digest.Digest.{Digest}
 use Rattle.nw_codec.specs.declared.block.Block.{Block}
 use Rattle.nw_digest.specs.Order.{digest_cmp}
 use Rattle.nw_model.proofs.Maps.{digests_total, get_lookup}
 use Rattle.nw_generation.specs.Entries.{under}
+use Rattle.nw_generation.specs.Seen.{IsOfRound}
 use Rattle.nw_generation.proofs.generation.Generation.get.Goals as goal
+
+pub get-requires-2 : goal.get-requires-2
+get-requires-2 c =
+    let d : Digest = c.args.digest.now in
+    let is = ap (λ (es : List (Digest × Block)). under es d) c.get.ensures ∙ sym (get_lookup digests_total c.self.inside.index d) ∙ ap (λ (m : FinMap digest_cmp Block). get m d) c.self.view_is in
+    subst (IsOfRound c.args.slot) (sym is) c.requires
 
 pub returns : goal.returns
 returns c =
-    let es : List (Digest × Block) = c.self.inside.index in
     let d : Digest = c.args.digest.now in
-    c.get-2.ensures ∙ ap (λ (es : List (Digest × Block)). under es d) c.get.ensures ∙ sym (get_lookup digests_total es d) ∙ ap (λ (m : FinMap digest_cmp Block). get m d) c.self.view_is
+    c.get-2.ensures ∙ ap (λ (es : List (Digest × Block)). under es d) c.get.ensures ∙ sym (get_lookup digests_total c.self.inside.index d) ∙ ap (λ (m : FinMap digest_cmp Block). get m d) c.self.view_is

@@ -1,0 +1,78 @@
+-- Digests and entries that ascend.
+use Rattle.std.proofs.Common.{◌≡◌, ◌↔◌, ◌⊎◌, ℕ, ◌<◌, Bool, true, List, [], ◌∷◌, ◌++◌, length, take, get_or, refl, ap, sym, ◌∙◌, subst, arith}
+use Rattle.std.specs.Prelude.{Contains, IsPermutation}
+use Rattle.std.specs.Cmp.{IsEquivalence, on_equiv}
+use Rattle.std.specs.Cmp.Lexicographic.{nat_list_eq_equiv, texts_ties}
+use Rattle.std.proofs.lemmas.List.{get_or_default, get_or-take, length-take, map-append}
+use Rattle.std.proofs.lemmas.List.Elements.{Contains-push_cases}
+use Rattle.std.specs.declared.cmp.Ordering.TheVariants.{Less, Greater}
+use Rattle.std.specs.List.{dedup}
+use Rattle.std.specs.List.Retain.{IsFiltered, DiffersFromLast}
+use Rattle.std.specs.List.Sorted.{IsSorted, IsStrictlySortedBy}
+use Rattle.std.specs.Str.{bytes_eq}
+use Rattle.std.specs.Ordering.{match_ordering, ordering_reverse}
+use Rattle.std.specs.BTreeMap.{insert_entry}
+use Rattle.std.specs.Map.{keys_of}
+use Rattle.std.proofs.lemmas.List.Filters.{dedup_is}
+use Rattle.std.proofs.lemmas.List.Kept.{Contains-dedup, Contains-from_dedup, IsStrictlySortedBy-dedup}
+use Rattle.std.proofs.lemmas.List.Sorted.{Contains-permutation, IsPermutation-sym}
+use Rattle.std.proofs.lemmas.Map.Keys.{Less-from_sorted}
+use Rattle.nw_codec.specs.declared.block.Block.{Block}
+use Rattle.nw_digest.specs.declared.digest.Digest.{Digest}
+use Rattle.nw_digest.specs.Order.{digest_cmp}
+use Rattle.nw_model.proofs.Kept.{same_digest}
+use Rattle.nw_model.proofs.Listed.{contains_first, contains_later}
+use Rattle.nw_model.proofs.Maps.{digests_total}
+use Rattle.nw_trie.proofs.Inserts.{sorted_insert}
+
+-- whether two digests have the same bytes
+abbrev same : Digest → Digest → Bool
+same a b = bytes_eq a.0 b.0
+
+same_equiv : IsEquivalence same
+same_equiv = on_equiv (λ (d : Digest). d.0) nat_list_eq_equiv
+
+one_digest : (a b : Digest) → same a b ≡ true → a ≡ b
+one_digest a b is = same_digest a b (sym (texts_ties a.0 b.0) ∙ is)
+
+-- sorting and removing repetitions keeps the digests
+pub same_digests : (old mid new : List Digest) → IsPermutation old mid → IsFiltered (DiffersFromLast same) [] mid new → (d : Digest) → Contains new d ↔ Contains old d
+same_digests old mid new sorts filters d =
+    let is : new ≡ dedup same mid = dedup_is same mid new filters in (
+      λ among. Contains-permutation mid old d (IsPermutation-sym old mid sorts) (Contains-from_dedup same mid d (subst (λ xs. Contains xs d) is among)),
+      λ among. subst (λ xs. Contains xs d) (sym is) (Contains-dedup same_equiv one_digest mid d (Contains-permutation old mid d sorts among)),
+    )
+
+-- afterwards they ascend
+pub ascends : (mid new : List Digest) → IsSorted digest_cmp mid → IsFiltered (DiffersFromLast same) [] mid new → IsStrictlySortedBy digest_cmp new
+ascends mid new sorted filters = subst (IsStrictlySortedBy digest_cmp) (sym (dedup_is same mid new filters)) (IsStrictlySortedBy-dedup digests_total (λ a b. texts_ties a.0 b.0) mid sorted)
+
+-- the digests before place i come before the one there
+pub before_place : (xs : List Digest) (i : ℕ) (none k : Digest) → IsStrictlySortedBy digest_cmp xs → i < length xs → Contains (take i xs) k → digest_cmp k (get_or xs i none) ≡ Less
+before_place xs i none k sorted within (j, inside, at) =
+    let low : j < i = omega (arith, length-take i xs, inside) in
+    let is : get_or xs j none ≡ k = get_or_default xs j none k (omega (arith, low, within)) ∙ sym (get_or-take i xs j k low) ∙ at in
+    subst (λ d. digest_cmp d (get_or xs i none) ≡ Less) is (Less-from_sorted digest_cmp xs j i none sorted low within)
+
+-- an entry after all others is put last
+put_last : (es : List (Digest × Block)) (d : Digest) (b : Block) → ((k : Digest) → Contains (keys_of es) k → digest_cmp k d ≡ Less) → insert_entry digest_cmp es d b ≡ es ++ (d, b) ∷ []
+put_last [] d b below = refl
+put_last (e ∷ es) d b below =
+    let after : digest_cmp d e.0 ≡ Greater = digests_total.antisymm d e.0 ∙ ap ordering_reverse (below e.0 (contains_first e.0 (keys_of es))) in
+    ap (λ o. match_ordering o ((d, b) ∷ e ∷ es) ((e.0, b) ∷ es) (e ∷ insert_entry digest_cmp es d b)) after
+    ∙ ap (λ (xs : List (Digest × Block)). e ∷ xs) (put_last es d b (λ k among. below k (contains_later e.0 (keys_of es) k among)))
+
+-- one more entry, after all others
+pub record Goes (es more : List (Digest × Block)) (d : Digest) (b : Block) : Type 0 where
+  pub put : insert_entry digest_cmp es d b ≡ more
+  pub ascend : IsStrictlySortedBy digest_cmp (keys_of more)
+  pub keys : (k : Digest) → Contains (keys_of more) k → Contains (keys_of es) k ⊎ (d ≡ k)
+
+pub goes_last : (es more : List (Digest × Block)) (d : Digest) (b : Block) → IsStrictlySortedBy digest_cmp (keys_of es) → ((k : Digest) → Contains (keys_of es) k → digest_cmp k d ≡ Less) → more ≡ es ++ (d, b) ∷ [] → Goes es more d b
+goes_last es more d b sorted below is =
+    let put : insert_entry digest_cmp es d b ≡ more = put_last es d b below ∙ sym is in
+    record {
+      put = put;
+      ascend = subst (λ (xs : List (Digest × Block)). IsStrictlySortedBy digest_cmp (keys_of xs)) put (sorted_insert d b es sorted);
+      keys = λ k among. Contains-push_cases (keys_of es) d k (subst (λ xs. Contains xs k) (ap keys_of is ∙ map-append (λ (e : Digest × Block). e.0) es ((d, b) ∷ [])) among);
+    }

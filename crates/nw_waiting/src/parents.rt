@@ -1,0 +1,134 @@
+//! The table of missing parents.
+ghost use Rattle.std.specs.Prelude.{◌≡◌, IfOk, OnOk, if◌then◌else◌, take};
+ghost use Rattle.std.specs.BTreeSet.{IsOrdered};
+ghost use Rattle.std.specs.FinSet as set;
+ghost use Rattle.nw_waiting.specs.Pairs.{AreFirst, AreHolders, LacksCount, WantedCount};
+ghost use Rattle.nw_waiting.specs.Pairs.{without_holder, without_wanted};
+ghost use Rattle.nw_waiting.specs.Parted.{AreSameForOthers, IsMetForAll};
+
+use crate::Waiting;
+use nw_digest::{Digest, NoMemory};
+use nw_model::Wanted;
+use std::alloc::{AllocError, Allocator, Global};
+use std::collections::BTreeSet;
+use std::marker::Model;
+
+/// Missing parents, and the holders (digests of blocks) that are missing them. Some parents are *unmet*, as the
+/// caller says in `want` and `meet`: each for all its holders. Contracts see two sets of pairs: all, and those of unmet parents.
+#[derive(Drop)]
+pub struct MissingParents<A: Allocator> {
+    /// All pairs.
+    lacking: Waiting<A>,
+    /// The unmet parents. Each has a holder.
+    unmet: BTreeSet<Wanted, A>,
+}
+
+impl<A: Allocator> Model for MissingParents<A> {
+    ghost use Rattle.nw_waiting.specs.Parted.{HaveHolders, Parted, coded_parted, parted};
+
+    ghost Value = { Parted };
+
+    ghost coded = { coded_parted };
+
+    ghost view = { λ m. parted m.lacking m.unmet.keys };
+
+    ghost invariant = { λ m. HaveHolders m.lacking m.unmet.keys };
+}
+
+impl<A: Allocator + Copy> MissingParents<A> {
+    /// The empty table. Allocates nothing.
+    pub fn new_in(alloc: A) -> MissingParents<A>
+        ensures unmet { result.unmet ≡ set.empty }
+        ensures lacking { result.lacking ≡ set.empty }
+    {
+        MissingParents {
+            lacking: Waiting::new_in(alloc),
+            unmet: BTreeSet::new(alloc),
+        }
+    }
+
+    /// Records that the holder is missing this parent, which is met or not (`is_met`). If other holders are missing it, `is_met` must say
+    /// the same for them.
+    ///
+    /// `NoMemory` if an allocation fails. Then the set of all pairs may have the pair, and that of unmet parents lacks it.
+    pub fn want(&mut self, wanted: Wanted, holder: Digest, is_met: bool) -> Result<(), NoMemory>
+        requires { IsMetForAll self.old wanted is_met }
+        ensures lacking { OnOk result
+            (self.new.lacking ≡ set.insert self.old.lacking (wanted, holder)) }
+        ensures unmet { OnOk result (self.new.unmet
+            ≡ (if is_met then self.old.unmet else set.insert self.old.unmet (wanted, holder))) }
+        ensures others { AreSameForOthers holder self.old self.new }
+    {
+        // The borrow checker needs a second copy.
+        let parent = wanted;
+        self.lacking.want(wanted, holder)?;
+        if !is_met {
+            self.unmet.insert(parent)?;
+        }
+        Ok(())
+    }
+
+    /// Records that the parent is met now, for all its holders. They are still missing it.
+    pub fn meet(&mut self, wanted: &Wanted)
+        ensures unmet { self.new.unmet ≡ without_wanted self.old.unmet wanted.now }
+        ensures lacking { self.new.lacking ≡ self.old.lacking }
+    {
+        self.unmet.remove(wanted);
+    }
+
+    /// Removes the parent from the table, and returns the holders that were missing it, each once. Allocates nothing.
+    pub fn satisfy(&mut self, wanted: &Wanted) -> Vec<Digest, A>
+        ensures holders { AreHolders self.old.lacking wanted.now result.items }
+        ensures unmet { self.new.unmet ≡ without_wanted self.old.unmet wanted.now }
+        ensures lacking { self.new.lacking ≡ without_wanted self.old.lacking wanted.now }
+    {
+        let _was_unmet = self.unmet.remove(wanted);
+        self.lacking.satisfy(wanted)
+    }
+
+    /// Removes all missing parents of the holder. Allocates nothing.
+    pub fn unwant(&mut self, holder: Digest)
+        ensures unmet { self.new.unmet ≡ without_holder self.old.unmet holder }
+        ensures lacking { self.new.lacking ≡ without_holder self.old.lacking holder }
+    {
+        let missing = self.lacking.unwant(holder);
+        for wanted in missing.as_slice() {
+            if !self.lacking.is_wanted(wanted) {
+                let _was_unmet = self.unmet.remove(wanted);
+            }
+        }
+    }
+
+    /// The number of the holder's missing parents. Allocates nothing.
+    pub fn lacks(&self, holder: Digest) -> usize
+        ensures { LacksCount self.now.lacking holder result }
+    {
+        self.lacking.lacks(holder)
+    }
+
+    /// The number of different unmet parents. Allocates nothing.
+    pub fn count(&self) -> usize
+        ensures { WantedCount self.now.unmet result }
+    {
+        self.unmet.len()
+    }
+
+    /// The first `most` unmet parents, ascending, or all if there are fewer. `NoMemory` if an allocation fails.
+    pub fn first_unmet(&self, alloc: Global, most: u16) -> Result<Vec<Wanted>, NoMemory>
+        ensures { IfOk result (λ list. AreFirst self.now.unmet most list.items) }
+    {
+        Ok(first_of(alloc, &self.unmet, usize::from(most))?)
+    }
+}
+
+/// The first `most` keys, or all if there are fewer.
+fn first_of<K: Ord + Copy, A: Allocator>(
+    alloc: Global,
+    keys: &BTreeSet<K, A>,
+    most: usize,
+) -> Result<Vec<K>, AllocError>
+    ensures first { IfOk result (λ first. first.items ≡ take most keys.now.keys) }
+    ensures ascending { IsOrdered K.cmp keys.now }
+{
+    keys.iter().take(most).copied().collect(alloc)
+}
