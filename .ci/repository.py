@@ -1,4 +1,5 @@
-"""Functions for the commands in this folder: the files of the repository, its crates, its worked scripts, and wrong bodies."""
+"""Functions for the commands in this folder: the files of the repository, its crates, its worked scripts, wrong bodies, and how many
+there must be of each."""
 import functools
 import glob
 import os
@@ -11,6 +12,7 @@ AT_ONCE = min(os.cpu_count() or 1, 4)
 # The most seconds that one run of a program may take.
 SECONDS = 60
 SCRIPTS = "crates/nw/scripts"
+COUNTS = ".ci/counts"
 
 
 def content(path):
@@ -62,6 +64,21 @@ def below(crate):
         if name in used:
             found += [it for it in (*below(name), name) if it not in found]
     return found
+
+
+def recorded(kind):
+    """The numbers that .ci/counts has for this kind, by place. Its lines are `KIND PLACE NUMBER`."""
+    lines = [line.split() for line in content(COUNTS).splitlines() if not line.startswith("#")]
+    return {place: int(number) for named, place, number in lines if named == kind}
+
+
+def miscounts(kind, counts, only=None):
+    """A line for each place whose number of this kind is not the one in .ci/counts. With `only`, it compares only these places."""
+    wanted = recorded(kind)
+    for place in sorted(wanted.keys() | counts.keys()):
+        found, expected = counts.get(place, 0), wanted.get(place, 0)
+        if found != expected and (only is None or place in only):
+            yield f"{place}: {found} {kind}, and {COUNTS} has {expected}"
 
 
 def is_static(crate):

@@ -70,9 +70,9 @@ enum {
 
 /* The kinds of checked texts. */
 enum {
-	/* A valid block. */
+	/* A block. A checked one is valid. */
 	NW_BLOCK = 1,
-	/* A valid certificate. */
+	/* A certificate. A checked one is valid. */
 	NW_CERTIFICATE = 2,
 	/* A vote. Its signature is not checked until it is added to the gathered votes. */
 	NW_VOTE = 3,
@@ -120,7 +120,8 @@ enum {
 
 /* The kinds of replies. */
 enum {
-	/* Write: the block is now stored, and it is the first of its round and author. Vote for it. */
+	/* Write: the block is now stored, and it is the first of its round and author. Vote for it once all its
+	   parents are stored and certified (nw_book_look). A block of the garbage round needs no parents. */
 	NW_STORED_VOTE = 1,
 	/* Write: the block is now stored, without a vote: another block of its round and author came first, but this
 	   one is certified. */
@@ -130,7 +131,7 @@ enum {
 	/* Write: another block is stored under the digest. */
 	NW_CLASH = 4,
 	/* Write: not stored, because another block of this round and author came first. digest is the digest of that
-	   block. Hand the block in again when its own digest is certified. */
+	   block. Drop the block, and fetch it if its own digest is certified. */
 	NW_EQUIVOCATES = 5,
 	/* Certificate: it is now stored. */
 	NW_CERTIFIED = 6,
@@ -140,13 +141,13 @@ enum {
 	NW_CONFLICT = 8,
 	/* Write or certificate: the round is below the garbage round. number is the garbage round. */
 	NW_COLLECTED = 9,
-	/* Write or certificate: the round is at or above the garbage round plus the window. Hand it in again after a
-	   collection. */
+	/* Write or certificate: the round is at or above the garbage round plus the window. Drop it, and fetch it
+	   after a collection. */
 	NW_TOO_FAR = 10,
 	/* Write or certificate: a stored block or certificate of this digest has another round or author. */
 	NW_MISFIT = 11,
-	/* Write or certificate: the book has reached its limit on blocks or on certificates. Hand it in again after
-	   a collection. */
+	/* Write or certificate: the book has reached its limit on blocks or on certificates. Drop it, and fetch it
+	   after a collection. */
 	NW_FULL = 12,
 	/* Read or call for a certificate: it was found. */
 	NW_FOUND = 13,
@@ -266,8 +267,8 @@ typedef struct {
 	nw_digest digest;
 } nw_parent;
 
-/* What a checked text is: its kind, the slot of a block, certificate or vote, and the signer of a vote or of
-   a wrong signature. Fields that the kind does not use are 0. */
+/* What a checked text is, or what the front of a text says: its kind, the slot of a block, certificate or
+   vote, and the signer of a vote or of a wrong signature. Fields that the kind does not use are 0. */
 typedef struct {
 	int32_t kind;
 	uint16_t signer;
@@ -284,6 +285,18 @@ typedef struct {
 	uint32_t window;
 	uint32_t sessions;
 } nw_limits;
+
+/* What a book has in a slot, that is, for a round and an author: the garbage round, the digest of the slot's
+   first block and the certified digest. A digest that the slot lacks is 0, and its flag is not set. stands
+   is set if the block of the certified digest is stored. */
+typedef struct {
+	uint64_t floor;
+	nw_digest first;
+	nw_digest certified;
+	bool has_first;
+	bool has_certified;
+	bool stands;
+} nw_look;
 
 /* The counts of a book: its garbage round, and how many blocks, certificates, complete blocks and missing
    parents (wanted) it has. */
@@ -368,6 +381,14 @@ int32_t nw_block_body(nw_block *block, uint8_t *buffer, size_t buffer_len, size_
    format. It does not check the signature. */
 int32_t nw_block_message(nw_block *block, const nw_signature *signature, uint8_t *buffer, size_t buffer_len, size_t *needed);
 
+/* Writes what the front of the text says: the kind of message, its round and author, the digest of a
+   certificate or vote, and the signer of a vote. A block's digest is not in its text, and is written as 0.
+   Reads at most 43 bytes, and neither hashes nor verifies anything: anybody can write these bytes, and the
+   text may still be no message. If nw_check accepts the text, the checked message has the same fields.
+   Returns NW_ABSENT if the first byte is not that of a message, the version of a block is not 1, or the text
+   ends before these fields do. */
+int32_t nw_peek(const uint8_t *text, size_t text_len, nw_message *out);
+
 /* Decodes the text and checks its message under the committee. It also returns NW_DONE for a text that is
    not a message, and for a block or certificate that breaks a rule. nw_checked_kind says what the text is. */
 int32_t nw_check(nw_committee *committee, const uint8_t *text, size_t text_len, nw_checked *out);
@@ -408,9 +429,15 @@ int32_t nw_book_compact(nw_book *book);
 
 /* Empties the history. The book keeps its blocks, certificates, votes and garbage round, so no round and
    author gets a second vote. The next call of each session has number 1 again. Answers and tickets do not
-   change. It copies the maps with which the history began, and repeats the history's writes, certificates
-   and collections, without their checks. */
+   change. It copies the tables, and shares the blocks and certificates, so its time depends only on how many
+   are stored. */
 int32_t nw_book_restart(nw_book *book);
+
+/* Writes what the book has in the slot of this round and author. This is not a call: it adds no event, and
+   no session numbers it. A parent of a block of the next round, with this author and a digest, is stored and
+   certified exactly if the digest is the certified one and stands is set. Returns NW_BAD_ROUND if the round
+   is not below 2^48. */
+int32_t nw_book_look(nw_book *book, uint64_t round, uint16_t author, nw_look *out);
 
 /* Writes the checked block, or certifies the digest of the checked certificate. number must be that of the
    session's next call. The handle of the checked text stays open, and the text may be handed to other books.
@@ -496,6 +523,10 @@ int32_t nw_list_block(nw_list *list, size_t index, nw_block *out);
 
 /* Closes the handle and frees everything that no other handle shares. A closed handle stays closed. */
 void nw_free(void *handle);
+
+/* Returns 2, the number of this interface. The number is in the name too, and changes with each change of an
+   export or a struct. So a program that calls this function links only with a library of the same interface. */
+int32_t nw_interface_2(void);
 
 #ifdef __cplusplus
 }

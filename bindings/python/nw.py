@@ -14,7 +14,10 @@ It is a thin ctypes layer over the C interface (bindings/c/nw.h). For a validato
     [True]
 
 Keys, digests and messages are bytes-like objects or strings of hex digits; a slot has its digest in hex. A wrong length or a number out of
-range raises ValueError. A refused call raises NwError with the name of its code in nw.h. A Store has one session: use it in one thread.
+range raises ValueError. A refused call raises NwError with the name of its code in nw.h.
+
+A Store has one session: use it in one thread. If two threads use it, a call can raise OUT_OF_TURN or return the reply of the other thread.
+Calls never overlap, because each call of the library holds the interpreter's lock.
 """
 import ctypes
 import os
@@ -24,8 +27,10 @@ from ctypes import Structure, byref, c_int32, c_size_t, c_uint8, c_uint16, c_uin
 HERE = os.path.dirname(os.path.abspath(__file__))
 PATH = os.environ.get("NW_LIBRARY", os.path.normpath(f"{HERE}/../out/libnw.so"))
 try:
-    LIBRARY = ctypes.CDLL(PATH)
-except OSError as why:
+    # CDLL releases the interpreter's lock in each call. Then two threads can use one handle at once, which the library does not allow.
+    LIBRARY = ctypes.PyDLL(PATH)
+    _ = LIBRARY.nw_interface_2  # Only a library with the functions and structs of this module has it.
+except (OSError, AttributeError) as why:
     raise ImportError(f"{PATH} cannot be loaded: run bindings/python/make, or set NW_LIBRARY to its path") from why
 
 

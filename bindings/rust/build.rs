@@ -1,32 +1,41 @@
-//! Finds the static library of the store and links it.
+//! Links the static library of the store.
 //!
-//! If `NW_LIB_DIR` is set, the library must be in that folder. Otherwise this takes the library that
-//! a proof of this repository left in `crates/nw_c/out`, or else the one in `bindings/prebuilt`.
+//! This is the one that the repository ships in `bindings/prebuilt`. If `NW_LIB_DIR` is set, it is
+//! the one in that folder, and cargo prints a warning that names it.
 
 use std::env;
+use std::fs;
 use std::path::{Path, PathBuf};
 use std::process;
 
-/// Where a proof of the repository leaves the library, from the folder of this package.
-const PROVED: &str = "../../crates/nw_c/out";
 /// Where the repository ships the library, from the folder of this package.
 const SHIPPED: &str = "../prebuilt/x86_64-linux";
-/// The name of the library: as a proof leaves it, and as the repository ships it.
-const NAMES: [&str; 2] = ["libnw_c.a", "libnw.a"];
-/// The target of both.
+/// The target of the shipped library.
 const TARGET: &str = "x86_64-unknown-linux-gnu";
+/// The names that a library may have in the folder `NW_LIB_DIR`: as a proof leaves it, and as the
+/// repository ships it.
+const NAMES: [&str; 2] = ["libnw_c.a", "libnw.a"];
 
-const MISSING: &str = "the static library of the store is missing: \
-     run `rt lib` in crates/nw_c at the top of the repository, \
-     or set NW_LIB_DIR to the folder that has libnw_c.a";
+const MISSING: &str = "bindings/prebuilt/x86_64-linux has no libnw.a, or no libnw.record with its \
+     hash: restore these files, or set NW_LIB_DIR to the folder that has libnw_c.a";
 const OTHER_TARGET: &str = "the static library of the store is built for x86_64-unknown-linux-gnu: \
      set NW_LIB_DIR to a folder that has libnw_c.a for your target";
+
+/// A library, and what the crate says of it.
+struct Library {
+    path: PathBuf,
+    description: String,
+}
 
 fn main() {
     println!("cargo::rerun-if-changed=build.rs");
     println!("cargo::rerun-if-env-changed=NW_LIB_DIR");
-    match find() {
-        Ok(archive) => link(&archive),
+    let library = match env::var_os("NW_LIB_DIR") {
+        Some(folder) => chosen(Path::new(&folder)),
+        None => shipped(),
+    };
+    match library {
+        Ok(library) => link(&library),
         Err(what_to_do) => {
             eprintln!("{what_to_do}");
             process::exit(1);
@@ -34,56 +43,59 @@ fn main() {
     }
 }
 
-/// The library to link, or what to do to get one.
-fn find() -> Result<PathBuf, String> {
-    if let Some(folder) = env::var_os("NW_LIB_DIR") {
-        let [proved, shipped] = NAMES;
-        let folder = Path::new(&folder);
-        let name = folder.display();
-        return match folder.is_absolute() {
-            true => in_folder(folder)
-                .ok_or_else(|| format!("NW_LIB_DIR is {name}, which has no {proved} or {shipped}")),
-            false => Err(format!(
-                "NW_LIB_DIR is {name}, which is not an absolute path"
-            )),
-        };
+/// The library in the folder `NW_LIB_DIR`, or what to do to get one.
+fn chosen(folder: &Path) -> Result<Library, String> {
+    let [proved, shipped] = NAMES;
+    let text = folder.display();
+    if !folder.is_absolute() {
+        return Err(format!(
+            "NW_LIB_DIR is {text}, which is not an absolute path"
+        ));
     }
+    let name = NAMES.into_iter().find(|name| folder.join(name).is_file());
+    let name =
+        name.ok_or_else(|| format!("NW_LIB_DIR is {text}, which has no {proved} or {shipped}"))?;
+    println!(
+        "cargo::warning=the store is linked from NW_LIB_DIR, and not as shipped: {text}/{name}"
+    );
+    Ok(Library {
+        path: folder.join(name),
+        description: format!("NW_LIB_DIR {name}"),
+    })
+}
+
+/// The library that the repository ships, or what to do to get one.
+fn shipped() -> Result<Library, String> {
     if env::var("TARGET").is_ok_and(|target| target != TARGET) {
         return Err(OTHER_TARGET.into());
     }
     let package = PathBuf::from(env::var_os("CARGO_MANIFEST_DIR").unwrap_or_default());
-    let proved = package.join(PROVED);
-    if let Some(archive) = in_folder(&proved) {
-        return Ok(archive);
-    }
-    watch_for(&proved);
-    in_folder(&package.join(SHIPPED)).ok_or_else(|| MISSING.into())
+    let (path, record) = (
+        package.join(SHIPPED).join("libnw.a"),
+        package.join(SHIPPED).join("libnw.record"),
+    );
+    println!("cargo::rerun-if-changed={}", record.display());
+    let record = fs::read_to_string(record).map_err(|_| MISSING)?;
+    let mut hashes = record
+        .lines()
+        .filter_map(|line| line.strip_prefix("archive "));
+    let hash = hashes.next().filter(|_| path.is_file()).ok_or(MISSING)?;
+    Ok(Library {
+        path,
+        description: format!("shipped libnw.a sha256:{hash}"),
+    })
 }
 
-fn in_folder(folder: &Path) -> Option<PathBuf> {
-    let mut candidates = NAMES.iter().map(|name| folder.join(name));
-    candidates.find(|candidate| candidate.is_file())
-}
-
-/// Makes cargo run this script again when a proof leaves a library. Cargo treats a missing path as
-/// changed, so this watches the nearest folder that exists.
-fn watch_for(proved: &Path) {
-    if let Some(existing) = proved.ancestors().take(2).find(|folder| folder.is_dir()) {
-        println!("cargo::rerun-if-changed={}", existing.display());
-    }
-}
-
-/// Links the library into the crate, and tells the crate its path.
-fn link(archive: &Path) {
-    let archive = archive
-        .canonicalize()
-        .unwrap_or_else(|_| archive.to_path_buf());
-    let folder = archive.parent().unwrap_or(Path::new("."));
-    let stem = archive.file_stem().unwrap_or_default().to_string_lossy();
+/// Links the library into the crate. The crate gets its description, which has no path.
+fn link(library: &Library) {
+    let path = library.path.canonicalize();
+    let path = path.unwrap_or_else(|_| library.path.clone());
+    let folder = path.parent().unwrap_or(Path::new("."));
+    let stem = path.file_stem().unwrap_or_default().to_string_lossy();
     let name = stem.strip_prefix("lib").unwrap_or(&stem);
-    println!("cargo::rerun-if-changed={}", archive.display());
+    println!("cargo::rerun-if-changed={}", path.display());
     println!("cargo::rustc-link-search=native={}", folder.display());
     println!("cargo::rustc-link-lib=static={name}");
-    println!("cargo::rustc-env=NW_ARCHIVE={}", archive.display());
-    println!("cargo::metadata=archive={}", archive.display());
+    println!("cargo::rustc-env=NW_ARCHIVE={}", library.description);
+    println!("cargo::metadata=archive={}", path.display());
 }

@@ -1,144 +1,207 @@
-//! A validator that never votes twice for a round and author, however often it is killed.
+//! A validator that never votes twice for a round and author, however often it is killed or loses power.
 //!
 //! ```text
-//! cargo run --release --example durable              kills a validator 50 times and compares its votes
-//! cargo run --release --example durable -- forget    deletes the log after each kill: some get two votes
+//! cargo run --release --example durable                 stops a validator 100 times and compares its votes
+//! cargo run --release --example durable -- forget       deletes the log after each stop: some slots get two votes
+//! cargo run --release --example durable -- late-sync    sends each vote before it syncs: the same
+//! cargo run --release --example durable -- old-replay   syncs in time, but not what a replay read: the same
 //! ```
 //!
-//! The store is in memory only. So the validator logs each call that changes the store. Such a call is a write that answers `Stored`, a
-//! certificate that answers `Certified`, or a collection that answers `Raised`. The validator syncs the log *before* it sends a vote. After
-//! a crash it opens a store with the same committee and limits. Before anything else, it repeats the calls of the log in their order.
+//! docs/EMBEDDING.md (After a crash) has the recipe, and why it is enough. `log/mod.rs` is the log, and `flow/mod.rs` says when to vote.
+//! `supervisor/mod.rs` stops the validator.
 //!
-//! This is enough, because the reply to a call and the state after it depend only on the calls before it. No other reply changes the state
-//! (see the step table of docs/MODEL.md). So the replay gives each round and author the same first block. If a crash keeps a block out of
-//! the log, its vote was not sent.
+//! Half of the stops are kills. The others are power failures: of what the validator did not sync, the disk keeps a part, zeros or garbage.
+//! The library `tests/lost_pages.c` stands for that disk. Without a C compiler, all stops are kills.
 //!
-//! If several threads call, hold one lock around each call and its append, so that the log has the order of the store's steps. After you
-//! log a collection to round g, you may cut the log to `collect(g)`, followed by the logged messages of rounds >= g in their order.
-//!
-//! The example only kills the process. A power failure can also lose a new file: sync its folder once.
+//! Each author makes two blocks for each round, and the messages come in another order after each stop. So a vote that the log lost soon
+//! leads to a vote for the other block.
 
-#[path = "../tests/corpus/records.rs"]
-mod file;
+mod flow;
+#[path = "../tests/lab/mod.rs"]
+mod lab;
+mod log;
+mod supervisor;
 
-use narwhal_store::{CertifyReply, Checked, CollectReply, Committee, Limits, Message};
+use flow::Flow;
+use lab::Com;
+use log::{Log, Opened};
+use narwhal_store::{CertifyReply, Checked, CollectReply, Committee, Digest, Limits, Message};
 use narwhal_store::{Session, Slot, Store, WriteReply};
-use std::fs::{self, File};
+use std::error::Error;
 use std::hash::{BuildHasher, RandomState};
-use std::io::{BufRead, BufReader, Write};
-use std::process::{Command, Stdio};
-use std::{collections::BTreeMap, env, error::Error, process, thread, time::Duration};
+use std::path::Path;
+use std::{env, fs};
+use supervisor::supervise;
 
 type Result<T> = std::result::Result<T, Box<dyn Error>>;
 
-/// Messages that OpenSSL signed, with two blocks for some rounds and authors. Their rounds are 0 to 39.
-const CORPUS: &[u8] = include_bytes!("../tests/corpus/corpus.bin");
+const MEMBERS: u16 = 4;
+const ROUNDS: u64 = 40;
 
 fn main() -> Result<()> {
     let arguments: Vec<String> = env::args().skip(1).collect();
-    match &arguments[..] {
-        [_, log] => validator(log),
-        _ => supervise(arguments == ["forget"]),
+    match &arguments.iter().map(String::as_str).collect::<Vec<_>>()[..] {
+        [] => supervise("right", &messages()),
+        [mode @ ("forget" | "late-sync" | "old-replay")] => supervise(mode, &messages()),
+        ["validator", log, mode] => validator(Path::new(log), mode),
+        _ => Err("give no argument, forget, late-sync or old-replay".into()),
     }
 }
 
-/// Runs the validator again and again, kills it at a random moment, and compares the votes that it sent.
-fn supervise(forget: bool) -> Result<()> {
-    let log = env::temp_dir().join(format!("narwhal-durable-{}.log", process::id()));
-    let (mut votes, mut sent, mut differing) = (BTreeMap::<String, String>::new(), 0, 0);
-    for run in 0..50 {
-        let mut command = Command::new(env::current_exe()?);
-        command.arg("validator").arg(&log).stdout(Stdio::piped());
-        let mut validator = command.spawn()?;
-        let pipe = validator.stdout.take().ok_or("no pipe")?;
-        // The kill comes early in the replay of the log, or after the votes that earlier runs sent.
-        let last = votes.len() as u64 * (run % 2) + random() % 10;
-        for (count, line) in (0..).zip(BufReader::new(pipe).lines()) {
-            if count == last {
-                thread::sleep(Duration::from_micros(random() % 8_000));
-                validator.kill()?; // The votes that the pipe still has were sent too.
-            }
-            let line = line?;
-            let (slot, digest) = line.rsplit_once(' ').ok_or("no vote")?;
-            let first = votes.entry(slot.into()).or_insert(digest.into());
-            differing += u64::from(first != digest);
-            sent += 1;
+/// The messages of all rounds, each after its length in 4 bytes. An author makes two blocks for each round, and the first gets a certificate.
+fn messages() -> Vec<u8> {
+    let com = Com::new(MEMBERS);
+    let (mut messages, mut parents) = (Vec::new(), Vec::new());
+    let mut push = |message: Vec<u8>| {
+        messages.extend((message.len() as u32).to_be_bytes());
+        messages.extend(message);
+    };
+    for round in 0..ROUNDS {
+        let mut certified = Vec::new();
+        for author in 0..MEMBERS {
+            let block =
+                |transaction: &[u8]| com.block(author, round, &parents, &[transaction.into()]);
+            let (message, slot) = block(b"one");
+            push(message);
+            push(block(b"other").0);
+            push(com.certificate(&slot, &[0, 1, 2]));
+            certified.push((author, slot.digest));
         }
-        assert!(matches!(validator.wait()?.code(), None | Some(0)));
-        forget.then(|| fs::remove_file(&log)).transpose()?;
+        parents = certified;
     }
-    fs::remove_file(&log).ok();
-    println!("{sent} votes sent for {} slots", votes.len());
-    println!("{differing} differ from the first vote for their slot");
-    let is_same = (differing == 0).then_some(());
-    is_same.ok_or("a slot got two votes".into())
+    messages
 }
 
-/// Replays the log, and then takes the messages in an order that differs in each run. Each line that it prints stands for a vote.
-fn validator(path: &str) -> Result<()> {
-    let (committee, mut messages) = file::honest_messages(CORPUS);
+/// Reads what `messages` made.
+fn read(mut bytes: &[u8]) -> Vec<&[u8]> {
+    let mut messages = Vec::new();
+    while let Some((length, rest)) = bytes.split_first_chunk() {
+        let (message, rest) = rest.split_at(u32::from_be_bytes(*length) as usize);
+        messages.push(message);
+        bytes = rest;
+    }
+    messages
+}
+
+/// Replays the log, and then takes the messages in an order that differs in each run. Each line `round author digest` that it prints
+/// stands for a vote.
+fn validator(path: &Path, mode: &str) -> Result<()> {
+    let committee = Com::new(MEMBERS).committee;
+    let bytes = fs::read(path.with_file_name("messages"))?;
+    let messages = read(&bytes);
     let mut limits = Limits::MAX;
     limits.window = 32; // A replay without the collections is refused as `TooFar`.
-    let session = Store::new(&committee, limits)?.session()?;
-    let mut log = replay(path, &committee, &session)?;
-    // Messages are late, so two blocks of one round and author come in any order.
-    let mut times = 0..;
-    messages.sort_by_cached_key(|_| times.next().map(|time| time + random() % 60));
-    let mut make = |record: &[u8]| -> Result<Option<Slot>> {
-        let (changed, vote) = call(&committee, &session, record)?;
-        if changed {
-            let length = u32::try_from(record.len())?.to_be_bytes();
-            log.write_all(&[&length, record].concat())?;
-            log.sync_data()?; // The disk has the call before the vote is sent.
-        }
-        Ok(vote)
+    let Opened { log, records, cut } = match mode {
+        "old-replay" if path.exists() => Log::open_without_sync(path)?,
+        _ => Log::open(path)?,
     };
-    for message in messages {
-        if let Some(slot) = make(message)? {
-            send(&slot);
-            let garbage_round = (slot.round / 5 * 5).saturating_sub(15);
-            make(&garbage_round.to_be_bytes())?;
+    let store = Store::new(&committee, limits)?;
+    let mut validator = Validator {
+        session: store.session()?,
+        flow: Flow::new(&store),
+        store,
+        log,
+        is_late: mode == "late-sync",
+        committee,
+    };
+    if cut > 0 {
+        println!("cut");
+    }
+    for record in &records {
+        // The second time that a vote is sent does no harm.
+        let due = validator.call(record)?;
+        let due = due.ok_or("a call of the log got another reply")?;
+        due.iter().for_each(send);
+    }
+    let late = |(index, _): &(u64, &[u8])| index + random() % 24;
+    let mut order: Vec<_> = (0..).zip(messages.iter().copied()).collect();
+    order.sort_by_cached_key(late); // So two blocks of one round and author come in any order.
+    for (_, message) in order {
+        validator.take(message)?;
+        let absent: Vec<Slot> = validator.flow.absent().collect();
+        for slot in absent {
+            validator.take(fetched(&messages, &slot)?)?;
         }
     }
     Ok(())
 }
 
-/// Makes the call of a record: a message, or a round to collect. Returns whether the store changed, and the slot to vote for.
-fn call(committee: &Committee, session: &Session, record: &[u8]) -> Result<(bool, Option<Slot>)> {
-    if let Ok(round) = record.try_into() {
-        let answer = session.collect(u64::from_be_bytes(round))?;
-        return Ok((matches!(answer.reply(), CollectReply::Raised { .. }), None));
-    }
-    Ok(match Message::check(committee, record)? {
-        Checked::Block(block) => match *session.write(&block)?.reply() {
-            WriteReply::Stored { vote } => (true, vote.then(|| block.slot())),
-            _ => (false, None),
-        },
-        Checked::Certificate(certificate) => {
-            let answer = session.certify(&certificate)?;
-            (*answer.reply() == CertifyReply::Certified, None)
-        }
-        Checked::Vote(_) => (false, None),
-    })
+/// Fetches the block of a certificate. Its signers have it; here it is one of the messages.
+fn fetched<'a>(messages: &[&'a [u8]], slot: &Slot) -> Result<&'a [u8]> {
+    let is_block = |message: &&&[u8]| {
+        let body = &message[1..message.len() - 64];
+        message[0] == 1 && Digest::of(body) == slot.digest
+    };
+    let found = messages.iter().find(is_block);
+    Ok(found.ok_or("a certified block is in no message")?)
 }
 
-/// Opens the log and repeats its calls.
-fn replay(path: &str, committee: &Committee, session: &Session) -> Result<File> {
-    let log = File::options().append(true).create(true).open(path)?;
-    let (bytes, mut whole) = (fs::read(path)?, 0);
-    while let Some((length, rest)) = bytes[whole..].split_first_chunk() {
-        let length = u32::from_be_bytes(*length) as usize;
-        let Some(record) = rest.get(..length) else {
-            break; // A crash cut the last record short. Nobody saw a vote for it.
-        };
-        let (true, vote) = call(committee, session, record)? else {
-            return Err("a call of the log got another reply".into());
-        };
-        vote.iter().for_each(send); // A second time does no harm, if it was sent before the crash.
-        whole += 4 + length;
+struct Validator {
+    committee: Committee,
+    store: Store,
+    session: Session,
+    flow: Flow,
+    log: Log,
+    /// Whether it sends before it syncs, which is wrong.
+    is_late: bool,
+}
+
+impl Validator {
+    /// Takes a message of the network: peek, drop, check, write, log, sync, send.
+    fn take(&mut self, message: &[u8]) -> Result<()> {
+        if !self.flow.wants(message) {
+            return Ok(());
+        }
+        let voted = self.make(message)?;
+        // A block with all its parents shows how far the others are.
+        let newest = voted.iter().map(|slot| slot.round).max().unwrap_or(0);
+        let garbage_round = (newest / 5 * 5).saturating_sub(15);
+        if garbage_round > self.store.look(0, 0).garbage_round {
+            self.make(&garbage_round.to_be_bytes())?;
+        }
+        Ok(())
     }
-    log.set_len(whole as u64)?;
-    Ok(log)
+
+    /// Makes a call. If it changed the store, logs it, and sends the votes that are due. Returns these.
+    fn make(&mut self, record: &[u8]) -> Result<Vec<Slot>> {
+        let Some(due) = self.call(record)? else {
+            return Ok(Vec::new());
+        };
+        self.log.append(record)?;
+        if self.is_late {
+            due.iter().for_each(send);
+        }
+        self.log.sync()?; // The disk has the call before the vote is sent.
+        if !self.is_late {
+            due.iter().for_each(send);
+        }
+        Ok(due)
+    }
+
+    /// Makes the call of a record: a message, or a round to collect. Returns the slots to vote for if the store changed.
+    fn call(&mut self, record: &[u8]) -> Result<Option<Vec<Slot>>> {
+        if let Ok(round) = record.try_into() {
+            let round = u64::from_be_bytes(round);
+            let answer = self.session.collect(round)?;
+            let is_raised = matches!(answer.reply(), CollectReply::Raised { .. });
+            return Ok(is_raised.then(|| self.flow.collected(round)));
+        }
+        let Ok(checked) = Message::check(&self.committee, record) else {
+            return Ok(None); // The network has bad messages too.
+        };
+        Ok(match checked {
+            Checked::Block(block) => match *self.session.write(&block)?.reply() {
+                WriteReply::Stored { vote } => Some(self.flow.stored(&block, vote)),
+                _ => None,
+            },
+            Checked::Certificate(certificate) => {
+                let answer = self.session.certify(&certificate)?;
+                let is_new = *answer.reply() == CertifyReply::Certified;
+                is_new.then(|| self.flow.certified(&certificate.slot()))
+            }
+            Checked::Vote(_) => None,
+        })
+    }
 }
 
 fn send(slot: &Slot) {

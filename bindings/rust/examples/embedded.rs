@@ -15,7 +15,7 @@
 mod file;
 
 use narwhal_store::{CheckError, Checked, CheckedBlock, CheckedCertificate, Committee};
-use narwhal_store::{Digest, Message, Store, TextFault};
+use narwhal_store::{Digest, Limits, Message, Store, TextFault};
 use std::error::Error;
 use std::path::Path;
 use std::process::Command;
@@ -139,9 +139,7 @@ impl Load {
 
     /// Plays all messages to a new store.
     fn play(&self, calls: &mut Calls) -> Result<()> {
-        let store = Store::builder(&self.committee)
-            .restart_when_full(true)
-            .open()?;
+        let store = Store::new(&self.committee, Limits::default())?;
         let session = store.session()?;
         for (block, certificate) in self.blocks.iter().zip(&self.certificates) {
             let slot = block.slot();

@@ -1,7 +1,7 @@
 //! A validator takes signed messages of a committee of four, and reads a block with its ancestors.
 mod data;
 
-use narwhal_store::{Checked, Committee, Digest, Limits, Message, Store, WriteReply};
+use narwhal_store::{Block, Checked, Committee, Digest, Limits, Message, Store, WriteReply};
 use std::error::Error;
 
 fn main() -> Result<(), Box<dyn Error>> {
@@ -12,12 +12,13 @@ fn main() -> Result<(), Box<dyn Error>> {
     let mut newest = Digest([0; 32]);
 
     for message in data::values("message") {
-        // A check verifies the signatures of blocks and certificates. It takes no lock.
+        // A check verifies the signatures of blocks and certificates, without the store's lock.
         match Message::check(&committee, &message)? {
             Checked::Block(block) => {
-                let answer = session.write(&block)?;
-                if let WriteReply::Stored { vote: true } = answer.reply() {
-                    println!("vote for {}", block.slot().digest); // sign `text_of_vote`
+                let first = WriteReply::Stored { vote: true }; // of its round and author
+                let reply = session.write(&block)?.into_reply();
+                if reply == first && has_parents(&store, &block.block()) {
+                    println!("vote for {}", block.slot().digest); // log, sync, sign `text_of_vote`
                 }
             }
             Checked::Certificate(certificate) => {
@@ -37,4 +38,13 @@ fn main() -> Result<(), Box<dyn Error>> {
         println!("round {round}, author {author}: {transactions:?}");
     }
     Ok(())
+}
+
+/// Whether all parents are stored and certified, or not needed. If not, the vote waits for them.
+fn has_parents(store: &Store, block: &Block) -> bool {
+    let is_satisfied = |(author, digest): &(u16, Digest)| {
+        let parent = store.look(block.round() - 1, *author);
+        block.round() <= parent.garbage_round || parent.satisfies(digest)
+    };
+    block.parents().iter().all(is_satisfied)
 }

@@ -1,32 +1,35 @@
 //! Four validators put the blocks of one network into one order. Each has a store and two threads.
 //!
-//! The *intake* of a validator checks messages, writes blocks and signs votes. It gathers the votes
-//! for its own blocks, and hands in certificates. The *decider* delivers blocks by a toy rule:
-//! every second round has a leader, in round-robin order. Once the leader's block is complete, the
-//! decider walks its causal list, and delivers the blocks that it has not delivered before.
+//! The *intake* of a validator drops messages that it does not need, checks the others and writes
+//! them. It votes for a block once the parents are satisfied, and gathers the votes for its own
+//! blocks. The *decider* delivers blocks by a toy rule: every second round has a leader, in
+//! round-robin order. Once the leader's block is complete, the decider walks its causal list, and
+//! delivers the blocks that it has not delivered before.
 //!
 //! Member 1 makes two blocks for round 3, and a block of round 5 also comes with a bad signature.
 //! The orders are equal all the same. A real validator signs at run time. Here all signatures come
-//! from `data/corpus.txt`, because the crate makes none. `durable.rs` shows how to survive a crash.
+//! from `data/corpus.txt`, because the crate makes none. It also logs each call that changed the
+//! store, and syncs the log before it sends a vote: `durable.rs` shows how.
 mod data;
+mod flow;
+mod network;
 
-use narwhal_store::{Causal, Checked, CheckedBlock, CheckedCertificate, CheckedVote, Committee};
-use narwhal_store::{Digest, Gather, Limits, Message, Session, Signature, Slot, Store, Ticket};
+use flow::Flow;
+use narwhal_store::{Causal, CertifyReply, Checked, CheckedBlock, CheckedCertificate, CheckedVote};
+use narwhal_store::{Digest, Gather, Limits, Message, Peek, Session, Slot, Store, Ticket};
 use narwhal_store::{WriteReply, check_all, text_of_vote, vote_message};
-use std::collections::{HashMap, HashSet, VecDeque};
-use std::error::Error;
+use network::{MEMBERS, Network, Outcome, Packet};
+use std::collections::{HashMap, VecDeque};
 use std::sync::mpsc::{Receiver, Sender, channel};
 use std::thread::{self, ScopedJoinHandle};
-use std::time::Duration;
+use std::time::{Duration, Instant};
 
-const MEMBERS: u16 = 4;
 const LAST_LEADER: u64 = 8;
+/// The most bytes of one peer that a validator checks in a second.
+const BUDGET: usize = 64 * 1024;
 /// A thread gives up if it receives nothing for this long.
 const PATIENCE: Duration = Duration::from_secs(60);
 
-type Outcome<T> = Result<T, Box<dyn Error + Send + Sync>>;
-/// A message, or `None` when the validator is done.
-type Packet = Option<Vec<u8>>;
 /// The delivered blocks, by round and author, and the ticket of the last leader.
 type Decided = (Vec<(u64, u16)>, Ticket);
 
@@ -51,53 +54,13 @@ fn main() -> Outcome<()> {
     Ok(())
 }
 
-/// The data that all validators share: the committee, their inboxes, and the signatures made
-/// beforehand.
-struct Network {
-    committee: Committee,
-    inboxes: Vec<Sender<Packet>>,
-    signatures: HashMap<Vec<u8>, Signature>,
-}
-
-impl Network {
-    fn new(inboxes: Vec<Sender<Packet>>) -> Outcome<Network> {
-        let mut signatures = HashMap::new();
-        for mut text in data::values("signed") {
-            let signature = text.split_off(46);
-            signatures.insert(text, Signature::try_from(&signature[..])?);
-        }
-        let committee = Committee::equal(&data::keys())?;
-        Ok(Network {
-            committee,
-            inboxes,
-            signatures,
-        })
-    }
-
-    fn sign(&self, member: u16, text: &[u8]) -> Signature {
-        self.signatures[&[&member.to_be_bytes(), text].concat()]
-    }
-
-    /// Sends a message to a member. It is lost if the member is done.
-    fn send(&self, member: u16, message: &[u8]) {
-        let _ = self.inboxes[usize::from(member)].send(Some(message.to_vec()));
-    }
-
-    fn broadcast(&self, message: &[u8]) {
-        (0..MEMBERS).for_each(|member| self.send(member, message));
-    }
-}
-
 /// Runs the two threads of a validator until its last leader is decided.
 fn run_validator(network: &Network, me: u16, inbox: Receiver<Packet>) -> Outcome<Decided> {
     let limits = Limits {
         events: 128,
         ..Limits::default()
     };
-    let store = Store::builder(&network.committee)
-        .limits(limits)
-        .restart_when_full(true)
-        .open()?;
+    let store = Store::new(&network.committee, limits)?;
     let (news, heard) = channel();
     let blocks = data::values("block").into_iter();
     let intake = Intake {
@@ -106,15 +69,17 @@ fn run_validator(network: &Network, me: u16, inbox: Receiver<Packet>) -> Outcome
         session: store.session()?,
         news,
         own: blocks.skip(me.into()).step_by(MEMBERS.into()).collect(),
-        certified: HashSet::new(),
+        flow: Flow::new(&store),
+        spent: [0; MEMBERS as usize],
+        since: Instant::now(),
         gathers: HashMap::new(),
-        later: Vec::new(),
     };
     let session = store.session()?;
     thread::scope(|scope| {
         let decider = scope.spawn(move || {
-            let decided = decide_all(&session, &heard);
-            let _ = network.inboxes[usize::from(me)].send(None);
+            let collected = |round| network.put(me, Packet::Collected(round));
+            let decided = decide_all(&session, &heard, collected);
+            network.put(me, Packet::Done);
             decided
         });
         intake.run(&inbox)?;
@@ -130,11 +95,12 @@ struct Intake<'a> {
     news: Sender<Option<Slot>>,
     /// The messages of its own blocks that are not sent yet.
     own: VecDeque<Vec<u8>>,
-    certified: HashSet<Digest>,
+    flow: Flow,
+    /// The bytes that it checked in this second, for each peer, and when the second began.
+    spent: [usize; MEMBERS as usize],
+    since: Instant,
     /// The votes for its own blocks.
     gathers: HashMap<Digest, Gather>,
-    /// Refused blocks that may be stored later.
-    later: Vec<CheckedBlock>,
 }
 
 impl Intake<'_> {
@@ -142,15 +108,21 @@ impl Intake<'_> {
     fn run(mut self, inbox: &Receiver<Packet>) -> Outcome<()> {
         loop {
             self.propose()?;
-            let packets = [inbox.recv_timeout(PATIENCE)?]
-                .into_iter()
-                .chain(inbox.try_iter());
-            let Some(messages) = packets.collect::<Option<Vec<_>>>() else {
-                return Ok(());
-            };
+            let first = inbox.recv_timeout(PATIENCE)?;
+            let mut messages = Vec::new();
+            for packet in [first].into_iter().chain(inbox.try_iter()) {
+                match packet {
+                    Packet::Message(from, message) if self.wants(from, &message) => {
+                        messages.push(message);
+                    }
+                    Packet::Message(..) => {}
+                    Packet::Collected(round) => self.collected(round)?,
+                    Packet::Done => return Ok(()),
+                }
+            }
             for checked in check_all(&self.network.committee, &messages, 2) {
                 match checked {
-                    Ok(Checked::Block(block)) => self.take_block(block)?,
+                    Ok(Checked::Block(block)) => self.take_block(&block)?,
                     Ok(Checked::Vote(vote)) => self.take_vote(&vote)?,
                     Ok(Checked::Certificate(certificate)) => self.certify(&certificate)?,
                     Err(_) => {} // drops what does not pass its check
@@ -159,44 +131,58 @@ impl Intake<'_> {
         }
     }
 
-    /// Sends its next blocks, once the parents of each are certified.
+    /// Whether a message is worth its check: it is neither known, nor refused, nor over the budget
+    /// of the peer that sent it.
+    fn wants(&mut self, from: u16, message: &[u8]) -> bool {
+        let is_wanted = match Message::peek(message) {
+            Some(Peek::Vote { slot, .. }) => self.gathers.contains_key(&slot.digest),
+            _ => self.flow.wants(message),
+        };
+        if self.since.elapsed() >= Duration::from_secs(1) {
+            (self.spent, self.since) = ([0; MEMBERS as usize], Instant::now());
+        }
+        let spent = &mut self.spent[usize::from(from)];
+        let is_within = *spent + message.len() <= BUDGET;
+        if is_wanted && is_within {
+            *spent += message.len();
+        }
+        is_wanted && is_within
+    }
+
+    /// Sends its next blocks, once the parents of each are satisfied.
     fn propose(&mut self) -> Outcome<()> {
         while let Some(message) = self.own.front() {
             let Checked::Block(block) = Message::check(&self.network.committee, message)? else {
                 return Err("a message of the corpus is not a block".into());
             };
-            let is_certified = |(_, digest): &(u16, Digest)| self.certified.contains(digest);
-            if !block.block().parents().iter().all(is_certified) {
+            if !self.flow.has_parents(&block.block()) {
                 return Ok(());
             }
             let slot = block.slot();
             self.gathers
                 .insert(slot.digest, Gather::new(&self.network.committee, &slot)?);
             match (slot.round, slot.author) {
-                (3, 1) => self.network.send(3, &data::values("twin")[0]),
-                (5, 2) => self.network.broadcast(&data::values("forged")[0]),
+                (3, 1) => self.network.send(1, 3, &data::values("twin")[0]),
+                (5, 2) => self.network.broadcast(2, &data::values("forged")[0]),
                 _ => {}
             }
-            self.network.broadcast(message);
+            self.network.broadcast(self.me, message);
             self.own.pop_front();
         }
         Ok(())
     }
 
-    /// Writes a block, and votes for it if it is the first of its round and author.
-    fn take_block(&mut self, block: CheckedBlock) -> Outcome<()> {
-        let slot = block.slot();
-        let reply = self.session.write(&block)?.into_reply();
+    /// Writes a block. A refused block is dropped: if it gets a certificate, it is fetched.
+    fn take_block(&mut self, block: &CheckedBlock) -> Outcome<()> {
+        let reply = self.session.write(block)?.into_reply();
         let _ = self.news.send(None);
-        if let WriteReply::Stored { vote: true } = reply {
-            let signature = self.network.sign(self.me, &text_of_vote(&slot)?);
-            let vote = vote_message(&slot, self.me, &signature)?;
-            self.network.send(slot.author, &vote);
+        match reply {
+            WriteReply::Stored { vote } => {
+                let due = self.flow.stored(block, vote);
+                self.vote(&due)
+            }
+            _ => Ok(()),
         }
-        if let WriteReply::Equivocates(_) | WriteReply::TooFar | WriteReply::Full = reply {
-            self.later.push(block);
-        }
-        Ok(())
     }
 
     /// Counts a vote for one of its blocks, and sends the certificate when the votes reach the
@@ -207,25 +193,50 @@ impl Intake<'_> {
             return Ok(());
         };
         if gather.add(vote) == Ok(true) {
-            self.network.broadcast(&gather.certificate()?.message());
+            let certificate = gather.certificate()?.message();
+            self.network.broadcast(self.me, &certificate);
             self.gathers.remove(&digest);
         }
         Ok(())
     }
 
-    /// Hands in a certificate. Its block is then stored, even if another block of its slot came
-    /// first.
+    /// Hands in a certificate, and fetches its block if another block of its slot came first.
     fn certify(&mut self, certificate: &CheckedCertificate) -> Outcome<()> {
-        self.session.certify(certificate)?;
-        self.certified.insert(certificate.slot().digest);
-        let _ = self.news.send(Some(certificate.slot()));
-        let mut later = std::mem::take(&mut self.later).into_iter();
-        later.try_for_each(|block| self.take_block(block))
+        let slot = certificate.slot();
+        if *self.session.certify(certificate)?.reply() != CertifyReply::Certified {
+            return Ok(());
+        }
+        let _ = self.news.send(Some(slot));
+        let due = self.flow.certified(&slot);
+        if self.flow.absent().any(|absent| absent == slot) {
+            self.network.fetch(self.me, &slot);
+        }
+        self.vote(&due)
+    }
+
+    /// The garbage round was raised: its blocks need no parents.
+    fn collected(&mut self, garbage_round: u64) -> Outcome<()> {
+        let due = self.flow.collected(garbage_round);
+        self.vote(&due)
+    }
+
+    /// Votes for the blocks whose parents are now satisfied.
+    fn vote(&self, due: &[Slot]) -> Outcome<()> {
+        for slot in due {
+            let signature = self.network.sign(self.me, &text_of_vote(slot)?);
+            let vote = vote_message(slot, self.me, &signature)?;
+            self.network.send(self.me, slot.author, &vote);
+        }
+        Ok(())
     }
 }
 
 /// Decides one leader after another, and delivers the new blocks of its causal list.
-fn decide_all(session: &Session, heard: &Receiver<Option<Slot>>) -> Outcome<Decided> {
+fn decide_all(
+    session: &Session,
+    heard: &Receiver<Option<Slot>>,
+    collected: impl Fn(u64),
+) -> Outcome<Decided> {
     let (mut order, mut leaders, mut next) = (Vec::new(), HashMap::new(), 2);
     loop {
         let certified = heard.recv_timeout(PATIENCE)?;
@@ -246,6 +257,7 @@ fn decide_all(session: &Session, heard: &Receiver<Option<Slot>>) -> Outcome<Deci
                 return Ok((order, ticket));
             }
             session.collect(next - 1)?;
+            collected(next - 1);
             next += 2;
         }
     }

@@ -292,3 +292,60 @@ impl BlockError {
         }
     }
 }
+
+#[cfg(test)]
+mod tests {
+    use super::{Block, Source};
+    use crate::Signature;
+    use crate::refusals::{closed, closed_room, refuses};
+    use std::sync::{Arc, Mutex};
+    use std::thread;
+
+    /// A lock whose holder panicked.
+    fn poisoned<T: Send>(lock: &Mutex<T>) {
+        thread::scope(|scope| {
+            let panics = scope.spawn(|| {
+                let _guard = lock.lock();
+                panic!("under the lock");
+            });
+            panics.join().unwrap_err();
+        });
+        assert!(lock.is_poisoned());
+    }
+
+    fn block() -> Block {
+        Block::new(0, 1, &[], &["x"]).unwrap()
+    }
+
+    #[test]
+    fn a_panic_under_a_lock_stops_nobody() {
+        let (source, handle) = (block(), block());
+        poisoned(&source.source);
+        assert_eq!(source.round(), 1);
+        let size = handle.inner().body.get().map(|body| body.bytes.len());
+        poisoned(&handle.inner().handle);
+        assert_eq!(
+            (size, handle.body(), handle.digest()),
+            (None, source.body(), source.digest())
+        );
+    }
+
+    #[test]
+    fn a_panic_of_another_reader_stops_no_walk() {
+        let list = Arc::new(Mutex::new(closed()));
+        poisoned(&list);
+        // The text is that of a closed handle, and not that of a lock.
+        refuses(|| Block::at(Source::Listed(list, 0)).round());
+    }
+
+    #[test]
+    fn what_cannot_be_read_is_not_empty() {
+        let own = || Block::at(Source::Own(closed()));
+        refuses(|| own().body());
+        refuses(|| own().digest());
+        refuses(|| own().message(&Signature([0; 64])));
+        let list = Arc::new(Mutex::new(closed()));
+        refuses(|| Block::at(Source::Listed(list, 0)).round());
+        refuses(|| Block::at(Source::Answer(closed_room())).round());
+    }
+}

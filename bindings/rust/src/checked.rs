@@ -28,6 +28,8 @@ pub enum Checked {
 pub struct CheckedBlock {
     pub(crate) handle: RefCell<Handle>,
     pub(crate) slot: Slot,
+    /// The bytes of its body.
+    pub(crate) size: u64,
 }
 
 impl CheckedBlock {
@@ -61,16 +63,23 @@ impl fmt::Debug for CheckedBlock {
 pub struct CheckedCertificate {
     pub(crate) handle: RefCell<Handle>,
     pub(crate) slot: Slot,
+    /// The bytes of its message.
+    pub(crate) size: u64,
 }
+
+/// The bytes of a certificate of 100 votes.
+const LARGEST: usize = 43 + 66 * 100;
 
 impl CheckedCertificate {
     /// The certificate of a handle.
     pub(crate) fn of(mut handle: Handle) -> CheckedCertificate {
         let mut raw = RawMessage::EMPTY;
         ffi::nw_checked_kind(&mut handle, &mut raw).or_abort();
+        let size = ffi::checked_message(&mut handle).map_or(LARGEST, |message| message.len());
         CheckedCertificate {
             handle: RefCell::new(handle),
             slot: raw.slot,
+            size: size as u64,
         }
     }
 

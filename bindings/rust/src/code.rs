@@ -78,3 +78,28 @@ impl Code {
         )
     }
 }
+
+#[cfg(test)]
+mod tests {
+    use super::Code;
+    use std::{env, process};
+
+    /// The test starts itself once more: that process must end.
+    #[test]
+    fn a_decoding_without_memory_ends_the_process() {
+        let name = "code::tests::a_decoding_without_memory_ends_the_process";
+        let wanted = "WITHOUT_MEMORY";
+        if env::var_os(wanted).is_some() {
+            Code::NO_MEMORY.or_abort();
+            process::exit(0);
+        }
+        let mut again = process::Command::new(env::current_exe().unwrap());
+        let again = again
+            .args(["--exact", name, "--nocapture"])
+            .env(wanted, "1");
+        let ended = again.output().unwrap();
+        let said = String::from_utf8_lossy(&ended.stderr);
+        let is_ended = ended.status.code().is_none() && said.contains("memory allocation");
+        assert!(is_ended, "{ended:?}");
+    }
+}

@@ -162,3 +162,29 @@ impl From<NoMemory> for CommitteeError {
         CommitteeError::NoMemory
     }
 }
+
+#[cfg(test)]
+mod tests {
+    use super::{Committee, Inner};
+    use crate::PublicKey;
+    use crate::refusals::{closed, refuses};
+    use std::thread;
+
+    #[test]
+    fn what_cannot_be_read_is_not_empty() {
+        refuses(|| Inner::of(closed()));
+    }
+
+    #[test]
+    fn a_panic_under_the_lock_stops_nobody() {
+        let committee = Committee::equal(&[PublicKey([1; 32])]).unwrap();
+        thread::scope(|scope| {
+            let panics = scope.spawn(|| {
+                let _guard = committee.inner.handle.lock();
+                panic!("under the lock");
+            });
+            panics.join().unwrap_err();
+        });
+        assert!(committee.share().is_ok());
+    }
+}

@@ -74,8 +74,8 @@ impl OpenError {
     }
 }
 
-/// Why a call took no step. The store is as it was before the call, with one exception: a store that
-/// restarts by itself may have an empty history after `NoMemory`.
+/// Why a call took no step. The store is as it was before the call, with one exception: if the call
+/// restarted the history first, the history is empty.
 #[derive(Clone, Copy, Debug, PartialEq, Eq)]
 #[non_exhaustive]
 pub enum StepError {

@@ -156,3 +156,97 @@ impl Reply {
         }
     }
 }
+
+#[cfg(test)]
+mod tests {
+    use super::{Call, Reply};
+    use crate::Digest;
+    use crate::raw::{RawTagged, call, reply};
+    use crate::reply::{CausalFault, CertifyReply, CollectReply, WriteReply};
+
+    const DIGEST: Digest = Digest([9; 32]);
+
+    fn raw(kind: i32) -> RawTagged {
+        RawTagged {
+            kind,
+            number: 7,
+            digest: DIGEST,
+        }
+    }
+
+    #[test]
+    fn each_kind_of_call_is_told() {
+        let calls = [
+            (call::WRITE, Call::Write(DIGEST)),
+            (call::CERTIFY, Call::Certify(DIGEST)),
+            (call::CERTIFICATE, Call::Certificate(DIGEST)),
+            (call::READ, Call::Read(DIGEST)),
+            (call::CAUSAL, Call::Causal(DIGEST)),
+            (call::COLLECT, Call::Collect(7)),
+            (call::MISSING, Call::Missing(7)),
+            (call::STATUS, Call::Status),
+        ];
+        for (place, (kind, call)) in (1..).zip(calls) {
+            assert_eq!((kind, Call::of(&raw(kind))), (place, call));
+        }
+    }
+
+    /// The numbers of the kinds are those of `nw.h`. Messages of tests never meet `Clash`, since two
+    /// blocks would need one digest.
+    #[test]
+    fn each_kind_of_reply_is_told() {
+        let garbage_round = 7;
+        let replies = [
+            (reply::STORED_VOTE, Reply::Stored { vote: true }),
+            (reply::STORED, Reply::Stored { vote: false }),
+            (reply::HELD, Reply::Held),
+            (reply::CLASH, Reply::Clash),
+            (reply::EQUIVOCATES, Reply::Equivocates(DIGEST)),
+            (reply::CERTIFIED, Reply::Certified),
+            (reply::ALREADY, Reply::Already),
+            (reply::CONFLICT, Reply::Conflict(DIGEST)),
+            (reply::COLLECTED, Reply::Collected { garbage_round }),
+            (reply::TOO_FAR, Reply::TooFar),
+            (reply::MISFIT, Reply::Misfit),
+            (reply::FULL, Reply::Full),
+            (reply::FOUND, Reply::Found),
+            (reply::UNKNOWN, Reply::Unknown),
+            (reply::UNCERTIFIED, Reply::Uncertified),
+            (reply::INCOMPLETE, Reply::Incomplete),
+            (reply::READY, Reply::Ready),
+            (reply::RAISED, Reply::Raised { dropped: 7 }),
+            (reply::NOT_HIGHER, Reply::NotHigher { garbage_round }),
+            (reply::MISSING, Reply::Missing { listed: 7 }),
+            (reply::STATUS, Reply::Status),
+        ];
+        for (place, (kind, reply)) in (1..).zip(replies) {
+            assert_eq!((kind, Reply::of(&raw(kind))), (place, reply));
+        }
+    }
+
+    /// The same kinds, as a call answers them. Each has the name that it has in a history.
+    #[test]
+    fn each_call_answers_what_its_event_tells() {
+        let told = |kind| format!("{:?}", Reply::of(&raw(kind)));
+        for kind in [1, 2, 3, 4, 5, 9, 10, 11, 12] {
+            assert_eq!(format!("{:?}", WriteReply::of(&raw(kind))), told(kind));
+        }
+        for kind in [6, 7, 8, 9, 10, 11, 12] {
+            assert_eq!(format!("{:?}", CertifyReply::of(&raw(kind))), told(kind));
+        }
+        for kind in [18, 19] {
+            assert_eq!(format!("{:?}", CollectReply::of(&raw(kind))), told(kind));
+        }
+        for kind in [14, 15, 16] {
+            assert_eq!(format!("{:?}", CausalFault::of(&raw(kind))), told(kind));
+        }
+    }
+
+    #[test]
+    #[should_panic(
+        expected = "the linked library does not match narwhal-store: it answered kind 99"
+    )]
+    fn an_unknown_kind_names_the_fault() {
+        let _ = Reply::of(&raw(99));
+    }
+}

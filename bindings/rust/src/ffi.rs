@@ -6,8 +6,10 @@
 mod allocator;
 
 use crate::code::Code;
-use crate::raw::{RawEvent, RawMessage, RawParent, RawTagged};
+use crate::raw::{RawEvent, RawLook, RawMessage, RawParent, RawTagged};
 use crate::{Digest, Limits, Member, Signature, Slot, Status};
+#[cfg(target_os = "linux")]
+use std::arch::global_asm;
 use std::ffi::c_void;
 use std::mem::{self, MaybeUninit};
 use std::sync::atomic::{AtomicPtr, Ordering};
@@ -89,6 +91,15 @@ impl Drop for Spare {
     }
 }
 
+/// Ties the crate to the interface of the library that it is made for. The number in the export's
+/// name changes with each change of an export or a struct, so another library does not link.
+#[used]
+static INTERFACE: extern "C" fn() -> i32 = nw_interface_2;
+
+// Without this, a shared object links with another library, and does not load.
+#[cfg(target_os = "linux")]
+global_asm!(".hidden nw_interface_2");
+
 /// A handle, lent to a call.
 type At<'a> = &'a mut Handle;
 
@@ -122,6 +133,7 @@ exports! {
     nw_book_events(book: At, out: &mut usize);
     nw_book_compact(book: At);
     nw_book_restart(book: At);
+    nw_book_look(book: At, round: u64, author: u16, out: &mut RawLook);
     nw_book_hand_in(book: At, session: u16, number: u32, checked: At, answer: At);
     nw_book_certificate(book: At, session: u16, number: u32, digest: &Digest, answer: At);
     nw_book_read(book: At, session: u16, number: u32, digest: &Digest, answer: At);
@@ -151,8 +163,10 @@ exports! {
 unsafe extern "C" {
     pub(crate) safe fn nw_text_of_block(digest: &Digest, out: &mut [u8; 36]);
     safe fn nw_free(handle: &mut Handle);
+    safe fn nw_interface_2() -> i32;
     fn nw_committee_new(members: *const Member, members_len: usize, out: &mut Handle) -> Code;
     fn nw_digest_of(bytes: *const u8, bytes_len: usize, out: &mut Digest);
+    fn nw_peek(text: *const u8, text_len: usize, out: &mut RawMessage) -> Code;
     fn nw_check(committee: &mut Handle, text: *const u8, text_len: usize, out: &mut Handle)
     -> Code;
     fn nw_block_new(
@@ -229,6 +243,18 @@ pub(crate) fn digest_of(bytes: &[u8]) -> Digest {
     digest
 }
 
+/// What the front of a text says, if it has one.
+#[inline]
+pub(crate) fn peek(text: &[u8]) -> Option<RawMessage> {
+    let mut raw = RawMessage::EMPTY;
+    // SAFETY: the pointer and the length are those of one slice.
+    match unsafe { nw_peek(text.as_ptr(), text.len(), &mut raw) } {
+        Code::DONE => Some(raw),
+        Code::ABSENT => None,
+        other => other.unexpected(),
+    }
+}
+
 /// Decodes and checks a text.
 pub(crate) fn check(committee: &mut Handle, text: &[u8]) -> Result<Handle, Code> {
     // SAFETY: the pointer and the length are those of one slice.
@@ -259,4 +285,73 @@ pub(crate) fn block_new(
             out,
         )
     })
+}
+
+#[cfg(test)]
+mod tests {
+    use super::{Handle, Spare, nw_answer_new, written};
+    use crate::code::Code;
+    use std::sync::Barrier;
+    use std::sync::atomic::{AtomicBool, Ordering};
+    use std::{hint, mem, thread};
+
+    /// Writes 7s into the whole room if it has `size` bytes.
+    fn sevens(size: usize) -> Result<Vec<u8>, Code> {
+        let mut rooms = [4096, size].into_iter();
+        written(|room, len, needed| {
+            assert_eq!(Some(len), rooms.next(), "the size of the room");
+            *needed = size;
+            if len < size {
+                return Code::SMALL;
+            }
+            // SAFETY: the room has `len` bytes, and `size` is not above.
+            unsafe { room.write_bytes(7, size) };
+            Code::DONE
+        })
+    }
+
+    #[test]
+    fn a_buffer_has_the_size_that_the_call_is_told() {
+        for size in [0, 1, 4096, 4097, 100_000] {
+            assert_eq!(sevens(size), Ok(vec![7; size]));
+        }
+    }
+
+    #[test]
+    fn a_spare_handle_is_taken_by_one_thread() {
+        let (spare, is_taken) = (Spare::new(), AtomicBool::new(false));
+        let (start, is_wrong) = (Barrier::new(4), AtomicBool::new(false));
+        spare.put(Handle::opened(|out| nw_answer_new(out)).unwrap());
+        let take = || {
+            start.wait();
+            let mut taken = 0;
+            // The bound ends the test if the handle gets lost.
+            for _ in 0..40_000_000 {
+                if taken == 200_000 {
+                    break;
+                }
+                let handle = spare.take();
+                if handle.is_closed() {
+                    continue;
+                }
+                taken += 1;
+                if is_taken.swap(true, Ordering::AcqRel) {
+                    is_wrong.store(true, Ordering::Release);
+                    mem::forget(handle); // The other thread frees it.
+                    return;
+                }
+                (0..20).for_each(|_| hint::spin_loop());
+                is_taken.store(false, Ordering::Release);
+                spare.put(handle);
+            }
+        };
+        thread::scope(|scope| {
+            for _ in 0..4 {
+                scope.spawn(take);
+            }
+        });
+        let is_wrong = is_wrong.into_inner();
+        assert!(!is_wrong, "two threads took one handle");
+        assert!(!spare.take().is_closed(), "the handle got lost");
+    }
 }

@@ -5,14 +5,18 @@ use crate::{CheckError, Checked, Committee};
 use std::sync::atomic::{AtomicUsize, Ordering};
 use std::thread::{self, Builder, ScopedJoinHandle};
 
+/// The most threads that one call of [`check_all`] uses.
+const MOST_THREADS: usize = 64;
+
 /// The result for one message.
 type Outcome = Result<Checked, CheckError>;
 
 /// Checks many messages with several threads, and returns one result for each message, in order.
 ///
 /// Each result is that of [`Message::check`](crate::Message::check). The calling thread checks
-/// messages too, so `threads` below 2 starts no other thread. If the system does not start a
-/// thread, the others do its work.
+/// messages too, so `threads` below 2 starts no other thread. At most 64 threads check, and at most
+/// one for each message, however large `threads` is. If the system does not start a thread, the
+/// others do its work.
 ///
 /// ```
 /// # mod data { include!(concat!(env!("CARGO_MANIFEST_DIR"), "/examples/data/mod.rs")); }
@@ -33,7 +37,7 @@ pub fn check_all(
     messages: &[impl AsRef<[u8]> + Sync],
     threads: usize,
 ) -> Vec<Result<Checked, CheckError>> {
-    let threads = threads.clamp(1, messages.len().max(1));
+    let threads = threads.min(messages.len()).clamp(1, MOST_THREADS);
     let next = AtomicUsize::new(0);
     let work = || check_some(committee, messages, &next);
     let mut all: Vec<Option<Outcome>> = messages.iter().map(|_| None).collect();
@@ -81,4 +85,68 @@ fn check_some(
 fn take<'a, T>(messages: &'a [T], next: &AtomicUsize) -> Option<(usize, &'a T)> {
     let index = next.fetch_add(1, Ordering::Relaxed);
     Some((index, messages.get(index)?))
+}
+
+#[cfg(test)]
+mod tests {
+    use super::{MOST_THREADS, check_all};
+    use crate::{Committee, PublicKey};
+    use std::collections::HashSet;
+    use std::sync::{Condvar, Mutex};
+    use std::thread::{self, ThreadId};
+    use std::time::Duration;
+
+    /// A message that notes which thread checks it, and takes time.
+    struct Slow<'a>(&'a Mutex<HashSet<ThreadId>>);
+
+    impl AsRef<[u8]> for Slow<'_> {
+        fn as_ref(&self) -> &[u8] {
+            self.0.lock().unwrap().insert(thread::current().id());
+            thread::sleep(Duration::from_millis(2));
+            &[]
+        }
+    }
+
+    #[test]
+    fn a_call_uses_a_bounded_number_of_threads() {
+        let committee = Committee::equal(&[PublicKey([1; 32])]).unwrap();
+        for (threads, messages, most) in [
+            (10_000, 1000, MOST_THREADS),
+            (10_000, 3, 3),
+            (2, 100, 2),
+            (0, 100, 1),
+        ] {
+            let seen = Mutex::new(HashSet::new());
+            let slow: Vec<_> = (0..messages).map(|_| Slow(&seen)).collect();
+            assert_eq!(check_all(&committee, &slow, threads).len(), messages);
+            let used = seen.lock().unwrap().len();
+            assert!((1..=most).contains(&used), "{used} of {threads} threads");
+        }
+    }
+
+    /// A message that is checked only once two threads check messages. It gives up after ten seconds.
+    struct Meeting<'a>(&'a Mutex<HashSet<ThreadId>>, &'a Condvar);
+
+    impl AsRef<[u8]> for Meeting<'_> {
+        fn as_ref(&self) -> &[u8] {
+            let mut seen = self.0.lock().unwrap();
+            seen.insert(thread::current().id());
+            self.1.notify_all();
+            let alone = |seen: &mut HashSet<ThreadId>| seen.len() < 2;
+            drop(
+                self.1
+                    .wait_timeout_while(seen, Duration::from_secs(10), alone),
+            );
+            &[]
+        }
+    }
+
+    #[test]
+    fn two_threads_check_at_once() {
+        let committee = Committee::equal(&[PublicKey([1; 32])]).unwrap();
+        let (seen, met) = (Mutex::new(HashSet::new()), Condvar::new());
+        let messages = [Meeting(&seen, &met), Meeting(&seen, &met)];
+        assert_eq!(check_all(&committee, &messages, 2).len(), 2);
+        assert_eq!(seen.lock().unwrap().len(), 2);
+    }
 }

@@ -1,7 +1,7 @@
 //! The block store of a Narwhal mempool, as formally verified software.
 //!
 //! The store keeps blocks of transactions and their certificates in memory. For each round and
-//! author, it says which block came first, so that the validator votes only for that block. It
+//! author, it says which block came first, so that the validator votes for no other block. It
 //! lists a block with its certified ancestors, while other threads write blocks and collect old
 //! rounds. A collection raises the *garbage round*, and drops all rounds below it. The code of the
 //! store is proved to meet its contracts. This crate is a thin safe layer over its static library.
@@ -9,11 +9,15 @@
 //! # Use
 //!
 //! 1. Make a [`Committee`] from the members' Ed25519 keys, and a [`Store`] under it.
-//! 2. Check messages from the network with [`Message::check`] or [`check_all`]. A check does not
-//!    take the store's lock.
+//! 2. For each message of the network, [`Message::peek`] reads what it is about, and [`Store::look`]
+//!    says what the store has. Drop the message if the store has it or would refuse it, or if it
+//!    exceeds a peer's budget. Check the others with [`Message::check`] or [`check_all`]. A check
+//!    does not take the store's lock.
 //! 3. Pass checked messages to a [`Session`] of the store: [`Session::write`] and
 //!    [`Session::certify`].
-//! 4. When a write answers `Stored { vote: true }`, log the block and sign a vote.
+//! 4. When a write answers `Stored { vote: true }`, the block is the first of its round and author.
+//!    Vote for it once all its parents are stored and certified ([`Look::satisfies`]): log, sync,
+//!    and send the vote.
 //! 5. Make your own blocks with [`Block::new`], sign [`Block::text_to_sign`], and pass
 //!    [`Block::message`] to [`Message::check`] before you write and send it. Make a vote with
 //!    [`vote_message`], and pass the checked votes to [`Gather::add`], which verifies them.
@@ -64,19 +68,10 @@
 //! # After a crash
 //!
 //! The store is in memory only, and it forgets its votes when the process ends. A validator that
-//! forgets its votes can vote twice. So it must keep a log of the calls that changed its store:
-//!
-//! 1. Append each message whose write answered `Stored` or whose certificate answered `Certified`,
-//!    and each collection that answered `Raised`. The log must have the order of the store's steps.
-//!    If several threads call, hold one lock around each call and its append.
-//! 2. Sync the log before you send a vote or a block of your own. When you create the log, sync its
-//!    folder too.
-//! 3. After a crash, open a store with the same committee and limits. Repeat the calls of the log in
-//!    their order, before anything else.
-//!
-//! After you log a collection to round g, you can cut the log. The shorter log has `collect(g)`,
-//! followed by the logged messages of rounds >= g in their order. The example `durable` shows the
-//! log without the cut.
+//! forgets its votes can vote twice. So it must log the calls that changed its store, and sync the
+//! log before it sends a vote or a block of its own. After a crash it syncs what it read, file and
+//! folder, and repeats the calls in their order, before it sends anything. docs/EMBEDDING.md of the
+//! repository (After a crash) has all rules, and the example `durable` shows them.
 //!
 //! # Panics
 //!
@@ -90,6 +85,7 @@ extern crate self as narwhal_store;
 mod answer;
 mod block;
 mod body;
+mod builder;
 mod bytes;
 mod checked;
 mod code;
@@ -102,7 +98,9 @@ mod gather;
 mod history;
 mod intake;
 mod limits;
+mod look;
 mod message;
+mod peek;
 mod raw;
 #[cfg(test)]
 mod refusals;
@@ -117,6 +115,7 @@ mod walk;
 pub use answer::{Answer, Causal};
 pub use block::{Block, BlockError};
 pub use body::Transactions;
+pub use builder::StoreBuilder;
 pub use bytes::{Digest, HexError, PublicKey, Signature};
 pub use checked::{Checked, CheckedBlock, CheckedCertificate, CheckedVote};
 pub use committee::{Committee, CommitteeError, Member};
@@ -127,15 +126,22 @@ pub use gather::{Gather, GatherError};
 pub use history::{Events, History};
 pub use intake::check_all;
 pub use limits::Limits;
+pub use look::Look;
 pub use message::Message;
+pub use peek::Peek;
 pub use reply::{CausalFault, CertifyReply, CollectReply, Status, WriteReply};
 pub use session::Session;
 pub use slot::{Slot, text_of_block, text_of_vote, vote_message};
-pub use store::{Store, StoreBuilder};
+pub use store::Store;
 pub use ticket::{AgreeError, Ticket};
 pub use walk::Walk;
 
-/// The path of the static library that this crate was linked with.
+/// Which static library this crate was linked with. The text has no path.
+///
+/// - `shipped libnw.a sha256:` and 64 hex digits: the library that the repository ships, with the
+///   hash of its record.
+/// - `NW_LIB_DIR` and a file name: the library in the folder that this environment variable named
+///   when the crate was built.
 pub const ARCHIVE: &str = env!("NW_ARCHIVE");
 
 /// The types that can be sent to another thread, and those that can be shared.

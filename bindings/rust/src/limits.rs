@@ -2,8 +2,10 @@
 
 /// The limits of a store.
 ///
-/// A store never exceeds its limits. A call that would exceed one answers `Full` or `TooFar`, or
-/// fails with [`StepError::HistoryFull`](crate::StepError::HistoryFull).
+/// A store never exceeds its limits. A call that would exceed one answers `Full` or `TooFar`. A call
+/// that finds the history full restarts it, or fails with
+/// [`StepError::HistoryFull`](crate::StepError::HistoryFull) if the store
+/// [never restarts](crate::StoreBuilder::never_restart).
 ///
 /// ```
 /// use narwhal_store::Limits;
@@ -18,7 +20,8 @@ pub struct Limits {
     pub blocks: u32,
     /// The most events that a history has: 1 to 65,536. Each call is one event.
     ///
-    /// The history holds each block that was written, so a lower limit bounds its memory.
+    /// The history holds each block and certificate that was stored, until it restarts.
+    /// [`StoreBuilder::restart_when`](crate::StoreBuilder::restart_when) bounds its bytes.
     pub events: u32,
     /// How many rounds the store accepts, from the garbage round on: 1 to 4,096.
     pub window: u32,

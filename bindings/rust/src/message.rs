@@ -58,15 +58,26 @@ impl Message {
     }
 }
 
+/// The bytes of a block's message around its body: the tag and the signature.
+const AROUND_A_BODY: u64 = 65;
+
 /// Checks a message under the committee of the handle.
 pub(crate) fn check_with(committee: &mut Handle, message: &[u8]) -> Result<Checked, CheckError> {
     let mut handle = ffi::check(committee, message).map_err(Code::no_memory)?;
     let mut raw = RawMessage::EMPTY;
     ffi::nw_checked_kind(&mut handle, &mut raw).or_abort();
-    let (handle, slot) = (RefCell::new(handle), raw.slot);
+    let (handle, slot, length) = (RefCell::new(handle), raw.slot, message.len() as u64);
     match raw.kind {
-        message::BLOCK => Ok(Checked::Block(CheckedBlock { handle, slot })),
-        message::CERTIFICATE => Ok(Checked::Certificate(CheckedCertificate { handle, slot })),
+        message::BLOCK => Ok(Checked::Block(CheckedBlock {
+            handle,
+            slot,
+            size: length - AROUND_A_BODY,
+        })),
+        message::CERTIFICATE => Ok(Checked::Certificate(CheckedCertificate {
+            handle,
+            slot,
+            size: length,
+        })),
         message::VOTE => Ok(Checked::Vote(CheckedVote {
             handle,
             slot,

@@ -75,6 +75,30 @@ pub(crate) struct RawParent {
     pub(crate) digest: Digest,
 }
 
+/// What a book has in a slot.
+#[derive(Clone, Copy, Debug)]
+#[repr(C)]
+pub(crate) struct RawLook {
+    pub(crate) garbage_round: u64,
+    pub(crate) first: Digest,
+    pub(crate) certified: Digest,
+    pub(crate) has_first: bool,
+    pub(crate) has_certified: bool,
+    pub(crate) stands: bool,
+}
+
+impl RawLook {
+    /// A value for the library to write into.
+    pub(crate) const EMPTY: RawLook = RawLook {
+        garbage_round: 0,
+        first: Digest::ZERO,
+        certified: Digest::ZERO,
+        has_first: false,
+        has_certified: false,
+        stands: false,
+    };
+}
+
 /// The layouts of `nw.h`.
 const _: () = {
     assert!(size_of::<Member>() == 36 && align_of::<Member>() == 4);
@@ -82,13 +106,13 @@ const _: () = {
     assert!(size_of::<Slot>() == 48 && align_of::<Slot>() == 8);
     assert!(size_of::<RawParent>() == 34 && align_of::<RawParent>() == 2);
     assert!(size_of::<RawTagged>() == 48 && size_of::<RawEvent>() == 104);
-    assert!(size_of::<RawMessage>() == 56);
+    assert!(size_of::<RawMessage>() == 56 && size_of::<RawLook>() == 80);
 };
 
 /// Panics, because `nw.h` has no such kind here.
 #[cold]
 pub(crate) fn unexpected_kind(kind: i32) -> ! {
-    panic!("the linked library does not match narwhal-store: it raw kind {kind}")
+    panic!("the linked library does not match narwhal-store: it answered kind {kind}")
 }
 
 /// Kinds of replies.

@@ -1,21 +1,38 @@
-//! Tests that refuse each allocation of the library in turn.
+//! Tests that refuse each allocation of the library in turn, and tests that count what is not freed.
 
+use crate::ffi::{Handle, Spare};
+use crate::raw::tagged;
+use crate::room::Room;
 use crate::{
-    AgreeError, Block, BlockError, CheckError, Checked, CheckedBlock, CheckedCertificate,
-    CheckedVote, Committee, CommitteeError, Digest, Gather, GatherError, Limits, Message, NoMemory,
-    OpenError, Session, Status, StepError, Store, Ticket, check_all,
+    AgreeError, Block, BlockError, Causal, CheckError, Checked, CheckedBlock, CheckedCertificate,
+    CheckedVote, Committee, CommitteeError, Digest, Gather, GatherError, History, Limits, Message,
+    NoMemory, OpenError, Session, Status, StepError, Store, Ticket, check_all,
 };
 use std::cell::Cell;
 use std::ffi::c_void;
 use std::fmt::Debug;
+use std::panic::{AssertUnwindSafe, catch_unwind};
 use std::ptr;
+use std::sync::Arc;
 
 #[path = "../examples/data/mod.rs"]
-mod data;
+pub(crate) mod data;
 
 thread_local! {
     /// The allocation of this thread that is refused: 1 is the next one, and 0 is none.
     static REFUSED: Cell<usize> = const { Cell::new(0) };
+    /// The allocations of this thread, without those that it freed.
+    static LIVE: Cell<isize> = const { Cell::new(0) };
+}
+
+/// Counts an allocation, if it succeeded.
+pub(crate) fn note_allocated(is_there: bool) {
+    LIVE.set(LIVE.get() + isize::from(is_there));
+}
+
+/// Counts a freed allocation.
+pub(crate) fn note_freed() {
+    LIVE.set(LIVE.get() - 1);
 }
 
 /// An allocator that refuses the chosen allocation.
@@ -97,7 +114,7 @@ fn refuse_each<T: Debug + PartialEq, E: Debug + PartialEq>(
     assert!(wanted.is_ok(), "{wanted:?}");
     for number in 1.. {
         let world = World::new();
-        let before = world.status();
+        let (before, events) = (world.status(), world.store.events());
         REFUSED.set(number);
         let outcome = call(&world);
         if REFUSED.replace(0) > 0 {
@@ -107,6 +124,7 @@ fn refuse_each<T: Debug + PartialEq, E: Debug + PartialEq>(
         }
         if let Err(error) = outcome {
             assert_eq!(error, no_memory);
+            assert_eq!(world.store.events(), events);
             assert_eq!(world.status(), before);
             assert_eq!(call(&world), wanted);
         }
@@ -180,4 +198,119 @@ fn causal_reads() {
         let [one, other] = &world.tickets;
         one.agrees(other)
     });
+}
+
+#[test]
+fn all_is_freed_at_the_end() {
+    let before = LIVE.get();
+    for _ in 0..2 {
+        let world = World::new();
+        let [one, other] = &world.tickets;
+        assert!(one.agrees(other).unwrap());
+        // Three answers are dropped, and the store keeps one of them as its spare.
+        drop([(); 3].map(|()| world.session.status().unwrap()));
+        let blocks: Vec<Block> = one.walk().unwrap().collect();
+        assert!(blocks.iter().all(|block| !block.body().is_empty()));
+        let mut gather = Gather::new(&world.committee, &world.votes[0].slot()).unwrap();
+        world
+            .votes
+            .iter()
+            .for_each(|vote| assert!(gather.add(vote).is_ok()));
+        drop(gather.certificate().unwrap().message());
+        world.store.restart().unwrap();
+        assert!(
+            world
+                .session
+                .read(&world.leader)
+                .unwrap()
+                .into_reply()
+                .is_some()
+        );
+        assert!(LIVE.get() > before);
+    }
+    assert_eq!(LIVE.get(), before);
+}
+
+#[test]
+fn a_restart_frees_the_history() {
+    let world = World::new();
+    let live_after = |calls: usize| {
+        (0..calls).for_each(|_| drop(world.session.status().unwrap()));
+        world.store.restart().unwrap();
+        LIVE.get()
+    };
+    let few = live_after(1);
+    assert_eq!(live_after(1000), few);
+}
+
+/// A closed handle, which no part of the library can be read from.
+pub(crate) fn closed() -> Handle {
+    Spare::new().take()
+}
+
+/// The room of an answer that cannot be read.
+pub(crate) fn closed_room() -> Room {
+    let mut room = Room::new(&Arc::new(Spare::new())).unwrap();
+    drop(room.take());
+    room
+}
+
+/// Decodes what cannot be read. That must panic, and not give an empty value.
+#[track_caller]
+pub(crate) fn refuses<T>(decode: impl FnOnce() -> T) {
+    let Err(panic) = catch_unwind(AssertUnwindSafe(|| drop(decode()))) else {
+        panic!("what cannot be read was decoded");
+    };
+    let text = panic.downcast_ref::<String>().unwrap();
+    let begin = "the linked library does not match narwhal-store: it answered code ";
+    assert!(text.starts_with(begin), "{text}");
+}
+
+#[test]
+fn what_cannot_be_read_is_not_empty() {
+    refuses(|| History::new(closed_room()).len());
+    refuses(|| History::new(closed_room()).event(0));
+    refuses(|| History::new(closed_room()).begins(&History::new(closed_room())));
+    refuses(|| Ticket::new(closed_room()).digest());
+    refuses(|| Ticket::new(closed_room()).walk());
+    refuses(|| Causal::of(closed_room()));
+    refuses(|| tagged(&mut closed()));
+    refuses(|| CheckedCertificate::of(closed()));
+}
+
+/// Refuses each allocation of a call that is about to restart the history. Returns the outcomes,
+/// with the events after each.
+fn restarting_calls(limits: Limits, bytes: u64) -> Vec<(Option<StepError>, usize)> {
+    let committee = Committee::equal(&data::keys()).unwrap();
+    let mut outcomes = Vec::new();
+    for number in 1.. {
+        let builder = Store::builder(&committee).limits(limits);
+        let store = builder.restart_when(bytes, u32::MAX).open().unwrap();
+        let session = store.session().unwrap();
+        (0..4).for_each(|_| drop(session.status().unwrap()));
+        REFUSED.set(number);
+        let outcome = session.status().map(drop).err();
+        let is_last = REFUSED.replace(0) > 0;
+        outcomes.push((outcome, store.events()));
+        session.status().unwrap();
+        if is_last {
+            break;
+        }
+    }
+    outcomes
+}
+
+#[test]
+fn automatic_restarts() {
+    // A bound on bytes is advisory: without memory for the restart, the call goes on.
+    let outcomes = restarting_calls(Limits::default(), 600);
+    assert_eq!(outcomes.first(), Some(&(None, 5)));
+    assert_eq!(outcomes.last(), Some(&(None, 1)));
+    let full = Limits {
+        events: 4,
+        ..Limits::default()
+    };
+    let outcomes = restarting_calls(full, u64::MAX);
+    assert_eq!(outcomes.first(), Some(&(Some(StepError::NoMemory), 4)));
+    assert_eq!(outcomes.last(), Some(&(None, 1)));
 }

@@ -14,9 +14,10 @@ pub enum WriteReply {
     Stored {
         /// Whether the block is the first of its round and author.
         ///
-        /// If `true`, sign a vote for it once the log is synced. The store never answers `true` for
-        /// another block of the same round and author. If `false`, send no vote: the block is
-        /// certified, and another block of its round and author came first.
+        /// If `true`, sign a vote for it once all its parents are satisfied and the log is synced.
+        /// The store never answers `true` for another block of the same round and author. If `false`,
+        /// send no vote: the block is certified, and another block of its round and author came
+        /// first.
         vote: bool,
     },
     /// The block's round is below the garbage round. Drop the block.
@@ -24,8 +25,8 @@ pub enum WriteReply {
         /// The garbage round.
         garbage_round: u64,
     },
-    /// The block's round is not below the garbage round plus the window. It is not stored. Keep the
-    /// block, and write it again after the garbage round is raised.
+    /// The block's round is not below the garbage round plus the window. It is not stored. Drop the
+    /// block, and fetch it and its certificate after the garbage round is raised.
     TooFar,
     /// The block was already stored. There is nothing to do.
     Held,
@@ -35,11 +36,11 @@ pub enum WriteReply {
     /// false.
     Misfit,
     /// The author made another block for the round, which came first. This is the digest of that
-    /// block. The new block is not stored. Keep it, and write it again after its certificate
-    /// answers `Certified`: it is then stored without a vote.
+    /// block. The new block is not stored. Drop it, and fetch it if its certificate answers
+    /// `Certified`: it is then stored without a vote.
     Equivocates(Digest),
-    /// The number of stored blocks has reached its limit. The block is not stored. Keep it, and
-    /// write it again after the garbage round is raised.
+    /// The number of stored blocks has reached its limit. The block is not stored. Drop it, and
+    /// fetch it after the garbage round is raised.
     Full,
 }
 
@@ -56,8 +57,8 @@ pub enum CertifyReply {
         /// The garbage round.
         garbage_round: u64,
     },
-    /// The certificate's round is not below the garbage round plus the window. Keep the certificate,
-    /// and hand it in again after the garbage round is raised.
+    /// The certificate's round is not below the garbage round plus the window. Drop the certificate,
+    /// and fetch it after the garbage round is raised.
     TooFar,
     /// The digest was already certified. There is nothing to do.
     Already,
@@ -67,8 +68,8 @@ pub enum CertifyReply {
     /// Another block of the round and author is certified, and this is its digest. More members are
     /// faulty than the committee tolerates.
     Conflict(Digest),
-    /// The number of certificates has reached its limit. Keep the certificate, and hand it in again
-    /// after the garbage round is raised.
+    /// The number of certificates has reached its limit. Drop the certificate, and fetch it after
+    /// the garbage round is raised.
     Full,
 }
 

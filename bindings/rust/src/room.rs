@@ -1,7 +1,9 @@
-//! Rooms for answers, made before the calls.
+//! Rooms for answers, made before the calls, and the bytes that their events take.
 
 use crate::code::Code;
 use crate::ffi::{self, Handle, Spare};
+use crate::raw::{reply, tagged};
+use std::mem;
 use std::ops::{Deref, DerefMut};
 use std::sync::Arc;
 
@@ -24,6 +26,12 @@ impl Room {
             handle,
             spare: Arc::clone(spare),
         })
+    }
+
+    /// Replaces the answer by new room, and returns the answer.
+    pub(crate) fn renew(&mut self) -> Result<Handle, Code> {
+        let new = Handle::opened(|out| ffi::nw_answer_new(out))?;
+        Ok(mem::replace(&mut self.handle, new))
     }
 
     /// Takes the content of the room, which is closed afterwards.
@@ -55,6 +63,61 @@ impl Drop for Room {
     fn drop(&mut self) {
         if !self.handle.is_closed() {
             self.spare.put(self.handle.take());
+        }
+    }
+}
+
+/// What the event of a call holds in the history.
+#[derive(Clone, Copy)]
+pub(crate) enum Content {
+    /// Only numbers and digests.
+    Small,
+    /// A block, and the bytes of its body.
+    Block(u64),
+    /// A certificate, and the bytes of its message.
+    Certificate(u64),
+    /// A list of at most this many missing parents.
+    Parents(u16),
+}
+
+/// Whether the event of an answer with this reply has the block or the certificate.
+fn keeps(kind: i32) -> bool {
+    matches!(
+        kind,
+        reply::STORED_VOTE | reply::STORED | reply::CLASH | reply::CERTIFIED
+    )
+}
+
+impl Content {
+    /// The bytes of any event.
+    const EVENT: u64 = 150;
+    /// The bytes around a body or a certificate.
+    const HANDED_IN: u64 = 150;
+    /// The bytes of a listed parent.
+    const PARENT: u64 = 48;
+
+    /// The most bytes that the event can take.
+    #[inline]
+    pub(crate) fn most(self) -> u64 {
+        match self {
+            Content::Small => Content::EVENT,
+            Content::Block(bytes) | Content::Certificate(bytes) => {
+                Content::EVENT + Content::HANDED_IN + bytes
+            }
+            Content::Parents(most) => Content::EVENT + Content::PARENT * u64::from(most),
+        }
+    }
+
+    /// The bytes that the event of the answer takes. It has the block or the certificate only if the
+    /// call stored it, or if the reply is `Clash`.
+    #[inline]
+    pub(crate) fn bytes(self, answer: &mut Handle) -> u64 {
+        match self {
+            Content::Block(_) | Content::Certificate(_) if !keeps(tagged(answer).kind) => {
+                Content::EVENT
+            }
+            Content::Parents(_) => Content::EVENT + Content::PARENT * tagged(answer).number,
+            _ => self.most(),
         }
     }
 }

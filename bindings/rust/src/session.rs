@@ -5,7 +5,7 @@ use crate::block::Source;
 use crate::code::Code;
 use crate::ffi::{self, Handle};
 use crate::raw::{reply, tagged};
-use crate::room::Room;
+use crate::room::{Content, Room};
 use crate::store::Inner;
 use crate::{Block, Causal, CertifyReply, CheckedBlock, CheckedCertificate, CollectReply, Digest};
 use crate::{Slot, Status, StepError, WriteReply};
@@ -18,13 +18,13 @@ use std::sync::Arc;
 /// session are numbered 1, 2, 3, .. in the history. Threads can share a session or have one each: a
 /// history names the session of each event.
 ///
-/// A failed call changes no block, certificate or vote, and adds no event. Every call can fail with
-/// these errors of [`StepError`]:
+/// A failed call changes no block, certificate or vote, and adds no event. If it restarted the
+/// history first, the history is empty. Every call can fail with these errors of [`StepError`]:
 ///
-/// - [`HistoryFull`](StepError::HistoryFull) if the history has as many events as its limit, unless
-///   the store restarts by itself.
+/// - [`HistoryFull`](StepError::HistoryFull) if the history has as many events as its limit, and the
+///   store [never restarts](crate::StoreBuilder::never_restart).
 /// - [`NoMemory`](StepError::NoMemory) if the library could not allocate memory. The call can be
-///   repeated. If the store restarts by itself, the history may already be empty.
+///   repeated.
 pub struct Session {
     store: Arc<Inner>,
     id: u16,
@@ -43,13 +43,20 @@ impl Session {
 
     /// Writes a block. What a validator does next depends on the reply:
     ///
-    /// - `Stored { vote: true }`: log the block, and vote for it. Its parents may be missing or not
-    ///   certified. If your consensus needs them before it votes, look them up first.
+    /// - `Stored { vote: true }`: log the block. Vote for it once all its parents are satisfied: they
+    ///   are stored and certified, with the named authors and the preceding round
+    ///   ([`Look::satisfies`](crate::Look::satisfies)). Until then, keep its slot, and
+    ///   [look](crate::Store::look) again when a parent is stored or certified, and when the garbage
+    ///   round is raised. A block of the garbage round needs no parents. A validator that votes for
+    ///   blocks with made-up parents never completes a leader again.
     /// - `Stored { vote: false }`: log the block. Send no vote: the block is certified, and another
     ///   block of its round and author came first.
     /// - `Held`: the block was stored before. There is nothing to do.
-    /// - `Equivocates`, `TooFar`, `Full`: the block is not stored. Write it again later:
-    ///   [`WriteReply`] says when.
+    /// - `Equivocates`: the block is not stored. Drop it, and fetch it from a signer if it gets a
+    ///   certificate: it is then stored without a vote.
+    /// - `TooFar`, `Full`: the block is not stored. Drop it, and fetch it and its certificate after
+    ///   the garbage round is raised. You may keep one refused block for each round and author,
+    ///   within a budget of bytes.
     /// - `Collected`: drop the block.
     /// - `Clash`, `Misfit`: the block is not stored. Report it: an assumption of the store is broken.
     ///
@@ -69,7 +76,7 @@ impl Session {
     /// if let Checked::Block(block) = Message::check(&committee, message)? {
     ///     match session.write(&block)?.reply() {
     ///         WriteReply::Stored { vote: true } => {
-    ///             // Sign this text, and send the vote to the author.
+    ///             // Once its parents are satisfied: sign this text, and send the vote to the author.
     ///             let _text = text_of_vote(&block.slot())?;
     ///         }
     ///         WriteReply::Stored { vote: false } | WriteReply::Held => {}
@@ -79,7 +86,8 @@ impl Session {
     /// # Ok::<(), Box<dyn std::error::Error>>(())
     /// ```
     pub fn write(&self, block: &CheckedBlock) -> Result<Answer<WriteReply>, StepError> {
-        let answer = self.hand_in(&mut block.handle.borrow_mut())?;
+        let content = Content::Block(block.size);
+        let answer = self.hand_in(content, &mut block.handle.borrow_mut())?;
         Ok(Answer::new(answer, |answer, _| {
             WriteReply::of(&tagged(answer))
         }))
@@ -88,8 +96,8 @@ impl Session {
     /// Hands in a certificate. The store has it if the reply is [`CertifyReply::Certified`] or
     /// [`CertifyReply::Already`]. Log it if the reply is `Certified`.
     ///
-    /// The block and its certificate can come in any order. After `Certified`, write the block again
-    /// if its write answered [`WriteReply::Equivocates`].
+    /// The block and its certificate can come in any order. After `Certified`, fetch the block if it
+    /// is not stored ([`Look::stands`](crate::Look::stands)): its signers have it.
     ///
     /// # Errors
     ///
@@ -98,7 +106,8 @@ impl Session {
         &self,
         certificate: &CheckedCertificate,
     ) -> Result<Answer<CertifyReply>, StepError> {
-        let answer = self.hand_in(&mut certificate.handle.borrow_mut())?;
+        let content = Content::Certificate(certificate.size);
+        let answer = self.hand_in(content, &mut certificate.handle.borrow_mut())?;
         Ok(Answer::new(answer, |answer, _| {
             CertifyReply::of(&tagged(answer))
         }))
@@ -111,7 +120,7 @@ impl Session {
     ///
     /// Those that every call can have.
     pub fn certificate(&self, digest: &Digest) -> Result<Answer<Option<Vec<u8>>>, StepError> {
-        let answer = self.step(|book, session, number, answer| {
+        let answer = self.step(Content::Small, |book, session, number, answer| {
             ffi::nw_book_certificate(book, session, number, digest, answer)
         })?;
         Ok(Answer::new(answer, |answer, _| certificate_of(answer)))
@@ -123,7 +132,7 @@ impl Session {
     ///
     /// Those that every call can have.
     pub fn read(&self, digest: &Digest) -> Result<Answer<Option<Block>>, StepError> {
-        let answer = self.step(|book, session, number, answer| {
+        let answer = self.step(Content::Small, |book, session, number, answer| {
             ffi::nw_book_read(book, session, number, digest, answer)
         })?;
         Ok(Answer::new(answer, block_of))
@@ -167,7 +176,7 @@ impl Session {
     /// # Ok::<(), Box<dyn std::error::Error>>(())
     /// ```
     pub fn causal(&self, digest: &Digest) -> Result<Causal, StepError> {
-        let answer = self.step(|book, session, number, answer| {
+        let answer = self.step(Content::Small, |book, session, number, answer| {
             ffi::nw_book_open(book, session, number, digest, answer)
         })?;
         Ok(Causal::of(answer))
@@ -177,8 +186,8 @@ impl Session {
     /// the tables. Log a collection that answers [`CollectReply::Raised`]. Open tickets keep their
     /// lists.
     ///
-    /// This does not free the blocks. The history holds them until
-    /// [`Store::restart`](crate::Store::restart). The list that causal reads share holds them until
+    /// This does not free the blocks. The history holds them until it
+    /// [restarts](crate::StoreBuilder::restart_when). The list that causal reads share holds them until
     /// [`Store::compact`](crate::Store::compact) or its next rebuild. Answers and tickets hold them
     /// until they are dropped.
     ///
@@ -186,7 +195,7 @@ impl Session {
     ///
     /// [`StepError::BadRound`] if the round is 2^48 or more.
     pub fn collect(&self, round: u64) -> Result<Answer<CollectReply>, StepError> {
-        let answer = self.step(|book, session, number, answer| {
+        let answer = self.step(Content::Small, |book, session, number, answer| {
             ffi::nw_book_collect(book, session, number, round, answer)
         })?;
         Ok(Answer::new(answer, |answer, _| {
@@ -204,7 +213,7 @@ impl Session {
     ///
     /// Those that every call can have.
     pub fn missing(&self, most: u16) -> Result<Answer<Vec<Slot>>, StepError> {
-        let answer = self.step(|book, session, number, answer| {
+        let answer = self.step(Content::Parents(most), |book, session, number, answer| {
             ffi::nw_book_missing(book, session, number, most, answer)
         })?;
         Ok(Answer::new(answer, |answer, _| slots_of(answer)))
@@ -216,15 +225,15 @@ impl Session {
     ///
     /// Those that every call can have.
     pub fn status(&self) -> Result<Answer<Status>, StepError> {
-        let answer = self.step(|book, session, number, answer| {
+        let answer = self.step(Content::Small, |book, session, number, answer| {
             ffi::nw_book_status(book, session, number, answer)
         })?;
         Ok(Answer::new(answer, |answer, _| status_of(answer)))
     }
 
     /// Writes a block, or hands in a certificate.
-    fn hand_in(&self, checked: &mut Handle) -> Result<Room, StepError> {
-        self.step(|book, session, number, answer| {
+    fn hand_in(&self, content: Content, checked: &mut Handle) -> Result<Room, StepError> {
+        self.step(content, |book, session, number, answer| {
             ffi::nw_book_hand_in(book, session, number, checked, answer)
         })
     }
@@ -234,12 +243,13 @@ impl Session {
     #[inline]
     fn step(
         &self,
-        mut call: impl FnMut(&mut Handle, u16, u32, &mut Handle) -> Code,
+        content: Content,
+        call: impl FnOnce(&mut Handle, u16, u32, &mut Handle) -> Code,
     ) -> Result<Room, StepError> {
         let mut room = self.store.room().map_err(StepError::of)?;
         let id = self.id;
-        self.store
-            .step(id, |book, number| call(book, id, number, &mut room))?;
+        let call = |book: &mut Handle, number, answer: &mut Handle| call(book, id, number, answer);
+        self.store.step(id, content, &mut room, call)?;
         Ok(room)
     }
 }
@@ -284,5 +294,19 @@ impl fmt::Debug for Session {
         f.debug_struct("Session")
             .field("id", &self.id)
             .finish_non_exhaustive()
+    }
+}
+
+#[cfg(test)]
+mod tests {
+    use super::{block_of, certificate_of, slots_of, status_of};
+    use crate::refusals::{closed, closed_room, refuses};
+
+    #[test]
+    fn what_cannot_be_read_is_not_empty() {
+        refuses(|| certificate_of(&mut closed()));
+        refuses(|| block_of(&mut closed_room(), false));
+        refuses(|| slots_of(&mut closed()));
+        refuses(|| status_of(&mut closed()));
     }
 }

@@ -1,9 +1,11 @@
 //! The store and its builder.
 
+use crate::builder::RestartWhen;
 use crate::code::Code;
 use crate::ffi::{self, Handle, Spare};
-use crate::room::Room;
-use crate::{Committee, Limits, NoMemory, OpenError, Session, StepError};
+use crate::raw::RawLook;
+use crate::room::{Content, Room};
+use crate::{Committee, Limits, Look, NoMemory, OpenError, Session, StepError, StoreBuilder};
 use std::fmt;
 use std::sync::{Arc, Mutex, MutexGuard, PoisonError};
 
@@ -18,10 +20,12 @@ use std::sync::{Arc, Mutex, MutexGuard, PoisonError};
 /// The store writes nothing to disk. [After a crash](crate#after-a-crash) says what a validator
 /// must log.
 ///
-/// Collection removes blocks from the tables, but does not free them. The history holds them until
-/// [`Store::restart`]. The list that causal reads share holds them until [`Store::compact`] or its
-/// next rebuild. Answers and tickets hold them until they are dropped. If blocks are large, call
-/// these two functions after [`Session::collect`], or lower [`Limits::events`].
+/// Collection removes blocks from the tables, but does not free them:
+///
+/// - The history holds them until it restarts. By default the store restarts it: see
+///   [`StoreBuilder::restart_when`].
+/// - The list that causal reads share holds them until [`Store::compact`] or its next rebuild.
+/// - Answers and tickets hold them until they are dropped.
 ///
 /// ```
 /// # mod data { include!(concat!(env!("CARGO_MANIFEST_DIR"), "/examples/data/mod.rs")); }
@@ -43,7 +47,7 @@ use std::sync::{Arc, Mutex, MutexGuard, PoisonError};
 /// ```
 #[derive(Clone)]
 pub struct Store {
-    inner: Arc<Inner>,
+    pub(crate) inner: Arc<Inner>,
 }
 
 /// The state that all owners of a store share.
@@ -53,17 +57,27 @@ pub(crate) struct Inner {
     spare: Arc<Spare>,
     committee: Committee,
     limits: Limits,
-    restart_when_full: bool,
+    restart: Option<RestartWhen>,
 }
 
-/// The state under the lock: the library's book, and the number of each session's next call.
+/// The state under the lock.
 struct Book {
     handle: Handle,
+    /// The number of each session's next call.
     next: Vec<u32>,
+    /// The bytes that the history's events take.
+    bytes: u64,
 }
 
 impl Store {
-    /// Opens an empty store under the committee.
+    /// The bytes of a history at which a store restarts it by default: 64 MiB.
+    ///
+    /// This is room for 63 of the largest blocks, or for some 4,000 blocks of 10,000 bytes with
+    /// their certificates of 67 votes: 40 rounds of 100 members.
+    pub const HISTORY_BYTES: u64 = 64 << 20;
+
+    /// Opens an empty store under the committee. It restarts its history by itself: see
+    /// [`StoreBuilder::restart_when`].
     ///
     /// # Errors
     ///
@@ -72,8 +86,8 @@ impl Store {
         Store::builder(committee).limits(limits).open()
     }
 
-    /// Returns a builder for a store under the committee, with [`Limits::default`] and without
-    /// automatic restarts.
+    /// Returns a builder for a store under the committee, with [`Limits::default`] and automatic
+    /// restarts.
     ///
     /// ```
     /// # use narwhal_store::{Committee, PublicKey};
@@ -81,23 +95,19 @@ impl Store {
     ///
     /// # let committee = Committee::equal(&[PublicKey([7; 32])])?;
     /// let store = Store::builder(&committee)
-    ///     .limits(Limits { events: 2, ..Limits::default() })
-    ///     .restart_when_full(true)
+    ///     .limits(Limits { window: 64, ..Limits::default() })
+    ///     .restart_when(Store::HISTORY_BYTES, 2)
     ///     .open()?;
     /// let session = store.session()?;
     /// for _ in 0..3 {
     ///     session.status()?;
     /// }
-    /// // The third call began a new history.
+    /// // The third call found two events, and began a new history.
     /// assert_eq!(store.events(), 1);
     /// # Ok::<(), Box<dyn std::error::Error>>(())
     /// ```
     pub fn builder(committee: &Committee) -> StoreBuilder {
-        StoreBuilder {
-            committee: committee.clone(),
-            limits: Limits::default(),
-            restart_when_full: false,
-        }
+        StoreBuilder::new(committee)
     }
 
     /// Makes a session for one more caller. A store makes at most [`Limits::sessions`] sessions. It
@@ -137,22 +147,87 @@ impl Store {
     /// All blocks, certificates and votes stay. The calls of every session are numbered from 1
     /// again. Answers and tickets of the old history do not change.
     ///
-    /// A restart runs under the store's lock: 50 to 80 ms for 65,536 events.
+    /// A restart runs under the store's lock. It copies an entry for each stored block and
+    /// certificate, and replays no event.
     ///
     /// # Errors
     ///
     /// [`NoMemory`] if the library could not allocate memory.
     pub fn restart(&self) -> Result<(), NoMemory> {
-        drop(self.inner.spare.take());
-        self.inner.lock().restart()
+        // An answer of the old history is dropped after the lock, and the history with it.
+        let old = self.inner.spare.take();
+        let restarted = self.inner.lock().restart();
+        drop(old);
+        restarted
     }
 
     /// Returns how many events the history has.
     #[must_use]
     pub fn events(&self) -> usize {
-        let mut events = 0;
-        ffi::nw_book_events(&mut self.inner.lock().handle, &mut events).or_abort();
-        events
+        self.inner.lock().events()
+    }
+
+    /// Returns how many bytes the events of the history take.
+    ///
+    /// This is an estimate from above, without the overhead of the allocator:
+    ///
+    /// - 150 bytes for each event;
+    /// - 150 bytes and the body for each block that was stored, or whose reply was `Clash`;
+    /// - 150 bytes and the message for each certificate that was stored;
+    /// - 48 bytes for each listed missing parent.
+    ///
+    /// It counts a block that the history shares with the tables. It does not count the state that
+    /// the history began with, nor earlier histories that answers and tickets hold.
+    ///
+    /// ```
+    /// # use narwhal_store::{Committee, Limits, PublicKey, Store};
+    /// # let committee = Committee::equal(&[PublicKey([7; 32])])?;
+    /// let store = Store::new(&committee, Limits::default())?;
+    /// store.session()?.status()?;
+    /// assert_eq!(store.history_bytes(), 150);
+    /// store.restart()?;
+    /// assert_eq!(store.history_bytes(), 0);
+    /// # Ok::<(), Box<dyn std::error::Error>>(())
+    /// ```
+    #[must_use]
+    pub fn history_bytes(&self) -> u64 {
+        self.inner.lock().bytes
+    }
+
+    /// Looks at what the store has for a round and an author.
+    ///
+    /// This is no call of a session: it adds no event. It takes the lock for a few look-ups. No block
+    /// has a round of 2^48 or more, so such a look finds no digest.
+    ///
+    /// A validator looks before it [checks](crate::Message::check) a message that it
+    /// [peeked](crate::Message::peek) at, and looks at the parents of a block before it votes.
+    ///
+    /// ```
+    /// # mod data { include!(concat!(env!("CARGO_MANIFEST_DIR"), "/examples/data/mod.rs")); }
+    /// # use narwhal_store::{Checked, Committee, Limits, Message, Store};
+    /// # let committee = Committee::equal(&data::keys())?;
+    /// # let store = Store::new(&committee, Limits::default())?;
+    /// # let session = store.session()?;
+    /// # let messages = data::values("message");
+    /// # let Checked::Block(block) = Message::check(&committee, &messages[0])? else { panic!() };
+    /// session.write(&block)?;
+    /// let slot = block.slot();
+    /// let look = store.look(slot.round, slot.author);
+    /// assert_eq!(look.first, Some(slot.digest));
+    /// assert_eq!((look.certified, look.stands), (None, false));
+    /// # Ok::<(), Box<dyn std::error::Error>>(())
+    /// ```
+    #[must_use]
+    pub fn look(&self, round: u64, author: u16) -> Look {
+        let mut raw = RawLook::EMPTY;
+        let mut book = self.inner.lock();
+        let code = ffi::nw_book_look(&mut book.handle, round, author, &mut raw);
+        if code == Code::BAD_ROUND {
+            ffi::nw_book_look(&mut book.handle, 0, 0, &mut raw).or_abort();
+            return Look::nothing(raw.garbage_round);
+        }
+        code.or_abort();
+        Look::of(&raw)
     }
 
     /// Returns the limits that the store was opened with.
@@ -169,6 +244,27 @@ impl Store {
 }
 
 impl Inner {
+    /// The state of a new store over the library's book.
+    pub(crate) fn new(
+        handle: Handle,
+        committee: Committee,
+        limits: Limits,
+        restart: Option<RestartWhen>,
+    ) -> Inner {
+        let (next, bytes) = (Vec::new(), 0);
+        Inner {
+            book: Mutex::new(Book {
+                handle,
+                next,
+                bytes,
+            }),
+            spare: Arc::new(Spare::new()),
+            committee,
+            limits,
+            restart,
+        }
+    }
+
     fn lock(&self) -> MutexGuard<'_, Book> {
         // No call leaves the book half changed, so a panic of another thread does no harm.
         self.book.lock().unwrap_or_else(PoisonError::into_inner)
@@ -181,37 +277,70 @@ impl Inner {
     }
 
     /// Makes the session's next call. The room for its answer was made before.
+    ///
+    /// This is the only place that decides whether the history restarts. If there is no memory for
+    /// the restart, the call goes on without it, and the next call tries again.
     #[inline]
     pub(crate) fn step(
         &self,
         session: u16,
-        mut call: impl FnMut(&mut Handle, u32) -> Code,
+        content: Content,
+        room: &mut Room,
+        call: impl FnOnce(&mut Handle, u32, &mut Handle) -> Code,
     ) -> Result<(), StepError> {
         let mut book = self.lock();
-        let mut code = book.step(session, &mut call);
-        if code == Code::HISTORY_FULL && self.restart_when_full {
-            drop(self.spare.take());
-            book.restart()?;
-            code = book.step(session, &mut call);
+        let is_due = |when: RestartWhen| when.is_met(book.events(), book.bytes, content);
+        let old = match self.restart.is_some_and(is_due) {
+            true => self.restart(&mut book, room),
+            false => Ok(None),
+        };
+        let code = book.step(session, content, room, call);
+        drop(book);
+        match (old, code) {
+            (Err(NoMemory), Code::HISTORY_FULL) => Err(StepError::NoMemory),
+            (_, code) => code.done().map_err(StepError::of),
         }
-        code.done().map_err(StepError::of)
+    }
+
+    /// Restarts the history, and returns what is left of the old one. The caller drops it after the
+    /// lock: the answers of the last calls are often the last owners of the old history.
+    #[cold]
+    fn restart(&self, book: &mut Book, room: &mut Room) -> Result<Option<[Handle; 2]>, NoMemory> {
+        let old = [room.renew().map_err(Code::no_memory)?, self.spare.take()];
+        book.restart()?;
+        Ok(Some(old))
     }
 }
 
 impl Book {
     #[inline]
-    fn step(&mut self, session: u16, call: &mut impl FnMut(&mut Handle, u32) -> Code) -> Code {
+    fn step(
+        &mut self,
+        session: u16,
+        content: Content,
+        room: &mut Room,
+        call: impl FnOnce(&mut Handle, u32, &mut Handle) -> Code,
+    ) -> Code {
         let number = &mut self.next[usize::from(session)];
-        let code = call(&mut self.handle, *number);
+        let code = call(&mut self.handle, *number, room);
         if code == Code::DONE {
             *number += 1;
+            self.bytes += content.bytes(room);
         }
         code
+    }
+
+    #[inline]
+    fn events(&mut self) -> usize {
+        let mut events = 0;
+        ffi::nw_book_events(&mut self.handle, &mut events).or_abort();
+        events
     }
 
     fn restart(&mut self) -> Result<(), NoMemory> {
         ffi::nw_book_restart(&mut self.handle).or_no_memory()?;
         self.next.fill(1);
+        self.bytes = 0;
         Ok(())
     }
 }
@@ -220,80 +349,30 @@ impl fmt::Debug for Store {
     fn fmt(&self, f: &mut fmt::Formatter<'_>) -> fmt::Result {
         f.debug_struct("Store")
             .field("limits", &self.inner.limits)
-            .field("restart_when_full", &self.inner.restart_when_full)
+            .field("restart", &self.inner.restart)
             .finish_non_exhaustive()
-    }
-}
-
-/// The settings of a new store. [`Store::builder`] makes them.
-#[derive(Clone, Debug)]
-#[must_use]
-pub struct StoreBuilder {
-    committee: Committee,
-    limits: Limits,
-    restart_when_full: bool,
-}
-
-impl StoreBuilder {
-    /// Sets the limits.
-    pub fn limits(mut self, limits: Limits) -> StoreBuilder {
-        self.limits = limits;
-        self
-    }
-
-    /// Sets whether the store restarts its history when a call finds it full.
-    ///
-    /// A store that restarts can run for any length of time, and no call fails with
-    /// [`StepError::HistoryFull`]. The history of an answer then has only the events since the last
-    /// restart. The default is `false`.
-    ///
-    /// - The restart runs inside one call under the store's lock: 50 to 80 ms for 65,536 events.
-    /// - It comes after a number of events, whatever their size in bytes. If blocks are large, lower
-    ///   [`Limits::events`] or call [`Store::restart`].
-    /// - If the call fails with [`StepError::NoMemory`] after the restart, the history is already
-    ///   empty. No block, certificate or vote is lost, and the call can be repeated.
-    pub fn restart_when_full(mut self, restart: bool) -> StoreBuilder {
-        self.restart_when_full = restart;
-        self
-    }
-
-    /// Opens an empty store.
-    ///
-    /// # Errors
-    ///
-    /// [`OpenError::BadLimits`] if a limit is outside its range.
-    pub fn open(self) -> Result<Store, OpenError> {
-        let mut members = self.committee.share().map_err(OpenError::of)?;
-        let book = |out: &mut Handle| ffi::nw_book_new(&mut members, &self.limits, out);
-        let handle = Handle::opened(book).map_err(OpenError::of)?;
-        let next = Vec::new();
-        Ok(Store {
-            inner: Arc::new(Inner {
-                book: Mutex::new(Book { handle, next }),
-                spare: Arc::new(Spare::new()),
-                committee: self.committee,
-                limits: self.limits,
-                restart_when_full: self.restart_when_full,
-            }),
-        })
     }
 }
 
 #[cfg(test)]
 mod tests {
-    use crate::{Committee, Limits, PublicKey, Store};
+    use crate::ffi;
+    use crate::room::Content;
+    use crate::{Committee, Digest, Limits, PublicKey, StepError, Store};
     use std::thread;
+
+    fn committee() -> Committee {
+        Committee::equal(&[PublicKey([1; 32])]).unwrap()
+    }
 
     #[test]
     fn threads_share_sessions_and_restarts() {
-        let committee = Committee::equal(&[PublicKey([1; 32])]).unwrap();
         let limits = Limits {
             events: 7,
             sessions: 2,
             ..Limits::default()
         };
-        let builder = Store::builder(&committee).limits(limits);
-        let store = builder.restart_when_full(true).open().unwrap();
+        let store = Store::new(&committee(), limits).unwrap();
         let sessions = [store.session().unwrap(), store.session().unwrap()];
         store.session().unwrap_err();
         thread::scope(|scope| {
@@ -306,5 +385,76 @@ mod tests {
         let last = sessions[0].status().unwrap();
         assert_eq!((store.events(), last.history().len()), (2, 2));
         assert_eq!(last.history().event(1).unwrap().session, 0);
+    }
+
+    #[test]
+    fn a_history_restarts_before_the_call_that_would_exceed_its_bytes() {
+        let builder = Store::builder(&committee()).restart_when(1_000, u32::MAX);
+        let store = builder.open().unwrap();
+        let session = store.session().unwrap();
+        for call in 0..100 {
+            session.read(&Digest([7; 32])).unwrap();
+            // Six events take 900 bytes.
+            assert_eq!(store.events(), call % 6 + 1);
+            assert_eq!(store.history_bytes(), 150 * store.events() as u64);
+        }
+        // An event that may take more than the bound has a history of its own.
+        session.missing(100).unwrap();
+        assert_eq!((store.events(), store.history_bytes()), (1, 150));
+    }
+
+    #[test]
+    fn a_store_that_never_restarts_refuses_calls() {
+        let limits = Limits {
+            events: 2,
+            ..Limits::default()
+        };
+        let builder = Store::builder(&committee()).limits(limits);
+        let store = builder.never_restart().open().unwrap();
+        let session = store.session().unwrap();
+        session.status().unwrap();
+        session.status().unwrap();
+        let refused = session.status().unwrap_err();
+        assert_eq!(refused, StepError::HistoryFull);
+        store.restart().unwrap();
+        session.status().unwrap();
+    }
+
+    #[test]
+    fn a_panic_under_the_lock_stops_nobody() {
+        let store = Store::new(&committee(), Limits::default()).unwrap();
+        let session = store.session().unwrap();
+        thread::scope(|scope| {
+            let panics = scope.spawn(|| {
+                let _guard = store.inner.lock();
+                panic!("under the lock");
+            });
+            panics.join().unwrap_err();
+        });
+        session.status().unwrap();
+        assert_eq!(store.events(), 1);
+        store.compact().unwrap();
+        store.restart().unwrap();
+        store.session().unwrap();
+    }
+
+    /// Another thread can drop an answer between the start of a call and its restart. That answer's
+    /// history is then freed too.
+    #[test]
+    fn an_automatic_restart_keeps_no_spare_answer() {
+        let builder = Store::builder(&committee()).restart_when(u64::MAX, 1);
+        let store = builder.open().unwrap();
+        let session = store.session().unwrap();
+        let answer = session.status().unwrap();
+        let mut room = store.inner.room().unwrap();
+        drop(answer);
+        let status =
+            |book: &mut _, number, answer: &mut _| ffi::nw_book_status(book, 0, number, answer);
+        store
+            .inner
+            .step(0, Content::Small, &mut room, status)
+            .unwrap();
+        assert_eq!(store.events(), 1);
+        assert!(store.inner.spare.take().is_closed());
     }
 }

@@ -114,11 +114,7 @@ impl Ticket {
         let this = &mut self.history.room.borrow_mut();
         let other = &mut other.history.room.borrow_mut();
         let mut same = false;
-        match ffi::nw_ticket_agree(this, other, &mut same) {
-            Code::DONE => Ok(same),
-            Code::NOT_COMPARABLE => Err(AgreeError::NotComparable),
-            other => Err(other.no_memory().into()),
-        }
+        agreement(ffi::nw_ticket_agree(this, other, &mut same), same)
     }
 
     /// Returns the history that explains the ticket. Its last event is the call that opened the
@@ -126,6 +122,15 @@ impl Ticket {
     #[must_use]
     pub fn history(&self) -> &History {
         &self.history
+    }
+}
+
+/// The outcome of a comparison that the library answered in this way.
+fn agreement(code: Code, same: bool) -> Result<bool, AgreeError> {
+    match code {
+        Code::DONE => Ok(same),
+        Code::NOT_COMPARABLE => Err(AgreeError::NotComparable),
+        other => Err(other.no_memory().into()),
     }
 }
 
@@ -157,5 +162,21 @@ error_texts!(AgreeError {
 impl From<NoMemory> for AgreeError {
     fn from(NoMemory: NoMemory) -> AgreeError {
         AgreeError::NoMemory
+    }
+}
+
+#[cfg(test)]
+mod tests {
+    use super::{AgreeError, agreement};
+    use crate::code::Code;
+
+    // Two lists differ only if two blocks have one digest, so no two tickets of a test differ.
+    #[test]
+    fn tickets_agree_if_the_library_says_so() {
+        assert_eq!(agreement(Code::DONE, true), Ok(true));
+        assert_eq!(agreement(Code::DONE, false), Ok(false));
+        let refused = agreement(Code::NOT_COMPARABLE, true);
+        assert_eq!(refused, Err(AgreeError::NotComparable));
+        assert_eq!(agreement(Code::NO_MEMORY, true), Err(AgreeError::NoMemory));
     }
 }

@@ -66,8 +66,8 @@ fn every_answer_is_the_models() {
     assert!(count < 200 || missed.is_empty(), "no seed met {missed:?}");
 }
 
-/// The cases that 200 seeds must meet: the rows of the step table, except for two blocks with one digest (`Clash`), and three events.
-const MUST_BE_MET: [&str; 30] = [
+/// The cases that 200 seeds must meet: the rows of the step table, except for two blocks with one digest (`Clash`), and four events.
+const MUST_BE_MET: [&str; 31] = [
     "Write: Collected",
     "Write: TooFar",
     "Write: Held",
@@ -97,6 +97,7 @@ const MUST_BE_MET: [&str; 30] = [
     "Status: Status",
     "crash and replay",
     "history full",
+    "automatic restart",
     "walks that agree",
 ];
 

@@ -13,12 +13,12 @@ ghost use Rattle.nw_store.specs.Lock.{parts_of_a_ledger};
 
 use anyhow::Result;
 use hex::FromHex;
-use nw_check::{Checked, check_message};
+use nw_check::{Checked, CheckedBlock, check_message};
 use nw_committee::Key;
 use nw_ed25519::Ed25519;
 use nw_model::WriteReply;
 use nw_store::{
-    Block, Committee, Digest, Done, Home, Limits, Opening, Reply, Session, Shared, Store,
+    Block, Committee, Digest, Done, Home, Limits, Opening, Reply, Round, Session, Shared, Store,
 };
 use std::alloc::Global;
 use std::marker::Brand;
@@ -116,7 +116,7 @@ impl<'a, L: Home, R: Wait + Input + Print> Node<'a, L, R> {
                 let done = self
                     .store
                     .write(self.rt, self.alloc, &mut self.session, &block)?;
-                self.print_reply(block.digest(), &done)
+                self.print_write(&block, &done)
             }
             Checked::Cert(certificate) => {
                 let done = self
@@ -131,17 +131,38 @@ impl<'a, L: Home, R: Wait + Input + Print> Node<'a, L, R> {
         }
     }
 
+    /// Prints the store's reply to a write, or that the block gets the vote.
+    fn print_write(&self, block: &CheckedBlock<Ed25519>, done: &Done<Ed25519>) -> Result<()> {
+        match done.reply() {
+            // A validator signs `text_of_vote` here, and sends the vote. If a parent is missing, it looks again when the parent comes.
+            Reply::Write(WriteReply::Stored { vote: true })
+                if self.has_parents(block.block().get()) => {
+                let digest = hex::encode(self.alloc, block.digest().0)?;
+                Ok(println!(self.rt; "vote for {digest}")?)
+            }
+            _ => self.print_reply(block.digest(), done),
+        }
+    }
+
+    /// Whether each parent of the block is stored and certified. Blocks of the garbage round need no parents.
+    fn has_parents(&self, block: &Block) -> bool {
+        let Some(round) = block.round.get().checked_sub(1).and_then(Round::new) else {
+            return true;
+        };
+        for parent in block.parents.as_slice() {
+            let look = self.store.look(self.rt, round, parent.author);
+            if look.floor < block.round && (look.certified != Some(parent.digest) || !look.stands) {
+                return false;
+            }
+        }
+        true
+    }
+
     /// Prints the store's reply.
     fn print_reply(&self, digest: Digest, done: &Done<Ed25519>) -> Result<()> {
         let digest = hex::encode(self.alloc, digest.0)?;
-        match done.reply() {
-            // A validator signs `text_of_vote` here, and sends the vote.
-            Reply::Write(WriteReply::Stored { vote: true }) => {
-                println!(self.rt; "vote for {digest}")?;
-            }
-            reply => println!(self.rt; "{digest}: {reply:?}")?,
-        }
-        Ok(())
+        let reply = done.reply();
+        Ok(println!(self.rt; "{digest}: {reply:?}")?)
     }
 
     /// Reads the digest causally, and prints the listed blocks, or the reply if there is no ticket.

@@ -19,6 +19,9 @@ pub(crate) type Inbox = Receiver<Vec<Text>>;
 /// The number of threads that check messages.
 const WORKERS: usize = 2;
 
+/// The most refused blocks that are kept. A validator fetches any further one when its certificate comes.
+const MAX_KEPT: usize = 64;
+
 /// The most messages that are checked at once.
 const MAX_TEXTS: usize = 1024;
 
@@ -106,7 +109,7 @@ impl<'a, L: Home, R: Threads + Wait + Sync> Intake<'a, L, R> {
         let mut kept = Vec::new(self.host.alloc);
         for (text, one) in texts.iter().zip(checked) {
             if let Checked::Block(block) = one {
-                if self.write(block)? {
+                if self.write(block)? && kept.len() < MAX_KEPT {
                     kept.push(text.to_vec(self.host.alloc)?)?;
                 }
             }

@@ -3,6 +3,5 @@ pub mod Represent
 pub mod Opened
 pub mod Agreed
 pub mod Send
-pub mod HeldCalls
 pub mod Runs
 pub mod NotReady

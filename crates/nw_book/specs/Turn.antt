@@ -2,7 +2,7 @@
 use Rattle.std.specs.Prelude.{◌≡◌, ℕ, ◌+◌, ◌<◌, List, Option, Some, None, length, slice_index}
 use Rattle.nw_committee.specs.declared.member.Member.{Member}
 use Rattle.nw_sig.specs.Signed.{Meaning}
-use Rattle.nw_model.specs.Step.{BoundedState}
+use Rattle.nw_model.specs.Step.{BoundedState, recorded_call}
 use Rattle.nw_model.specs.History.{events_of}
 use Rattle.nw_model.specs.declared.call.Call.{Call}
 use Rattle.nw_model.specs.declared.event.Event.{Event}
@@ -16,9 +16,9 @@ use Rattle.nw_book.specs.declared.error.NoStep.TheVariants as refusals
 abbrev pub next_number : Story → ℕ → ℕ
 next_number s session = length (events_of session s.events) + 1
 
--- the event of a session's call with this number and this reply
+-- the event of a session's call with this number and this reply. It has the call as a history records it
 abbrev pub event : ℕ → ℕ → Call → Reply → Event
-event session number call reply = record { session = session; number = number; call = call; reply = reply }
+event session number call reply = record { session = session; number = number; call = recorded_call call reply; reply = reply }
 
 -- a call of the session with this number is in turn after the history
 pub record IsInTurn (s : Story) (session number : ℕ) : Type 0 where

@@ -1,9 +1,10 @@
 //! Books: a history, and the tables with the state after it.
 ghost use Rattle.std.specs.Prelude.{◌≡◌, ◌↔◌, [], None, IfOk, IfErr, OnOk, OnErr};
 ghost use Rattle.std.specs.Result.{IsErrOf};
+ghost use Rattle.nw_model.specs.Look.{IsLook, TellsSatisfied};
 ghost use Rattle.nw_model.specs.declared.call.Call.TheVariants as Call;
 ghost use Rattle.nw_history.specs.Limits.{AreInRange};
-ghost use Rattle.nw_history.specs.Story.{IsLegalStory, first_origin, story_of};
+ghost use Rattle.nw_history.specs.Story.{IsLegalStory, first_origin, state_of, story_of};
 ghost use Rattle.nw_book.specs.Answer.{IsTicketFor, Takes, front_of, reply_of};
 ghost use Rattle.nw_book.specs.Command.{call_of, committee_of};
 ghost use Rattle.nw_book.specs.Turn.{IsRefusal, MayStep};
@@ -15,8 +16,9 @@ mod turn;
 use crate::{BookError, Command, Done, NoStep, Ticket};
 use nw_committee::Committee;
 use nw_dag::{Dag, DagLimits};
-use nw_digest::{Digest, NoMemory, Shared};
+use nw_digest::{Digest, NoMemory, Round, Shared};
 use nw_history::{Front, History, Limits};
+use nw_model::Look;
 use nw_sig::Scheme;
 use std::alloc::Global;
 use std::marker::Model;
@@ -85,6 +87,14 @@ impl<S: Scheme> Book<S> {
         ensures in_range { AreInRange self.now.limits }
     {
         &self.history
+    }
+
+    /// What the state after the history has in the slot of this round and author. This is no call: it adds no event, and allocates nothing.
+    pub fn look(&self, round: Round, author: u16) -> Look
+        ensures look { IsLook (state_of self.now) (round, author) result }
+        ensures satisfied { TellsSatisfied (state_of self.now) (round, author) result }
+    {
+        self.tables.look(round, author)
     }
 
     /// Takes the step of the session's call with this number, adds its event to the history, and returns the answer. The calls of each

@@ -44,7 +44,7 @@ impl<S: Scheme> Entry<S> {
         Entry { front, event }
     }
 
-    /// The answered call.
+    /// The answered call, as the history records it ([`Call::record`]).
     pub fn call(&self) -> &Call
         ensures call { result.now ≡ self.now.event.call }
         ensures last { slice_get self.now.front.events (length self.now.front.events - 1)

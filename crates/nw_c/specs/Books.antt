@@ -8,7 +8,9 @@ use Rattle.nw_model.specs.declared.call.Call.TheVariants as call
 use Rattle.nw_model.specs.declared.reply.CausalReply.{CausalReply}
 use Rattle.nw_model.specs.declared.reply.Reply.TheVariants as reply
 use Rattle.nw_history.specs.Limits.{AreInRange}
-use Rattle.nw_history.specs.Story.{first_origin, reopened, story_of}
+use Rattle.nw_model.specs.Look.{IsLook, TellsSatisfied}
+use Rattle.nw_model.specs.declared.look.Look.{Look}
+use Rattle.nw_history.specs.Story.{first_origin, reopened, state_of, story_of}
 use Rattle.nw_history.specs.declared.limits.Limits.{Limits}
 use Rattle.nw_book.specs.Answer.{Takes}
 use Rattle.nw_book.specs.Turn.{IsRefusal}
@@ -49,6 +51,11 @@ IsOpened accepts session number d old new answer = ⊥
 abbrev pub IsRefusedBy : Content → ℕ → ℕ → Option (List Member) → NoStep → Type 0
 IsRefusedBy (kind.Book b) session number under why = IsRefusal b.value session number under why
 IsRefusedBy other session number under why = ⊥
+
+-- the look has what the book has in the slot of this round and author, and tells which references of the next round are satisfied
+abbrev pub HasLook : Content → ℕ → ℕ → Look → Type 0
+HasLook (kind.Book b) round author look = IsLook (state_of b.value) (round, author) look × TellsSatisfied (state_of b.value) (round, author) look
+HasLook other round author look = ⊥
 
 -- the new book has the same state, and an empty history that starts from it
 abbrev pub IsRestarted : Content → Content → Type 0

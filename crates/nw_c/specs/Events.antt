@@ -13,7 +13,8 @@ use Rattle.nw_c.specs.declared.events.TheConstants.{CALL_WRITE, CALL_CERTIFY, CA
 use Rattle.nw_c.specs.declared.content.Content.{Content}
 use Rattle.nw_c.specs.declared.content.Content.TheVariants as kind
 
--- t has the kind of the call, and its digest or number if it has one
+-- t has the kind of the call, and its digest or number if it has one. The question what a write or a certificate would get has the kind of
+-- the write or the certificate: a history records a refused one so
 abbrev pub EncodesCall : Call → CTagged → Type 0
 EncodesCall (call.Write d b) t = (t.kind ≡ CALL_WRITE) × (digest_in t.digest ≡ d)
 EncodesCall (call.Certify c) t = (t.kind ≡ CALL_CERTIFY) × (digest_in t.digest ≡ c.digest)
@@ -23,6 +24,8 @@ EncodesCall (call.Causal d) t = (t.kind ≡ CALL_CAUSAL) × (digest_in t.digest 
 EncodesCall (call.Collect round) t = (t.kind ≡ CALL_COLLECT) × (t.number ≡ round)
 EncodesCall (call.Missing most) t = (t.kind ≡ CALL_MISSING) × (t.number ≡ most)
 EncodesCall call.Status t = t.kind ≡ CALL_STATUS
+EncodesCall (call.AskWrite q) t = (t.kind ≡ CALL_WRITE) × (digest_in t.digest ≡ q.digest)
+EncodesCall (call.AskCertify q) t = (t.kind ≡ CALL_CERTIFY) × (digest_in t.digest ≡ q.digest)
 
 -- t is the event: its session, its number, its call and its reply
 abbrev pub EncodesEvent : Event → CEvent → Type 0

@@ -9,6 +9,7 @@ pub mod Votes
 pub mod Checks
 pub mod Gathers
 pub mod Blocks
+pub mod Look
 pub mod Books
 pub mod Handed
 pub mod Replies

@@ -1,5 +1,8 @@
--- Checked texts as C sees them.
-use Rattle.std.specs.Prelude.{◌≡◌, ℤ, pos}
+-- Checked texts and the fronts of texts, as C sees them.
+use Rattle.std.specs.Prelude.{◌≡◌, ℤ, pos, replicate}
+use Rattle.nw_digest.specs.declared.digest.Digest.{Digest}
+use Rattle.nw_codec.specs.declared.peek.Peek.{Peek}
+use Rattle.nw_codec.specs.declared.peek.Peek.TheVariants as peeks
 use Rattle.nw_codec.specs.declared.error.DecodeError.{DecodeError}
 use Rattle.nw_codec.specs.declared.error.DecodeError.TheVariants as decode
 use Rattle.nw_check.specs.declared.fault.BlockFault.{BlockFault}
@@ -54,3 +57,13 @@ IsMessageOf (checked.BadText e) m = m.kind ≡ text_kind e
 IsMessageOf (checked.BadBlock fault) m = m.kind ≡ block_kind fault
 IsMessageOf (checked.BadCert (cert_fault.Signature signer)) m = (m.kind ≡ CERT_SIGNATURE) × (m.signer ≡ signer)
 IsMessageOf (checked.BadCert fault) m = m.kind ≡ cert_kind fault
+
+-- the digest of 32 zeros
+abbrev pub no_digest : Digest
+no_digest = record { 0 = replicate 32 0 }
+
+-- m is what the front says: a block with its round and author, a certificate with its slot, or a vote with its slot and signer
+abbrev pub IsFrontOf : Peek → CMessage → Type 0
+IsFrontOf (peeks.Block round author) m = (m.kind ≡ BLOCK) × (m.slot ≡ slot_of no_digest round author)
+IsFrontOf (peeks.Certificate s) m = (m.kind ≡ CERTIFICATE) × (m.slot ≡ slot_of s.digest s.round s.author)
+IsFrontOf (peeks.Vote s signer) m = (m.kind ≡ VOTE) × (m.slot ≡ slot_of s.digest s.round s.author) × (m.signer ≡ signer)

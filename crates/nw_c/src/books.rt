@@ -17,6 +17,7 @@ use nw_ed25519::Ed25519;
 use std::alloc::Global;
 
 mod calls;
+mod look;
 
 /// The limits of a book. `blocks` limits the stored blocks, and separately the certificates: 1 to 65,536. `events` limits the events of the
 /// history: 1 to 65,536. `window` is the number of rounds that the book accepts, from the garbage round on: 1 to 4,096. `sessions` limits
@@ -177,8 +178,8 @@ pub extern "C" fn nw_book_compact(alloc: Global, book: &mut BookHandle) -> i32
 }
 
 /// Empties the history. The book keeps its blocks, certificates, votes and garbage round, so no round and author gets a second vote.
-/// The next call of each session has number 1 again. Answers and tickets do not change. It copies the maps with which the history began,
-/// and repeats the history's writes, certificates and collections, without their checks.
+/// The next call of each session has number 1 again. Answers and tickets do not change. It copies the tables, and
+/// shares the blocks and certificates, so its time depends only on how many are stored.
 #[unsafe(no_mangle)]
 pub extern "C" fn nw_book_restart(alloc: Global, book: &mut BookHandle) -> i32
     ensures restarted { result ≡ pos 0 → IsRestarted book.old.value book.new.value }

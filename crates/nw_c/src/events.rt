@@ -54,6 +54,8 @@ fn call_told(call: &Call) -> CTagged
         Call::Collect(round) => numbered(CALL_COLLECT, round.get()),
         Call::Missing(most) => numbered(CALL_MISSING, u64::from(*most)),
         Call::Status => plain(CALL_STATUS),
+        Call::AskWrite(subject) => named(CALL_WRITE, &subject.digest),
+        Call::AskCertify(subject) => named(CALL_CERTIFY, &subject.digest),
     }
 }
 

@@ -1,4 +1,4 @@
-//! The kinds of checked texts.
+//! The kinds of texts.
 ghost use Rattle.std.specs.Prelude.{◌≡◌, pos};
 ghost use Rattle.nw_c.specs.Messages.{IsMessageOf, block_kind, cert_kind, text_kind};
 
@@ -7,9 +7,9 @@ use nw_check::{BlockFault, CertFault, Checked};
 use nw_codec::DecodeError;
 use nw_ed25519::Ed25519;
 
-/// A valid block.
+/// A block. A checked one is valid.
 pub(crate) const BLOCK: i32 = 1;
-/// A valid certificate.
+/// A certificate. A checked one is valid.
 pub(crate) const CERTIFICATE: i32 = 2;
 /// A vote. Its signature is not checked until it is added to the gathered votes.
 pub(crate) const VOTE: i32 = 3;
@@ -54,8 +54,8 @@ pub(crate) const CERT_FEW_VOTES: i32 = 42;
 /// The signature of `signer` is not that member's. All signatures before it are correct.
 pub(crate) const CERT_SIGNATURE: i32 = 43;
 
-/// What a checked text is: its kind, the slot of a block, certificate or vote, and the signer of a vote or of a wrong signature. Fields
-/// that the kind does not use are 0.
+/// What a checked text is, or what the front of a text says: its kind, the slot of a block, certificate or vote, and the signer of a vote
+/// or of a wrong signature. Fields that the kind does not use are 0.
 #[repr(C)]
 #[derive(Clone, Copy)]
 pub struct CMessage {

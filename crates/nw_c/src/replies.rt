@@ -11,7 +11,8 @@ use crate::handle::AnswerHandle;
 use crate::plain::{CTagged, named, numbered, plain};
 use nw_model::{CausalReply, CertifyReply, CollectReply, Reply, WriteReply};
 
-/// Write: the block is now stored, and it is the first of its round and author. Vote for it.
+/// Write: the block is now stored, and it is the first of its round and author. Vote for it once all its parents are
+/// stored and certified (`nw_book_look`). A block of the garbage round needs no parents.
 pub(crate) const STORED_VOTE: i32 = 1;
 /// Write: the block is now stored, without a vote: another block of its round and author came first, but this one is certified.
 pub(crate) const STORED: i32 = 2;
@@ -19,8 +20,8 @@ pub(crate) const STORED: i32 = 2;
 pub(crate) const HELD: i32 = 3;
 /// Write: another block is stored under the digest.
 pub(crate) const CLASH: i32 = 4;
-/// Write: not stored, because another block of this round and author came first. `digest` is the digest of that block. Hand the block in
-/// again when its own digest is certified.
+/// Write: not stored, because another block of this round and author came first. `digest` is the digest of that block. Drop the
+/// block, and fetch it if its own digest is certified.
 pub(crate) const EQUIVOCATES: i32 = 5;
 /// Certificate: it is now stored.
 pub(crate) const CERTIFIED: i32 = 6;
@@ -30,11 +31,11 @@ pub(crate) const ALREADY: i32 = 7;
 pub(crate) const CONFLICT: i32 = 8;
 /// Write or certificate: the round is below the garbage round. `number` is the garbage round.
 pub(crate) const COLLECTED: i32 = 9;
-/// Write or certificate: the round is at or above the garbage round plus the window. Hand it in again after a collection.
+/// Write or certificate: the round is at or above the garbage round plus the window. Drop it, and fetch it after a collection.
 pub(crate) const TOO_FAR: i32 = 10;
 /// Write or certificate: a stored block or certificate of this digest has another round or author.
 pub(crate) const MISFIT: i32 = 11;
-/// Write or certificate: the book has reached its limit on blocks or on certificates. Hand it in again after a collection.
+/// Write or certificate: the book has reached its limit on blocks or on certificates. Drop it, and fetch it after a collection.
 pub(crate) const FULL: i32 = 12;
 /// Read or call for a certificate: it was found.
 pub(crate) const FOUND: i32 = 13;

@@ -1,9 +1,11 @@
 //! Checks blocks and certificates, by the rules of docs/FORMATS.md.
 ghost use Rattle.std.specs.Prelude.{◌≡◌, ◌↔◌, IsTrue, IfOk, IfErr, OnOk, MatchOption, All};
+ghost use Rattle.nw_codec.specs.declared.certificate.Signature.{Signature};
 ghost use Rattle.nw_codec.specs.Fits.{Fits, CertificateFits};
-ghost use Rattle.nw_model.specs.Checks.{digest_of, IsWellFormedWith, IsSealOf, IsValid};
-ghost use Rattle.nw_check.specs.Fault.{IsBlockFault, BreaksRule, IsCertFault, BreaksCertRule};
-ghost use Rattle.nw_check.specs.Fault.{IsFirstBadSeal};
+ghost use Rattle.nw_sig.specs.Signed.{Meaning};
+ghost use Rattle.nw_model.specs.Checks.{IsWellFormedWith, IsSealOf, IsValid};
+ghost use Rattle.nw_check.specs.Fault.{HasParents, IsBlockFault, BreaksRule};
+ghost use Rattle.nw_check.specs.Fault.{IsCertFault, BreaksCertRule, IsFirstBadSeal};
 
 use crate::members::{are_members, is_member, is_signed_by, reach_quorum};
 use crate::{BlockFault, CertFault, CheckedBlock, CheckedCert};
@@ -13,7 +15,8 @@ use nw_digest::{Digest, Shared};
 use nw_sig::{Scheme, text_of_block, text_of_vote};
 use std::alloc::Global;
 
-/// Checks the block and its author's signature. Returns the block with its digest and the committee.
+/// Checks the block and its author's signature. Returns the block with its digest and the committee. It hashes the body only
+/// after rules 1 to 4 passed, so refusing the block of a stranger costs no hash.
 ///
 /// On error the block is dropped. The error is the first of these that applies:
 ///
@@ -35,27 +38,25 @@ pub fn check_block<S: Scheme>(
     ensures well_formed { OnOk result (IsWellFormedWith S.accepts committee.now block signature) }
     ensures fault { IfErr result (IsBlockFault S.accepts committee.now block signature) }
 {
-    let digest = block_digest(&block);
-    match block_fault::<S>(committee.get(), &block, &digest, &signature) {
-        Some(fault) => Err(fault),
-        None => Ok(CheckedBlock::new(Shared::new(alloc, block)?, digest, committee.try_clone()?)),
+    if let Some(fault) = committee_fault(committee.get(), &block) {
+        return Err(fault);
     }
+    let digest = block_digest(&block);
+    let text = text_of_block(&digest);
+    if !is_signed_by::<S>(committee.get(), block.author, &text, &signature) {
+        return Err(BlockFault::Signature);
+    }
+    Ok(CheckedBlock::new(Shared::new(alloc, block)?, digest, committee.try_clone()?))
 }
 
-/// The first rule that the block breaks, or `None` if it is well formed.
-fn block_fault<S: Scheme>(
-    committee: &Committee,
-    block: &Block,
-    digest: &Digest,
-    signature: &Signature,
-) -> Option<BlockFault>
-    requires fits { Fits block.now }
-    requires digest { digest.now ≡ digest_of block.now }
-    ensures { MatchOption result (IsWellFormedWith S.accepts committee.now block.now signature.now)
-        (BreaksRule S.accepts committee.now block.now signature.now) }
+/// The first of rules 1 to 4 that the block breaks, or `None` if it breaks none of them. These rules need no digest.
+fn committee_fault(committee: &Committee, block: &Block) -> Option<BlockFault>
+    requires { Fits block.now }
+    ensures { MatchOption result (HasParents committee.now block.now)
+        (λ fault. (accepts : Meaning) (signature : Signature)
+        → BreaksRule accepts committee.now block.now signature fault) }
 {
     let parents = block.parents.as_slice();
-    let text = text_of_block(digest);
     if !is_member(committee, block.author) {
         Some(BlockFault::Author)
     } else if !are_members(committee, parents) {
@@ -64,8 +65,6 @@ fn block_fault<S: Scheme>(
         Some(BlockFault::GenesisParents)
     } else if block.round.get() > 0 && !reach_quorum(committee, parents) {
         Some(BlockFault::FewParents)
-    } else if !is_signed_by::<S>(committee, block.author, &text, signature) {
-        Some(BlockFault::Signature)
     } else {
         None
     }

@@ -105,6 +105,9 @@ number_at text field rest n bytes long front back is =
 pub number_len : (text rest : List ℕ) (n : ℕ) → NumberAt text n rest → length text ≡ 2 + length rest
 number_len text rest n at = omega (arith, ap length at.bytes, length-append (to_be_bytes w16 n) rest)
 
+pub round_leaves : (text rest : List ℕ) (n : ℕ) → RoundAt text n rest → length text ≡ 6 + length rest
+round_leaves text rest n at = omega (arith, ap length at.bytes, length-append (round_bytes n) rest)
+
 -- an author or signer, and the `many` bytes that follow it
 pub record ItemAt (many author : ℕ) (text bytes rest : List ℕ) : Type 0 where
   pub len : length bytes ≡ many

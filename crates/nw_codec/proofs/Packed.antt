@@ -10,14 +10,14 @@ use Rattle.std.proofs.lemmas.Bool.Decides.{Decides-eqb}
 use Rattle.std.specs.Prelude.{◌==◌}
 use Rattle.std.specs.Cmp.Lexicographic.{pointwise, pointwise_decides, bytes_decides}
 use Rattle.std.proofs.lemmas.List.Elements.{All-cons, All-head, All-nil, All-push, All-tail}
-use Rattle.nw_codec.specs.declared.limits.TheConstants.{MAX_TRANSACTION}
+use Rattle.nw_codec.specs.Limits.{longest_transaction}
 use Rattle.nw_codec.specs.Typed.{AreBytes}
 use Rattle.nw_codec.proofs.Building.{flat_map-push}
 use Rattle.nw_codec.specs.Packed.{ArePacked, cut, length_at, transaction_bytes}
 use Rattle.nw_codec.specs.Same.{same_bytes}
 
 abbrev pub IsShort : List ℕ → Type 0
-IsShort t = length t ≤ MAX_TRANSACTION
+IsShort t = length t ≤ longest_transaction
 
 pub cut_length : (n : ℕ) (text : List ℕ) → length (cut n text) ≡ n
 cut_length zero text = refl

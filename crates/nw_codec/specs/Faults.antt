@@ -4,7 +4,7 @@ use Rattle.std.specs.List.{flat_map}
 use Rattle.std.specs.Option.{option_map_or}
 use Rattle.std.specs.Int.{from_be_bytes, w16, w32}
 use Rattle.nw_codec.specs.declared.error.DecodeError.{DecodeError}
-use Rattle.nw_codec.specs.declared.limits.TheConstants.{MAX_PARENTS, MAX_TRANSACTIONS, MAX_TRANSACTION, MAX_BODY, MAX_VOTES}
+use Rattle.nw_codec.specs.Limits.{most_parents, most_transactions, longest_transaction, longest_body, most_votes}
 use Rattle.nw_codec.specs.declared.error.DecodeError.TheVariants.{Short, Trailing, Tag, Version, TooManyParents, ParentOrder, TooManyTransactions, TransactionTooLong, BodyTooLong, TooManyVotes, VoteOrder}
 
 -- the kinds of messages that have a subject: the digest, the round and the author of a block
@@ -110,17 +110,17 @@ after_field AtVersion field = if slice_index field 0 == 1 then Ok AtAuthor else 
 after_field AtAuthor field = Ok AtRound
 after_field AtRound field = Ok AtParentCount
 after_field AtParentCount field =
-    if nat_lt MAX_PARENTS (number16 field) then Err TooManyParents
+    if nat_lt most_parents (number16 field) then Err TooManyParents
     else Ok (at_parents (number16 field) None (size_before_parents + parent_size * number16 field))
 after_field (AtParentAuthor more before size) field =
     if comes_after before (number16 field) then Ok (AtParentDigest more (number16 field) size) else Err ParentOrder
 after_field (AtParentDigest more author size) field = Ok (at_parents more (Some author) size)
 after_field (AtTransactionCount size) field =
-    if nat_lt MAX_TRANSACTIONS (number16 field) then Err TooManyTransactions
+    if nat_lt most_transactions (number16 field) then Err TooManyTransactions
     else Ok (at_transactions (number16 field) (size + 2))
 after_field (AtTransactionLength more size) field =
-    if nat_lt MAX_TRANSACTION (number32 field) then Err TransactionTooLong
-    else if nat_lt MAX_BODY (size + 4 + number32 field) then Err BodyTooLong
+    if nat_lt longest_transaction (number32 field) then Err TransactionTooLong
+    else if nat_lt longest_body (size + 4 + number32 field) then Err BodyTooLong
     else Ok (AtTransaction (number32 field) more (size + 4 + number32 field))
 after_field (AtTransaction len more size) field = Ok (at_transactions more size)
 after_field AtSignature field = Ok AtEnd
@@ -128,7 +128,7 @@ after_field (AtDigest kind) field = Ok (AtSubjectRound kind)
 after_field (AtSubjectRound kind) field = Ok (AtSubjectAuthor kind)
 after_field (AtSubjectAuthor kind) field = Ok (stage_after_subject kind)
 after_field AtVoteCount field =
-    if nat_lt MAX_VOTES (number16 field) then Err TooManyVotes
+    if nat_lt most_votes (number16 field) then Err TooManyVotes
     else Ok (at_seals (number16 field) None)
 after_field (AtSigner more before) field =
     if comes_after before (number16 field) then Ok (AtSealSignature more (number16 field)) else Err VoteOrder

@@ -5,7 +5,7 @@ use Rattle.nw_codec.specs.declared.block.Ref.{Ref}
 use Rattle.nw_codec.specs.declared.block.Block.{Block}
 use Rattle.nw_codec.specs.declared.certificate.Seal.{Seal}
 use Rattle.nw_codec.specs.declared.certificate.Certificate.{Certificate}
-use Rattle.nw_codec.specs.declared.limits.TheConstants.{MAX_PARENTS, MAX_TRANSACTIONS, MAX_TRANSACTION, MAX_BODY, MAX_VOTES}
+use Rattle.nw_codec.specs.Limits.{most_parents, most_transactions, longest_transaction, longest_body, most_votes}
 use Rattle.nw_codec.specs.declared.message.Message.{Message}
 use Rattle.nw_codec.specs.declared.message.Message.TheVariants as messages
 
@@ -24,15 +24,15 @@ body_size b = 13 + 34 * length b.parents + transactions_size b.transactions
 -- the block keeps the limits of the format
 pub record Fits (b : Block) : Type 0 where
   -- at most 100 parents
-  pub few_parents : length b.parents ≤ MAX_PARENTS
+  pub few_parents : length b.parents ≤ most_parents
   -- their authors ascend strictly
   pub in_order : IsStrictlyIncreasing (authors b.parents)
   -- at most 1,024 transactions
-  pub few_transactions : length b.transactions ≤ MAX_TRANSACTIONS
+  pub few_transactions : length b.transactions ≤ most_transactions
   -- each has at most 65,536 bytes
-  pub short_transactions : All (λ t. length t ≤ MAX_TRANSACTION) b.transactions
+  pub short_transactions : All (λ t. length t ≤ longest_transaction) b.transactions
   -- the body has at most 1,048,576 bytes
-  pub short_body : body_size b ≤ MAX_BODY
+  pub short_body : body_size b ≤ longest_body
 
 -- the signers of the votes, in order
 abbrev pub signers : List Seal → List ℕ
@@ -41,7 +41,7 @@ signers votes = map (λ v. v.signer) votes
 -- the certificate keeps the limits of the format
 pub record CertificateFits (c : Certificate) : Type 0 where
   -- at most 100 votes
-  pub few_votes : length c.votes ≤ MAX_VOTES
+  pub few_votes : length c.votes ≤ most_votes
   -- their signers ascend strictly
   pub votes_in_order : IsStrictlyIncreasing (signers c.votes)
 

@@ -1,8 +1,10 @@
 pub mod Packed
 pub mod Grammar
 pub mod Fits
+pub mod Limits
 pub mod Same
 pub mod Typed
 pub mod Faults
 pub mod Spelled
 pub mod Parts
+pub mod Peek

@@ -2,7 +2,7 @@
 use Rattle.std.specs.Prelude.{◌≡◌, ℕ, zero, suc, ◌≤◌, List, [], ◌∷◌, ◌++◌, length, take, drop, All}
 use Rattle.std.specs.List.{flat_map}
 use Rattle.std.specs.Int.{from_be_bytes, to_be_bytes, w32}
-use Rattle.nw_codec.specs.declared.limits.TheConstants.{MAX_TRANSACTION}
+use Rattle.nw_codec.specs.Limits.{longest_transaction}
 
 -- a transaction in a body: its length in four bytes, and its bytes
 abbrev pub transaction_bytes : List ℕ → List ℕ
@@ -20,6 +20,6 @@ cut (suc more) text = take (length_at text) (drop 4 text) ∷ cut more (drop (le
 -- the text encodes `count` transactions and nothing else
 pub record ArePacked (count : ℕ) (text : List ℕ) : Type 0 where
   -- each has at most 65,536 bytes
-  pub short : All (λ t. length t ≤ MAX_TRANSACTION) (cut count text)
+  pub short : All (λ t. length t ≤ longest_transaction) (cut count text)
   -- the text is their encoding
   pub bytes : text ≡ flat_map transaction_bytes (cut count text)

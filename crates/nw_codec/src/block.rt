@@ -2,7 +2,9 @@
 ghost use Rattle.std.specs.Prelude.{◌≡◌, ◌↔◌, ◌<◌, ◌≤◌, IsTrue};
 ghost use Rattle.std.specs.List.Sorted.{IsStrictlyIncreasing};
 ghost use Rattle.nw_codec.specs.Fits.{Fits, authors, body_size};
+ghost use Rattle.nw_codec.specs.Limits.{longest_body};
 
+use crate::Subject;
 use crate::limits::{MAX_BODY, MAX_PARENTS, MAX_TRANSACTIONS};
 use crate::transactions::Transactions;
 use nw_digest::{Digest, InRound, Round, Sequence};
@@ -36,11 +38,26 @@ impl Block {
             && 13 + 34 * parents.len() + self.transactions.size() <= MAX_BODY
     }
 
+    /// The subject of the votes and the certificate for the block. `digest` must be its digest.
+    pub fn subject(&self, digest: Digest) -> Subject
+        ensures { result ≡ record {
+          digest = digest;
+          round = self.now.round;
+          author = self.now.author;
+        } }
+    {
+        Subject {
+            digest,
+            round: self.round,
+            author: self.author,
+        }
+    }
+
     /// The size of its body in bytes. The block must fit (`Block::fits`).
     pub fn body_size(&self) -> usize
         requires { Fits self.now }
         ensures size { result ≡ body_size self.now }
-        ensures small { result ≤ MAX_BODY }
+        ensures small { result ≤ longest_body }
     {
         13 + 34 * self.parents.as_slice().len() + self.transactions.size()
     }

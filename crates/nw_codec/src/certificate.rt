@@ -1,8 +1,9 @@
 //! Certificates: a block's digest with the signatures of members that voted for it.
-ghost use Rattle.std.specs.Prelude.{◌↔◌, IsTrue};
+ghost use Rattle.std.specs.Prelude.{◌≡◌, ◌↔◌, IsTrue};
 ghost use Rattle.std.specs.List.Sorted.{IsStrictlyIncreasing};
 ghost use Rattle.nw_codec.specs.Fits.{CertificateFits, signers};
 
+use crate::Subject;
 use crate::limits::MAX_VOTES;
 use nw_digest::{Digest, InRound, Round, Sequence};
 
@@ -34,6 +35,21 @@ impl Certificate {
     {
         let votes = self.votes.as_slice();
         votes.len() <= MAX_VOTES && is_ascending(votes)
+    }
+
+    /// Its subject: the block for which it is a certificate.
+    pub fn subject(&self) -> Subject
+        ensures { result ≡ record {
+          digest = self.now.digest;
+          round = self.now.round;
+          author = self.now.author;
+        } }
+    {
+        Subject {
+            digest: self.digest,
+            round: self.round,
+            author: self.author,
+        }
     }
 }
 

@@ -15,6 +15,8 @@ mod error;
 mod laws;
 mod limits;
 mod message;
+mod peek;
+mod subject;
 mod transactions;
 mod vote;
 
@@ -25,5 +27,7 @@ pub use encode::{block_digest, encode_block, encode_body, encode_message};
 pub use error::{DecodeError, EncodeError};
 pub use laws::{body_has_its_size, grammar_or_fault, one_message, trailing_follows_a_message};
 pub use message::Message;
+pub use peek::{Peek, peek_message};
+pub use subject::Subject;
 pub use transactions::{Transactions, TransactionsIter};
 pub use vote::Vote;

@@ -5,6 +5,7 @@ ghost use Rattle.std.specs.Iterator.{YieldsFirstRef, item_count};
 ghost use Rattle.std.specs.List.{flat_map};
 ghost use Rattle.nw_codec.specs.Packed.{ArePacked, cut, length_at, transaction_bytes};
 ghost use Rattle.nw_codec.specs.Fits.{transactions_size};
+ghost use Rattle.nw_codec.specs.Limits.{longest_transaction};
 
 use crate::EncodeError;
 use crate::decode::front;
@@ -48,7 +49,7 @@ impl Transactions {
     pub fn push(&mut self, transaction: &[u8]) -> Result<(), EncodeError>
         ensures pushed { OnOk result (self.new ≡ self.old ++ transaction.now ∷ []) }
         ensures unchanged { OnErr result (self.new ≡ self.old) }
-        ensures over_limit { IsErrOf result EncodeError.OverLimit ↔ MAX_TRANSACTION < length transaction.now }
+        ensures over_limit { IsErrOf result EncodeError.OverLimit ↔ longest_transaction < length transaction.now }
     {
         if transaction.len() > MAX_TRANSACTION {
             return Err(EncodeError::OverLimit);
@@ -61,7 +62,7 @@ impl Transactions {
     /// The number of transactions. Each has at most 65,536 bytes.
     pub fn len(&self) -> usize
         ensures count { result ≡ length self.now }
-        ensures short { All (λ t. length t ≤ MAX_TRANSACTION) self.now }
+        ensures short { All (λ t. length t ≤ longest_transaction) self.now }
     {
         self.count
     }
@@ -116,7 +117,7 @@ impl Transactions {
 
 /// Appends the length of the transaction and the transaction.
 fn append(text: &mut Vec<u8>, transaction: &[u8]) -> Result<(), NoMemory>
-    requires { length transaction.now ≤ MAX_TRANSACTION }
+    requires { length transaction.now ≤ longest_transaction }
     ensures appended { OnOk result
         (text.new.items ≡ text.old.items ++ transaction_bytes transaction.now) }
     ensures unchanged { OnErr result (text.new.items ≡ text.old.items) }

@@ -1,7 +1,6 @@
 -- Committees as lists of their members, and the lists of members that reach the quorum.
 use Rattle.std.specs.Prelude.{◌≡◌, ◌≢◌, ◌==◌, ℕ, ◌+◌, ◌*◌, ◌/◌, ◌≤◌, Bool, List, length, map, filter, sum_by, All, AllPairs}
 use Rattle.std.specs.List.{list_any, enumerate_from}
-use Rattle.nw_committee.specs.declared.committee.TheConstants.{MAX_MEMBERS, MAX_WEIGHT}
 use Rattle.nw_committee.specs.declared.member.Key.{Key}
 use Rattle.nw_committee.specs.declared.member.Member.{Member}
 
@@ -15,11 +14,15 @@ keys members = map (λ m. m.key) members
 
 -- the weight is from 1 to 1,000,000
 abbrev pub IsWeight : ℕ → Type 0
-IsWeight weight = (1 ≤ weight) × (weight ≤ MAX_WEIGHT)
+IsWeight weight = (1 ≤ weight) × (weight ≤ 1_000_000)
+
+-- the greatest number of members
+abbrev pub most_members : ℕ
+most_members = 100
 
 -- there are 1 to 100 members
 abbrev pub IsSize : ℕ → Type 0
-IsSize n = (1 ≤ n) × (n ≤ MAX_MEMBERS)
+IsSize n = (1 ≤ n) × (n ≤ most_members)
 
 -- the members are a committee
 pub record IsCommittee (members : List Member) : Type 0 where
@@ -32,7 +35,7 @@ pub record IsCommittee (members : List Member) : Type 0 where
 
 -- the number of members is 3f + 1 for some f, and at most 100
 unfoldable pub IsEqualSize : ℕ → Type 0
-IsEqualSize n = (f : ℕ) × (n ≡ 3 * f + 1) × (n ≤ MAX_MEMBERS)
+IsEqualSize n = (f : ℕ) × (n ≡ 3 * f + 1) × (n ≤ most_members)
 
 -- the members with these keys, each of weight 1
 abbrev pub equal_members : List Key → List Member

@@ -4,6 +4,7 @@ ghost use Rattle.std.specs.FinMap as map;
 ghost use Rattle.nw_model.specs.State.{opening};
 ghost use Rattle.nw_model.specs.Paths.{IsComplete};
 ghost use Rattle.nw_model.specs.Sound.{IsSound};
+ghost use Rattle.nw_model.specs.Look.{IsLook, TellsSatisfied};
 ghost use Rattle.nw_model.specs.Missing.{AreFirstWanted, AreCounts};
 
 mod calls;
@@ -13,9 +14,10 @@ mod taking;
 use crate::completions::is_ready;
 use crate::waits::Waits;
 use nw_codec::{Block, Certificate};
-use nw_digest::{Digest, NoMemory, Sequence, Shared};
+use nw_digest::{Digest, NoMemory, Round, Sequence, Shared};
 use nw_generation::Generations;
-use nw_model::{Counts, Wanted};
+use nw_model::{Counts, Look, Wanted};
+use nw_plain::Plain;
 use nw_state::StateTables;
 use std::alloc::Global;
 use std::marker::Model;
@@ -74,6 +76,24 @@ impl Dag {
         ensures sound { IsTrue result → IsSound self.now.state }
     {
         is_ready(&self.held, &self.waits.missing, *digest)
+    }
+
+    /// What the state has in the slot of this round and author. Allocates nothing.
+    pub fn look(&self, round: Round, author: u16) -> Look
+        ensures look { IsLook self.now.state (round, author) result }
+        ensures satisfied { TellsSatisfied self.now.state (round, author) result }
+    {
+        self.held.look(round, author)
+    }
+
+    /// A plain store with the same state and the same bounds, which shares the blocks and certificates. The cost grows with the number of
+    /// blocks and certificates, and with nothing else.
+    ///
+    /// `NoMemory` if allocation fails.
+    pub fn copy(&self, alloc: Global) -> Result<Plain, NoMemory>
+        ensures { IfOk result (λ plain. plain ≡ self.now) }
+    {
+        self.held.copy(alloc)
     }
 
     /// The block that is held under the digest, if there is one. `NoMemory` if it has too many owners.

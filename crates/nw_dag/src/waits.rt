@@ -46,7 +46,7 @@ impl Waits {
 
     /// Records that the holder lacks the parent, if the parent is not met or not complete.
     ///
-    /// `NoMemory` if allocation fails. Then the pair may be recorded, but not as one of an unmet parent.
+    /// `NoMemory` if allocation fails. Then nothing changes.
     fn want(&mut self, held: &StateTables, wanted: Wanted, holder: Digest) -> Result<(), NoMemory>
         requires { AreSplit held.now.state self.old.missing.unmet self.old.missing.lacking }
         ensures unmet { OnOk result
@@ -63,6 +63,7 @@ impl Waits {
         ensures same_lacking { AreSameExcept holder
             self.old.missing.lacking self.new.missing.lacking }
         ensures completions { self.new.completions ≡ self.old.completions }
+        ensures unchanged { OnErr result (self.new.missing ≡ self.old.missing) }
     {
         if !held.is_met(&wanted) {
             self.missing.want(wanted, holder, false)

@@ -1,7 +1,5 @@
 -- Histories that start where another one ends.
 use Rattle.std.proofs.Common.{◌≡◌, ℕ, zero, suc, ◌+◌, ◌<◌, List, [], ◌∷◌, ◌++◌, length, Some, None, refl, ap, sym, ◌∙◌, subst, arith, add-one}
-use Rattle.std.specs.Prelude.{slice_get, take}
-use Rattle.std.specs.Option.{unwrap_or}
 use Rattle.std.proofs.lemmas.List.Elements.{All-nil, All-append}
 use Rattle.nw_sig.specs.Signed.{Meaning}
 use Rattle.nw_model.specs.State.{State, opening}
@@ -9,26 +7,6 @@ use Rattle.nw_model.specs.Step.{Bounds, after}
 use Rattle.nw_model.specs.History.{AreReplies, IsAdmitted, IsBase, IsLegal, Terms, replay}
 use Rattle.nw_model.specs.declared.event.Event.{Event}
 use Rattle.nw_history.specs.Story.{Story, IsLegalStory, reopened, terms_of}
-
--- ---- replay, event by event
-
-same_some : (x y : Event) → Some x ≡ Some y → x ≡ y
-same_some x y e = ap (λ o. unwrap_or o x) e
-
-replay_suc : (b : Bounds) (s : State) (es : List Event) (i : ℕ) (e : Event) → slice_get es i ≡ Some e → replay b s (take (suc i) es) ≡ after b (replay b s (take i es)) e.call
-replay_suc b s [] i e is = absurd cc
-replay_suc b s (x ∷ es) zero e is = ap (λ (y : Event). after b s y.call) (same_some x e is)
-replay_suc b s (x ∷ es) (suc i) e is = replay_suc b (after b s x.call) es i e is
-
--- the state after one more event
-pub replay_next : (b : Bounds) (s : State) (es : List Event) (i : ℕ) (e : Event) → slice_get es i ≡ Some e → replay b s (take (i + 1) es) ≡ after b (replay b s (take i es)) e.call
-replay_next b s es i e is = ap (λ n. replay b s (take n es)) (add-one i) ∙ replay_suc b s es i e is
-
--- there is an event at each place below the length
-pub there : (es : List Event) (i : ℕ) → slice_get es i ≡ None → i < length es → ⊥
-there [] i is below = omega arith
-there (x ∷ es) zero is below = absurd cc
-there (x ∷ es) (suc i) is below = there es i is (omega arith)
 
 -- ---- two lists of events, one after the other
 

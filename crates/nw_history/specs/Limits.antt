@@ -1,7 +1,6 @@
 -- The ranges of limits.
 use Rattle.std.specs.Prelude.{ℕ, ◌≤◌}
 use Rattle.nw_history.specs.declared.limits.Limits.{Limits}
-use Rattle.nw_history.specs.declared.limits.TheConstants.{MAX_BLOCKS, MAX_EVENTS, MAX_WINDOW, MAX_SESSIONS}
 
 -- the number is between 1 and this maximum
 pub record IsUpTo (most n : ℕ) : Type 0 where
@@ -13,10 +12,10 @@ pub record IsUpTo (most n : ℕ) : Type 0 where
 -- each limit is in its range
 pub record AreInRange (l : Limits) : Type 0 where
   -- the number of blocks
-  pub blocks : IsUpTo MAX_BLOCKS l.blocks
+  pub blocks : IsUpTo 65_536 l.blocks
   -- the number of events
-  pub events : IsUpTo MAX_EVENTS l.events
+  pub events : IsUpTo 65_536 l.events
   -- the number of rounds
-  pub window : IsUpTo MAX_WINDOW l.window
+  pub window : IsUpTo 4_096 l.window
   -- the number of sessions
-  pub sessions : IsUpTo MAX_SESSIONS l.sessions
+  pub sessions : IsUpTo 256 l.sessions

@@ -1,12 +1,11 @@
 //! Fronts: legal histories that never change.
 ghost use Rattle.std.specs.Prelude.{◌≡◌, ◌↔◌, ◌==◌, ◌+◌, ◌-◌, ◌/◌, ◌%◌, ◌++◌, ◌∷◌, ◌^◌, ◌<◌, []};
-ghost use Rattle.std.specs.Prelude.{IfOk, OnOk, IfSome, IsNone, IsTrue, length, slice_get};
+ghost use Rattle.std.specs.Prelude.{IfOk, IfSome, IsNone, IsTrue, length, slice_get};
 ghost use Rattle.std.specs.Option.{option_copied};
 ghost use mathlib.Core.List.{IsPrefix};
 ghost use Rattle.nw_shared_list.specs.SharedList.{items_of};
 ghost use Rattle.nw_shared_list.specs.declared.chunk.TheConstants.{CHUNK};
 ghost use Rattle.nw_model.specs.State.{opening};
-ghost use Rattle.nw_model.specs.Step.{after};
 ghost use Rattle.nw_history.specs.Story.{IsLegalStory, bounds_of, first_origin, reopened, story_of};
 ghost use Rattle.nw_history.specs.Story.{tables_of, with_event};
 ghost use Rattle.nw_history.specs.Prefix.{IsPrefixOf, AreAlike};
@@ -15,7 +14,7 @@ use crate::Limits;
 use crate::start::Start;
 use nw_committee::Committee;
 use nw_digest::{NoMemory, Shared};
-use nw_model::{Call, Event};
+use nw_model::Event;
 use nw_plain::{Base, Plain};
 use nw_shared_list::SharedList;
 use nw_sig::Scheme;
@@ -65,15 +64,14 @@ impl<S: Scheme> Front<S> {
         Front::without_events(alloc, Start::new(committee, limits, base))
     }
 
-    /// The history without events that starts where this one ends: its base is the state after this one.
-    ///
-    /// To find this state, it replays the writes, certificates and collections of this history over its base.
+    /// The history without events that starts where this one ends: its base is the state after this one, which `state` must have.
     ///
     /// `NoMemory`: an allocation failed.
-    pub fn restarted(&self, alloc: Global) -> Result<Front<S>, NoMemory>
+    pub fn restarted(&self, alloc: Global, state: Plain) -> Result<Front<S>, NoMemory>
+        requires { state ≡ tables_of self.now }
         ensures restarted { IfOk result (λ front. front ≡ reopened self.now) }
     {
-        let base = Base::of(self.replayed(alloc)?);
+        let base = Base::of(state);
         let start = Start::new(self.committee().try_clone()?, self.limits(), base);
         Front::without_events(alloc, start)
     }
@@ -231,33 +229,4 @@ impl<S: Scheme> Front<S> {
             _ => false,
         }
     }
-
-    /// New tables with the state after this history: its calls are replayed over the base.
-    fn replayed(&self, alloc: Global) -> Result<Plain, NoMemory>
-        ensures { IfOk result (λ tables. tables ≡ tables_of self.now) }
-    {
-        let mut tables = self.events.head().tables(alloc)?;
-        let links = self.events.tail_links(alloc)?;
-        for index in 0..self.len() {
-            if let Some(event) = self.events.get_with_links(&links, index) {
-                replay_call(&mut tables, &event.call)?;
-            }
-        }
-        Ok(tables)
-    }
-}
-
-/// Replays a call. Its reply is known, so calls that do not change the tables are skipped.
-fn replay_call(tables: &mut Plain, call: &Call) -> Result<(), NoMemory>
-    ensures { OnOk result (tables.new
-        ≡ record tables.old { state = after tables.old.bounds tables.old.state call.now }) }
-{
-    match call {
-        Call::Write(_, _) | Call::Certify(_) | Call::Collect(_) => {
-            tables.call(call)?;
-        }
-        Call::Certificate(_) | Call::Read(_) | Call::Causal(_) => {}
-        Call::Missing(_) | Call::Status => {}
-    }
-    Ok(())
 }

@@ -1,17 +1,15 @@
 //! The start of a history.
-ghost use Rattle.std.specs.Prelude.{◌≡◌, ◌≢◌, ◌↔◌, IsTrue, IfOk, IfSome, IsNone, Some};
+ghost use Rattle.std.specs.Prelude.{◌≡◌, ◌↔◌, IsTrue, IfSome, IsNone};
 ghost use Rattle.nw_model.specs.State.{opening};
-ghost use Rattle.nw_history.specs.Story.{Origin, bounds_of, story_of, tables_of};
+ghost use Rattle.nw_history.specs.Story.{bounds_of};
 
 use crate::Limits;
 use nw_committee::Committee;
-use nw_digest::{NoMemory, Shared};
-use nw_plain::{Base, Plain};
-use std::alloc::Global;
+use nw_digest::Shared;
+use nw_plain::Base;
 use std::marker::Model;
 
-/// The start of a history: the committee, the limits, and the base from which its calls are replayed. All fronts of one history
-/// share it.
+/// The start of a history: the committee, the limits, and the base. All fronts of one history share it.
 #[derive(Drop)]
 pub(crate) struct Start {
     committee: Shared<Committee>,
@@ -76,16 +74,6 @@ impl Start {
         } else {
             Some(&self.base)
         }
-    }
-
-    /// New tables with the state of the base.
-    pub(crate) fn tables(&self, alloc: Global) -> Result<Plain, NoMemory>
-        ensures { IfOk result (λ tables. tables ≡ record {
-          bounds = bounds_of self.now.limits;
-          state = self.now.base;
-        }) }
-    {
-        Plain::over(alloc, &self.base)
     }
 
     /// Whether the other start has the same committee, limits and base.

@@ -5,6 +5,7 @@ pub mod Raised
 pub mod Complete
 pub mod Listed
 pub mod OneReply
+pub mod RecordedCalls
 pub mod Replayed
 pub mod Beginnings
 pub mod Views

@@ -13,7 +13,8 @@ use Rattle.nw_codec.specs.declared.block.Block.{Block}
 use Rattle.nw_codec.specs.declared.certificate.Certificate.{Certificate}
 use Rattle.nw_model.specs.State.{State}
 use Rattle.nw_model.specs.Paths.{IsAncestor, IsComplete, IsCausalList}
-use Rattle.nw_model.specs.Step.{Bounds, IsReply, IsCausalReply, AreSameReply, StepIsAFunction, recorded, write_reply, certify_reply, collect_reply}
+use Rattle.nw_codec.specs.declared.subject.Subject.{Subject}
+use Rattle.nw_model.specs.Step.{Bounds, IsReply, IsCausalReply, AreSameReply, StepIsAFunction, recorded, write_reply, certify_reply, collect_reply, asked_write_reply, asked_certify_reply}
 use Rattle.nw_model.specs.declared.call.Call.TheVariants as call
 use Rattle.nw_model.specs.declared.reply.CausalReply.{CausalReply}
 use Rattle.nw_model.specs.declared.reply.CausalReply.TheVariants as causal
@@ -51,6 +52,14 @@ to_certificate bounds s d other is = absurd is
 to_read : (bounds : Bounds) (s : State) (d : Digest) (r : Reply) → IsReply bounds s (call.Read d) r → r ≡ reply.Read (get s.blocks d)
 to_read bounds s d (reply.Read w) is = ap reply.Read is
 to_read bounds s d other is = absurd is
+
+to_ask_write : (bounds : Bounds) (s : State) (q : Subject) (r : Reply) → IsReply bounds s (call.AskWrite q) r → r ≡ reply.Write (asked_write_reply bounds s q)
+to_ask_write bounds s q (reply.Write w) is = ap reply.Write is
+to_ask_write bounds s q other is = absurd is
+
+to_ask_certify : (bounds : Bounds) (s : State) (q : Subject) (r : Reply) → IsReply bounds s (call.AskCertify q) r → r ≡ reply.Certify (asked_certify_reply bounds s q)
+to_ask_certify bounds s q (reply.Certify w) is = ap reply.Certify is
+to_ask_certify bounds s q other is = absurd is
 
 -- ---- causal reads
 
@@ -160,3 +169,5 @@ one_reply bounds s (call.Causal d) one other is was = to_causal s d one other is
 one_reply bounds s (call.Collect round) one other is was = equal_replies one other (to_collect bounds s round one is ∙ sym (to_collect bounds s round other was))
 one_reply bounds s (call.Missing most) one other is was = equal_replies one other (same_missing bounds s most one other is was)
 one_reply bounds s call.Status one other is was = equal_replies one other (same_status bounds s one other is was)
+one_reply bounds s (call.AskWrite q) one other is was = equal_replies one other (to_ask_write bounds s q one is ∙ sym (to_ask_write bounds s q other was))
+one_reply bounds s (call.AskCertify q) one other is was = equal_replies one other (to_ask_certify bounds s q one is ∙ sym (to_ask_certify bounds s q other was))

@@ -8,3 +8,4 @@ pub mod Checks
 pub mod Step
 pub mod History
 pub mod Laws
+pub mod Look

@@ -9,6 +9,7 @@ use Rattle.nw_codec.specs.declared.block.Ref.{Ref}
 use Rattle.nw_codec.specs.declared.block.Block.{Block}
 use Rattle.nw_codec.specs.declared.certificate.Seal.{Seal}
 use Rattle.nw_codec.specs.declared.certificate.Certificate.{Certificate}
+use Rattle.nw_codec.specs.declared.subject.Subject.{Subject}
 
 -- what the calls so far have left in the store
 pub record State : Type 0 where
@@ -32,6 +33,18 @@ block_slot b = (b.round, b.author)
 -- the slot of a certificate
 abbrev pub certificate_slot : Certificate → Slot
 certificate_slot c = (c.round, c.author)
+
+-- the slot of a subject
+abbrev pub subject_slot : Subject → Slot
+subject_slot q = (q.round, q.author)
+
+-- the subject of a block that is written under d
+abbrev pub written_subject : Digest → Block → Subject
+written_subject d b = record { digest = d; round = b.round; author = b.author }
+
+-- the subject of a certificate
+abbrev pub certified_subject : Certificate → Subject
+certified_subject c = record { digest = c.digest; round = c.round; author = c.author }
 
 -- the code of a digest: digests with equal codes are equal
 abbrev pub coded_digest : Coded Digest

@@ -8,7 +8,8 @@ use Rattle.nw_codec.specs.Same.{same_block, same_bytes}
 use Rattle.nw_codec.specs.declared.block.Block.{Block}
 use Rattle.nw_codec.specs.declared.certificate.Certificate.{Certificate}
 use Rattle.nw_digest.specs.Order.{digest_cmp, Slot}
-use Rattle.nw_model.specs.State.{State, block_slot, certificate_slot, coded_state}
+use Rattle.nw_codec.specs.declared.subject.Subject.{Subject}
+use Rattle.nw_model.specs.State.{State, block_slot, certificate_slot, subject_slot, written_subject, certified_subject, coded_state}
 use Rattle.nw_model.specs.Paths.{IsComplete, IsCausalList}
 use Rattle.nw_model.specs.Missing.{AreFirstWanted, AreCounts}
 use Rattle.nw_model.specs.declared.call.Call.{Call}
@@ -96,6 +97,15 @@ is_full bounds entries = nat_le bounds.blocks entries
 abbrev pub is_open : State → Slot → Bool
 is_open s slot = not (is_some (get s.firsts slot))
 
+-- the reply to a write of a block of this slot under d, if its round is accepted and no block is held under d: the first of these whose test
+-- holds
+abbrev pub new_write_reply : Bounds → State → Digest → Slot → WriteReply
+new_write_reply bounds s d slot =
+    if is_certified_elsewhere s d slot then write.Misfit
+    -- Equivocates with the other_first if there is one; otherwise the next line
+    else option_map_or write.Equivocates (other_first s d slot)
+    (if is_full bounds (len s.blocks) then write.Full else write.Stored (is_open s slot))
+
 -- the reply to a write of the block b under d: the first of these whose test holds
 abbrev pub write_reply : Bounds → State → Digest → Block → WriteReply
 write_reply bounds s d b =
@@ -103,10 +113,15 @@ write_reply bounds s d b =
     else if is_too_far bounds s b.round then write.TooFar
     else if is_held_block s d b then write.Held
     else if is_held s d then write.Clash
-    else if is_certified_elsewhere s d (block_slot b) then write.Misfit
-    -- Equivocates with the other_first if there is one; otherwise the next line
-    else option_map_or write.Equivocates (other_first s d (block_slot b))
-    (if is_full bounds (len s.blocks) then write.Full else write.Stored (is_open s (block_slot b)))
+    else new_write_reply bounds s d (block_slot b)
+
+-- the reply to the question what a write with this subject would get: the same, but Held also in place of Clash
+abbrev pub asked_write_reply : Bounds → State → Subject → WriteReply
+asked_write_reply bounds s q =
+    if is_collected s q.round then write.Collected s.floor
+    else if is_too_far bounds s q.round then write.TooFar
+    else if is_held s q.digest then write.Held
+    else new_write_reply bounds s q.digest (subject_slot q)
 
 -- the state in which b is held under d, and d is the first digest of b's slot if there is a vote
 abbrev pub with_block : State → Digest → Block → Bool → State
@@ -128,17 +143,21 @@ is_certified_for s slot d = option_map_or (λ c. is_slot (certificate_slot c) sl
 abbrev pub certified_digest : State → Slot → Option Digest
 certified_digest s slot = find (is_certified_for s slot) (keys s.certificates)
 
--- the reply to the certificate c: the first of these whose test holds
-abbrev pub certify_reply : Bounds → State → Certificate → CertifyReply
-certify_reply bounds s c =
-    if is_collected s c.round then certify.Collected s.floor
-    else if is_too_far bounds s c.round then certify.TooFar
-    else if is_certified_for s (certificate_slot c) c.digest then certify.Already
-    else if is_certified s c.digest then certify.Misfit
-    else if is_held_elsewhere s c.digest (certificate_slot c) then certify.Misfit
+-- the reply to the question what a certificate for this subject would get: the first of these whose test holds
+abbrev pub asked_certify_reply : Bounds → State → Subject → CertifyReply
+asked_certify_reply bounds s q =
+    if is_collected s q.round then certify.Collected s.floor
+    else if is_too_far bounds s q.round then certify.TooFar
+    else if is_certified_for s (subject_slot q) q.digest then certify.Already
+    else if is_certified s q.digest then certify.Misfit
+    else if is_held_elsewhere s q.digest (subject_slot q) then certify.Misfit
     -- Conflict with the slot's certified digest if there is one; otherwise the next line
-    else option_map_or certify.Conflict (certified_digest s (certificate_slot c))
+    else option_map_or certify.Conflict (certified_digest s (subject_slot q))
     (if is_full bounds (len s.certificates) then certify.Full else certify.Certified)
+
+-- the reply to the certificate c depends on its subject only
+abbrev pub certify_reply : Bounds → State → Certificate → CertifyReply
+certify_reply bounds s c = asked_certify_reply bounds s (certified_subject c)
 
 -- the state in which c is kept under its digest
 abbrev pub with_certificate : State → Certificate → State
@@ -197,6 +216,8 @@ IsReply bounds s (call.Causal d) r = IsCausalReply s d r
 IsReply bounds s (call.Collect round) (reply.Collect r) = r ≡ collect_reply s round
 IsReply bounds s (call.Missing most) (reply.Missing first) = AreFirstWanted s most first
 IsReply bounds s call.Status (reply.Status counts) = AreCounts s counts
+IsReply bounds s (call.AskWrite q) (reply.Write r) = r ≡ asked_write_reply bounds s q
+IsReply bounds s (call.AskCertify q) (reply.Certify r) = r ≡ asked_certify_reply bounds s q
 IsReply bounds s asked other = ⊥
 
 -- the reply is one that a history may record: no list
@@ -209,6 +230,16 @@ abbrev pub recorded : Reply → Reply
 recorded (reply.List blocks) = reply.Ready
 recorded other = other
 
+-- the call as a history records it with its reply: a write or a certificate that changes nothing becomes the question with its subject. A
+-- write with the reply Clash stays, since only its block tells it from Held
+abbrev pub recorded_call : Call → Reply → Call
+recorded_call (call.Write d b) (reply.Write (write.Stored vote)) = call.Write d b
+recorded_call (call.Write d b) (reply.Write write.Clash) = call.Write d b
+recorded_call (call.Write d b) (reply.Write other) = call.AskWrite (written_subject d b)
+recorded_call (call.Certify c) (reply.Certify certify.Certified) = call.Certify c
+recorded_call (call.Certify c) (reply.Certify other) = call.AskCertify (certified_subject c)
+recorded_call asked r = asked
+
 -- the two replies are equal, except that one may have Ready in place of the list
 pub record AreSameReply (one other : Reply) : Type 0 where
   -- a history records both in the same way
@@ -219,3 +250,9 @@ pub record AreSameReply (one other : Reply) : Type 0 where
 -- two replies to the same call in the same state are equal, except that one may have Ready in place of the list
 abbrev pub StepIsAFunction : Type 0
 StepIsAFunction = (bounds : Bounds) (s : State) (asked : Call) (one other : Reply) → IsReply bounds s asked one → IsReply bounds s asked other → AreSameReply one other
+
+-- the call that a history records has the same reply, and leaves the same state
+abbrev pub RecordedCallsTakeTheSameStep : Type 0
+RecordedCallsTakeTheSameStep =
+    (bounds : Bounds) (s : State) (asked : Call) (r : Reply) → IsReply bounds s asked r
+    → IsReply bounds s (recorded_call asked r) r × (after bounds s (recorded_call asked r) ≡ after bounds s asked)

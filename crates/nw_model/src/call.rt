@@ -1,7 +1,9 @@
 //! The calls of a store.
 ghost use Rattle.std.specs.Prelude.{◌≡◌, ◌↔◌, IfOk, IsTrue};
+ghost use Rattle.nw_model.specs.Step.{recorded_call};
 
-use nw_codec::{Block, Certificate};
+use crate::{CertifyReply, Reply, WriteReply};
+use nw_codec::{Block, Certificate, Subject};
 use nw_digest::{Digest, NoMemory, Round, Shared};
 
 /// One call of a store.
@@ -23,6 +25,10 @@ pub enum Call {
     Missing(u16),
     /// Count what is kept and what is wanted.
     Status,
+    /// Tell what a write of a block with this subject would get. `Held` if any block is held under the digest.
+    AskWrite(Subject),
+    /// Tell what a certificate for this subject would get.
+    AskCertify(Subject),
 }
 
 impl Call {
@@ -39,7 +45,27 @@ impl Call {
             Call::Collect(round) => Call::Collect(*round),
             Call::Missing(most) => Call::Missing(*most),
             Call::Status => Call::Status,
+            Call::AskWrite(subject) => Call::AskWrite(*subject),
+            Call::AskCertify(subject) => Call::AskCertify(*subject),
         })
+    }
+
+    /// Makes it the call that a history records with the reply. A write or a certificate that changes nothing becomes the question with
+    /// its subject, so that the history does not keep the block or the certificate. A write with the reply `Clash` stays.
+    pub fn record(&mut self, reply: &Reply)
+        ensures { self.new ≡ recorded_call self.old reply.now }
+    {
+        match (&*self, reply) {
+            (Call::Write(..), Reply::Write(WriteReply::Stored { .. } | WriteReply::Clash)) => {}
+            (Call::Write(digest, block), Reply::Write(_)) => {
+                *self = Call::AskWrite(block.get().subject(*digest));
+            }
+            (Call::Certify(_), Reply::Certify(CertifyReply::Certified)) => {}
+            (Call::Certify(certificate), Reply::Certify(_)) => {
+                *self = Call::AskCertify(certificate.get().subject());
+            }
+            _ => {}
+        }
     }
 
     /// Whether the two calls are equal. Allocates nothing.
@@ -57,6 +83,8 @@ impl Call {
             (Call::Collect(round), Call::Collect(of)) => round == of,
             (Call::Missing(most), Call::Missing(of)) => most == of,
             (Call::Status, Call::Status) => true,
+            (Call::AskWrite(subject), Call::AskWrite(of)) => subject == of,
+            (Call::AskCertify(subject), Call::AskCertify(of)) => subject == of,
             _ => false,
         }
     }

@@ -11,11 +11,16 @@ ghost use Rattle.nw_model.specs.Laws.{
   CausalListsReachQuorums,
   ReadsAgree,
 };
-ghost use Rattle.nw_model.specs.Step.{StepIsAFunction};
+ghost use Rattle.nw_model.specs.Step.{StepIsAFunction, RecordedCallsTakeTheSameStep};
 
 /// Two replies to the same call in the same state are equal, except that one may be `Ready` and the other the list.
 pub fn step_is_a_function()
     ensures { StepIsAFunction }
+{}
+
+/// The call that a history records in place of a call has the same reply, and leaves the same state.
+pub fn recorded_calls_take_the_same_step()
+    ensures { RecordedCallsTakeTheSameStep }
 {}
 
 /// Every legal history leaves a sound state, whatever its base. So in this state at most one digest is certified for a round and

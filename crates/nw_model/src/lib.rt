@@ -8,6 +8,7 @@
 mod call;
 mod event;
 mod laws;
+mod look;
 mod reply;
 mod wanted;
 
@@ -17,7 +18,8 @@ pub use laws::{
     beginnings_of_legal_histories_are_legal, causal_lists_contain_those_of_their_blocks,
     causal_lists_reach_quorums, causal_lists_stay, complete_digests_have_one_causal_list,
     firsts_of_a_base_get_no_vote, legal_histories_leave_sound_states, legal_histories_vote_once,
-    reads_agree, step_is_a_function, views_show_the_ancestors,
+    reads_agree, recorded_calls_take_the_same_step, step_is_a_function, views_show_the_ancestors,
 };
+pub use look::Look;
 pub use reply::{CausalReply, CertifyReply, CollectReply, Counts, Reply, WriteReply};
 pub use wanted::Wanted;

@@ -11,4 +11,4 @@ mod view;
 mod walks;
 
 pub use base::Base;
-pub use plain::Plain;
+pub use plain::{Maps, Plain};

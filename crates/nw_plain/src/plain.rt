@@ -5,18 +5,20 @@ ghost use Rattle.std.specs.Option.{option_copied};
 ghost use Rattle.std.specs.BTreeMap.{get, insert_entry, IsUnchanged};
 ghost use Rattle.std.specs.FinMap as map;
 ghost use Rattle.nw_digest.specs.Order.{digest_cmp, slot_cmp};
-ghost use Rattle.nw_model.specs.State.{opening, block_slot, certificate_slot};
-ghost use Rattle.nw_model.specs.Step.{IsReply, after, write_reply, certify_reply};
-ghost use Rattle.nw_model.specs.Step.{has_other_slot, other_first, with_block};
+ghost use Rattle.nw_model.specs.State.{opening, block_slot, certificate_slot, subject_slot};
+ghost use Rattle.nw_model.specs.Step.{IsReply, after, write_reply, asked_write_reply};
+ghost use Rattle.nw_model.specs.Step.{has_other_slot, is_held_block, other_first, with_block};
 
 mod causal;
 mod certificates;
 mod collection;
 mod copies;
+mod maps;
 mod missing;
 mod sameness;
 
-use nw_codec::{Block, Certificate};
+pub use maps::Maps;
+use nw_codec::{Block, Certificate, Subject};
 use nw_digest::{Digest, NoMemory, Round, Shared};
 use nw_model::{Call, CertifyReply, CollectReply, Reply, WriteReply};
 use std::alloc::Global;
@@ -128,7 +130,8 @@ impl Plain {
                 Ok(Reply::Write(self.write_reply(digest, block.get())))
             }
             Call::Certify(certificate) => {
-                Ok(Reply::Certify(self.certify_reply(certificate.get())))
+                let subject = certificate.get().subject();
+                Ok(Reply::Certify(self.asked_certify_reply(&subject)))
             }
             Call::Certificate(digest) => Ok(Reply::Certificate(self.read_certificate(digest)?)),
             Call::Read(digest) => Ok(Reply::Read(self.read(digest)?)),
@@ -136,6 +139,8 @@ impl Plain {
             Call::Collect(round) => Ok(Reply::Collect(self.collect_reply(*round))),
             Call::Missing(most) => Ok(Reply::Missing(self.first_wanted(*most)?)),
             Call::Status => Ok(Reply::Status(self.counts()?)),
+            Call::AskWrite(subject) => Ok(Reply::Write(self.asked_write_reply(subject))),
+            Call::AskCertify(subject) => Ok(Reply::Certify(self.asked_certify_reply(subject))),
         }
     }
 
@@ -153,55 +158,71 @@ impl Plain {
     fn write_reply(&self, digest: &Digest, block: &Block) -> WriteReply
         ensures { result ≡ write_reply self.now.bounds self.now.state digest.now block.now }
     {
-        if block.round < self.floor {
+        match self.asked_write_reply(&block.subject(*digest)) {
+            WriteReply::Held if !self.holds(digest, block) => WriteReply::Clash,
+            reply => reply,
+        }
+    }
+
+    /// Whether this block is held under the digest.
+    fn holds(&self, digest: &Digest, block: &Block) -> bool
+        ensures { result ≡ is_held_block self.now.state digest.now block.now }
+    {
+        match self.block(digest) {
+            None => false,
+            Some(held) => block == held,
+        }
+    }
+
+    /// The reply that a write with this subject would get now: `Held` if any block is held under its digest.
+    fn asked_write_reply(&self, subject: &Subject) -> WriteReply
+        ensures { result ≡ asked_write_reply self.now.bounds self.now.state subject.now }
+    {
+        if subject.round < self.floor {
             return WriteReply::Collected(self.floor);
         }
-        if block.round.get() >= self.floor.get() + u64::from(self.window) {
+        if subject.round.get() >= self.floor.get() + u64::from(self.window) {
             return WriteReply::TooFar;
         }
-        if let Some(held) = self.block(digest) {
-            return if block == held {
-                WriteReply::Held
-            } else {
-                WriteReply::Clash
-            };
+        if self.block(&subject.digest).is_some() {
+            return WriteReply::Held;
         }
-        if self.is_misfit(digest, block) {
+        if self.is_misfit(subject) {
             return WriteReply::Misfit;
         }
-        if let Some(first) = self.other_first(digest, block) {
+        if let Some(first) = self.other_first(subject) {
             return WriteReply::Equivocates(first);
         }
         if self.block_count() >= self.limit as usize {
             return WriteReply::Full;
         }
         WriteReply::Stored {
-            vote: self.first(block.round, block.author).is_none(),
+            vote: self.first(subject.round, subject.author).is_none(),
         }
     }
 
-    /// Whether the digest is certified for another round or author than the block's.
-    fn is_misfit(&self, digest: &Digest, block: &Block) -> bool
+    /// Whether the digest is certified for another round or author than the subject's.
+    fn is_misfit(&self, subject: &Subject) -> bool
         ensures { result ≡ has_other_slot certificate_slot
-            (map.get self.now.state.certificates digest.now) (block_slot block.now) }
+            (map.get self.now.state.certificates subject.now.digest) (subject_slot subject.now) }
     {
-        match self.certificate(digest) {
+        match self.certificate(&subject.digest) {
             None => false,
             Some(certificate) => {
-                (certificate.round, certificate.author) != (block.round, block.author)
+                (certificate.round, certificate.author) != (subject.round, subject.author)
             }
         }
     }
 
-    /// The first digest of the block's slot, if it is another digest and this one is not certified.
-    fn other_first(&self, digest: &Digest, block: &Block) -> Option<Digest>
-        ensures { result ≡ other_first self.now.state digest.now (block_slot block.now) }
+    /// The first digest of the subject's slot, if it is another digest and this one is not certified.
+    fn other_first(&self, subject: &Subject) -> Option<Digest>
+        ensures { result ≡ other_first self.now.state subject.now.digest (subject_slot subject.now) }
     {
-        if self.certificate(digest).is_some() {
+        if self.certificate(&subject.digest).is_some() {
             return None;
         }
-        match self.first(block.round, block.author) {
-            Some(first) if first != *digest => Some(first),
+        match self.first(subject.round, subject.author) {
+            Some(first) if first != subject.digest => Some(first),
             _ => None,
         }
     }

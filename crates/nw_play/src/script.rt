@@ -35,7 +35,7 @@ pub fn play<Rt: Wait, R: Read + Drop, W: Write + Drop>(
         (λ bytes. MAX_SCRIPT < length bytes → IsErrAnd result IsUnread) }
 {
     let script = read_script(alloc, &mut reader)?;
-    let mut out = Output::new(alloc, writer);
+    let mut out = Output::new(alloc, writer)?;
     let played = play_script(rt, alloc, script.as_slice(), &mut out);
     match played {
         Err(PlayFault::Write) => Err(PlayFault::Write),

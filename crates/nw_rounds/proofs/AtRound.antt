@@ -27,7 +27,7 @@ use Rattle.nw_digest.specs.declared.digest.Digest.{Digest}
 use Rattle.nw_rounds.specs.declared.kind.DigestKind.{DigestKind}
 use Rattle.nw_rounds.specs.declared.kind.DigestKind.TheVariants.{First, Certified}
 use Rattle.nw_digest.specs.Order.{digest_cmp, Slot}
-use Rattle.nw_rounds.specs.Slots.{AreDigestsAt, AreDigestsBetween, IsDigestAt, Tables}
+use Rattle.nw_rounds.specs.Slots.{AreDigestsAt, AreDigestsBetween, IsDigestAt, Tables, HasAllDigests}
 use Rattle.nw_rounds.specs.Places.{ArePlacesBetween, BeginsBelow, Place, place_cmp, kind_cmp, map_of, tables_of}
 use Rattle.nw_rounds.proofs.SlotLemmas.{digests_apart, digests_total, places_apart, places_total}
 use Rattle.nw_rounds.proofs.OfKind.{get_in, equal_from_is_eq}
@@ -94,6 +94,15 @@ kept_only false found d e = cc
 at_kind : (es : List (Place × Digest)) (slot : Slot) (t : DigestKind) → get (map_of (tables_of es) t) slot ≡ lookup (is_at (place_cmp (slot, t))) es
 at_kind es slot First = get_in First slot es
 at_kind es slot Certified = get_in Certified slot es
+
+-- each digest of a place is among the digests of the entries
+pub all_listed : (es : List (Place × Digest)) → HasAllDigests (tables_of es) (values_of es)
+all_listed es round d (author, is) = elim is [ inl first ↦ by First first | inr certified ↦ by Certified certified ]
+  where
+    by : (t : DigestKind) → get (map_of (tables_of es) t) (round, author) ≡ Some d → Contains (values_of es) d
+    by t found =
+        Contains-values_of es ((round, author), t) d
+        (Contains-from_lookup (λ x y e. places_apart x y (equal_from_is_eq (place_cmp x y) e)) ((round, author), t) d es (sym (at_kind es (round, author) t) ∙ found))
 
 -- rs has the entries from the first place of `from` up to the first place of `to`
 module _ (es rs : List (Place × Digest)) (from to : ℕ) (sorted : IsStrictlySortedBy place_cmp (keys_of es))

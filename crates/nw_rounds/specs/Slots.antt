@@ -36,6 +36,10 @@ pub record AreDigestsBetween (t : Tables) (from to : ℕ) (digests : List Digest
   -- ascending, each once
   pub ascending : IsStrictlySortedBy digest_cmp digests
 
+-- the list has each digest of each round, first and certified
+abbrev pub HasAllDigests : Tables → List Digest → Type 0
+HasAllDigests t digests = (round : ℕ) (d : Digest) → IsDigestAt t round d → Contains digests d
+
 -- the code of a digest: digests with equal codes are equal
 abbrev pub coded_digest : Coded Digest
 coded_digest = code_by (List ℕ) (coded_list coded_ℕ) (λ d. d.0) (λ b. record { 0 = b }) (λ _. refl)

@@ -2,9 +2,9 @@
 ghost use Rattle.std.specs.Prelude.{◌≡◌, ◌+◌, ◌<◌, ◌≤◌, ◌^◌};
 ghost use Rattle.std.specs.Prelude.{All, IfOk, OnOk, OnErr, IsNone, nat_le, length};
 ghost use Rattle.std.specs.Bool.{MatchBool};
-ghost use Rattle.std.specs.BTreeMap.{keys};
+ghost use Rattle.std.specs.BTreeMap.{keys, values};
 ghost use Rattle.std.specs.FinMap as map;
-ghost use Rattle.nw_rounds.specs.Slots.{AreDigestsAt, AreDigestsBetween, no_digests};
+ghost use Rattle.nw_rounds.specs.Slots.{AreDigestsAt, AreDigestsBetween, HasAllDigests, no_digests};
 ghost use Rattle.nw_rounds.specs.Places.{ArePlacesBetween, BeginsBelow, tables_of};
 
 use crate::kind::DigestKind;
@@ -124,6 +124,13 @@ impl<A: Allocator> Rounds<A> {
         Ok(found.into_iter().collect(alloc)?)
     }
 
+    /// The digests of all slots, first and certified. A digest may be listed twice. `NoMemory` if an allocation fails.
+    pub fn all_digests(&self, alloc: Global) -> Result<Vec<Digest>, NoMemory>
+        ensures { IfOk result (λ list. HasAllDigests self.now list.items) }
+    {
+        listed(alloc, &self.digests)
+    }
+
     /// The digests of all lower rounds, with their places, in the order of the places. Allocates nothing.
     pub fn places_below(&self, round: Round) -> Range<'_, Place, Digest>
         ensures places { ArePlacesBetween self.now 0 round result }
@@ -144,6 +151,16 @@ impl<A: Allocator> Rounds<A> {
             let _ = self.digests.pop_first();
         }
     }
+}
+
+/// The digests, in the order of their places. `NoMemory` if an allocation fails.
+fn listed<A: Allocator>(
+    alloc: Global,
+    digests: &BTreeMap<Place, Digest, A>,
+) -> Result<Vec<Digest>, NoMemory>
+    ensures { IfOk result (λ list. list.items ≡ values digests.now) }
+{
+    Ok(digests.values().copied().collect(alloc)?)
 }
 
 /// All digests of the round. `NoMemory` if an allocation fails.

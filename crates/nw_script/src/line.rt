@@ -128,12 +128,26 @@ fn read_request<'a>(
 ) -> Result<Request<'a>, LineFault> {
     Ok(match keyword {
         b"block" => Request::Block(block(alloc, words)?),
-        b"body" | b"digest" | b"read" | b"certificate" | b"causal" | b"walk" => {
-            request_of_name(keyword, words.name()?)
-        }
+        b"body" => Request::Body(words.name()?),
+        b"digest" => Request::Digest(words.name()?),
+        b"read" => Request::Read(words.name()?),
+        b"certificate" => Request::Certificate(words.name()?),
+        b"causal" => Request::Causal(words.name()?),
+        b"walk" => Request::Walk(words.name()?),
         b"hash" => Request::Hash(hash_word(words)?),
         b"write" => write(words)?,
-        b"certify" | b"valid" | b"gather" => request_of_signers(alloc, keyword, words)?,
+        b"certify" => {
+            let (name, signers) = named_signers(alloc, words)?;
+            Request::Certify { name, signers }
+        }
+        b"valid" => {
+            let (name, signers) = named_signers(alloc, words)?;
+            Request::Valid { name, signers }
+        }
+        b"gather" => {
+            let (name, signers) = named_signers(alloc, words)?;
+            Request::Gather { name, signers }
+        }
         b"open" => open(words)?,
         b"collect" => Request::Collect(words.round()?),
         b"missing" => Request::Missing(words.number_u16()?),
@@ -168,32 +182,12 @@ fn open<'a>(words: &mut Words<'a>) -> Result<Request<'a>, LineFault> {
     })
 }
 
-// The request with this keyword, which takes one name. It is inlined for the same reason.
-#[inline(always)]
-fn request_of_name<'a>(keyword: &[u8], name: Name<'a>) -> Request<'a> {
-    match keyword {
-        b"body" => Request::Body(name),
-        b"digest" => Request::Digest(name),
-        b"read" => Request::Read(name),
-        b"certificate" => Request::Certificate(name),
-        b"causal" => Request::Causal(name),
-        _ => Request::Walk(name),
-    }
-}
-
-// The request with this keyword, which takes a name and a list of signers.
-fn request_of_signers<'a>(
+// A name and a list of signers.
+fn named_signers<'a>(
     alloc: Global,
-    keyword: &[u8],
     words: &mut Words<'a>,
-) -> Result<Request<'a>, LineFault> {
-    let name = words.name()?;
-    let signers = words.members(alloc)?;
-    Ok(match keyword {
-        b"certify" => Request::Certify { name, signers },
-        b"valid" => Request::Valid { name, signers },
-        _ => Request::Gather { name, signers },
-    })
+) -> Result<(Name<'a>, Vec<u16>), LineFault> {
+    Ok((words.name()?, words.members(alloc)?))
 }
 
 fn committee(alloc: Global, words: &mut Words<'_>) -> Result<CommitteeLine, LineFault> {

@@ -5,7 +5,7 @@ ghost use Rattle.std.specs.Option.{option_copied};
 ghost use Rattle.nw_shared_list.specs.SharedList.{AreChunked, items_of};
 
 use crate::chunk::{CHUNK, Chunk};
-use crate::trail::{Link, Trail};
+use crate::trail::Trail;
 use nw_digest::{NoMemory, Shared};
 use std::alloc::Global;
 use std::marker::Model;
@@ -129,26 +129,6 @@ impl<H: Drop, T: Drop> SharedList<H, T> {
             return None;
         }
         self.tail.back(self.count - 1 - place)
-    }
-
-    /// A link to each item of the tail, in order: at most 255. `NoMemory` if an allocation fails.
-    pub fn tail_links(&self, alloc: Global) -> Result<Vec<Link<T>>, NoMemory>
-        ensures { IfOk result (λ links. links.items ≡ self.now.tail) }
-    {
-        self.tail.items(alloc, self.count)
-    }
-
-    /// The same as `get`, in a constant number of steps. `tail` must be what `tail_links` returned for this list.
-    pub fn get_with_links<'a>(&'a self, tail: &'a [Link<T>], index: usize) -> Option<&'a T>
-        requires { tail.now ≡ self.now.tail }
-        ensures { option_copied result ≡ slice_get (items_of self.now) index }
-    {
-        let chunks = self.root.get().full.as_slice().len();
-        if index / CHUNK < chunks {
-            return self.get(index);
-        }
-        let link = tail.get(index - CHUNK * chunks)?;
-        Some(link.item())
     }
 
     /// The last item, or `None` if the list is empty. The cost does not depend on the list's length.

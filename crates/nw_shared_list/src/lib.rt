@@ -10,4 +10,3 @@ mod trail;
 
 pub use chunk::CHUNK;
 pub use chunks::SharedList;
-pub use trail::Link;

@@ -16,7 +16,7 @@ struct Node<T: Drop> {
 
 /// A link to an item of a list, which shares ownership of the item. Contracts see the item.
 #[derive(Drop)]
-pub struct Link<T: Drop> {
+pub(crate) struct Link<T: Drop> {
     node: Arc<Node<T>>,
 }
 

@@ -6,3 +6,5 @@ pub mod HeldRaised
 pub mod Send
 pub mod Counted
 pub mod Slotted
+pub mod Gathered
+pub mod Copied

@@ -2,7 +2,7 @@
 use denote.RattleType.{RattleType}
 use denote.Param.Send.{IsSend, IsSync, sendable, view_send}
 use denote.Param.SendFields.{declared_send}
-use Rattle.std.proofs.Crossing.{crosses, frees, send, sync}
+use Rattle.std.proofs.Crossing.{crosses, frees, send}
 use Rattle.std.specs.contracts.alloc.Global as global
 use Rattle.std.specs.contracts.impls.GlobalAllocator.TheImpl.{ghosts}
 use Rattle.nw_digest.specs.contracts.shared.Shared as owner

@@ -12,7 +12,9 @@ ghost use Rattle.nw_model.specs.Step.{certified_digest, has_other_slot, other_fi
 ghost use Rattle.nw_model.specs.Step.{with_certificate};
 
 mod collection;
+mod copies;
 mod dropping;
+mod look;
 mod replies;
 
 use nw_codec::{Block, Certificate};

@@ -5,7 +5,10 @@ use Rattle.nw_committee.specs.declared.member.Member.{Member}
 use Rattle.nw_sig.specs.Signed.{Meaning}
 use Rattle.nw_model.specs.declared.call.Call.{Call}
 use Rattle.nw_model.specs.declared.reply.Reply.{Reply}
-use Rattle.nw_history.specs.Story.{Story, Origin}
+use Rattle.nw_digest.specs.Order.{Slot}
+use Rattle.nw_model.specs.Look.{IsLook, TellsSatisfied}
+use Rattle.nw_model.specs.declared.look.Look.{Look}
+use Rattle.nw_history.specs.Story.{Story, Origin, state_of}
 use Rattle.nw_history.specs.Prefix.{IsPrefixOf}
 use Rattle.nw_book.specs.Answer.{Takes}
 use Rattle.nw_book.specs.Turn.{IsRefusal, event}
@@ -31,6 +34,17 @@ pub record IsAnswered (accepts : Meaning) (history : Story) (old new : Journal) 
 abbrev pub IsExplained : Meaning → Origin → Journal → Journal → Call → Reply → Story → Type 0
 IsExplained accepts origin old new call reply front =
     (history : Story) × IsHistoryOf accepts origin history × IsAnswered accepts history old new call reply front
+
+-- after some history of the store, the look has what the store has in the slot, and tells which references of the next round are satisfied
+pub record IsSeen (accepts : Meaning) (origin : Origin) (slot : Slot) (seen : Look) : Type 0 where
+  -- the history of the store
+  pub history : Story
+  -- it is one of the store's histories
+  pub of_store : IsHistoryOf accepts origin history
+  -- the look has what the state after this history has in the slot
+  pub look : IsLook (state_of history) slot seen
+  -- it tells which references of the next round are satisfied
+  pub satisfied : TellsSatisfied (state_of history) slot seen
 
 -- after some history of the store, the session's next call takes no step for this cause; `under` is the committee of the checked value, if
 -- the call has one

@@ -23,7 +23,8 @@ pub use calls::{call_locked, open_locked};
 pub use error::{SettleFault, TooMany};
 pub use home::Home;
 pub use locked::{
-    Locked, check_journal_locked, check_journals_locked, compact_locked, session_locked,
+    Locked, check_journal_locked, check_journals_locked, compact_locked, look_locked,
+    session_locked,
 };
 pub use notes::{Note, hear_locked, note_locked, notes_carry_order};
 pub use nw_book::{

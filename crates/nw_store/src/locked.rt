@@ -4,8 +4,10 @@ ghost use Rattle.std.specs.Prelude.{IsErr, IfOk, IfErr, OnOk, OnErr};
 ghost use mathlib.Core.List.{IsPrefix};
 ghost use Rattle.nw_history.specs.Limits.{AreInRange};
 ghost use Rattle.nw_history.specs.declared.limits.TheConstants.{MAX_EVENTS, MAX_SESSIONS};
-ghost use Rattle.nw_history.specs.Story.{IsLegalStory, reopened};
+ghost use Rattle.nw_model.specs.Look.{IsLook};
+ghost use Rattle.nw_history.specs.Story.{IsLegalStory, reopened, state_of};
 ghost use Rattle.nw_store.specs.Journal.{ArePrefixesOf, AreComparable, AreAnswers, origin_of};
+ghost use Rattle.nw_store.specs.Answered.{IsSeen};
 ghost use Rattle.nw_store.specs.Lock.{parts_of_a_ledger};
 
 use crate::opening::Opening;
@@ -13,7 +15,8 @@ use crate::session::Session;
 use crate::{Home, TooMany};
 use nw_book::{Book, Front, History};
 use nw_claims::{Claim, Keeper};
-use nw_digest::NoMemory;
+use nw_digest::{NoMemory, Round};
+use nw_model::Look;
 use nw_sig::Scheme;
 use std::alloc::Global;
 use std::marker::Model;
@@ -181,6 +184,15 @@ pub fn compact_locked<S: Scheme, L: Home>(
     ensures same { locked.new ≡ locked.old }
 {
     locked.book.compact(alloc)
+}
+
+/// What the state after the history has in the slot of this round and author, for a caller that holds the lock. This is no call, and
+/// allocates nothing.
+pub fn look_locked<S: Scheme, L: Home>(locked: &Locked<S, L>, round: Round, author: u16) -> Look
+    ensures look { IsLook (state_of locked.now.history) (round, author) result }
+    ensures seen { IsSeen S.accepts L.origin (round, author) result }
+{
+    locked.book.look(round, author)
 }
 
 /// Proves that each front of the session is a prefix of the history, however much other sessions added to it. It changes nothing

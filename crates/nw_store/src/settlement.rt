@@ -222,7 +222,7 @@ pub struct Unsettled<S: Scheme, L: Home> {
 }
 
 /// Ends the store, and settles its sessions as `settle_locked` does. The order of the given sessions does not matter. The error returns
-/// everything, with the value that was under the lock in place of the store.
+/// everything, with the value that was under the lock in place of the store: each session's fronts begin its history.
 pub fn settle<S: Scheme, L: Home>(
     store: Store<S, L>,
     sessions: Vec<Session<S, L>>,
@@ -232,13 +232,18 @@ pub fn settle<S: Scheme, L: Home>(
     ensures settled { IfOk result (λ s. AreSettled s.history s.journals) }
     ensures refused { IfErr result (λ e. IsFault e.locked sessions.items e.fault) }
     ensures back { IfErr result (λ e. e.sessions.items ≡ sessions.items) }
+    ensures begun { IfErr result (λ e. All (λ s. ArePrefixesOf e.locked.history s.answers
+        × AreAnswers s.id 1 s.answers) sessions.items) }
 {
     match settle_locked(store.locked.into_inner(), sessions) {
         Ok(settled) => Ok(settled),
-        Err((fault, locked, sessions)) => Err(Unsettled {
-            fault,
-            locked,
-            sessions,
-        }),
+        Err((fault, mut locked, mut sessions)) => {
+            check_all_journals(&mut locked, sessions.as_mut_slice());
+            Err(Unsettled {
+                fault,
+                locked,
+                sessions,
+            })
+        }
     }
 }

@@ -1,4 +1,4 @@
--- Each side of a fork has fewer entries than the fork.
+-- The depth of a tree, as the kit counts it, is at most the number of its entries. The recursion over trees ends by it.
 use Rattle.std.specs.Prelude.{◌≤◌, length}
 use Rattle.std.proofs.Common.{arith, length-append}
 use Rattle.std.specs.declared.alloc.Allocator.{Ghosts}

@@ -1,6 +1,6 @@
 //! Maps from digests to values, in many trees.
 ghost use Rattle.std.specs.Prelude.{◌≡◌, ◌+◌, ◌<◌, ◌≤◌, [], length, is_some};
-ghost use Rattle.std.specs.Prelude.{IfOk, OnOk, OnErr, if◌then◌else◌};
+ghost use Rattle.std.specs.Prelude.{IfOk, IsTrue, OnOk, OnErr, None, ◌↔◌, if◌then◌else◌};
 ghost use Rattle.std.specs.Bool.{MatchBool};
 ghost use Rattle.std.specs.Option.{option_copied};
 ghost use Rattle.std.specs.Map.{lookup, remove_entry};
@@ -79,18 +79,17 @@ impl<V: Drop, A: Allocator + Copy> DigestMap<V, A> {
 
     /// Sets the value of the digest, and drops its old value if it had one.
     ///
-    /// `NoMemory`, if an allocation fails, or if there are `usize::MAX` entries already (more than any memory can hold). Then the new value
-    /// is dropped, and the map is unchanged.
+    /// `NoMemory` if the digest had no value, and an allocation fails or there are `usize::MAX` entries already (more than any memory can
+    /// hold). Then the new value is dropped, and the map is unchanged.
     pub fn put(&mut self, digest: Digest, value: V) -> Result<(), NoMemory>
         ensures put { OnOk result (self.new ≡ insert_entry digest_cmp self.old digest value) }
+        ensures absent { OnErr result (lookup (is_at (digest_cmp digest)) self.old ≡ None) }
         ensures unchanged { OnErr result (self.new ≡ self.old) }
     {
-        if self.len == usize::MAX {
+        if self.is_full_for(&digest) {
             return Err(NoMemory);
         }
-        if self.len >= self.trees.len() {
-            self.spread();
-        }
+        self.spread();
         let old = insert_at(&self.alloc, &mut self.trees, self.bits, digest, value)?;
         if old.is_none() {
             self.len += 1;
@@ -110,11 +109,22 @@ impl<V: Drop, A: Allocator + Copy> DigestMap<V, A> {
         value
     }
 
+    /// Whether there are `usize::MAX` entries, and none of the digest.
+    fn is_full_for(&self, digest: &Digest) -> bool
+        ensures { IsTrue result ↔ (length self.now ≡ usize.MAX)
+            × (lookup (is_at (digest_cmp digest.now)) self.now ≡ None) }
+    {
+        self.len == usize::MAX && self.get(digest).is_none()
+    }
+
     /// Makes the first tree, or spreads the entries over twice as many trees. The entries stay the same. If an allocation fails or there
     /// are enough trees, nothing changes.
     fn spread(&mut self)
         ensures { self.new ≡ self.old }
     {
+        if self.len < self.trees.len() {
+            return;
+        }
         if self.trees.is_empty() {
             if self.trees.reserve(1).is_ok() {
                 self.trees.push_reserved(Tree::empty());
@@ -153,7 +163,7 @@ fn spread_by<V: Drop, A: Allocator + Copy>(
 
 /// Sets the value of the digest in its tree, and returns its old value if it had one.
 ///
-/// `NoMemory` if an allocation fails, or if there is no tree. Then nothing changes.
+/// `NoMemory` if the digest had no value, and an allocation fails or there is no tree. Then nothing changes.
 fn insert_at<V: Drop, A: Allocator + Clone>(
     alloc: &A,
     trees: &mut Vec<Tree<V, A>, A>,
@@ -163,11 +173,15 @@ fn insert_at<V: Drop, A: Allocator + Clone>(
 ) -> Result<Option<V>, NoMemory>
     requires few { bits ≤ 24 }
     requires places { AreAtPlaces bits 0 trees.old.items }
+    ensures old { IfOk result
+        (λ old. old ≡ lookup (is_at (digest_cmp digest)) (joined trees.old.items)) }
     ensures entries { OnOk result
         (joined trees.new.items ≡ insert_entry digest_cmp (joined trees.old.items) digest value) }
     ensures len { IfOk result (λ old. length (joined trees.new.items)
         ≡ length (joined trees.old.items) + (if is_some old then 0 else 1)) }
     ensures places { AreAtPlaces bits 0 trees.new.items }
+    ensures absent { OnErr result
+        (lookup (is_at (digest_cmp digest)) (joined trees.old.items) ≡ None) }
     ensures unchanged { OnErr result (joined trees.new.items ≡ joined trees.old.items) }
 {
     let place = place(&digest, bits);

@@ -122,11 +122,12 @@ impl<V: Drop, A: Allocator> Trie<V, A> {
 
     /// Sets the value of the digest, and drops its old value if it had one.
     ///
-    /// `NoMemory` if `insert` fails. Then the new value is dropped, and the trie is unchanged.
+    /// `NoMemory` if `insert` fails. Then the digest had no value, the new value is dropped, and the trie is unchanged.
     pub fn put(&mut self, digest: Digest, value: V) -> Result<(), NoMemory>
     where
         A: Clone,
         ensures put { OnOk result (self.new ≡ insert_entry digest_cmp self.old digest value) }
+        ensures absent { OnErr result (lookup (is_at (digest_cmp digest)) self.old ≡ None) }
         ensures unchanged { OnErr result (self.new ≡ self.old) }
     {
         match self.insert(digest, value) {

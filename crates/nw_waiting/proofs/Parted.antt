@@ -153,6 +153,30 @@ module _ (s t : Pairs) (ks : List Wanted) (wanted : Wanted) (holder : Digest) (a
             by : (a m k : Bool) → (a ≡ true → m ≡ true → k ≡ true) → (m && cond a true k) ≡ (m && k)
             by a m k is = grind arith
 
+-- ---- nothing changes
+
+pub others_same_state : (holder : Digest) (old new : Parted) → new ≡ old → AreSameForOthers holder old new
+others_same_state holder old new same = subst (AreSameForOthers holder old) (sym same) (λ h w other. ((λ is. is, λ is. is), (λ is. is, λ is. is)))
+
+-- a parent that was not unmet is put in, and then taken out
+module _ (s t : Pairs) (ks ls ms : List Wanted) (wanted : Wanted) (same : t ≡ s) (put : (w : Wanted) → is_one ls w ≡ cond (eq_by_cmp wanted_cmp wanted w) true (is_one ks w))
+    (took : (w : Wanted) → is_one ms w ≡ cond (eq_by_cmp wanted_cmp wanted w) false (is_one ls w)) (fresh : not (is_one ks wanted) ≡ true) where
+  back : (w : Wanted) → is_one ms w ≡ is_one ks w
+  back w = took w ∙ ap (λ k. cond (eq_by_cmp wanted_cmp wanted w) false k) (put w) ∙ by (eq_by_cmp wanted_cmp wanted w) (is_one ks w) (λ e. subst (λ v. not (is_one ks v) ≡ true) (one_wanted wanted w e) fresh)
+    where
+      by : (b k : Bool) → (b ≡ true → not k ≡ true) → cond b false (cond b true k) ≡ k
+      by b k is = grind arith
+
+  pub held_back : HaveHolders s ks → HaveHolders t ms
+  held_back held w is = subst (λ u. (h : Digest) × Lacks u h w) (sym same) (held w (sym (back w) ∙ is))
+
+  pub taken_back : parted t ms ≡ parted s ks
+  taken_back =
+      ap (λ u. let p : Parted = record { unmet = u; lacking = t } in p) unmet ∙ ap (λ l. let p : Parted = record { unmet = (parted s ks).unmet; lacking = l } in p) same
+    where
+      unmet : (parted t ms).unmet ≡ (parted s ks).unmet
+      unmet = unmet_is t ms _ (λ w h. ap (λ u. contains u (w, h) && is_one ms w) same ∙ ap (λ b. contains s (w, h) && b) (back w) ∙ sym (at_unmet s ks w h))
+
 -- ---- a holder no longer waits
 
 -- `now` has each parent of `ks` that is still wanted, and else only parents of `rest`

@@ -1,5 +1,5 @@
 //! The table of missing parents.
-ghost use Rattle.std.specs.Prelude.{◌≡◌, IfOk, OnOk, if◌then◌else◌, take};
+ghost use Rattle.std.specs.Prelude.{◌≡◌, IfOk, OnErr, OnOk, if◌then◌else◌, take};
 ghost use Rattle.std.specs.BTreeSet.{IsOrdered};
 ghost use Rattle.std.specs.FinSet as set;
 ghost use Rattle.nw_waiting.specs.Pairs.{AreFirst, AreHolders, LacksCount, WantedCount};
@@ -50,7 +50,7 @@ impl<A: Allocator + Copy> MissingParents<A> {
     /// Records that the holder is missing this parent, which is met or not (`is_met`). If other holders are missing it, `is_met` must say
     /// the same for them.
     ///
-    /// `NoMemory` if an allocation fails. Then the set of all pairs may have the pair, and that of unmet parents lacks it.
+    /// `NoMemory` if an allocation fails. Then nothing changes.
     pub fn want(&mut self, wanted: Wanted, holder: Digest, is_met: bool) -> Result<(), NoMemory>
         requires { IsMetForAll self.old wanted is_met }
         ensures lacking { OnOk result
@@ -58,12 +58,18 @@ impl<A: Allocator + Copy> MissingParents<A> {
         ensures unmet { OnOk result (self.new.unmet
             ≡ (if is_met then self.old.unmet else set.insert self.old.unmet (wanted, holder))) }
         ensures others { AreSameForOthers holder self.old self.new }
+        ensures unchanged { OnErr result (self.new ≡ self.old) }
     {
-        // The borrow checker needs a second copy.
-        let parent = wanted;
-        self.lacking.want(wanted, holder)?;
-        if !is_met {
-            self.unmet.insert(parent)?;
+        if is_met {
+            self.lacking.want(wanted, holder)?;
+            return Ok(());
+        }
+        let is_new = self.unmet.insert(wanted)?;
+        if let Err(refused) = self.lacking.want(wanted, holder) {
+            if is_new {
+                let _was_unmet = self.unmet.remove(&wanted);
+            }
+            return Err(refused);
         }
         Ok(())
     }

@@ -15,6 +15,7 @@ mod lengths;
 mod limits;
 mod lines;
 mod messages;
+mod peeks;
 mod signatures;
 mod signed;
 mod threads;

@@ -8,6 +8,7 @@ use std::alloc::{AllocError, Global};
 use std::test::Fail;
 
 mod asking;
+mod books;
 mod chains;
 mod endings;
 mod errors;

@@ -1,9 +1,11 @@
 use nw_codec::Block;
 use nw_digest::{Digest, NoMemory, Round, Shared};
+use nw_generation::View;
 use samples::{allow_allocations, fail_allocations, name, retry, round};
 use std::alloc::Global;
 
 mod dags;
+mod owns;
 mod plains;
 mod tables;
 mod views;

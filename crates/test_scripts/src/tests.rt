@@ -1,5 +1,5 @@
 use nw_play::{PlayFault, play};
-use std::io::{self, Read, Write};
+use std::io::{self, ErrorKind, Read, Write};
 use std::test::Fail;
 
 mod loads;
@@ -107,6 +107,48 @@ fn readers_and_writers_fail(rt: HostRuntime) {
             page.bytes.starts_with(PRINTS.get(..used).unwrap_or(&[])),
             "{shows}"
         );
+    }
+}
+
+/// A reader that is interrupted `left` times before it gives the script, and counts its reads.
+#[derive(Drop)]
+struct Interrupted<'a> {
+    drip: Drip<'a>,
+    left: usize,
+}
+
+impl Read for Interrupted<'_> {
+    fn read(&mut self, buf: &mut [u8]) -> io::Result<usize> {
+        if self.left == 0 {
+            return self.drip.read(buf);
+        }
+        self.left -= 1;
+        self.drip.reads = self.drip.reads.saturating_add(1);
+        Err(io::Error::from(ErrorKind::Interrupted))
+    }
+}
+
+/// Interruptions before the script is given, the outcome, and the numbers of reads and of bytes written. The script takes 47 reads, and a
+/// reader is asked at most 1,048,577 times.
+const INTERRUPTIONS: [(usize, Result<(), PlayFault>, usize, usize); 3] = [
+    (3, Ok(()), 50, 36),
+    (1_048_530, Ok(()), 1_048_577, 36),
+    (1_048_531, Err(PlayFault::TooLong), 1_048_577, 0),
+];
+
+#[test]
+fn interrupted_reads_are_repeated_and_counted(rt: HostRuntime) {
+    for (left, outcome, reads, used) in INTERRUPTIONS {
+        let drip = Drip {
+            rest: SCRIPT,
+            left: usize::MAX,
+            reads: 0,
+        };
+        let mut reader = Interrupted { drip, left };
+        let mut page = empty_page(9);
+        let played = play(&rt, rt.alloc(), &mut reader, &mut page);
+        assert_eq!(rt; (played, reader.drip.reads), (outcome, reads), "{left}");
+        assert_eq!(rt; page.bytes.get(..page.used), PRINTS.get(..used), "{left}");
     }
 }
 

@@ -1,5 +1,7 @@
 //! The allocation functions that the library calls, over those of the C library.
 
+#[cfg(target_os = "linux")]
+use std::arch::global_asm;
 use std::ffi::c_void;
 use std::ptr;
 
@@ -36,7 +38,10 @@ unsafe extern "C" {
 #[unsafe(no_mangle)]
 pub extern "C" fn rattle_alloc(n: usize, align: usize) -> Allocated {
     // SAFETY: malloc takes any size, and aligns to 16.
-    Allocated::by(|size| unsafe { malloc(size) }, n, align)
+    let allocated = Allocated::by(|size| unsafe { malloc(size) }, n, align);
+    #[cfg(test)]
+    crate::refusals::note_allocated(allocated.is_there);
+    allocated
 }
 
 /// Resizes an allocation of `rattle_alloc` to `n` bytes. The library calls it with a pointer that
@@ -57,6 +62,42 @@ pub unsafe extern "C" fn rattle_realloc(
 // SAFETY: as for `rattle_alloc`.
 #[unsafe(no_mangle)]
 pub unsafe extern "C" fn rattle_dealloc(at: *mut c_void) {
+    #[cfg(test)]
+    crate::refusals::note_freed();
     // SAFETY: `at` is from malloc or realloc, and is not used afterwards.
     unsafe { free(at) }
+}
+
+// A shared object exports each function that is marked `no_mangle`, also one of a crate that it
+// links. This hides them: only the library calls them, and another object that is loaded may have
+// functions of the same names.
+#[cfg(target_os = "linux")]
+global_asm!(
+    ".hidden rattle_alloc",
+    ".hidden rattle_realloc",
+    ".hidden rattle_dealloc",
+);
+
+#[cfg(test)]
+mod tests {
+    use super::Allocated;
+    use std::ptr;
+
+    #[test]
+    fn a_failed_allocation_is_not_there_and_not_null() {
+        let failed = Allocated::by(|_| ptr::null_mut(), 8, 8);
+        assert!(!failed.is_there && !failed.at.is_null());
+    }
+
+    #[test]
+    fn an_allocation_of_no_bytes_has_a_place() {
+        let mut place = 0_u64;
+        for (n, asked) in [(0, 16), (5, 5)] {
+            let allocate = |size| {
+                assert_eq!(size, asked);
+                ptr::from_mut(&mut place).cast()
+            };
+            assert!(Allocated::by(allocate, n, 16).is_there);
+        }
+    }
 }

@@ -22,7 +22,8 @@ const LAST: u64 = 600;
 pub struct Plan<'a> {
     pub seen: &'a Tally,
     pub limits: Limits,
-    pub restart_when_full: bool,
+    /// The bytes and events at which the store restarts its history. `None` if it never does.
+    pub restart: Option<(u64, u32)>,
     /// The percentages of lost, late and repeated messages.
     lost: u64,
     late: u64,
@@ -56,7 +57,13 @@ impl<'a> Plan<'a> {
                 window,
                 sessions: draw.between(1, 4) as u32,
             },
-            restart_when_full: draw.chance(50),
+            restart: draw.chance(60).then(|| {
+                let bytes = [u64::MAX, draw.between(300, 30_000)][draw.index(2)];
+                (
+                    bytes,
+                    [u32::MAX, draw.between(1, 200) as u32][draw.index(2)],
+                )
+            }),
             lost: [0, 5, 20][draw.index(3)],
             late: [5, 20, 60][draw.index(3)],
             twice: [0, 5, 20][draw.index(3)],

@@ -42,6 +42,8 @@ pub struct Node<'a> {
     /// The state that the history starts from, and its events.
     base: Model,
     told: Vec<RawTagged>,
+    /// The bytes of these events.
+    bytes: u64,
     /// The last answer of the history, and some of the earlier ones.
     last: Option<Rc<dyn Explained>>,
     earlier: Vec<Rc<dyn Explained>>,
@@ -73,6 +75,7 @@ impl<'a> Node<'a> {
             base: model.clone(),
             model,
             told: Vec::new(),
+            bytes: 0,
             last: None,
             earlier: Vec::new(),
             outlived: None,
@@ -200,9 +203,7 @@ impl<'a> Node<'a> {
 
     /// Makes a call in some session, and compares the reply and the history with the model's.
     fn step(&mut self, draw: &mut Draw, call: &Call, checked: Option<&Checked>) -> Reply {
-        if self.told.len() == self.plan.limits.events as usize {
-            self.meet_the_limit(call, checked);
-        }
+        self.meet_the_limit(call, checked);
         let at = draw.index(self.sessions.len());
         let (session, calls) = &mut self.sessions[at];
         *calls += 1;
@@ -214,6 +215,12 @@ impl<'a> Node<'a> {
             reply.clone()
         };
         assert_eq!(heard.reply, expected, "the reply to {call:?}");
+        self.bytes += bytes_of(call, &reply);
+        assert_eq!(
+            self.store.history_bytes(),
+            self.bytes,
+            "bytes after {call:?}"
+        );
         self.told.push(RawTagged {
             session: at as u16,
             number: *calls,
@@ -228,20 +235,25 @@ impl<'a> Node<'a> {
         reply
     }
 
-    /// The history is full. The store refuses the call, or restarts the history by itself if it was opened so.
+    /// The store restarts a history that is due before the call. A store that never restarts refuses the call if the history is full.
     fn meet_the_limit(&mut self, call: &Call, checked: Option<&Checked>) {
-        if self.plan.restart_when_full {
-            self.replay_history();
-            self.begin_history();
-            return;
+        let (events, most) = (self.told.len(), self.plan.limits.events);
+        if let Some((bytes, restart_events)) = self.plan.restart {
+            let is_over = self.bytes + most_bytes_of(call) > bytes;
+            if events > 0 && (is_over || events >= most.min(restart_events) as usize) {
+                self.plan.seen.count("automatic restart".into());
+                self.replay_history();
+                self.begin_history();
+            }
+        } else if events == most as usize {
+            let refused = ask_store(&self.sessions[0].0, call, checked);
+            assert!(
+                matches!(refused, Err(StepError::HistoryFull)),
+                "a call after the last event"
+            );
+            self.plan.seen.count("history full".into());
+            self.restart();
         }
-        let refused = ask_store(&self.sessions[0].0, call, checked);
-        assert!(
-            matches!(refused, Err(StepError::HistoryFull)),
-            "a call after the last event"
-        );
-        self.plan.seen.count("history full".into());
-        self.restart();
     }
 
     /// Checks the whole history, and begins another one over the same state.
@@ -267,6 +279,7 @@ impl<'a> Node<'a> {
         }
         self.base = self.model.clone();
         self.told.clear();
+        self.bytes = 0;
         self.sessions.iter_mut().for_each(|(_, calls)| *calls = 0);
         self.earlier.clear();
     }
@@ -299,6 +312,9 @@ impl<'a> Node<'a> {
 
     /// Makes a call that is refused: it is no event.
     fn refused(&mut self, draw: &mut Draw, call: &Call, checked: Option<&Checked>) -> StepError {
+        if self.plan.restart.is_some() {
+            self.meet_the_limit(call, checked);
+        }
         let (session, _) = &self.sessions[draw.index(self.sessions.len())];
         let refused = ask_store(session, call, checked).map(|heard| heard.reply);
         assert_eq!(
@@ -380,10 +396,31 @@ impl<'a> Node<'a> {
 }
 
 fn open(committee: &Committee, plan: &Plan) -> Store {
-    let builder = Store::builder(committee)
-        .limits(plan.limits)
-        .restart_when_full(plan.restart_when_full);
+    let builder = Store::builder(committee).limits(plan.limits);
+    let builder = match plan.restart {
+        Some((bytes, events)) => builder.restart_when(bytes, events),
+        None => builder.never_restart(),
+    };
     builder.open().expect("a store")
+}
+
+/// The most bytes that the event of the call can take.
+fn most_bytes_of(call: &Call) -> u64 {
+    match call {
+        Call::Write(block) => 300 + block.body.len() as u64,
+        Call::Certify(certificate) => 300 + certificate.message.len() as u64,
+        Call::Missing(most) => 150 + 48 * u64::from(*most),
+        _ => 150,
+    }
+}
+
+/// The bytes of the event. A block or a certificate that is not stored, and parents that are not listed, take none.
+fn bytes_of(call: &Call, reply: &Reply) -> u64 {
+    match reply {
+        Reply::Stored { .. } | Reply::Clash | Reply::Certified => most_bytes_of(call),
+        Reply::Missing(listed) => 150 + 48 * listed.len() as u64,
+        _ => 150,
+    }
 }
 
 fn round_of(call: &Call) -> Option<u64> {

@@ -4,6 +4,7 @@ ghost use Rattle.nw_history.specs.Story.{reopened};
 
 use super::Book;
 use nw_digest::NoMemory;
+use nw_history::History;
 use nw_sig::Scheme;
 use std::alloc::Global;
 
@@ -11,7 +12,7 @@ impl<S: Scheme> Book<S> {
     /// The reopened book. It has the same tables, committee and limits, and an empty history, whose base is the state after the old
     /// history. Each session starts again with call 1. Earlier tickets and fronts do not change.
     ///
-    /// It copies the old base and repeats the old history's writes, certificates and collections on the copy.
+    /// It copies the tables, sharing the blocks and certificates. The cost grows with the number of these, whatever the old history has.
     ///
     /// `NoMemory`: an allocation failed. The error returns the book unchanged.
     pub fn reopen(mut self, alloc: Global) -> Result<Book<S>, (NoMemory, Book<S>)>
@@ -31,8 +32,16 @@ impl<S: Scheme> Book<S> {
         ensures restarted { OnOk result (self.new ≡ reopened self.old) }
         ensures unchanged { OnErr result (self.new ≡ self.old) }
     {
-        self.history = self.history.restarted(alloc)?;
+        self.history = self.restarted(alloc)?;
         self.calls.as_mut_slice().fill(0);
         Ok(())
+    }
+
+    /// The history without events that starts where the book's history ends.
+    fn restarted(&self, alloc: Global) -> Result<History<S>, NoMemory>
+        ensures { IfOk result (λ history. history ≡ reopened self.now) }
+    {
+        let state = self.tables.copy(alloc)?;
+        self.history.restarted(alloc, state)
     }
 }

@@ -11,11 +11,10 @@ ghost use Rattle.nw_book.specs.Turn.{HasRoom, IsInTurn, event};
 
 use super::Book;
 use crate::{Done, Entry, Ticket};
-use nw_dag::Dag;
 use nw_digest::{Digest, NoMemory};
 use nw_generation::View;
 use nw_history::Front;
-use nw_model::{Call, CausalReply, CertifyReply, Event, Reply, WriteReply};
+use nw_model::{Call, CausalReply, Event, Reply};
 use nw_sig::Scheme;
 use std::alloc::Global;
 
@@ -44,7 +43,7 @@ impl<S: Scheme> Book<S> {
     {
         let mut call = call;
         let reply = self.reply(alloc, &call)?;
-        share_kept(&self.tables, &mut call, &reply)?;
+        call.record(&reply);
         let event = Event {
             session,
             number,
@@ -168,36 +167,5 @@ fn read_event(session: u16, number: u32, digest: Digest, reply: Reply) -> Event
         number,
         call: Call::Causal(digest),
         reply,
-    }
-}
-
-/// If the tables have an equal block or certificate, the call shares that one from now on, so that the history keeps no second copy.
-fn share_kept(tables: &Dag, call: &mut Call, reply: &Reply) -> Result<(), NoMemory>
-    requires reply { IsReply tables.now.bounds tables.now.state call.old reply.now }
-    ensures { call.new ≡ call.old }
-{
-    match (&*call, reply) {
-        (Call::Write(digest, _), Reply::Write(WriteReply::Held)) => {
-            let digest = *digest;
-            if let Some(held) = tables.read(&digest)? {
-                *call = Call::Write(digest, held);
-            }
-        }
-        (Call::Certify(certificate), Reply::Certify(CertifyReply::Already)) => {
-            if let Some(kept) = tables.certificate(&certificate.get().digest)? {
-                replace_same(call, Call::Certify(kept));
-            }
-        }
-        _ => {}
-    }
-    Ok(())
-}
-
-/// Replaces the call by the other one if both are equal.
-fn replace_same(call: &mut Call, other: Call)
-    ensures { call.new ≡ call.old }
-{
-    if other.is_same(call) {
-        *call = other;
     }
 }

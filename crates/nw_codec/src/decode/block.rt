@@ -8,6 +8,7 @@ ghost use Rattle.nw_codec.specs.Faults.{AtVersion, AtParentCount, AtTransactionC
 ghost use Rattle.nw_codec.specs.Faults.{AtTransactionLength, AtSignature};
 ghost use Rattle.nw_codec.specs.Faults.{at_transactions, Reaches, FaultFrom};
 ghost use Rattle.nw_codec.specs.Grammar.{parent_bytes};
+ghost use Rattle.nw_codec.specs.Limits.{longest_body};
 ghost use Rattle.nw_codec.specs.Parts.{HeadAt, ParentsAt, TransactionsAt, AreBlockParts, Decodes};
 ghost use Rattle.nw_codec.specs.Spelled.{Spells};
 ghost use Rattle.nw_codec.specs.Typed.{IsRef};
@@ -110,7 +111,7 @@ fn read_transactions(size: usize, text: &[u8]) -> Result<(usize, &[u8], &[u8]), 
 
 /// The rest after `count` transactions. `size` is the number of bytes of the body so far.
 fn after_transactions(count: usize, size: usize, text: &[u8]) -> Result<&[u8], DecodeError>
-    requires { size ≤ MAX_BODY }
+    requires { size ≤ longest_body }
     ensures { MatchResult result
         (λ rest. Reaches (at_transactions count size) text.now AtSignature rest.now)
         (λ e. FaultFrom (at_transactions count size) text.now e) }
@@ -128,9 +129,9 @@ fn after_transactions(count: usize, size: usize, text: &[u8]) -> Result<&[u8], D
 /// The number of bytes of the body up to the end of the transaction at the front, and the rest. `size` is this number
 /// before the transaction.
 fn after_transaction(size: usize, text: &[u8]) -> Result<(usize, &[u8]), DecodeError>
-    requires { size ≤ MAX_BODY }
+    requires { size ≤ longest_body }
     ensures { (more : ℕ) → MatchResult result
-        (λ x. (x.0 ≤ MAX_BODY)
+        (λ x. (x.0 ≤ longest_body)
         × Reaches (AtTransactionLength more size) text.now (at_transactions more x.0) x.1.now)
         (λ e. FaultFrom (AtTransactionLength more size) text.now e) }
 {

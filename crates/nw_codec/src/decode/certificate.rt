@@ -20,9 +20,9 @@ use crate::{Certificate, DecodeError, Message, Seal, Signature, Vote};
 use nw_digest::{Digest, NoMemory, Round, Sequence};
 use std::alloc::Global;
 
-/// The subject of a vote or a certificate: the digest, the round and the author of a block.
+/// The fields of a subject's text. The round is still a number.
 #[derive(Clone, Copy)]
-struct Subject {
+struct SubjectParts {
     digest: Digest,
     round: u64,
     author: u16,
@@ -31,7 +31,7 @@ struct Subject {
 /// The checked fields of a certificate's text. The seals are still encoded.
 #[derive(Drop)]
 struct CertificateParts<'a> {
-    subject: Subject,
+    subject: SubjectParts,
     seals: &'a [u8],
 }
 
@@ -75,7 +75,7 @@ fn read_certificate(text: &[u8]) -> Result<CertificateParts<'_>, DecodeError>
 }
 
 /// The subject at the front of the text, and the rest.
-fn read_subject(text: &[u8]) -> Result<(Subject, &[u8]), DecodeError>
+fn read_subject(text: &[u8]) -> Result<(SubjectParts, &[u8]), DecodeError>
     ensures { (kind : Kind) → MatchResult result
         (λ x. SubjectAt text.now x.0.digest x.0.round x.0.author x.1.now)
         (λ e. FaultFrom (AtDigest kind) text.now e) }
@@ -85,7 +85,7 @@ fn read_subject(text: &[u8]) -> Result<(Subject, &[u8]), DecodeError>
     let (author, rest) = read_number(rest)?;
     let digest = Digest(*digest);
     Ok((
-        Subject {
+        SubjectParts {
             digest,
             round,
             author,

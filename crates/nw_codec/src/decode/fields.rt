@@ -27,7 +27,7 @@ pub(crate) fn front<const N: usize>(text: &[u8]) -> (&[u8; N], &[u8])
 }
 
 /// The number of two bytes at the front of the text, and the rest.
-pub(super) fn number_of(text: &[u8]) -> (u16, &[u8])
+pub(crate) fn number_of(text: &[u8]) -> (u16, &[u8])
     requires { 2 ≤ length text.now }
     ensures { NumberAt text.now result.0 result.1.now }
 {
@@ -46,14 +46,25 @@ pub(super) fn read_number(text: &[u8]) -> Result<(u16, &[u8]), DecodeError>
     Ok(number_of(text))
 }
 
+/// The round of six bytes at the front of the text, as a number, and the rest.
+pub(crate) fn round_of(text: &[u8]) -> (u64, &[u8])
+    requires { 6 ≤ length text.now }
+    ensures { RoundAt text.now result.0 result.1.now }
+{
+    let (bytes, rest) = front::<6>(text);
+    let [a, b, c, d, e, f] = *bytes;
+    (u64::from_be_bytes([0, 0, a, b, c, d, e, f]), rest)
+}
+
 /// The round of six bytes at the front of the text, as a number, and the rest. `Short` if there are fewer bytes.
 pub(super) fn read_round(text: &[u8]) -> Result<(u64, &[u8]), DecodeError>
     ensures { MatchResult result (λ x. RoundAt text.now x.0 x.1.now)
         (λ e. (length text.now < 6) × (e ≡ Short)) }
 {
-    let (bytes, rest) = field::<6>(text)?;
-    let [a, b, c, d, e, f] = *bytes;
-    Ok((u64::from_be_bytes([0, 0, a, b, c, d, e, f]), rest))
+    if text.len() < 6 {
+        return Err(DecodeError::Short);
+    }
+    Ok(round_of(text))
 }
 
 /// The count at the front of the text, at most `max`, and the rest. `over` is the fault of a greater count.

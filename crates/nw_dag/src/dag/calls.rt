@@ -44,7 +44,8 @@ impl Dag {
                 Ok(Reply::Write(self.held.write_reply(digest, block.get())))
             }
             Call::Certify(certificate) => {
-                Ok(Reply::Certify(self.held.certify_reply(certificate.get())))
+                let subject = certificate.get().subject();
+                Ok(Reply::Certify(self.held.asked_certify_reply(&subject)))
             }
             Call::Certificate(digest) => Ok(Reply::Certificate(self.certificate(digest)?)),
             Call::Read(digest) => Ok(Reply::Read(self.read(digest)?)),
@@ -52,6 +53,8 @@ impl Dag {
             Call::Collect(round) => Ok(Reply::Collect(self.held.collect_reply(*round))),
             Call::Missing(most) => Ok(Reply::Missing(self.missing(alloc, *most)?)),
             Call::Status => Ok(Reply::Status(self.status())),
+            Call::AskWrite(subject) => Ok(Reply::Write(self.held.asked_write_reply(subject))),
+            Call::AskCertify(subject) => Ok(Reply::Certify(self.held.asked_certify_reply(subject))),
         }
     }
 
@@ -82,7 +85,7 @@ impl Dag {
         ensures bounds { self.new.bounds ≡ self.old.bounds }
         ensures unchanged { OnErr result (self.new ≡ self.old) }
     {
-        let reply = self.held.certify_reply(certificate.get());
+        let reply = self.held.asked_certify_reply(&certificate.get().subject());
         self.take_certify(certificate, &reply)?;
         Ok(reply)
     }

@@ -2,11 +2,11 @@
 ghost use Rattle.std.specs.Prelude.{◌≡◌, ◌≤◌, IfOk, OnOk, OnErr, IsNone, None, false};
 ghost use Rattle.std.specs.FinMap as map;
 ghost use Rattle.nw_model.specs.State.{block_slot, certificate_slot};
-ghost use Rattle.nw_model.specs.Step.{certify_reply, certified_digest, has_other_slot};
+ghost use Rattle.nw_model.specs.Step.{asked_certify_reply, certified_digest, has_other_slot};
 ghost use Rattle.nw_model.specs.Step.{with_certificate};
 
 use super::{Plain, insert_both};
-use nw_codec::Certificate;
+use nw_codec::{Certificate, Subject};
 use nw_digest::{Digest, NoMemory, Round, Shared};
 use nw_model::CertifyReply;
 
@@ -24,25 +24,25 @@ impl Plain {
         }
     }
 
-    /// The reply that a certificate would get now.
-    pub(super) fn certify_reply(&self, certificate: &Certificate) -> CertifyReply
-        ensures { result ≡ certify_reply self.now.bounds self.now.state certificate.now }
+    /// The reply that a certificate for this subject would get now.
+    pub(super) fn asked_certify_reply(&self, subject: &Subject) -> CertifyReply
+        ensures { result ≡ asked_certify_reply self.now.bounds self.now.state subject.now }
     {
-        let slot = (certificate.round, certificate.author);
-        if certificate.round < self.floor {
+        let slot = (subject.round, subject.author);
+        if subject.round < self.floor {
             return CertifyReply::Collected(self.floor);
         }
-        if certificate.round.get() >= self.floor.get() + u64::from(self.window) {
+        if subject.round.get() >= self.floor.get() + u64::from(self.window) {
             return CertifyReply::TooFar;
         }
-        if let Some(held) = self.certificate(&certificate.digest) {
+        if let Some(held) = self.certificate(&subject.digest) {
             return if (held.round, held.author) == slot {
                 CertifyReply::Already
             } else {
                 CertifyReply::Misfit
             };
         }
-        if let Some(block) = self.block(&certificate.digest) {
+        if let Some(block) = self.block(&subject.digest) {
             if (block.round, block.author) != slot {
                 return CertifyReply::Misfit;
             }

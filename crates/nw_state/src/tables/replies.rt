@@ -1,11 +1,11 @@
 //! The replies to writes and certificates.
 ghost use Rattle.std.specs.Prelude.{◌≡◌, None, Some, is_some, if◌then◌else◌};
 ghost use Rattle.std.specs.Option.{option_and_then, option_copied};
-ghost use Rattle.nw_model.specs.State.{block_slot, certificate_slot};
-ghost use Rattle.nw_model.specs.Step.{write_reply, certify_reply, is_digest, has_other_slot};
+ghost use Rattle.nw_model.specs.State.{certificate_slot, subject_slot};
+ghost use Rattle.nw_model.specs.Step.{write_reply, asked_write_reply, asked_certify_reply, has_other_slot, is_digest, is_held_block};
 
 use super::StateTables;
-use nw_codec::{Block, Certificate};
+use nw_codec::{Block, Certificate, Subject};
 use nw_digest::{Digest, Shared};
 use nw_model::{CertifyReply, WriteReply};
 
@@ -14,25 +14,41 @@ impl StateTables {
     pub fn write_reply(&self, digest: &Digest, block: &Block) -> WriteReply
         ensures { result ≡ write_reply self.now.bounds self.now.state digest.now block.now }
     {
-        if block.round < self.floor {
+        match self.asked_write_reply(&block.subject(*digest)) {
+            WriteReply::Held if !self.holds_block(digest, block) => WriteReply::Clash,
+            reply => reply,
+        }
+    }
+
+    /// Whether this block is held under the digest.
+    fn holds_block(&self, digest: &Digest, block: &Block) -> bool
+        ensures { result ≡ is_held_block self.now.state digest.now block.now }
+    {
+        match self.block(digest) {
+            None => false,
+            Some(held) => block == held.get(),
+        }
+    }
+
+    /// The reply that a write with this subject would get now: `Held` if any block is held under its digest. Allocates nothing.
+    pub fn asked_write_reply(&self, subject: &Subject) -> WriteReply
+        ensures { result ≡ asked_write_reply self.now.bounds self.now.state subject.now }
+    {
+        if subject.round < self.floor {
             return WriteReply::Collected(self.floor);
         }
-        if block.round.get() >= self.floor.get() + u64::from(self.window) {
+        if subject.round.get() >= self.floor.get() + u64::from(self.window) {
             return WriteReply::TooFar;
         }
-        if let Some(held) = self.block(digest) {
-            return if block == held.get() {
-                WriteReply::Held
-            } else {
-                WriteReply::Clash
-            };
+        if self.block(&subject.digest).is_some() {
+            return WriteReply::Held;
         }
-        let certificate = self.certificate(digest);
-        if is_misfit(certificate, block) {
+        let certificate = self.certificate(&subject.digest);
+        if is_misfit(certificate, subject) {
             return WriteReply::Misfit;
         }
-        let first = self.first(block.round, block.author);
-        if let Some(other_first) = other_first(certificate, first, digest) {
+        let first = self.first(subject.round, subject.author);
+        if let Some(other_first) = other_first(certificate, first, &subject.digest) {
             return WriteReply::Equivocates(other_first);
         }
         if self.blocks() >= self.limit as usize {
@@ -43,31 +59,31 @@ impl StateTables {
         }
     }
 
-    /// The reply that the certificate would get now. Allocates nothing.
-    pub fn certify_reply(&self, certificate: &Certificate) -> CertifyReply
-        ensures { result ≡ certify_reply self.now.bounds self.now.state certificate.now }
+    /// The reply that a certificate for this subject would get now. Allocates nothing.
+    pub fn asked_certify_reply(&self, subject: &Subject) -> CertifyReply
+        ensures { result ≡ asked_certify_reply self.now.bounds self.now.state subject.now }
     {
-        if certificate.round < self.floor {
+        if subject.round < self.floor {
             return CertifyReply::Collected(self.floor);
         }
-        if certificate.round.get() >= self.floor.get() + u64::from(self.window) {
+        if subject.round.get() >= self.floor.get() + u64::from(self.window) {
             return CertifyReply::TooFar;
         }
-        if let Some(held) = self.certificate(&certificate.digest) {
+        if let Some(held) = self.certificate(&subject.digest) {
             let held = held.get();
-            return if (held.round, held.author) == (certificate.round, certificate.author) {
+            return if (held.round, held.author) == (subject.round, subject.author) {
                 CertifyReply::Already
             } else {
                 CertifyReply::Misfit
             };
         }
-        if let Some(block) = self.block(&certificate.digest) {
+        if let Some(block) = self.block(&subject.digest) {
             let block = block.get();
-            if (block.round, block.author) != (certificate.round, certificate.author) {
+            if (block.round, block.author) != (subject.round, subject.author) {
                 return CertifyReply::Misfit;
             }
         }
-        if let Some(other) = self.certified(certificate.round, certificate.author) {
+        if let Some(other) = self.certified(subject.round, subject.author) {
             return CertifyReply::Conflict(other);
         }
         if self.certificates() >= self.limit as usize {
@@ -77,16 +93,16 @@ impl StateTables {
     }
 }
 
-/// Whether there is a certificate, and it is for another round or author than the block's.
-fn is_misfit(certificate: Option<&Shared<Certificate>>, block: &Block) -> bool
-    ensures { result
-        ≡ has_other_slot certificate_slot (option_copied certificate.entry) (block_slot block.now) }
+/// Whether there is a certificate, and it is for another round or author than the subject's.
+fn is_misfit(certificate: Option<&Shared<Certificate>>, subject: &Subject) -> bool
+    ensures { result ≡ has_other_slot certificate_slot
+        (option_copied certificate.entry) (subject_slot subject.now) }
 {
     match certificate {
         None => false,
         Some(certificate) => {
             let certificate = certificate.get();
-            (certificate.round, certificate.author) != (block.round, block.author)
+            (certificate.round, certificate.author) != (subject.round, subject.author)
         }
     }
 }

@@ -3,8 +3,8 @@ use super::*;
 use nw_book::{Answer, Block, Cause, Run, Stop};
 use nw_model::{CertifyReply, CollectReply, Reply, WriteReply};
 
-/// The answers to moves before a stop, in order, with the rounds of the blocks that each walk lists.
-type Answers = &'static [(&'static str, &'static [u64])];
+/// The answers to moves before a stop, in order, with the places in the chain of the blocks that each walk lists.
+type Answers = &'static [(&'static str, &'static [usize])];
 
 /// The answers of a run with late walks: before and after a child of the block is stored.
 const LATE: Answers = &[
@@ -42,21 +42,22 @@ fn word(answer: &Answer<DemoScheme>) -> (&'static str, &[Shared<Block>]) {
     }
 }
 
-/// Whether the blocks have these rounds, in order.
-fn have_rounds(blocks: &[Shared<Block>], rounds: &[u64]) -> bool {
-    for (block, round) in blocks.iter().zip(rounds) {
-        if block.get().round.get() != *round {
-            return false;
+/// Whether these are the chain's blocks at these places, in order.
+fn are_at(blocks: &[Shared<Block>], chain: &[Link; 2], places: &[usize]) -> bool {
+    for (block, place) in blocks.iter().zip(places) {
+        match chain.get(*place) {
+            Some(link) if link.block.block().get() == block.get() => {}
+            _ => return false,
         }
     }
-    blocks.len() == rounds.len()
+    blocks.len() == places.len()
 }
 
 /// Whether these are the answers, in order.
-fn are_answers(given: &[Answer<DemoScheme>], expected: Answers) -> bool {
-    for (answer, (text, rounds)) in given.iter().zip(expected) {
+fn are_answers(given: &[Answer<DemoScheme>], chain: &[Link; 2], expected: Answers) -> bool {
+    for (answer, (text, places)) in given.iter().zip(expected) {
         let (word, blocks) = word(answer);
-        if word != *text || !have_rounds(blocks, rounds) {
+        if word != *text || !are_at(blocks, chain, places) {
             return false;
         }
     }
@@ -64,20 +65,25 @@ fn are_answers(given: &[Answer<DemoScheme>], expected: Answers) -> bool {
 }
 
 /// Whether the run has these answers in order, and then stopped at a missing ticket.
-fn has_answers(run: &Run<DemoScheme>, answers: Answers) -> bool {
+fn has_answers(run: &Run<DemoScheme>, chain: &[Link; 2], answers: Answers) -> bool {
     let stop = Stop {
         at: answers.len(),
         cause: Cause::NoTicket,
     };
-    run.stop == Some(stop) && are_answers(run.answers.as_slice(), answers)
+    run.stop == Some(stop) && are_answers(run.answers.as_slice(), chain, answers)
 }
 
 /// Whether a run of the moves in a new book has these answers and then stops at a missing ticket.
-fn is_answered(alloc: Global, moves: &[Move<DemoScheme>], answers: Answers) -> Result<bool, Fail> {
+fn is_answered(
+    alloc: Global,
+    chain: &[Link; 2],
+    moves: &[Move<DemoScheme>],
+    answers: Answers,
+) -> Result<bool, Fail> {
     let mut book = book_of_one(alloc, LIMITS)?;
     let run = book.run(alloc, moves);
     drop(book);
-    let has_answers = has_answers(&run, answers);
+    let has_answers = has_answers(&run, chain, answers);
     drop(run);
     Ok(has_answers)
 }
@@ -97,11 +103,12 @@ fn is_late_answered(alloc: Global, chain: &[Link; 2]) -> Result<bool, Fail> {
         Move::Walk { ticket: 1 },
         Move::Walk { ticket: 5 },
     ];
-    is_answered(alloc, &moves, LATE)
+    is_answered(alloc, chain, &moves, LATE)
 }
 
 /// Whether the run with a walk of a collected block is answered.
-fn is_collected_answered(alloc: Global, first: &Link) -> Result<bool, Fail> {
+fn is_collected_answered(alloc: Global, chain: &[Link; 2]) -> Result<bool, Fail> {
+    let first = &chain[0];
     let moves = [
         first.write(),
         first.certify(),
@@ -110,14 +117,14 @@ fn is_collected_answered(alloc: Global, first: &Link) -> Result<bool, Fail> {
         Move::Walk { ticket: 0 },
         Move::Walk { ticket: 5 },
     ];
-    is_answered(alloc, &moves, COLLECTED)
+    is_answered(alloc, chain, &moves, COLLECTED)
 }
 
 /// Whether each of both runs is answered.
 fn are_answered(alloc: Global, chain: &[Link; 2]) -> Result<[bool; 2], Fail> {
     Ok([
         is_late_answered(alloc, chain)?,
-        is_collected_answered(alloc, &chain[0])?,
+        is_collected_answered(alloc, chain)?,
     ])
 }
 

@@ -37,7 +37,7 @@ fn block(alloc: Global, parents: &[u16]) -> Result<Block, Fail> {
 }
 
 /// The message of that block, and its bytes.
-fn of_block(alloc: Global, parents: &[u16]) -> Result<(Message, Vec<u8>), Fail> {
+pub(super) fn of_block(alloc: Global, parents: &[u16]) -> Result<(Message, Vec<u8>), Fail> {
     let block = block(alloc, parents)?;
     let mut text = [1, 1, 0, 0, 0, 0, 0, 0, 0].to_vec(alloc)?;
     text.extend_from_slice(&[
@@ -56,7 +56,7 @@ fn of_block(alloc: Global, parents: &[u16]) -> Result<(Message, Vec<u8>), Fail> 
 }
 
 /// The message of a certificate with votes of these three members, and its bytes.
-fn of_certificate(alloc: Global, signers: [u16; 3]) -> Result<(Message, Vec<u8>), Fail> {
+pub(super) fn of_certificate(alloc: Global, signers: [u16; 3]) -> Result<(Message, Vec<u8>), Fail> {
     let mut votes = Vec::new(alloc);
     let mut text = [2].to_vec(alloc)?;
     text.extend_from_slice(&VOTED)?;
@@ -78,7 +78,7 @@ fn of_certificate(alloc: Global, signers: [u16; 3]) -> Result<(Message, Vec<u8>)
 }
 
 /// The message of a vote of member 7, and its bytes.
-fn of_vote(alloc: Global) -> Result<(Message, Vec<u8>), Fail> {
+pub(super) fn of_vote(alloc: Global) -> Result<(Message, Vec<u8>), Fail> {
     let mut text = [3].to_vec(alloc)?;
     text.extend_from_slice(&VOTED[..40])?;
     text.extend_from_slice(&[0, 7])?;

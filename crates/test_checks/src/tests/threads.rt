@@ -165,6 +165,41 @@ fn two_workers_wait_for_each_other(rt: HostRuntime) -> Result<(), Fail> {
     Ok(())
 }
 
+/// A gate that lets the first check start when three others are done.
+#[derive(Drop)]
+struct HoldsTheFirst {
+    done: AtomicU64,
+}
+
+impl Gate for HoldsTheFirst {
+    ghost says = { λ _ _ _. Unit {0} };
+
+    fn reach(&self, point: Point) {
+        if matches!(point, Point::CheckDone(_)) {
+            self.done.fetch_add(1, SeqCst);
+        }
+    }
+
+    fn may_pass(&self, point: Point) -> bool {
+        let passed = point != Point::CheckStart(0) || self.done.load(SeqCst) >= 3;
+        if !passed {
+            yield_now();
+        }
+        passed
+    }
+}
+
+#[test]
+fn answers_are_in_the_order_of_the_texts_whichever_finishes_first(
+    rt: HostRuntime,
+) -> Result<(), Fail> {
+    let gate = HoldsTheFirst {
+        done: AtomicU64::new(0),
+    };
+    assert_eq!(rt; checked_by(&rt, rt.alloc(), 4, 4, &gate)?, Ok(true));
+    Ok(())
+}
+
 #[test]
 fn one_worker_does_not_pass_a_gate_that_waits_for_two(rt: HostRuntime) -> Result<(), Fail> {
     let refused = checked_by(&rt, rt.alloc(), 2, 1, &Meeting::new())?;

@@ -46,13 +46,30 @@ pub(super) fn members(alloc: Global, weights: &[u32]) -> Result<Vec<Member>, NoM
     Ok(members)
 }
 
-/// The quorum of a committee of members with these weights, made while all allocations fail.
-fn weighted(alloc: Global, weights: &[u32]) -> Result<Result<u32, CommitteeFault>, NoMemory> {
-    let members = retry!(NoMemory, members(alloc, weights))?;
+/// The quorum of a committee of these members, made while all allocations fail.
+fn quorum_of(alloc: Global, members: Vec<Member>) -> Result<u32, CommitteeFault> {
     fail_allocations(alloc);
     let quorum = Committee::weighted(members).map(|made| made.quorum());
     allow_allocations(alloc);
-    Ok(quorum)
+    quorum
+}
+
+/// The quorum of a committee of members with these weights, made while all allocations fail.
+fn weighted(alloc: Global, weights: &[u32]) -> Result<Result<u32, CommitteeFault>, NoMemory> {
+    let members = retry!(NoMemory, members(alloc, weights))?;
+    Ok(quorum_of(alloc, members))
+}
+
+/// Members with these weights. All of them have one key.
+fn namesakes(alloc: Global, weights: &[u32]) -> Result<Vec<Member>, NoMemory> {
+    let mut members = Vec::new(alloc);
+    for weight in weights {
+        members.push(Member {
+            key: key(1),
+            weight: *weight,
+        })?;
+    }
+    Ok(members)
 }
 
 #[test]
@@ -68,6 +85,13 @@ fn bad_weights(rt: HostRuntime) -> Result<(), Fail> {
     ];
     for (weights, wanted) in cases {
         assert_eq!(rt; weighted(rt.alloc(), weights)?, wanted);
+    }
+    // A repeated key is refused before a bad weight.
+    let repeated: [&[u32]; 2] = [&[1, 2], &[0, 1_000_001]];
+    for weights in repeated {
+        let members = retry!(NoMemory, namesakes(rt.alloc(), weights))?;
+        let refused = quorum_of(rt.alloc(), members);
+        assert_eq!(rt; refused, Err(CommitteeFault::RepeatedKey));
     }
     Ok(())
 }

@@ -44,17 +44,17 @@ const ANSWERS: [&str; 5] = [
     "Certify(Certified)",
     "Opened",
     "Collect(Raised { dropped: 1 })",
-    "Walked 0.0",
+    "Walked(true)",
 ];
 
-/// The text of the answer.
-fn text_of(alloc: Global, answer: &Answer<DemoScheme>) -> Result<String, AllocError> {
+/// The text of the answer. For a walk of one block it says whether the block is this one.
+fn text_of(alloc: Global, made: &Link, answer: &Answer<DemoScheme>) -> Result<String, AllocError> {
     match answer {
         Answer::Opened => format!(in alloc; "Opened"),
         Answer::Walked(blocks) => match blocks.as_slice() {
             [only] => {
-                let only = only.get();
-                format!(in alloc; "Walked {}.{}", only.round.get(), only.author)
+                let is_it = only.get() == made.block.block().get();
+                format!(in alloc; "Walked({is_it})")
             }
             more => format!(in alloc; "Walked {} blocks", more.len()),
         },
@@ -65,25 +65,27 @@ fn text_of(alloc: Global, answer: &Answer<DemoScheme>) -> Result<String, AllocEr
 /// Whether the answers are the first ones of `ANSWERS`, and the history has exactly their events.
 fn are_answers(
     alloc: Global,
+    made: &Link,
     answers: &[Answer<DemoScheme>],
     events: usize,
 ) -> Result<bool, AllocError> {
     for (answer, expected) in answers.iter().zip(&ANSWERS) {
-        if retry!(AllocError, text_of(alloc, answer))?.as_str() != *expected {
+        if retry!(AllocError, text_of(alloc, made, answer))?.as_str() != *expected {
             return Ok(false);
         }
     }
     Ok(events == answers.len().min(4))
 }
 
-/// Makes the moves on the book. Returns the stop of the run. Fails if an answer before the stop is not the expected one.
+/// Makes the moves for the link on the book. Returns the stop of the run. Fails if an answer before the stop is not the expected one.
 fn stop_of(
     book: &mut Book<DemoScheme>,
     alloc: Global,
+    made: &Link,
     moves: &[Move<DemoScheme>],
 ) -> Result<Option<Stop>, Fail> {
     let run = book.run(alloc, moves);
-    let are_answers = are_answers(alloc, run.answers.as_slice(), book.history().len());
+    let are_answers = are_answers(alloc, made, run.answers.as_slice(), book.history().len());
     let stop = run.stop;
     drop(run);
     match are_answers? {
@@ -96,10 +98,11 @@ fn stop_of(
 fn stop_anew(
     alloc: Global,
     committee: &Shared<Committee>,
+    made: &Link,
     moves: &[Move<DemoScheme>],
 ) -> Result<Option<Stop>, Fail> {
     let mut book = retry!(BookError::NoMemory, new_book(alloc, committee))?;
-    let stop = stop_of(&mut book, alloc, moves);
+    let stop = stop_of(&mut book, alloc, made, moves);
     drop(book);
     stop
 }
@@ -119,11 +122,12 @@ fn is_refused(stop: Option<Stop>) -> bool {
 fn stop_again(
     alloc: Global,
     committee: &Shared<Committee>,
+    made: &Link,
     moves: &[Move<DemoScheme>],
 ) -> Result<Option<Stop>, Fail> {
-    let stop = stop_anew(alloc, committee, moves)?;
+    let stop = stop_anew(alloc, committee, made, moves)?;
     if is_refused(stop) {
-        stop_anew(alloc, committee, moves)
+        stop_anew(alloc, committee, made, moves)
     } else {
         Ok(stop)
     }
@@ -132,7 +136,7 @@ fn stop_again(
 /// The stop of a run with the moves for the last block of the fixture.
 fn stop_with(alloc: Global, fixture: &Fixture) -> Result<Option<Stop>, Fail> {
     let link = fixture.links.last().ok_or("an example has blocks")?;
-    stop_again(alloc, &fixture.committee, &moves(link))
+    stop_again(alloc, &fixture.committee, link, &moves(link))
 }
 
 #[test]

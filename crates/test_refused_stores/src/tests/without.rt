@@ -3,12 +3,12 @@ ghost use Rattle.std.specs.Prelude.{◌≡◌};
 ghost use Rattle.nw_store.specs.Journal.{origin_of};
 ghost use Rattle.nw_store.specs.Lock.{parts_of_a_ledger};
 
-use super::examples::{COLLECTED, new_book};
+use super::examples::COLLECTED;
 use super::fixture::{FOUR, Fixture, TWO};
 use super::stores::played_anew;
 use super::*;
 use nw_store::{
-    CheckedBlock, CheckedCert, Done, Home, Opening, Session, Settled, Store, Unsettled,
+    CheckedBlock, CheckedCert, Done, Home, Opening, Session, Settled, Store, TooMany, Unsettled,
     session_locked, settle, settle_locked,
 };
 use std::marker::Brand;
@@ -22,9 +22,17 @@ const NARROW: Limits = Limits {
     sessions: 2,
 };
 
-/// A book with those limits.
-fn narrow_book(alloc: Global, fixture: &Fixture) -> Result<Book<DemoScheme>, BookError> {
-    Book::new(alloc, fixture.committee.try_clone()?, NARROW)
+/// A book with those limits, but this many sessions.
+fn narrow_book(
+    alloc: Global,
+    fixture: &Fixture,
+    sessions: u16,
+) -> Result<Book<DemoScheme>, BookError> {
+    let limits = Limits {
+        sessions: u32::from(sessions),
+        ..NARROW
+    };
+    Book::new(alloc, fixture.committee.try_clone()?, limits)
 }
 
 /// Fills the history of the book with this call, made twice, and returns the first answer.
@@ -103,7 +111,7 @@ fn of_books(alloc: Global) -> Result<bool, Fail> {
     let (fixture, own) = block_under(alloc, &[0])?;
     let (other, foreign) = block_under(alloc, &[1])?;
     drop(other);
-    let mut book = retry!(BookError::NoMemory, narrow_book(alloc, &fixture))?;
+    let mut book = retry!(BookError::NoMemory, narrow_book(alloc, &fixture, 2))?;
     let first = fill(alloc, &mut book, &Command::Status)?;
     fail_allocations(alloc);
     // The prover finds the types that a command may borrow only in the function that makes the command.
@@ -137,7 +145,7 @@ fn of_tickets<R: Wait>(rt: &R, alloc: Global) -> Result<bool, Fail> {
 }
 
 /// Tries to settle the given sessions, which must fail because the first is missing. Then settles them together with the first and with
-/// one more.
+/// one more, unless the store has made as many sessions as its limit allows.
 fn settled_later<L: Home>(
     alloc: Global,
     store: Store<DemoScheme, L>,
@@ -152,28 +160,33 @@ fn settled_later<L: Home>(
         mut sessions,
         ..
     } = unsettled;
-    let more = session_locked(&mut locked, alloc).ok()?;
+    let more = session_locked(&mut locked, alloc);
     sessions.push(first).ok()?;
-    sessions.push(more).ok()?;
+    if let Ok(more) = more {
+        sessions.push(more).ok()?;
+    }
     settle_locked(locked, sessions).ok()
 }
 
-/// Whether the first session made the one call of the history, and the other two made none.
-fn has_all<L: Home>(settled: &Settled<DemoScheme, L>) -> bool {
+/// Whether the first of two or three sessions made the one call of the history, and the others made none.
+fn has_all<L: Home>(settled: &Settled<DemoScheme, L>, sessions: u16) -> bool {
     let of = |session: u16| settled.journal(session).map(|journal| journal.len());
-    settled.history().len() == 1
-        && (of(0), of(1), of(2), of(3)) == (Some(1), Some(0), Some(0), None)
+    let third = if sessions > 2 { Some(0) } else { None };
+    settled.history().len() == 1 && (of(0), of(1), of(2), of(3)) == (Some(1), Some(0), third, None)
 }
 
-/// Makes sessions of the store, makes one call in the first, and settles them. All but that call runs while all allocations fail.
+/// Makes sessions of the store, makes one call in the first, and settles them. All but that call runs while all allocations fail. The limit
+/// of the store is two or three sessions. A third or a fourth one is refused.
 fn of_sessions<L: Home, R: Wait>(
     rt: &R,
     alloc: Global,
     store: Store<DemoScheme, L>,
+    sessions: u16,
 ) -> Result<bool, Fail> {
     let mut given = retry!(AllocError, Vec::with_capacity(alloc, 3))?;
     fail_allocations(alloc);
     let made = (store.session(rt, alloc), store.session(rt, alloc));
+    let is_refused = sessions > 2 || matches!(store.session(rt, alloc), Err(TooMany));
     allow_allocations(alloc);
     let (mut first, second) = (made.0?, made.1?);
     let done = retry!(NoStep::NoMemory, store.status(rt, alloc, &mut first))?;
@@ -182,9 +195,9 @@ fn of_sessions<L: Home, R: Wait>(
     let are_counted = (first.id(), first.calls(), second.id(), second.calls()) == (0, 1, 1, 0);
     let is_given = given.push(second).is_ok();
     let settled = settled_later(alloc, store, first, given);
-    let has_all = settled.is_some_and(|settled| has_all(&settled));
+    let has_all = settled.is_some_and(|settled| has_all(&settled, sessions));
     allow_allocations(alloc);
-    Ok(are_counted && is_given && has_all)
+    Ok(is_refused && are_counted && is_given && has_all)
 }
 
 /// Does what `of_sessions` does, on a store over the book.
@@ -193,13 +206,14 @@ fn of_a_store<L: Home, R: Wait>(
     alloc: Global,
     opening: Opening<DemoScheme>,
     book: Book<DemoScheme>,
+    sessions: u16,
 ) -> Result<bool, Fail>
     requires log { opening.log ≡ L.log }
     requires ledger { (opening.ledger ≡ L.name) × (L.parts ≡ parts_of_a_ledger) }
     requires origin { origin_of book ≡ L.origin }
 {
     match Store::<DemoScheme, L>::over(opening, book) {
-        Ok(store) => of_sessions(rt, alloc, store),
+        Ok(store) => of_sessions(rt, alloc, store, sessions),
         Err(book) => {
             drop(book);
             Ok(false)
@@ -207,12 +221,12 @@ fn of_a_store<L: Home, R: Wait>(
     }
 }
 
-/// Whether sessions are made, read and settled without an allocation.
-fn of_stores<R: Wait>(rt: &R, alloc: Global) -> Result<bool, Fail> {
+/// Whether sessions of a store with this limit on sessions are made, refused, read and settled without an allocation.
+fn of_stores<R: Wait>(rt: &R, alloc: Global, sessions: u16) -> Result<bool, Fail> {
     let fixture = Fixture::new(alloc, &[0], &[])?;
     let opening = retry!(NoMemory, Opening::new(alloc))?;
-    let book = retry!(BookError::NoMemory, new_book(alloc, &fixture))?;
-    of_a_store::<Brand, R>(rt, alloc, opening, book)
+    let book = retry!(BookError::NoMemory, narrow_book(alloc, &fixture, sessions))?;
+    of_a_store::<Brand, R>(rt, alloc, opening, book, sessions)
 }
 
 #[test]
@@ -220,6 +234,7 @@ fn calls_without_allocation(rt: HostRuntime) -> Result<(), Fail> {
     let alloc = rt.alloc();
     assert!(rt; of_books(alloc)?, "books");
     assert!(rt; of_tickets(&rt, alloc)?, "tickets");
-    assert!(rt; of_stores(&rt, alloc)?, "stores");
+    assert!(rt; of_stores(&rt, alloc, 2)?, "stores of two sessions");
+    assert!(rt; of_stores(&rt, alloc, 3)?, "stores of three sessions");
     Ok(())
 }

@@ -101,23 +101,46 @@ fn count_over(alloc: Global, base: &Base) -> Result<usize, NoMemory> {
     count_expected(&mut plain, alloc, &EXAMPLE[8..])
 }
 
+/// A store after the example's first part: four certified blocks. `NoMemory` also if a call gets another reply.
+pub(super) fn first_eight(alloc: Global) -> Result<Plain, NoMemory> {
+    let mut plain = Plain::new(alloc, 64, 64);
+    match count_expected(&mut plain, alloc, &EXAMPLE[..8])? {
+        8 => Ok(plain),
+        _ => Err(NoMemory),
+    }
+}
+
+/// Whether the base has the block, the certificate and the first digest of the slot whose number and author these are.
+fn has_entries(base: &Base, number: u8, author: u8) -> bool {
+    let (digest, slot) = (
+        name(number % 2, author % 3),
+        (round(number), u16::from(author)),
+    );
+    let is_block = match base.block(&digest) {
+        Some(block) => (block.round, block.author) == slot,
+        None => false,
+    };
+    let is_certified = match base.certificate(&digest) {
+        Some(kept) => kept.digest == digest && (kept.round, kept.author) == slot,
+        None => false,
+    };
+    is_block && is_certified && base.first(slot.0, slot.1) == Some(digest)
+}
+
 /// Whether the base has the example's state before its last part.
-fn has_four(base: &Base) -> bool {
+pub(super) fn has_four(base: &Base) -> bool {
     !base.is_opening()
         && base.floor() == Round::ZERO
-        && base.block(&name(1, 0)).is_some()
-        && base.certificate(&name(0, 2)).is_some()
-        && base.first(round(1), 0) == Some(name(1, 0))
+        && has_entries(base, 0, 0)
+        && has_entries(base, 0, 1)
+        && has_entries(base, 0, 2)
+        && has_entries(base, 1, 0)
         && base.is_same(base)
 }
 
 #[test]
 fn a_plain_store_replies_and_another_continues_from_its_base(rt: HostRuntime) {
-    let mut plain = Plain::new(rt.alloc(), 64, 64);
-    assert_eq!(rt;
-        count_expected(&mut plain, rt.alloc(), &EXAMPLE[..8]),
-        Ok(8)
-    );
+    let plain = first_eight(rt.alloc()).expect(&rt, "allocation succeeds");
     let base = Base::of(plain);
     assert!(rt; has_four(&base));
     assert_eq!(rt; count_over(rt.alloc(), &base), Ok(4));

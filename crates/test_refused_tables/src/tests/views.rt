@@ -1,7 +1,8 @@
 //! Generations, views of them, walks, and the agreement of two walks.
+use super::owns::are_under;
 use super::*;
 use nw_causal::{Agreement, agree, walk};
-use nw_generation::{Generation, View, freeze};
+use nw_generation::{Generation, freeze};
 use samples::{Blocks, older, view_of_both, view_of_one};
 
 /// Freezes the blocks, and returns one more owner of their generation. If the freeze runs out of memory, it returns the blocks.
@@ -26,31 +27,31 @@ fn a_refused_freeze_hands_its_blocks_back(rt: HostRuntime) {
     assert_eq!(rt; found, [true, false]);
 }
 
-/// Whether the walk from the digest lists blocks with these slots. Fails if the view lacks the block or has it below its floor.
-fn walks(
+/// Whether the walk from the digest lists the view's blocks under these digests. Fails if the view lacks the block or has it below its floor.
+pub(super) fn walks(
     alloc: Global,
     view: &View,
     digest: Digest,
-    slots: &[(u64, u16)],
+    digests: &[Digest],
 ) -> Result<bool, NoMemory> {
     let start = view.get(&digest).ok_or(NoMemory)?.get();
     if start.round.get() < view.floor().get() {
         return Err(NoMemory);
     }
     let blocks = retry!(NoMemory, walk(alloc, view, digest))?;
-    Ok(have_slots(&blocks, slots))
+    Ok(are_under(view, &blocks, digests))
 }
 
-/// Whether a walk from the later generation's block lists blocks with these slots, in a view of two generations with this floor.
-fn lists(alloc: Global, floor: u8, slots: &[(u64, u16)]) -> Result<bool, NoMemory> {
+/// Whether a walk from the later generation's block lists the blocks under these digests, in a view of two generations with this floor.
+fn lists(alloc: Global, floor: u8, digests: &[Digest]) -> Result<bool, NoMemory> {
     let view = retry!(NoMemory, view_of_both(alloc, b"x", round(floor)))?;
-    let listed = walks(alloc, &view, name(1, 0), slots)?;
+    let listed = walks(alloc, &view, name(1, 0), digests)?;
     Ok(listed && view.parts() == 2)
 }
 
 #[test]
 fn a_walk_over_two_generations(rt: HostRuntime) {
-    let four = [(0, 0), (0, 1), (0, 2), (1, 0)];
+    let four = [name(0, 0), name(0, 1), name(0, 2), name(1, 0)];
     assert_eq!(rt; lists(rt.alloc(), 0, &four), Ok(true));
     assert_eq!(rt; lists(rt.alloc(), 1, &four[3..]), Ok(true));
 }

@@ -1,9 +1,10 @@
 //! Calls that allocate nothing. They are made while all allocations fail.
 use super::dags::certificate_of;
+use super::plains::{first_eight, has_four};
 use super::tables::{missing_counts, put_certified, put_first, want_thrice, wanted};
 use super::*;
 use nw_dag::{Dag, DagLimits};
-use nw_generation::{Generation, View, freeze};
+use nw_generation::{Generation, freeze};
 use nw_plain::{Base, Plain};
 use nw_rounds::Rounds;
 use nw_trie::{DigestMap, Trie};
@@ -171,6 +172,15 @@ fn dags_pass(alloc: Global) -> Result<bool, NoMemory> {
     Ok((status.blocks, status.complete, none.blocks) == (1, 1, 0) && is_complete)
 }
 
+/// Whether a base of four certified blocks is made, and its entries are found, without an allocation.
+fn full_bases_pass(alloc: Global) -> Result<bool, NoMemory> {
+    let plain = first_eight(alloc)?;
+    fail_allocations(alloc);
+    let has_four = has_four(&Base::of(plain));
+    allow_allocations(alloc);
+    Ok(has_four)
+}
+
 /// Whether plain stores and bases are made, and bases read, without an allocation.
 fn bases_pass(alloc: Global) -> bool {
     fail_allocations(alloc);
@@ -195,4 +205,5 @@ fn calls_without_allocation(rt: HostRuntime) {
     assert_eq!(rt; views_pass(alloc), Ok(true));
     assert_eq!(rt; dags_pass(alloc), Ok(true));
     assert!(rt; bases_pass(alloc));
+    assert_eq!(rt; full_bases_pass(alloc), Ok(true));
 }

@@ -83,6 +83,42 @@ fn replies_that_no_script_gets_have_their_words(rt: HostRuntime) -> Result<(), F
     Ok(())
 }
 
+/// Members of a committee of one hundred, and the last two bytes of the key of each. The other 30 bytes are zeros.
+const KEYS: [(u16, [u8; 2]); 4] = [(0, [0, 0]), (1, [0, 1]), (2, [0, 2]), (99, [0, 99])];
+
+/// The bytes of the member's key in the committee of this line, if there is such a member.
+fn key_of(alloc: Global, line: &CommitteeLine, member: u16) -> Result<Option<[u8; 32]>, Fail> {
+    match committee(alloc, line) {
+        Ok(members) => {
+            let key = members.key(member).map(|key| key.0);
+            drop(members);
+            Ok(key)
+        }
+        Err(_) => Err(Fail::from("there is a committee")),
+    }
+}
+
+#[test]
+fn members_have_the_keys_of_their_numbers(rt: HostRuntime) -> Result<(), Fail> {
+    let alloc = rt.alloc();
+    let lines = [
+        CommitteeLine::Equal { members: 100 },
+        CommitteeLine::Weighted {
+            weights: vec![in alloc; 1; 100]?,
+        },
+    ];
+    for line in &lines {
+        for (member, end) in KEYS {
+            let mut bytes = [0; 32];
+            bytes[30] = end[0];
+            bytes[31] = end[1];
+            assert_eq!(rt; key_of(alloc, line, member)?, Some(bytes), "{member}");
+        }
+        assert_eq!(rt; key_of(alloc, line, 100)?, None);
+    }
+    Ok(())
+}
+
 /// The text of each fault. Those of a bad line and of sessions that differ are printed.
 const FAULTS: [(PlayFault, &str); 6] = [
     (PlayFault::Read, "the script can't be read"),

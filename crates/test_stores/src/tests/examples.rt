@@ -139,6 +139,8 @@ fn fronts_of_513_events_share_chunks(rt: HostRuntime) -> Result<(), Fail> {
     rows[513] = Row(0, 0, Ask::Read, "refused HistoryFull");
     let seen = asked(&rt, alloc, (1, FULL), chain(alloc, 1)?, &rows)?;
     assert_eq!(rt; (seen.events, seen.recorded), (513, 513));
+    let measured = [(255, 255), (256, 1), (257, 2), (513, 3)];
+    assert_eq!(rt; seen.measured, measured);
     Ok(())
 }
 

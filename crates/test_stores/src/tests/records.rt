@@ -6,17 +6,29 @@ use super::scenes::Scene;
 use super::scripts::{Row, text_of};
 use super::tasks::Crew;
 use super::*;
+use nw_model::{CertifyReply, WriteReply};
 use nw_store::{Call, Entry, History, NoMemory};
 
-/// Lengths of fronts, and the numbers of their parts.
-const PARTS: [(usize, usize); 4] = [(255, 255), (256, 1), (257, 2), (513, 3)];
+/// Numbers of calls at which the lengths and parts of fronts are measured.
+const MARKS: [usize; 4] = [255, 256, 257, 513];
 
-/// The call in the history for what the session asks.
-fn call_of(asked: &Ask, link: &Link) -> Result<Call, NoMemory> {
+/// The call in the history for what the session asks, if it gets this reply. A block or a certificate that was not kept is told by its
+/// subject.
+fn call_of(asked: &Ask, link: &Link, reply: &Reply) -> Result<Call, NoMemory> {
     let digest = link.block.digest();
     Ok(match asked {
-        Ask::Write => Call::Write(digest, link.block.block().try_clone()?),
-        Ask::Certify => Call::Certify(link.certificate.certificate().try_clone()?),
+        Ask::Write => match reply {
+            Reply::Write(WriteReply::Stored { .. }) => {
+                Call::Write(digest, link.block.block().try_clone()?)
+            }
+            _ => Call::AskWrite(link.block.block().get().subject(digest)),
+        },
+        Ask::Certify => match reply {
+            Reply::Certify(CertifyReply::Certified) => {
+                Call::Certify(link.certificate.certificate().try_clone()?)
+            }
+            _ => Call::AskCertify(link.certificate.certificate().get().subject()),
+        },
         Ask::Certificate => Call::Certificate(digest),
         Ask::Read => Call::Read(digest),
         Ask::Open => Call::Causal(digest),
@@ -92,8 +104,8 @@ fn is_recorded(
     let Some(link) = links.get(*place) else {
         return Ok(false);
     };
-    let call = call_of(asked, link)?;
-    let text = text_of(alloc, answer.reply(), link)?;
+    let call = call_of(asked, link, answer.reply())?;
+    let text = text_of(alloc, answer.reply(), link, links)?;
     Ok(answer.call().is_same(&call) && (expected.is_empty() || text.as_str() == *expected))
 }
 
@@ -112,14 +124,17 @@ pub(super) fn are_recorded(
     Ok(journal.len() == rows.len())
 }
 
+/// For each number in `MARKS`, the numbers of events and of parts of the journal's front at this number, or zeros if there is none.
+pub(super) fn measured(journal: &[Entry<DemoScheme>]) -> [(usize, usize); 4] {
+    MARKS.map(|number: usize| match journal.get(number.saturating_sub(1)) {
+        Some(answer) => (answer.front().len(), answer.front().parts()),
+        None => (0, 0),
+    })
+}
+
 /// Whether the front has the right number of parts for its length.
 fn has_parts(front: &History<DemoScheme>) -> bool {
     let (length, parts) = (front.len(), front.parts());
-    for (some, wanted) in PARTS {
-        if length == some && parts != wanted {
-            return false;
-        }
-    }
     parts == length / 256 + length % 256
 }
 
@@ -147,6 +162,23 @@ pub(super) fn grows(journal: &[Entry<DemoScheme>]) -> bool {
         }
     }
     true
+}
+
+/// The largest number of events of a front that is compared with the whole history, unless it is the last one.
+const SHORT: usize = 256;
+
+/// Whether each front of the journal is a prefix of the history. A comparison visits each event of the front. So of the fronts of more than
+/// `SHORT` events only the last is compared with the history: `grows` compares each with the next one.
+pub(super) fn begin(journal: &[Entry<DemoScheme>], history: &History<DemoScheme>) -> bool {
+    for answer in journal {
+        if answer.front().len() <= SHORT && !answer.front().is_prefix_of(history) {
+            return false;
+        }
+    }
+    match journal.last() {
+        Some(last) => last.front().is_prefix_of(history),
+        None => true,
+    }
 }
 
 /// Whether the session's events in the history are the calls of its journal, in order.

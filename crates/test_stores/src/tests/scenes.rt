@@ -7,7 +7,7 @@ use super::chains::Link;
 use super::crowds::in_threads;
 use super::notes::exchange_notes;
 use super::scripts::{Row, play_script};
-use super::settling::{Seen, seen_settled};
+use super::settling::{Seen, seen_at_once, seen_settled};
 use super::tasks::Crew;
 use super::*;
 use nw_store::{Opening, TooMany};
@@ -89,7 +89,7 @@ fn perform<L: Home, R: Threads + Wait + Sync>(
     }
 }
 
-/// Plays the scene on the store, and settles its sessions.
+/// Plays the scene on the store, and settles its sessions. Those of a crowd settle at once, all others after a try without the last one.
 fn on_store<L: Home, R: Threads + Wait + Sync>(
     rt: &R,
     alloc: Global,
@@ -98,7 +98,10 @@ fn on_store<L: Home, R: Threads + Wait + Sync>(
 ) -> Result<Seen, Fail> {
     let mut sessions = Vec::new(alloc);
     match perform(rt, alloc, &store, &mut sessions, scene) {
-        Ok(()) => seen_settled(alloc, store, sessions, scene),
+        Ok(()) => match scene {
+            Scene::Crowd(_, _, _) => seen_at_once(alloc, store, sessions, scene),
+            _ => seen_settled(alloc, store, sessions, scene),
+        },
         Err(fail) => {
             drop(sessions);
             drop(store);

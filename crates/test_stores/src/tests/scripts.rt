@@ -30,13 +30,27 @@ impl Row {
 /// The beginning of a refusal's text.
 const REFUSED: &str = "refused ";
 
-/// The rounds of the blocks.
-fn rounds_of(alloc: Global, blocks: &[Shared<Block>]) -> Result<Vec<u64>, NoMemory> {
-    let mut rounds = Vec::new(alloc);
-    for block in blocks {
-        rounds.push(block.get().round.get())?;
+/// The place of the block among the links, or their number if none has it.
+fn place_of(block: &Block, links: &[Link]) -> usize {
+    for (place, link) in links.iter().enumerate() {
+        if link.block.block().get() == block {
+            return place;
+        }
     }
-    Ok(rounds)
+    links.len()
+}
+
+/// The places of the blocks among the links.
+fn places_of(
+    alloc: Global,
+    blocks: &[Shared<Block>],
+    links: &[Link],
+) -> Result<Vec<usize>, NoMemory> {
+    let mut places = Vec::new(alloc);
+    for block in blocks {
+        places.push(place_of(block.get(), links))?;
+    }
+    Ok(places)
 }
 
 /// The text of wanted parents: for a single one, its round, its author, and whether it is `PARENT`; otherwise their number.
@@ -50,8 +64,14 @@ fn missing(alloc: Global, wanted: &[Wanted]) -> Result<String, NoMemory> {
     }
 }
 
-/// The text of the reply. For a block or certificate it says whether it is that of the link, and for a list it has the rounds.
-pub(super) fn text_of(alloc: Global, reply: &Reply, link: &Link) -> Result<String, NoMemory> {
+/// The text of the reply. For a block or certificate it says whether it is that of the link, and for a list it has the places of the blocks
+/// among the links.
+pub(super) fn text_of(
+    alloc: Global,
+    reply: &Reply,
+    link: &Link,
+    links: &[Link],
+) -> Result<String, NoMemory> {
     match reply {
         Reply::Certificate(Some(kept)) => {
             let is_it = kept.get() == link.certificate.certificate().get();
@@ -62,8 +82,8 @@ pub(super) fn text_of(alloc: Global, reply: &Reply, link: &Link) -> Result<Strin
             Ok(format!(in alloc; "Read({is_it})")?)
         }
         Reply::List(blocks) => {
-            let rounds = rounds_of(alloc, blocks.as_slice())?;
-            Ok(format!(in alloc; "List({rounds:?})")?)
+            let places = places_of(alloc, blocks.as_slice(), links)?;
+            Ok(format!(in alloc; "List({places:?})")?)
         }
         Reply::Missing(wanted) => missing(alloc, wanted.as_slice()),
         reply => Ok(format!(in alloc; "{reply:?}")?),
@@ -75,10 +95,11 @@ fn has_text(
     alloc: Global,
     reply: &Result<Reply, NoStep>,
     link: &Link,
+    links: &[Link],
     expected: &str,
 ) -> Result<bool, NoMemory> {
     let text = match reply {
-        Ok(reply) => text_of(alloc, reply, link)?,
+        Ok(reply) => text_of(alloc, reply, link, links)?,
         Err(refusal) => format!(in alloc; "refused {refusal:?}")?,
     };
     Ok(text.as_str() == expected)
@@ -122,7 +143,7 @@ fn is_answered<L: Home, R: Wait>(
         }
         _ => {
             let reply = reply_to(rt, alloc, store, session, link, ticket, asked);
-            let has_text = has_text(alloc, &reply, link, expected);
+            let has_text = has_text(alloc, &reply, link, crew.links(), expected);
             drop(reply);
             has_text
         }

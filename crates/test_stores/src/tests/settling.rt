@@ -1,5 +1,5 @@
 //! Settles the sessions of a store, and examines their journals.
-use super::records::{are_fronts, are_recorded, calls_of, grows, matches_history};
+use super::records::{are_fronts, are_recorded, begin, calls_of, grows, matches_history, measured};
 use super::scenes::Scene;
 use super::*;
 use nw_store::{Entry, NoMemory, SettleFault, Settled, Unsettled, settle, settle_locked};
@@ -7,16 +7,19 @@ use nw_store::{Entry, NoMemory, SettleFault, Settled, Unsettled, settle, settle_
 /// What a settled store shows.
 #[derive(Clone, Copy)]
 pub(super) struct Seen {
-    /// The numbers of made and of given sessions in the fault that came while one session was missing.
+    /// The numbers of made and of given sessions in the fault that came while one session was missing. Two zeros if all sessions settled
+    /// at once.
     pub(super) withheld: (u16, usize),
     /// The number of events.
     pub(super) events: usize,
     /// The number of calls in journals that have exactly the session's calls and replies, in the order of the history.
     pub(super) recorded: usize,
+    /// For each number in `MARKS`, the numbers of events and of parts of the first session's front at this number.
+    pub(super) measured: [(usize, usize); 4],
 }
 
 /// Whether the session's journal has exactly the session's calls of the scene, in order, each with its reply and its front. The history
-/// must have these calls in the same order.
+/// must have these calls in the same order, and begin with each of these fronts.
 fn is_exact<L: Home>(
     alloc: Global,
     settled: &Settled<DemoScheme, L>,
@@ -29,6 +32,7 @@ fn is_exact<L: Home>(
         are_recorded(alloc, journal, scene.links(), &rows)?
             && grows(journal)
             && are_fronts(journal, session)
+            && begin(journal, settled.history())
             && matches_history(settled.history(), journal, session),
     )
 }
@@ -47,6 +51,41 @@ fn count_recorded<L: Home>(
         }
     }
     Ok(recorded)
+}
+
+/// What the settled store shows, after this fault while a session was missing.
+fn seen_in<L: Home>(
+    alloc: Global,
+    settled: Settled<DemoScheme, L>,
+    scene: &Scene<'_>,
+    withheld: (u16, usize),
+) -> Result<Seen, Fail> {
+    let events = settled.history().len();
+    let measured = measured(settled.journal(0).unwrap_or(&[]));
+    let recorded = count_recorded(alloc, &settled, scene);
+    drop(settled);
+    Ok(Seen {
+        withheld,
+        events,
+        recorded: recorded?,
+        measured,
+    })
+}
+
+/// Settles all sessions at once. Returns what the settled store shows.
+pub(super) fn seen_at_once<L: Home>(
+    alloc: Global,
+    store: Store<DemoScheme, L>,
+    sessions: Vec<Session<DemoScheme, L>>,
+    scene: &Scene<'_>,
+) -> Result<Seen, Fail> {
+    match settle(store, sessions) {
+        Ok(settled) => seen_in(alloc, settled, scene, (0, 0)),
+        Err(refused) => {
+            drop(refused);
+            Err(Fail::from("the sessions did not settle at once"))
+        }
+    }
 }
 
 /// Settles the sessions twice: first without the last one, which must fail, and then with all of them.
@@ -83,15 +122,9 @@ fn seen_of_all<L: Home>(
     let pushed = sessions.push(last);
     match settle_locked(locked, sessions) {
         Ok(settled) => {
-            let events = settled.history().len();
-            let recorded = count_recorded(alloc, &settled, scene);
-            drop(settled);
+            let seen = seen_in(alloc, settled, scene, withheld)?;
             pushed?;
-            Ok(Seen {
-                withheld,
-                events,
-                recorded: recorded?,
-            })
+            Ok(seen)
         }
         Err((_, locked, sessions)) => {
             drop(locked);

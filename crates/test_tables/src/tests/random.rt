@@ -3,9 +3,11 @@ use super::both::Both;
 use super::words::{REPLIES, words};
 use super::*;
 use nw_model::Call;
+use nw_plain::Base;
 use rand_core::utils::NextWord;
 use rand_pcg::Pcg32;
 use std::collections::BTreeSet;
+use std::mem;
 
 /// The number of calls.
 const CALLS: u32 = 20_000;
@@ -85,7 +87,9 @@ fn next_call(alloc: Global, random: &mut Pcg32, floor: Round) -> Result<Call, No
         47..50 => Call::Certificate(digest_of(name)),
         50..53 => Call::Read(digest_of(name)),
         53..58 => Call::Causal(digest_of(name)),
-        58..61 => Call::Missing((more % 16) as u16),
+        58..60 => Call::Missing((more % 16) as u16),
+        60..62 => Call::AskWrite(block(alloc, name, more)?.get().subject(digest_of(name))),
+        62 => Call::AskCertify(drawn_certificate(alloc, name, more)?.get().subject()),
         _ => Call::Status,
     })
 }
@@ -108,7 +112,57 @@ fn make_next_call(
     }
 }
 
-/// Makes random calls, with a `compact` after every 512 calls. Returns the number of kinds of replies, or `None` if the stores differ.
+/// Whether a copy of the tables has the state of the plain store, and looks at slots say what this state has. The plain store goes on as
+/// another copy.
+fn is_copied(alloc: Global, both: &mut Both) -> Result<bool, NoMemory> {
+    let copy = both.dag.copy(alloc)?;
+    let expected = Base::of(mem::replace(&mut both.plain, copy));
+    let copied = Base::of(both.dag.copy(alloc)?);
+    Ok(expected.is_same(&copied) && are_seen(&both.dag, &expected))
+}
+
+/// Whether looks at the slots of the first rounds from the garbage round on say what the base has.
+fn are_seen(dag: &Dag, base: &Base) -> bool {
+    for place in 0..64u16 {
+        let number = base.floor().get().saturating_add(u64::from(place / 8));
+        let Some(round) = Round::new(number) else {
+            return false;
+        };
+        if !is_seen(dag, base, round, place % 8) {
+            return false;
+        }
+    }
+    true
+}
+
+/// The digest that the base has certified for the slot, if there is one. It is a digest of the author's blocks in this round, or of the
+/// blocks of the author whose certificates may be for this author's slot.
+fn certified_in(base: &Base, round: Round, author: u16) -> Option<Digest> {
+    for (named, fork) in [(author, 0), (author, 1), (author ^ 1, 0), (author ^ 1, 1)] {
+        let digest = digest_of((round.get(), named, fork));
+        if let Some(kept) = base.certificate(&digest) {
+            if (kept.round, kept.author) == (round, author) {
+                return Some(digest);
+            }
+        }
+    }
+    None
+}
+
+/// Whether a look at the slot says what the base has.
+fn is_seen(dag: &Dag, base: &Base, round: Round, author: u16) -> bool {
+    let look = dag.look(round, author);
+    let certified = certified_in(base, round, author);
+    let stands = match &certified {
+        None => false,
+        Some(digest) => base.block(digest).is_some(),
+    };
+    (look.certified, look.stands) == (certified, stands)
+        && look.floor == base.floor()
+        && look.first == base.first(round, author)
+}
+
+/// Makes random calls. After every 512 calls it compacts the tables and compares a copy of them with the plain store. Returns the number of kinds of replies, or `None` if the stores differ.
 fn count_replies(alloc: Global, both: &mut Both, calls: u32) -> Result<Option<usize>, NoMemory> {
     let seen = &mut BTreeSet::new(alloc);
     let mut random = Pcg32::new(1, 1);
@@ -118,6 +172,9 @@ fn count_replies(alloc: Global, both: &mut Both, calls: u32) -> Result<Option<us
         }
         if number % 512 == 0 {
             both.dag.compact(alloc)?;
+            if !is_copied(alloc, both)? {
+                return Ok(None);
+            }
         }
     }
     Ok(Some(seen.len()))

@@ -1,4 +1,7 @@
-use Rattle.std.proofs.Common.{◌≡◌, [], ◌∷◌, ◌++◌, ap, sym, ◌∙◌}
+use Rattle.std.proofs.Common.{◌≡◌, [], ◌∷◌, ◌++◌, ap, sym, ◌∙◌, subst}
+use Rattle.nw_model.proofs.RecordedCalls.{same_step}
+use Rattle.nw_model.specs.Step.{IsReply}
+use Rattle.nw_history.specs.Story.{bounds_of, state_of}
 use Rattle.nw_model.specs.declared.event.Event.{Event}
 use Rattle.nw_history.specs.Story.{Story}
 use Rattle.nw_book.proofs.NotReady.{not_ready}
@@ -6,7 +9,12 @@ use Rattle.nw_book.proofs.book.Book.take_step.Goals as goal
 
 pub of-requires : goal.of-requires
 of-requires g c is =
-    let e : Event = record { session = c.args.session; number = c.args.number; call = c.share_kept.new.call; reply = c.in_ok-reply.reply } in
+    let e : Event = record { session = c.args.session; number = c.args.number; call = c.«record».new.self; reply = c.in_ok-reply.reply } in
     let events : c.in_ok-front.front.events ≡ c.args.self.now.events ++ e ∷ [] = ap (λ (s : Story). s.events) (c.in_ok-front.ensures.front ∙ c.in_ok-front.ensures.history) in
     let event_is = c.of-answer.ensures.event c.args.self.now.events e events in
     not_ready _ _ c.args.call c.in_ok-reply.reply c.requires.no_read c.in_ok-reply.ensures.reply (sym (ap (λ (x : Event). x.reply) event_is) ∙ is)
+
+pub record-requires-2-clause-reply : goal.record-requires-2-clause-reply
+record-requires-2-clause-reply g c =
+    subst (λ q. IsReply (bounds_of c.args.self.now.limits) (state_of c.args.self.now) q c.in_ok-reply.reply) (sym c.«record».ensures)
+    (same_step _ _ c.args.call c.in_ok-reply.reply c.in_ok-reply.ensures.reply).0

@@ -1,0 +1,230 @@
+//! Measures what a peer can cost a validator: dropped messages, bad ones, and the longest calls under the store's lock.
+//!
+//! ```text
+//! cargo run --release --example longest
+//! ```
+//!
+//! It takes a minute and 4 GB, and no signer, since the members of `tests/lab` publish their secrets. Member 0 alone has the weight of a
+//! quorum, so a certificate has one vote.
+
+#[path = "../tests/lab/mod.rs"]
+mod lab;
+
+use lab::Com;
+use narwhal_store::{Checked, Digest, Limits, Message, Session, Slot, Store, check_all};
+use std::error::Error;
+use std::hint::black_box;
+use std::time::Instant;
+
+type Result<T> = std::result::Result<T, Box<dyn Error>>;
+
+/// Some of the 100 members that the largest committee tolerates as faulty.
+const FAULTY: u16 = 33;
+
+fn main() -> Result<()> {
+    drops_and_checks()?;
+    for (members, rounds, lag) in [
+        (50, 32, 32),
+        (50, 512, 32),
+        (100, 512, 512),
+        (100, 655, 655),
+    ] {
+        restarts(members, rounds, lag)?;
+    }
+    for (rounds, parents) in [(64, 1), (64, 100), (512, 1), (512, 100)] {
+        withheld_certificate(rounds, parents)?;
+    }
+    for rounds in [64, 512] {
+        unmet_parents(rounds)?;
+    }
+    Ok(())
+}
+
+/// Messages that are dropped, and messages whose last signature is bad.
+fn drops_and_checks() -> Result<()> {
+    let lab = Lab::new(&[1; 100])?;
+    let everybody: Vec<u16> = (0..100).collect();
+    let (block, slot) = lab.com.block(0, 0, &[], &[vec![7; 10_000]]);
+    let known = lab.com.certificate(&slot, &everybody[..67]);
+    let long = lab.com.certificate(&slot, &everybody);
+    lab.take(&[block.clone(), known.clone()])?;
+    mean("peek at a certificate", 2_000_000, || {
+        black_box(Message::peek(black_box(&known)));
+    });
+    mean("look at a round and author", 2_000_000, || {
+        black_box(lab.store.look(black_box(0), 0));
+    });
+    let messages = [
+        ("block of 10,000 bytes", block),
+        ("certificate of 67 votes", known),
+    ];
+    let messages = messages
+        .into_iter()
+        .chain([("certificate of 100 votes", long)]);
+    for (name, mut message) in messages {
+        *message.last_mut().ok_or("a signature")? ^= 1;
+        mean(&format!("check a bad {name}"), 20, || {
+            assert!(Message::check(&lab.com.committee, black_box(&message)).is_err());
+        });
+    }
+    Ok(())
+}
+
+/// Restarts of a store with this many rounds, of which the last `lag` ones are stored, with an empty and a full history.
+fn restarts(members: u16, rounds: u64, lag: u64) -> Result<()> {
+    let lab = Lab::heavy(members)?;
+    let mut parents = Vec::new();
+    for round in 0..rounds {
+        let made = lab.round(round, 0..members, &parents)?;
+        lab.certify(&made)?;
+        parents = vec![(0, made[0].digest)];
+        if round >= lag {
+            lab.session.collect(round + 1 - lag)?;
+        }
+    }
+    let status = lab.session.status()?.into_reply();
+    let (blocks, collections) = (status.blocks, rounds - lag);
+    let what = format!("{blocks} stored and certified blocks");
+    if collections > 0 {
+        println!(
+            "{} events, {collections} of them collections",
+            lab.store.events()
+        );
+    } else {
+        lab.store.restart()?;
+    }
+    once(&format!("restart, {what}"), || Ok(lab.store.restart()?))?;
+    let (message, _) = lab.com.block(0, rounds - 1, &[(0, Digest([1; 32]))], &[]);
+    let Checked::Block(twin) = Message::check(&lab.com.committee, &message)? else {
+        return Err("no block".into());
+    };
+    for _ in 0..3 {
+        while lab.store.events() < 65_536 {
+            lab.session.write(&twin)?;
+        }
+        once(&format!("restart, {what}, 65,536 events"), || {
+            Ok(lab.store.restart()?)
+        })?;
+    }
+    Ok(())
+}
+
+/// A certificate that completes all blocks above it.
+fn withheld_certificate(rounds: u64, parents: usize) -> Result<()> {
+    let lab = Lab::heavy(100)?;
+    let first = lab.round(0, 0..100, &[])?;
+    lab.certify(&first[1..])?;
+    let mut last = first.clone();
+    for round in 1..rounds {
+        let of_last: Vec<_> = last.iter().map(|slot| (slot.author, slot.digest)).collect();
+        last = lab.round(round, 0..100, &of_last[..parents])?;
+        lab.certify(&last)?;
+    }
+    lab.store.restart()?;
+    let what = format!("certify, {rounds} rounds of 100 blocks with {parents} parents each");
+    let message = lab.com.certificate(&first[0], &[0]);
+    let Checked::Certificate(certificate) = Message::check(&lab.com.committee, &message)? else {
+        return Err("no certificate".into());
+    };
+    once(&what, || Ok(lab.session.certify(&certificate).map(drop)?))?;
+    let ready = lab.session.causal(&last[0].digest)?.into_ticket();
+    ready.map(drop).map_err(|fault| format!("{fault:?}").into())
+}
+
+/// A collection of blocks whose 100 parents do not exist.
+fn unmet_parents(rounds: u64) -> Result<()> {
+    let lab = Lab::heavy(100)?;
+    for round in 1..rounds {
+        let parent = |author| (author, Digest::of(&[round as u8, author as u8]));
+        let parents: Vec<_> = (0..100).map(parent).collect();
+        lab.round(round, 1..FAULTY + 1, &parents)?;
+    }
+    lab.store.restart()?;
+    let what = format!(
+        "collect, {} blocks with 100 unmet parents",
+        33 * (rounds - 1)
+    );
+    once(&what, || Ok(lab.session.collect(rounds).map(drop)?))
+}
+
+/// A committee with its store.
+struct Lab {
+    com: Com,
+    store: Store,
+    session: Session,
+}
+
+impl Lab {
+    fn new(weights: &[u32]) -> Result<Lab> {
+        let com = Com::weighted(weights);
+        let limits = Limits {
+            window: 1_024,
+            ..Limits::MAX
+        };
+        let builder = Store::builder(&com.committee).limits(limits);
+        let store = builder.never_restart().open()?;
+        Ok(Lab {
+            session: store.session()?,
+            store,
+            com,
+        })
+    }
+
+    /// A committee whose member 0 has the weight of a quorum.
+    fn heavy(members: u16) -> Result<Lab> {
+        let weight = |member| if member == 0 { 1_000 } else { 1 };
+        Lab::new(&(0..members).map(weight).collect::<Vec<u32>>())
+    }
+
+    /// Stores a block of each of these members for the round.
+    fn round(
+        &self,
+        round: u64,
+        authors: std::ops::Range<u16>,
+        parents: &[(u16, Digest)],
+    ) -> Result<Vec<Slot>> {
+        let block = |author| self.com.block(author, round, parents, &[]);
+        let (messages, slots): (Vec<_>, Vec<_>) = authors.map(block).unzip();
+        self.take(&messages)?;
+        Ok(slots)
+    }
+
+    fn certify(&self, slots: &[Slot]) -> Result<()> {
+        let certificate = |slot: &Slot| self.com.certificate(slot, &[0]);
+        self.take(&slots.iter().map(certificate).collect::<Vec<_>>())
+    }
+
+    fn take(&self, messages: &[Vec<u8>]) -> Result<()> {
+        if self.store.events() + messages.len() > 65_000 {
+            self.store.restart()?;
+        }
+        for checked in check_all(&self.com.committee, messages, 4) {
+            match checked? {
+                Checked::Block(block) => drop(self.session.write(&block)?),
+                Checked::Certificate(certificate) => drop(self.session.certify(&certificate)?),
+                Checked::Vote(_) => return Err("a vote".into()),
+            }
+        }
+        Ok(())
+    }
+}
+
+/// Prints the mean time of a call, in the best of five batches: other programs disturb it least.
+fn mean(what: &str, calls: u32, mut call: impl FnMut()) {
+    let mut batch = || {
+        let start = Instant::now();
+        (0..calls).for_each(|_| call());
+        1e6 * start.elapsed().as_secs_f64() / f64::from(calls)
+    };
+    let micros = (0..5).map(|_| batch()).fold(f64::INFINITY, f64::min);
+    println!("{what:60} {micros:>12.3} us");
+}
+
+/// Prints the time of one call.
+fn once(what: &str, call: impl FnOnce() -> Result<()>) -> Result<()> {
+    let start = Instant::now();
+    call()?;
+    let micros = 1e6 * start.elapsed().as_secs_f64();
+    println!("{what:60} {micros:>12.1} us");
+    Ok(())
+}

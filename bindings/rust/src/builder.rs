@@ -1,0 +1,110 @@
+//! The settings of a new store.
+
+use crate::ffi::{self, Handle};
+use crate::room::Content;
+use crate::store::Inner;
+use crate::{Committee, Limits, OpenError, Store};
+use std::sync::Arc;
+
+/// The settings of a new store. [`Store::builder`] makes them.
+#[derive(Clone, Debug)]
+#[must_use]
+pub struct StoreBuilder {
+    committee: Committee,
+    limits: Limits,
+    restart: Option<RestartWhen>,
+}
+
+impl StoreBuilder {
+    pub(crate) fn new(committee: &Committee) -> StoreBuilder {
+        StoreBuilder {
+            committee: committee.clone(),
+            limits: Limits::default(),
+            restart: Some(RestartWhen {
+                bytes: Store::HISTORY_BYTES,
+                events: u32::MAX,
+            }),
+        }
+    }
+
+    /// Sets the limits.
+    pub fn limits(mut self, limits: Limits) -> StoreBuilder {
+        self.limits = limits;
+        self
+    }
+
+    /// Sets when the store restarts its history. The default is [`Store::HISTORY_BYTES`] and
+    /// [`Limits::events`].
+    ///
+    /// A call restarts the history first if the history has `events` events or as many as
+    /// [`Limits::events`], or if the call could raise [`Store::history_bytes`] above `bytes`. So no
+    /// call fails with [`StepError::HistoryFull`]. While there is memory for restarts, the history
+    /// takes at most `bytes`, except by one event that alone takes more. The largest events are a
+    /// write of 1,048,576 bytes and a list of 65,535 missing parents of 3.1 MB.
+    ///
+    /// - An answer's history has only the events since the last restart.
+    /// - The restart runs inside one call under the store's lock. It copies an entry for each stored
+    ///   block and certificate, and replays no event.
+    /// - The old history is freed after the lock if an answer still shares it: the answer that was
+    ///   dropped last, or one that you hold. Otherwise the restart frees it under the lock.
+    /// - If there is no memory for the restart, the call goes on without it. It fails with
+    ///   [`StepError::NoMemory`] only if the history has as many events as [`Limits::events`].
+    ///
+    /// [`StepError::HistoryFull`]: crate::StepError::HistoryFull
+    /// [`StepError::NoMemory`]: crate::StepError::NoMemory
+    pub fn restart_when(mut self, bytes: u64, events: u32) -> StoreBuilder {
+        self.restart = Some(RestartWhen { bytes, events });
+        self
+    }
+
+    /// Makes a store that never restarts its history by itself.
+    ///
+    /// Calls fail with [`StepError::HistoryFull`] once the history has [`Limits::events`] events,
+    /// until you call [`Store::restart`]. A peer can fill the history with repeated messages. Use
+    /// this only if you need one history of all calls, and control who can make them.
+    ///
+    /// [`StepError::HistoryFull`]: crate::StepError::HistoryFull
+    pub fn never_restart(mut self) -> StoreBuilder {
+        self.restart = None;
+        self
+    }
+
+    /// Opens an empty store.
+    ///
+    /// # Errors
+    ///
+    /// [`OpenError::BadLimits`] if a limit is outside its range.
+    pub fn open(self) -> Result<Store, OpenError> {
+        let mut members = self.committee.share().map_err(OpenError::of)?;
+        let book = |out: &mut Handle| ffi::nw_book_new(&mut members, &self.limits, out);
+        let handle = Handle::opened(book).map_err(OpenError::of)?;
+        let restart = self.restart.map(|when| when.within(&self.limits));
+        let inner = Inner::new(handle, self.committee, self.limits, restart);
+        Ok(Store {
+            inner: Arc::new(inner),
+        })
+    }
+}
+
+/// When a history restarts: at this many events, or before its bytes exceed the bound.
+#[derive(Clone, Copy, Debug)]
+pub(crate) struct RestartWhen {
+    bytes: u64,
+    events: u32,
+}
+
+impl RestartWhen {
+    fn within(self, limits: &Limits) -> RestartWhen {
+        RestartWhen {
+            events: self.events.min(limits.events),
+            ..self
+        }
+    }
+
+    /// Whether a history of these events and bytes restarts before a call with this content.
+    #[inline]
+    pub(crate) fn is_met(self, events: usize, bytes: u64, content: Content) -> bool {
+        let is_over = bytes + content.most() > self.bytes;
+        events > 0 && (is_over || events >= self.events as usize)
+    }
+}

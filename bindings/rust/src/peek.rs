@@ -1,0 +1,151 @@
+//! What the first bytes of a message say.
+
+use crate::ffi;
+use crate::raw::{message as kind, unexpected_kind};
+use crate::{Message, Slot};
+
+/// What the first bytes of a message say, before any check. See [`Message::peek`].
+#[derive(Clone, Copy, Debug, PartialEq, Eq, Hash)]
+pub enum Peek {
+    /// A block. Its digest is the SHA-256 digest of its body, so it is not known without a hash.
+    Block {
+        /// The round of the block, below 2^48.
+        round: u64,
+        /// The number of the member that the block names as its author.
+        author: u16,
+    },
+    /// A certificate for this slot.
+    Certificate(Slot),
+    /// A vote for this slot.
+    Vote {
+        /// The slot that the vote is for.
+        slot: Slot,
+        /// The number of the member that the vote names as its signer.
+        signer: u16,
+    },
+}
+
+impl Peek {
+    /// Returns the round of the block, or of the block that the certificate or vote is for.
+    #[must_use]
+    pub fn round(&self) -> u64 {
+        match self {
+            Peek::Block { round, .. } => *round,
+            Peek::Certificate(slot) | Peek::Vote { slot, .. } => slot.round,
+        }
+    }
+
+    /// Returns the author of the block, or of the block that the certificate or vote is for.
+    #[must_use]
+    pub fn author(&self) -> u16 {
+        match self {
+            Peek::Block { author, .. } => *author,
+            Peek::Certificate(slot) | Peek::Vote { slot, .. } => slot.author,
+        }
+    }
+}
+
+impl Message {
+    /// Reads the kind of a message, and what it is about, from its first bytes.
+    ///
+    /// Use it to drop a message before you pay for its check: one that you already have, one below
+    /// the garbage round, or one beyond a peer's budget. It reads at most 43 bytes, takes no lock,
+    /// allocates nothing, and computes no hash.
+    ///
+    /// **Nothing is verified.** Anyone can write these bytes: the named author or signer may not
+    /// have sent the message, and the rest of the bytes may not be a message. If
+    /// [`Message::check`] accepts the same bytes, the checked message has the fields that this
+    /// returns. The proofs of the library cover this.
+    ///
+    /// Returns `None` exactly if the first byte is not that of a message, the version of a block is
+    /// not 1, or the bytes end before these fields do. `Message::check` refuses such bytes, under
+    /// every committee.
+    ///
+    /// ```
+    /// # mod data { include!(concat!(env!("CARGO_MANIFEST_DIR"), "/examples/data/mod.rs")); }
+    /// # let (keys, bytes) = (data::keys(), data::values("message").remove(0));
+    /// use narwhal_store::{Checked, Committee, Message, Peek};
+    ///
+    /// let Some(Peek::Block { round, author }) = Message::peek(&bytes) else {
+    ///     panic!("the first message is a block");
+    /// };
+    /// let Checked::Block(block) = Message::check(&Committee::equal(&keys)?, &bytes)? else {
+    ///     panic!("the first message is a block");
+    /// };
+    /// assert_eq!((round, author), (block.slot().round, block.slot().author));
+    ///
+    /// // The first ten bytes of a block are enough, and fewer are not.
+    /// assert_eq!(Message::peek(&bytes[..10]), Message::peek(&bytes));
+    /// assert_eq!(Message::peek(&bytes[..9]), None);
+    /// # Ok::<(), Box<dyn std::error::Error>>(())
+    /// ```
+    #[must_use]
+    pub fn peek(message: &[u8]) -> Option<Peek> {
+        let raw = ffi::peek(message)?;
+        let slot = raw.slot;
+        match raw.kind {
+            kind::BLOCK => Some(Peek::Block {
+                round: slot.round,
+                author: slot.author,
+            }),
+            kind::CERTIFICATE => Some(Peek::Certificate(slot)),
+            kind::VOTE => Some(Peek::Vote {
+                slot,
+                signer: raw.signer,
+            }),
+            other => unexpected_kind(other),
+        }
+    }
+}
+
+#[cfg(test)]
+mod tests {
+    use crate::refusals::data;
+    use crate::{Block, Checked, Committee, Digest, Message, Peek, Signature, Slot, vote_message};
+
+    #[test]
+    fn fronts_are_those_of_the_checked_messages() {
+        let committee = Committee::equal(&data::keys()).unwrap();
+        for message in data::values("message") {
+            let front = match Message::check(&committee, &message).unwrap() {
+                Checked::Block(block) => Peek::Block {
+                    round: block.slot().round,
+                    author: block.slot().author,
+                },
+                Checked::Certificate(certificate) => Peek::Certificate(certificate.slot()),
+                Checked::Vote(vote) => Peek::Vote {
+                    slot: vote.slot(),
+                    signer: vote.signer(),
+                },
+            };
+            assert_eq!(Message::peek(&message), Some(front));
+        }
+    }
+
+    #[test]
+    fn fronts_end_after_their_last_field() {
+        let signature = Signature([7; 64]);
+        let slot = Slot {
+            digest: Digest([9; 32]),
+            round: (1 << 48) - 2,
+            author: 258,
+        };
+        let vote = vote_message(&slot, 7, &signature).unwrap();
+        let block = Block::new(258, slot.round, &[], &[b"x"]).unwrap();
+        let (round, author) = (slot.round, slot.author);
+        let fronts = [
+            (block.message(&signature), 10, Peek::Block { round, author }),
+            ([&[2], &vote[1..]].concat(), 41, Peek::Certificate(slot)),
+            (vote, 43, Peek::Vote { slot, signer: 7 }),
+        ];
+        for (message, size, front) in fronts {
+            assert_eq!((front.round(), front.author()), (round, author));
+            for len in 0..=message.len() {
+                let wanted = (len >= size).then_some(front);
+                assert_eq!(Message::peek(&message[..len]), wanted);
+            }
+        }
+        assert_eq!(Message::peek(&[4; 43]), None);
+        assert_eq!(Message::peek(&[1, 2, 0, 0, 0, 0, 0, 0, 0, 0]), None);
+    }
+}

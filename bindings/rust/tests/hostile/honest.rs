@@ -1,0 +1,284 @@
+//! A validator that follows docs/EMBEDDING.md: peek, drop, check, write, vote once the parents are satisfied, send.
+
+use crate::decide::Decider;
+use crate::flow::Flow;
+use crate::lab::Com;
+use crate::world::{Checks, Packet, Post};
+use narwhal_store::{CertifyReply, Checked, CheckedBlock, CheckedCertificate, CollectReply};
+use narwhal_store::{Digest, Gather, Limits, Message, Peek, Session, Slot, Store, WriteReply};
+use std::collections::{BTreeMap, HashMap};
+use std::rc::Rc;
+
+pub const LIMITS: Limits = Limits {
+    blocks: 65_536,
+    events: 300,
+    window: 24,
+    sessions: 1,
+};
+/// The bytes at which a store restarts its history.
+pub const HISTORY_BYTES: u64 = 60_000;
+/// The most bytes of one peer that a validator checks between two ticks.
+pub const BUDGET: usize = 40_000;
+/// The most parents that a validator asks one author for between two ticks.
+const ASKED: usize = 8;
+
+/// What a validator does that the documents advise against, or leave open.
+#[derive(Clone, Copy, Debug, PartialEq, Eq)]
+pub enum Rules {
+    /// It follows the documents.
+    Follows,
+    /// It follows them, and skips the step that drops messages before their check.
+    ChecksAll,
+    /// It votes on `Stored { vote: true }`, without the parents.
+    VotesAtOnce,
+    /// It checks all messages, and keeps each refused block.
+    KeepsAll,
+}
+
+pub struct Honest<'a> {
+    pub me: u16,
+    com: &'a Com,
+    rules: Rules,
+    pub store: Store,
+    session: Session,
+    flow: Flow,
+    pub decider: Decider,
+    /// The votes for its last own block, and the messages of that block and its certificate.
+    gather: Option<Gather>,
+    own: Vec<Rc<[u8]>>,
+    /// The round of its next block.
+    pub round: u64,
+    /// The messages of its stored blocks and certificates, which a validator has on its disk.
+    disk: HashMap<Digest, Vec<Rc<[u8]>>>,
+    votes: BTreeMap<(u64, u16), Digest>,
+    /// The bytes of each peer that it checked since the last tick.
+    spent: Vec<usize>,
+    kept: Vec<Rc<[u8]>>,
+}
+
+impl<'a> Honest<'a> {
+    pub fn new(com: &'a Com, me: u16, rules: Rules) -> Honest<'a> {
+        let builder = Store::builder(&com.committee).limits(LIMITS);
+        let builder = builder.restart_when(HISTORY_BYTES, LIMITS.events);
+        let store = builder.open().expect("a store");
+        let members = com.committee.size() as u16;
+        Honest {
+            me,
+            com,
+            rules,
+            session: store.session().expect("a session"),
+            flow: Flow::new(&store),
+            store,
+            decider: Decider::new(members),
+            gather: None,
+            own: Vec::new(),
+            round: 0,
+            disk: HashMap::new(),
+            votes: BTreeMap::new(),
+            spent: vec![0; members.into()],
+            kept: Vec::new(),
+        }
+    }
+
+    /// The bytes that it keeps outside of its store and its disk.
+    pub fn bytes(&self) -> usize {
+        self.flow.bytes() + self.kept.iter().map(|message| message.len()).sum::<usize>()
+    }
+
+    /// Handles a packet from a member.
+    pub fn take(&mut self, from: u16, packet: &Packet, checks: &mut Checks, post: &mut Post) {
+        match packet {
+            Packet::Fetch(slot) => {
+                for message in self.disk.get(&slot.digest).into_iter().flatten() {
+                    post.send(self.me, from, Packet::Message(message.clone()));
+                }
+            }
+            Packet::Message(message) => {
+                if self.wants(from, message) {
+                    self.handle(message, checks, post);
+                }
+            }
+        }
+    }
+
+    fn checks_all(&self) -> bool {
+        matches!(self.rules, Rules::ChecksAll | Rules::KeepsAll)
+    }
+
+    /// Whether the message is worth its check.
+    fn wants(&mut self, from: u16, message: &[u8]) -> bool {
+        let is_own = |gather: &Gather, slot: Slot| gather.slot() == slot;
+        let is_wanted = match Message::peek(message) {
+            Some(Peek::Vote { slot, .. }) => {
+                self.gather.as_ref().is_some_and(|own| is_own(own, slot))
+            }
+            _ => self.checks_all() || self.flow.wants(message),
+        };
+        let spent = &mut self.spent[usize::from(from)];
+        let is_within = from == self.me || *spent + message.len() <= BUDGET;
+        if is_wanted && is_within {
+            *spent += message.len();
+        }
+        is_wanted && is_within
+    }
+
+    fn handle(&mut self, message: &Rc<[u8]>, checks: &mut Checks, post: &mut Post) {
+        match &*checks.check(self.com, message) {
+            Ok(Checked::Block(block)) => self.write(block, message, post),
+            Ok(Checked::Certificate(certificate)) => self.certify(certificate, message, post),
+            Ok(Checked::Vote(vote)) => {
+                let Some(gather) = &mut self.gather else {
+                    return;
+                };
+                if gather.add(vote) == Ok(true) {
+                    let certificate = gather.certificate().expect("a quorum");
+                    self.gather = None;
+                    let message: Rc<[u8]> = certificate.message().into();
+                    self.own.push(message.clone());
+                    post.broadcast(self.me, &message);
+                }
+            }
+            Err(_) => {}
+        }
+    }
+
+    fn write(&mut self, block: &CheckedBlock, message: &Rc<[u8]>, post: &mut Post) {
+        let slot = block.slot();
+        match self.session.write(block).expect("memory").into_reply() {
+            WriteReply::Stored { vote } => {
+                self.disk
+                    .entry(slot.digest)
+                    .or_default()
+                    .push(message.clone());
+                self.decider.stored(block);
+                let due = self.flow.stored(block, vote);
+                match self.rules {
+                    Rules::VotesAtOnce if vote => self.vote(&[slot], post),
+                    Rules::VotesAtOnce => {}
+                    _ => self.vote(&due, post),
+                }
+                self.decide(post);
+            }
+            WriteReply::Clash | WriteReply::Misfit => panic!("a broken digest"),
+            _ if self.rules == Rules::KeepsAll => self.kept.push(message.clone()),
+            _ => {}
+        }
+    }
+
+    fn certify(&mut self, certificate: &CheckedCertificate, message: &Rc<[u8]>, post: &mut Post) {
+        let slot = certificate.slot();
+        match self
+            .session
+            .certify(certificate)
+            .expect("memory")
+            .into_reply()
+        {
+            CertifyReply::Certified => {
+                self.disk
+                    .entry(slot.digest)
+                    .or_default()
+                    .push(message.clone());
+                let due = self.flow.certified(&slot);
+                self.vote_later(&due, post);
+                self.decide(post);
+            }
+            CertifyReply::Conflict(_) | CertifyReply::Misfit => panic!("a false quorum"),
+            _ => {}
+        }
+    }
+
+    fn vote_later(&mut self, due: &[Slot], post: &mut Post) {
+        if self.rules != Rules::VotesAtOnce {
+            self.vote(due, post);
+        }
+    }
+
+    fn vote(&mut self, due: &[Slot], post: &mut Post) {
+        for slot in due {
+            let before = self.votes.insert((slot.round, slot.author), slot.digest);
+            assert_eq!(before, None, "a second vote for {slot:?}");
+            let vote = self.com.vote(slot, self.me);
+            post.send(self.me, slot.author, Packet::Message(vote.into()));
+        }
+    }
+
+    /// Decides leaders, and collects what they leave behind.
+    fn decide(&mut self, post: &mut Post) {
+        while let Some(floor) = self.decider.decide(&self.session, &self.store) {
+            let reply = self.session.collect(floor).expect("memory").into_reply();
+            if let CollectReply::Raised { .. } = reply {
+                let due = self.flow.collected(floor);
+                self.vote_later(&due, post);
+            }
+        }
+    }
+
+    /// Makes its next block if a quorum of parents is satisfied, asks for what is missing, and gives each peer a new budget.
+    pub fn tick(&mut self, checks: &mut Checks, post: &mut Post) {
+        self.spent.fill(0);
+        for message in self.own.clone() {
+            post.broadcast(self.me, &message);
+        }
+        self.propose(checks, post);
+        self.ask(post);
+    }
+
+    fn propose(&mut self, checks: &mut Checks, post: &mut Post) {
+        let members = self.spent.len() as u16;
+        let quorum = self.com.committee.quorum() as usize;
+        let floor = self.store.look(0, 0).garbage_round;
+        for round in (self.round..floor + u64::from(LIMITS.window)).rev() {
+            let parent = |author| {
+                let look = self.store.look(round.checked_sub(1)?, author);
+                let digest = look.certified.filter(|_| look.stands)?;
+                Some((author, digest))
+            };
+            let parents: Vec<_> = (0..members).filter_map(parent).collect();
+            if round > 0 && parents.len() < quorum {
+                continue;
+            }
+            let transactions = [vec![self.me as u8; 20]];
+            let (message, slot) = self.com.block(self.me, round, &parents, &transactions);
+            self.round = round + 1;
+            self.gather = Some(Gather::new(&self.com.committee, &slot).expect("a member"));
+            let message: Rc<[u8]> = message.into();
+            self.own = vec![message.clone()];
+            // It takes its own block before the others do, as it takes a block of the network.
+            self.handle(&message, checks, post);
+            return post.broadcast(self.me, &message);
+        }
+    }
+
+    /// Asks for the blocks of certificates, and for the parents of stored blocks.
+    fn ask(&self, post: &mut Post) {
+        for slot in self.flow.absent() {
+            post.ask_some(self.me, slot.author, slot);
+        }
+        let mut asked = vec![0; self.spent.len()];
+        for (child, parent) in self.flow.missing() {
+            let look = self.store.look(child.round, child.author);
+            let asked = &mut asked[usize::from(child.author)];
+            if look.certified == Some(child.digest) {
+                post.ask_some(self.me, child.author, parent);
+            } else if *asked < ASKED {
+                *asked += 1;
+                post.send(self.me, child.author, Packet::Fetch(parent));
+            }
+        }
+    }
+
+    /// The memory of the validator is within its bounds at this moment.
+    pub fn check_memory(&self) {
+        let members = self.spent.len();
+        assert!(self.store.history_bytes() <= HISTORY_BYTES, "the history");
+        let most = Flow::most_bytes(members, LIMITS.window);
+        assert!(self.bytes() <= most, "{} bytes are kept", self.bytes());
+    }
+
+    /// The store has at most as many blocks as the window has slots.
+    pub fn check_blocks(&self) {
+        let status = self.session.status().expect("memory").into_reply();
+        let most = self.spent.len() as u64 * u64::from(LIMITS.window);
+        assert!(status.blocks <= most, "{} blocks are stored", status.blocks);
+    }
+}

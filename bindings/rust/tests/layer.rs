@@ -1,0 +1,228 @@
+//! Small faults that the Rust layer could have, each with one test: weights, limits, iterators, and the library that build.rs links.
+
+mod lab;
+
+use lab::Com;
+use narwhal_store::{AgreeError, Checked, Gather, GatherError, Limits, Member, Message, OpenError};
+use narwhal_store::{PublicKey, Session, Slot, Store, Ticket};
+use std::fmt::Debug;
+use std::fs;
+use std::path::{Path, PathBuf};
+use std::process::{Command, Output};
+
+fn checked(com: &Com, message: &[u8]) -> Checked {
+    Message::check(&com.committee, message).expect("a message")
+}
+
+#[test]
+fn a_member_votes_with_its_weight() {
+    let com = Com::weighted(&[3, 1, 1, 1]);
+    let committee = &com.committee;
+    assert_eq!((committee.size(), committee.quorum()), (4, 5));
+    let weights = [0, 1, 2, 3].map(|author| committee.member(author).expect("a member").weight);
+    assert_eq!(weights, [3, 1, 1, 1]);
+    assert_eq!(committee.member(4), None);
+    let (_, slot) = com.block(0, 0, &[], &[]);
+    let mut gather = Gather::new(committee, &slot).expect("a gatherer");
+    for (signer, is_quorum) in [(0, false), (1, false), (3, true)] {
+        let Checked::Vote(vote) = checked(&com, &com.vote(&slot, signer)) else {
+            panic!("the message is a vote");
+        };
+        assert_eq!(gather.certificate().err(), Some(GatherError::FewVotes));
+        assert_eq!(gather.add(&vote), Ok(is_quorum));
+    }
+    gather.certificate().expect("a certificate");
+    // Three members of weight 1 are three of four members, and have half of the votes.
+    let light = com.certificate(&slot, &[1, 2, 3]);
+    Message::check(committee, &light).expect_err("too few votes");
+    Message::check(committee, &com.certificate(&slot, &[0, 1, 2])).expect("enough votes");
+}
+
+#[test]
+fn members_have_their_keys() {
+    let member = |byte: u8| Member {
+        key: PublicKey([byte; 32]),
+        weight: u32::from(byte),
+    };
+    let members = [member(9), member(2), member(5)];
+    let committee = narwhal_store::Committee::new(&members).expect("a committee");
+    let found: Vec<_> = (0..3)
+        .filter_map(|author| committee.member(author))
+        .collect();
+    assert_eq!((found, committee.quorum()), (members.to_vec(), 11));
+}
+
+#[test]
+fn a_store_has_the_limits_that_it_was_opened_with() {
+    let com = Com::new(1);
+    let open = |limits| Store::new(&com.committee, limits);
+    let own = Limits {
+        blocks: 3,
+        events: 5,
+        window: 7,
+        sessions: 2,
+    };
+    let store = open(own).expect("a store");
+    assert_eq!(store.limits(), own);
+    let sessions = [store.session(), store.session(), store.session()];
+    let [Ok(first), Ok(second), Err(OpenError::TooManySessions)] = &sessions else {
+        panic!("{sessions:?} of two sessions");
+    };
+    assert_eq!((first.id(), second.id()), (0, 1));
+    let least = Limits {
+        blocks: 1,
+        events: 1,
+        window: 1,
+        sessions: 1,
+    };
+    assert!(open(least).is_ok() && open(Limits::MAX).is_ok());
+    let set: [fn(&mut Limits) -> &mut u32; 4] = [
+        |limits| &mut limits.blocks,
+        |limits| &mut limits.events,
+        |limits| &mut limits.window,
+        |limits| &mut limits.sessions,
+    ];
+    for limit in set {
+        let (mut low, mut high) = (least, Limits::MAX);
+        *limit(&mut low) -= 1;
+        *limit(&mut high) += 1;
+        for limits in [low, high] {
+            let refused = open(limits).err();
+            assert_eq!(refused, Some(OpenError::BadLimits), "{limits:?}");
+        }
+    }
+}
+
+/// A store with a chain of complete blocks, one for each round, and their slots.
+fn chain(com: &Com, rounds: u64) -> (Session, Vec<Slot>) {
+    let store = Store::new(&com.committee, Limits::default()).expect("a store");
+    let session = store.session().expect("a session");
+    let mut slots: Vec<Slot> = Vec::new();
+    for round in 0..rounds {
+        let parents: Vec<_> = slots
+            .last()
+            .map(|slot| (slot.author, slot.digest))
+            .into_iter()
+            .collect();
+        let (message, slot) = com.block(0, round, &parents, &[vec![round as u8; 3], vec![]]);
+        for message in [message, com.certificate(&slot, &[0])] {
+            match checked(com, &message) {
+                Checked::Block(block) => drop(session.write(&block).expect("a write")),
+                Checked::Certificate(one) => drop(session.certify(&one).expect("a certificate")),
+                Checked::Vote(vote) => panic!("{vote:?}"),
+            }
+        }
+        slots.push(slot);
+    }
+    (session, slots)
+}
+
+fn ticket(session: &Session, slot: &Slot) -> Ticket {
+    let causal = session.causal(&slot.digest).expect("a causal read");
+    causal.into_ticket().expect("a complete block")
+}
+
+/// The iterator gives these items by each method, in each order of four calls, as that of a slice does.
+fn goes_each_way<I, K: Debug + PartialEq>(
+    fresh: impl Fn() -> I,
+    items: &[K],
+    key: impl Fn(I::Item) -> K,
+) where
+    I: DoubleEndedIterator + ExactSizeIterator,
+{
+    for order in 0..6_usize.pow(4) {
+        let (mut left, mut expected) = (fresh(), items.iter());
+        for place in 0..4 {
+            let (found, wanted) = match order / 6_usize.pow(place) % 6 {
+                0 => (left.next(), expected.next()),
+                1 => (left.next_back(), expected.next_back()),
+                2 => (left.nth(2), expected.nth(2)),
+                3 => (left.nth(1), expected.nth(1)),
+                4 => (left.nth_back(1), expected.nth_back(1)),
+                _ => (left.nth(usize::MAX), expected.nth(usize::MAX)),
+            };
+            let what = format!("call {place} in order {order}");
+            assert_eq!(found.map(&key).as_ref(), wanted, "{what}");
+            assert_eq!(left.len(), expected.len(), "what is left after {what}");
+        }
+        assert_eq!(left.last().map(&key).as_ref(), expected.last());
+    }
+}
+
+#[test]
+fn events_and_walks_go_each_way() {
+    let com = Com::new(1);
+    let (session, slots) = chain(&com, 6);
+    let ticket = ticket(&session, &slots[5]);
+    goes_each_way(
+        || ticket.walk().expect("a walk"),
+        &slots,
+        |block| block.slot(),
+    );
+    let store = Store::new(&com.committee, Limits::default()).expect("a store");
+    let session = store.session().expect("a session");
+    let answers = [1, 2, 3, 4, 5, 6].map(|_| session.status().expect("a status"));
+    let history = answers[5].history();
+    goes_each_way(
+        || history.events(),
+        &[1, 2, 3, 4, 5, 6],
+        |event| event.number,
+    );
+}
+
+#[test]
+fn tickets_of_two_blocks_or_floors_are_not_compared() {
+    let com = Com::new(1);
+    let (session, slots) = chain(&com, 3);
+    let [low, high, again] = [1, 2, 2].map(|round: usize| ticket(&session, &slots[round]));
+    assert_eq!(high.agrees(&again), Ok(true));
+    assert_eq!(high.agrees(&low), Err(AgreeError::NotComparable));
+    session.collect(1).expect("a collection");
+    let collected = ticket(&session, &slots[2]);
+    assert_eq!(high.agrees(&collected), Err(AgreeError::NotComparable));
+    assert_eq!((high.floor(), collected.floor()), (0, 1));
+}
+
+/// Runs build.rs for this target, and with the folder `NW_LIB_DIR` if it is given.
+fn build(script: &Path, target: &str, folder: Option<&Path>) -> Output {
+    let mut command = Command::new(script);
+    command.env_remove("NW_LIB_DIR").env("TARGET", target);
+    command.env("CARGO_MANIFEST_DIR", env!("CARGO_MANIFEST_DIR"));
+    if let Some(folder) = folder {
+        command.env("NW_LIB_DIR", folder);
+    }
+    command.output().expect("build.rs runs")
+}
+
+#[test]
+fn build_rs_links_the_chosen_library_or_the_shipped_one_for_its_target() {
+    let room = PathBuf::from(env!("CARGO_TARGET_TMPDIR"));
+    let (script, chosen) = (room.join("build_script"), room.join("chosen"));
+    fs::create_dir_all(&chosen).expect("a folder");
+    fs::write(chosen.join("libnw_c.a"), "").expect("a library");
+    let source = concat!(env!("CARGO_MANIFEST_DIR"), "/build.rs");
+    let mut compiler = Command::new(option_env!("RUSTC").unwrap_or("rustc"));
+    compiler.args(["--edition=2024", source, "-o"]).arg(&script);
+    assert!(compiler.status().expect("rustc").success());
+    let (own, other) = ("x86_64-unknown-linux-gnu", "aarch64-unknown-linux-gnu");
+    let said = |output: &Output| String::from_utf8_lossy(&output.stdout).into_owned();
+
+    let shipped = build(&script, own, None);
+    assert!(shipped.status.success());
+    assert!(said(&shipped).contains("NW_ARCHIVE=shipped libnw.a sha256:"));
+    let refused = build(&script, other, None);
+    assert_eq!(refused.status.code(), Some(1));
+    assert!(String::from_utf8_lossy(&refused.stderr).contains(own));
+    for target in [own, other] {
+        let linked = said(&build(&script, target, Some(&chosen)));
+        let folder = format!("rustc-link-search=native={}\n", chosen.display());
+        assert!(linked.contains(&folder), "{linked}");
+        assert!(
+            linked.contains("NW_ARCHIVE=NW_LIB_DIR libnw_c.a\n"),
+            "{linked}"
+        );
+    }
+    for folder in [Path::new("relative"), &room.join("missing")] {
+        assert_eq!(build(&script, own, Some(folder)).status.code(), Some(1));
+    }
+}

@@ -1,0 +1,83 @@
+//! The code in README.md compiles, and runs over the messages of the examples. `.ci/quotes` compares the two texts.
+
+#[path = "../examples/data/mod.rs"]
+mod data;
+
+use narwhal_store::{Causal, Checked, CheckedBlock, Committee, Gather, Limits, Message};
+use narwhal_store::{Slot, Store, Transactions, WriteReply, text_of_vote};
+use std::error::Error;
+
+/// The last slot that gets a certificate, and the messages: blocks, certificates and votes.
+fn network(keys: &[narwhal_store::PublicKey]) -> (Slot, Vec<Vec<u8>>) {
+    let committee = Committee::equal(keys).expect("a committee");
+    let (mut messages, mut last) = (data::values("message"), None);
+    for message in &messages {
+        if let Ok(Checked::Certificate(certificate)) = Message::check(&committee, message) {
+            last = Some(certificate.slot());
+        }
+    }
+    messages.extend(data::values("vote"));
+    messages.push(b"no message".to_vec());
+    (last.expect("a certificate"), messages)
+}
+
+#[test]
+#[rustfmt::skip]
+#[allow(unused_variables)] // The README leaves the signing to its reader.
+fn the_code_of_the_readme_runs() -> Result<(), Box<dyn Error>> {
+    let keys = data::keys();
+    let (last, network) = network(&keys);
+    let (leader, garbage_round) = (last.digest, 1);
+    let (mut voted, mut sent, mut delivered) = (0, Vec::new(), 0);
+    let mut has_parents = |_: &CheckedBlock| { voted += 1; true };
+    let mut broadcast = |message: Vec<u8>| sent.push(message);
+    let mut deliver = |transactions: Transactions| delivered += transactions.count();
+    let mut gather = Gather::new(&Committee::equal(&keys)?, &slot_of_votes(&keys))?;
+    let mut is_sent = false;
+
+    let committee = Committee::equal(&keys)?;             // Ed25519 public keys, each of weight 1
+    let store = Store::new(&committee, Limits::default())?;
+    let session = store.session()?;
+
+    for bytes in network {
+        match Message::check(&committee, &bytes) {        // verifies the signatures of blocks and certificates
+            Ok(Checked::Block(block)) => {
+                let first = WriteReply::Stored { vote: true }; // of its round and author
+                let reply = session.write(&block)?.into_reply();
+                if reply == first && has_parents(&block) {    // if not, vote when the last of them arrives
+                    let text = text_of_vote(&block.slot())?; // log the block and sync, sign this, send the vote
+                }
+            }
+            Ok(Checked::Certificate(certificate)) => {
+                session.certify(&certificate)?;
+            }
+            Ok(Checked::Vote(vote)) => {                  // for your own block: `add` verifies the signature
+                if gather.add(&vote) == Ok(true) && !is_sent {
+                    broadcast(gather.certificate()?.message());
+                    is_sent = true;                       // later votes are counted too
+                }
+            }
+            Err(_) => {}                                  // drop a bad message, and go on
+        }
+    }
+
+    if let Causal::Ready(ticket) = session.causal(&leader)? { // a snapshot
+        for block in ticket.walk()? {
+            deliver(block.transactions());
+        }
+    }
+    session.collect(garbage_round)?;
+
+    assert!(voted > 0 && delivered > 0, "{voted} votes, {delivered} transactions");
+    assert_eq!(sent.len(), 1, "one certificate");
+    Ok(())
+}
+
+/// The slot that the votes of the examples are for.
+fn slot_of_votes(keys: &[narwhal_store::PublicKey]) -> Slot {
+    let committee = Committee::equal(keys).expect("a committee");
+    match Message::check(&committee, &data::values("vote")[0]) {
+        Ok(Checked::Vote(vote)) => vote.slot(),
+        other => panic!("{other:?}"),
+    }
+}

@@ -1,0 +1,60 @@
+//! What the front of a text says.
+ghost use Rattle.std.specs.Prelude.{◌≡◌, ◌↔◌, pos};
+ghost use Rattle.nw_codec.specs.declared.message.Message.{Message};
+ghost use Rattle.nw_codec.specs.declared.peek.Peek.{Peek};
+ghost use Rattle.nw_codec.specs.Peek.{peek_of, BeginsWith, HasFront};
+ghost use Rattle.nw_codec.specs.Spelled.{Spells};
+ghost use Rattle.nw_c.specs.Messages.{IsFrontOf};
+ghost use Rattle.nw_c.specs.declared.codes.TheConstants.{ABSENT};
+
+use crate::codes::{ABSENT, DONE};
+use crate::messages::{BLOCK, CERTIFICATE, CMessage, VOTE};
+use crate::plain::slot;
+use nw_codec::{Peek, peek_message};
+use nw_digest::Digest;
+
+/// Writes what the front of the text says: the kind of message, its round and author, the digest of a certificate or vote, and the signer
+/// of a vote. A block's digest is not in its text, and is written as 0. Reads at most 43 bytes, and neither hashes nor verifies anything:
+/// anybody can write these bytes, and the text may still be no message. If `nw_check` accepts the text, the checked message has the same
+/// fields. Returns `NW_ABSENT` if the first byte is not that of a message, the version of a block is not 1, or the text ends before these
+/// fields do.
+#[unsafe(no_mangle)]
+pub extern "C" fn nw_peek(text: &[u8], out: &mut CMessage) -> i32
+    ensures known { (m : Message) → Spells text.now m → (result ≡ pos 0) × IsFrontOf (peek_of m) out.new }
+    ensures told { result ≡ pos 0 → (p : Peek) × BeginsWith text.now p × IsFrontOf p out.new }
+    ensures found { (result ≡ pos 0) ↔ HasFront text.now }
+    ensures absent { result ≡ ABSENT → HasFront text.now → ⊥ }
+    ensures refused { (result ≡ pos 0 → ⊥) → result ≡ ABSENT }
+    ensures unchanged { (result ≡ pos 0 → ⊥) → out.new ≡ out.old }
+{
+    match peek_message(text) {
+        Some(front) => {
+            *out = message_of_front(&front);
+            DONE
+        }
+        None => ABSENT,
+    }
+}
+
+/// The kind, slot and signer of the front. The digest of a block is 0.
+fn message_of_front(front: &Peek) -> CMessage
+    ensures { IsFrontOf front.now result }
+{
+    match front {
+        Peek::Block { round, author } => CMessage {
+            kind: BLOCK,
+            signer: 0,
+            slot: slot(Digest([0; 32]), *round, *author),
+        },
+        Peek::Certificate(subject) => CMessage {
+            kind: CERTIFICATE,
+            signer: 0,
+            slot: slot(subject.digest, subject.round, subject.author),
+        },
+        Peek::Vote { subject, signer } => CMessage {
+            kind: VOTE,
+            signer: *signer,
+            slot: slot(subject.digest, subject.round, subject.author),
+        },
+    }
+}

@@ -1,0 +1,16 @@
+//! What a state has in a slot.
+
+use nw_digest::{Digest, Round};
+
+/// What a state has in a slot, that is, for a round and an author.
+#[derive(Clone, Copy, Debug, PartialEq, Eq)]
+pub struct Look {
+    /// The garbage round.
+    pub floor: Round,
+    /// The first digest of the slot, if it has one.
+    pub first: Option<Digest>,
+    /// The certified digest of the slot, if it has one.
+    pub certified: Option<Digest>,
+    /// Whether the block of the certified digest is held.
+    pub stands: bool,
+}

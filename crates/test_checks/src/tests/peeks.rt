@@ -1,0 +1,121 @@
+//! What the front of a text says, compared with the decoded and with the checked message.
+use super::messages::{of_block, of_certificate, of_vote};
+use super::signed::{block, certificate, vote};
+use super::*;
+use nw_codec::{Message, Peek, Subject, decode_message, peek_message};
+
+/// What the front of the message's text must say.
+fn front_of(message: &Message) -> Peek {
+    match message {
+        Message::Block { block, .. } => Peek::Block {
+            round: block.round,
+            author: block.author,
+        },
+        Message::Certificate(certificate) => Peek::Certificate(Subject {
+            digest: certificate.digest,
+            round: certificate.round,
+            author: certificate.author,
+        }),
+        Message::Vote(vote) => Peek::Vote {
+            subject: Subject {
+                digest: vote.digest,
+                round: vote.round,
+                author: vote.author,
+            },
+            signer: vote.signer,
+        },
+    }
+}
+
+/// What the front of the text must say if the check found this. `None` if it found a fault.
+fn front_of_checked(checked: &Checked<DemoScheme>) -> Option<Peek> {
+    match checked {
+        Checked::Block(checked) => {
+            let block = checked.block().get();
+            Some(Peek::Block {
+                round: block.round,
+                author: block.author,
+            })
+        }
+        Checked::Cert(checked) => {
+            let certificate = checked.certificate().get();
+            Some(Peek::Certificate(Subject {
+                digest: certificate.digest,
+                round: certificate.round,
+                author: certificate.author,
+            }))
+        }
+        Checked::Vote(vote) => Some(front_of(&Message::Vote(*vote))),
+        Checked::BadText(_) | Checked::BadBlock(_) | Checked::BadCert(_) => None,
+    }
+}
+
+/// Whether each text with another byte at the place, if it encodes a message, has that message's front.
+fn agrees_at(alloc: Global, text: &[u8], place: usize) -> Result<bool, Fail> {
+    let mut altered = text.to_vec(alloc)?;
+    for byte in 0..=255 {
+        *altered.get_mut(place).ok_or("the text is shorter")? = byte;
+        if let Ok(message) = decode_message(alloc, &altered)
+            && peek_message(&altered) != Some(front_of(&message))
+        {
+            return Ok(false);
+        }
+    }
+    Ok(true)
+}
+
+/// Whether the text's prefixes of `size` bytes and more have the message's front, and shorter ones have none. Also whether each text with
+/// one altered byte has the front of its message.
+fn has_front(alloc: Global, encoded: (Message, Vec<u8>), size: usize) -> Result<bool, Fail> {
+    let (message, text) = encoded;
+    let front = Some(front_of(&message));
+    for length in 0..text.len() {
+        let wanted = if length < size { None } else { front };
+        if peek_message(&text[..length]) != wanted || !agrees_at(alloc, &text, length)? {
+            return Ok(false);
+        }
+    }
+    Ok(peek_message(&text) == front)
+}
+
+#[test]
+fn a_front_is_that_of_the_decoded_message(rt: HostRuntime) -> Result<(), Fail> {
+    let alloc = rt.alloc();
+    assert!(rt; has_front(alloc, of_block(alloc, &[])?, 10)?, "a block");
+    assert!(rt;
+        has_front(alloc, of_block(alloc, &[2, 258])?, 10)?,
+        "a block over two"
+    );
+    assert!(rt;
+        has_front(alloc, of_certificate(alloc, [0, 2, 258])?, 41)?,
+        "a certificate"
+    );
+    assert!(rt; has_front(alloc, of_vote(alloc)?, 43)?, "a vote");
+    Ok(())
+}
+
+#[test]
+fn a_front_is_that_of_the_checked_message(rt: HostRuntime) -> Result<(), Fail> {
+    let four = members(rt.alloc(), &[1; 4])?;
+    let block = block(rt.alloc(), four.get(), 0)?;
+    let certificate = certificate(rt.alloc(), four.get())?;
+    let vote = vote(rt.alloc(), four.get())?;
+    for text in [&block, &certificate, &vote] {
+        let front = front_of_checked(&check_message(rt.alloc(), &four, text)?);
+        assert!(rt; front.is_some() && peek_message(text) == front);
+    }
+    Ok(())
+}
+
+#[test]
+fn texts_of_another_tag_or_version_have_no_front(rt: HostRuntime) {
+    for text in [[0u8; 43], [4; 43], [255; 43]] {
+        assert!(rt; peek_message(&text).is_none());
+    }
+    for version in 0..=255 {
+        let mut text = [0u8; 83];
+        text[0] = 1;
+        text[1] = version;
+        assert!(rt; peek_message(&text).is_some() == (version == 1));
+    }
+}
