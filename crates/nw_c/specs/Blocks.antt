@@ -6,7 +6,7 @@ use Rattle.nw_codec.specs.Grammar.{body}
 use Rattle.nw_codec.specs.Spelled.{Spells}
 use Rattle.nw_codec.specs.declared.block.Block.{Block}
 use Rattle.nw_codec.specs.declared.block.Ref.{Ref}
-use Rattle.nw_codec.specs.declared.limits.TheConstants.{MAX_TRANSACTION}
+use Rattle.nw_codec.specs.Limits.{longest_transaction}
 use Rattle.nw_codec.specs.declared.message.Message.TheVariants as messages
 use Rattle.nw_model.specs.Checks.{digest_of}
 use Rattle.nw_c.specs.Plain.{digest_in, slot_of}
@@ -36,7 +36,7 @@ IsNoBlock author round parents bytes lengths = (b : Block) → IsMadeBlock autho
 
 -- the bytes cannot be cut into transactions of these lengths, none of which is too long
 abbrev pub CannotBeCut : List ℕ → List ℕ → Type 0
-CannotBeCut bytes lengths = (transactions : List (List ℕ)) → AreCutFrom bytes lengths transactions → All (λ t. length t ≤ MAX_TRANSACTION) transactions → ⊥
+CannotBeCut bytes lengths = (transactions : List (List ℕ)) → AreCutFrom bytes lengths transactions → All (λ t. length t ≤ longest_transaction) transactions → ⊥
 
 -- it is a block with this slot
 abbrev pub HasSlot : Content → CSlot → Type 0

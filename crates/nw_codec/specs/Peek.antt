@@ -7,12 +7,13 @@ use Rattle.nw_codec.specs.declared.peek.Peek.{Peek}
 use Rattle.nw_codec.specs.declared.peek.Peek.TheVariants as peeks
 use Rattle.nw_codec.specs.declared.subject.Subject.{Subject}
 use Rattle.nw_codec.specs.Grammar.{round_bytes, subject_bytes}
+use Rattle.nw_codec.specs.Subject.{certificate_subject}
 use Rattle.nw_codec.specs.Typed.{IsSubject}
 
 -- the kind of the message: a block with its round and author, a certificate with its subject, or a vote with its subject and signer
 abbrev pub peek_of : Message → Peek
 peek_of (messages.Block b s) = peeks.Block b.round b.author
-peek_of (messages.Certificate c) = peeks.Certificate (record { digest = c.digest; round = c.round; author = c.author })
+peek_of (messages.Certificate c) = peeks.Certificate (certificate_subject c)
 peek_of (messages.Vote v) = peeks.Vote (record { digest = v.digest; round = v.round; author = v.author }) v.signer
 
 -- the encoding of the subject

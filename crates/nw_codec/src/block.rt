@@ -3,6 +3,7 @@ ghost use Rattle.std.specs.Prelude.{◌≡◌, ◌↔◌, ◌<◌, ◌≤◌, Is
 ghost use Rattle.std.specs.List.Sorted.{IsStrictlyIncreasing};
 ghost use Rattle.nw_codec.specs.Fits.{Fits, authors, body_size};
 ghost use Rattle.nw_codec.specs.Limits.{longest_body};
+ghost use Rattle.nw_codec.specs.Subject.{block_subject};
 
 use crate::Subject;
 use crate::limits::{MAX_BODY, MAX_PARENTS, MAX_TRANSACTIONS};
@@ -40,11 +41,7 @@ impl Block {
 
     /// The subject of the votes and the certificate for the block. `digest` must be its digest.
     pub fn subject(&self, digest: Digest) -> Subject
-        ensures { result ≡ record {
-          digest = digest;
-          round = self.now.round;
-          author = self.now.author;
-        } }
+        ensures { result ≡ block_subject digest self.now }
     {
         Subject {
             digest,

@@ -2,6 +2,7 @@
 ghost use Rattle.std.specs.Prelude.{◌≡◌, ◌↔◌, IsTrue};
 ghost use Rattle.std.specs.List.Sorted.{IsStrictlyIncreasing};
 ghost use Rattle.nw_codec.specs.Fits.{CertificateFits, signers};
+ghost use Rattle.nw_codec.specs.Subject.{certificate_subject};
 
 use crate::Subject;
 use crate::limits::MAX_VOTES;
@@ -39,11 +40,7 @@ impl Certificate {
 
     /// Its subject: the block for which it is a certificate.
     pub fn subject(&self) -> Subject
-        ensures { result ≡ record {
-          digest = self.now.digest;
-          round = self.now.round;
-          author = self.now.author;
-        } }
+        ensures { result ≡ certificate_subject self.now }
     {
         Subject {
             digest: self.digest,

@@ -8,12 +8,15 @@ ghost use Rattle.nw_dag.specs.Frozen.{AreFrozen, AreFrozenExcept, AreAllOrFrom, 
 use crate::waits::Waits;
 use nw_codec::Block;
 use nw_digest::{Digest, NoMemory, Round, Shared};
-use nw_generation::{Generation, Generations, MAX_GENERATIONS};
+use nw_generation::{Generation, Generations};
 use nw_state::StateTables;
 use std::alloc::Global;
 
+/// The maximum number of generations. A view searches each of them.
+const MAX_GENERATIONS: usize = 16;
+
 /// Freezes the blocks that became complete since the last freeze as one more generation, and empties their list. If there are no
-/// such blocks, it adds no generation. If there are [`MAX_GENERATIONS`] generations already, it first joins some of them into
+/// such blocks, it adds no generation. If there are `MAX_GENERATIONS` generations already, it first joins some of them into
 /// one.
 ///
 /// `NoMemory` if allocation fails. Then the generations are unchanged. The list may be sorted, without collected blocks and repetitions.

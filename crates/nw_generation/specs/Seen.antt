@@ -9,7 +9,6 @@ use Rattle.nw_codec.specs.declared.block.Block.{Block}
 use Rattle.nw_digest.specs.Order.{digest_cmp}
 use Rattle.nw_model.specs.State.{coded_digest, coded_block}
 use Rattle.nw_model.specs.View.{Frozen, IsClosed, coded_frozen}
-use Rattle.nw_generation.specs.declared.generations.TheConstants.{MAX_GENERATIONS}
 
 -- the entries of all generations: the generations are given from the oldest to the latest, and the latest one's entries come first
 abbrev pub latest_first : List (FinMap digest_cmp Block) → List (Digest × Block)
@@ -19,6 +18,10 @@ latest_first (oldest ∷ later) = latest_first later ++ entries oldest
 -- the blocks of all generations; if generations have different blocks under one digest, the latest one counts
 abbrev pub union : List (FinMap digest_cmp Block) → FinMap digest_cmp Block
 union generations = from_entries (latest_first generations)
+
+-- the maximum number of generations of a store, and of a view
+abbrev pub most_generations : ℕ
+most_generations = 16
 
 -- the generations of a store, as contracts see them
 pub record Joined : Type 0 where
@@ -67,7 +70,7 @@ pub record IsView (s : Seen) : Type 0 where
   -- it is closed
   pub closed : IsClosed s.frozen
   -- it has at most the maximum number of generations
-  pub few : s.parts ≤ MAX_GENERATIONS
+  pub few : s.parts ≤ most_generations
 
 -- there is a range, and it includes the round
 abbrev pub IsWithin : Option (ℕ × ℕ) → ℕ → Type 0

@@ -4,7 +4,7 @@ ghost use Rattle.std.specs.FinMap as map;
 ghost use Rattle.nw_model.specs.Step.{from_round};
 ghost use Rattle.nw_model.specs.View.{IsClosed};
 ghost use Rattle.nw_generation.specs.Entries.{Ascend};
-ghost use Rattle.nw_generation.specs.Seen.{IsOverlay, union};
+ghost use Rattle.nw_generation.specs.Seen.{IsOverlay, most_generations, union};
 
 use crate::entries::{EntryRef, merged, owned};
 use crate::{Generation, View};
@@ -12,10 +12,7 @@ use nw_digest::{NoMemory, Round};
 use std::alloc::Global;
 use std::marker::Model;
 
-/// The maximum number of generations of a store, and of a view.
-pub const MAX_GENERATIONS: usize = 16;
-
-/// At most `MAX_GENERATIONS` generations. Freezing blocks adds one. Contracts see the number of generations and the union of their blocks.
+/// At most 16 generations. Freezing blocks adds one. Contracts see the number of generations and the union of their blocks.
 /// If generations have different blocks under one digest, the latest one counts.
 #[derive(Drop)]
 pub struct Generations {
@@ -25,8 +22,7 @@ pub struct Generations {
 
 impl Model for Generations {
     ghost use Rattle.std.specs.Prelude.{◌≤◌, length};
-    ghost use Rattle.nw_generation.specs.Seen.{Joined, coded_joined, joined};
-    ghost use Rattle.nw_generation.specs.declared.generations.TheConstants.{MAX_GENERATIONS};
+    ghost use Rattle.nw_generation.specs.Seen.{Joined, coded_joined, joined, most_generations};
 
     ghost Value = { Joined };
 
@@ -34,7 +30,7 @@ impl Model for Generations {
 
     ghost view = { λ g. joined g.list.items };
 
-    ghost invariant = { λ g. length g.list.items ≤ MAX_GENERATIONS };
+    ghost invariant = { λ g. length g.list.items ≤ most_generations };
 }
 
 impl Generations {
@@ -50,7 +46,7 @@ impl Generations {
     /// The number of generations.
     pub fn parts(&self) -> usize
         ensures parts { result ≡ self.now.parts }
-        ensures few { result ≤ MAX_GENERATIONS }
+        ensures few { result ≤ most_generations }
     {
         self.list.len()
     }
@@ -59,7 +55,7 @@ impl Generations {
     ///
     /// `NoMemory`: an allocation failed. Nothing changed.
     pub fn push(&mut self, generation: Generation) -> Result<(), NoMemory>
-        requires room { self.old.parts < MAX_GENERATIONS }
+        requires room { self.old.parts < most_generations }
         ensures blocks { OnOk result (IsOverlay generation self.old.blocks self.new.blocks) }
         ensures parts { OnOk result (self.new.parts ≡ self.old.parts + 1) }
         ensures unchanged { OnErr result (self.new ≡ self.old) }

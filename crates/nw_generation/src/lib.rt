@@ -1,7 +1,7 @@
 //! Keeps frozen blocks in generations that never change, and makes views of a few generations.
 //!
 //! A [`Generation`] is a finite map from digests to blocks, with shared ownership. It is made from a sorted list, from a trie, or from
-//! other generations, and shares their blocks. [`Generations`] are at most [`MAX_GENERATIONS`] of them. A [`View`] has the blocks of some
+//! other generations, and shares their blocks. [`Generations`] are at most 16 of them. A [`View`] has the blocks of some
 //! generations and a floor, and is closed. If generations have different blocks under one digest, the block of the latest generation
 //! counts.
 //!
@@ -19,5 +19,5 @@ mod view;
 
 pub use descent::Descent;
 pub use generation::{Generation, freeze};
-pub use generations::{Generations, MAX_GENERATIONS};
+pub use generations::Generations;
 pub use view::View;

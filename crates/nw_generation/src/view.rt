@@ -3,15 +3,14 @@ ghost use Rattle.std.specs.Prelude.{◌≡◌, ◌≤◌, length};
 ghost use Rattle.std.specs.Option.{option_copied};
 ghost use Rattle.std.specs.FinMap as map;
 ghost use Rattle.nw_model.specs.View.{IsClosed};
-ghost use Rattle.nw_generation.specs.Seen.{seen_of};
-ghost use Rattle.nw_generation.specs.declared.generations.TheConstants.{MAX_GENERATIONS};
+ghost use Rattle.nw_generation.specs.Seen.{most_generations, seen_of};
 
 use crate::{Descent, Generation};
 use nw_codec::Block;
 use nw_digest::{Digest, Round, Shared};
 use std::marker::Model;
 
-/// The blocks of at most `MAX_GENERATIONS` generations, and a floor. If generations have different blocks under one digest, the latest
+/// The blocks of at most 16 generations, and a floor. If generations have different blocks under one digest, the latest
 /// one counts.
 ///
 /// A view is closed: each parent of a block above the floor is in the view, with the named author and the preceding round. No two
@@ -39,7 +38,7 @@ impl View {
     /// The view of these generations, from the oldest to the latest. Allocates no memory.
     pub fn new(generations: Vec<Generation>, floor: Round) -> View
         requires closed { IsClosed (seen_of generations.items floor).frozen }
-        requires few { length generations.items ≤ MAX_GENERATIONS }
+        requires few { length generations.items ≤ most_generations }
         ensures { result ≡ seen_of generations.items floor }
     {
         View { generations, floor }
@@ -72,7 +71,7 @@ impl View {
     /// The number of generations.
     pub fn parts(&self) -> usize
         ensures parts { result ≡ self.now.parts }
-        ensures few { result ≤ MAX_GENERATIONS }
+        ensures few { result ≤ most_generations }
     {
         self.generations.len()
     }

@@ -4,7 +4,7 @@ ghost use Rattle.std.specs.Prelude.{IfOk, IfSome, IsNone, IsTrue, length, slice_
 ghost use Rattle.std.specs.Option.{option_copied};
 ghost use mathlib.Core.List.{IsPrefix};
 ghost use Rattle.nw_shared_list.specs.SharedList.{items_of};
-ghost use Rattle.nw_shared_list.specs.declared.chunk.TheConstants.{CHUNK};
+ghost use Rattle.nw_shared_list.specs.SharedList.{chunk_items};
 ghost use Rattle.nw_model.specs.State.{opening};
 ghost use Rattle.nw_history.specs.Story.{IsLegalStory, bounds_of, first_origin, reopened, story_of};
 ghost use Rattle.nw_history.specs.Story.{tables_of, with_event};
@@ -135,7 +135,7 @@ impl<S: Scheme> Front<S> {
 
     /// The number of links to events: one to each full chunk of 256 events, and one to each event after the last full chunk.
     pub fn parts(&self) -> usize
-        ensures parts { result ≡ length self.now.events / CHUNK + length self.now.events % CHUNK }
+        ensures parts { result ≡ length self.now.events / chunk_items + length self.now.events % chunk_items }
         ensures legal { IsLegalStory S.accepts self.now }
     {
         self.events.parts()

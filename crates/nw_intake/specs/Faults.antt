@@ -2,13 +2,12 @@
 use Rattle.std.specs.Prelude.{ℕ, ◌<◌, ◌≤◌, Bool, false}
 use Rattle.nw_intake.specs.declared.point.Point.{Point}
 use Rattle.nw_intake.specs.declared.point.Point.TheVariants as point
-use Rattle.nw_intake.specs.declared.threads.TheConstants.{MAX_WORKERS}
 use Rattle.nw_intake.specs.declared.fault.ShareFault.{ShareFault}
 use Rattle.nw_intake.specs.declared.fault.ShareFault.TheVariants as share
 
 -- the number of workers is in its range
 abbrev pub IsWorkerCount : ℕ → Type 0
-IsWorkerCount workers = (1 ≤ workers) × (workers ≤ MAX_WORKERS)
+IsWorkerCount workers = (1 ≤ workers) × (workers ≤ 16)
 
 -- the gate may refuse the start of one of the checks at places below the count
 abbrev pub MayRefuseStart : (Point → Bool → Type 0) → ℕ → Type 0

@@ -6,7 +6,8 @@ use Rattle.std.specs.FinMap.{get}
 use Rattle.nw_digest.specs.declared.digest.Digest.{Digest}
 use Rattle.nw_codec.specs.declared.block.Block.{Block}
 use Rattle.nw_codec.specs.declared.certificate.Certificate.{Certificate}
-use Rattle.nw_model.specs.State.{State, written_subject, certified_subject}
+use Rattle.nw_codec.specs.Subject.{block_subject, certificate_subject}
+use Rattle.nw_model.specs.State.{State}
 use Rattle.nw_model.specs.Step.{Bounds, IsReply, RecordedCallsTakeTheSameStep, after, after_write, after_certify, write_reply, certify_reply, asked_write_reply, new_write_reply, is_collected, is_too_far, is_held, is_held_block}
 use Rattle.nw_model.specs.declared.call.Call.TheVariants as call
 use Rattle.nw_model.specs.declared.reply.Reply.TheVariants as reply
@@ -34,7 +35,7 @@ asks false false true held low rest w found kept is = let it = found refl in is 
 asks false false false true low rest w found kept is = let clash = ap is_clash is in absurd cc
 asks false false false false low rest w found kept is = is
 
-asked : (bounds : Bounds) (s : State) (d : Digest) (b : Block) (w : WriteReply) → is_clash w ≡ false → w ≡ write_reply bounds s d b → w ≡ asked_write_reply bounds s (written_subject d b)
+asked : (bounds : Bounds) (s : State) (d : Digest) (b : Block) (w : WriteReply) → is_clash w ≡ false → w ≡ write_reply bounds s d b → w ≡ asked_write_reply bounds s (block_subject d b)
 asked bounds s d b w kept is =
     asks (is_collected s b.round) (is_too_far bounds s b.round) (is_held_block s d b) (is_held s d) (write.Collected s.floor) (new_write_reply bounds s d (b.round, b.author)) w
     (found_of _ (get s.blocks d)) kept is
@@ -48,7 +49,7 @@ unchanged s d b (write.Stored vote) refused = absurd cc
 unchanged s d b other refused = refl
 
 written : (bounds : Bounds) (s : State) (d : Digest) (b : Block) (w : WriteReply) → is_clash w ≡ false → is_stored w ≡ false → w ≡ write_reply bounds s d b
-    → IsReply bounds s (call.AskWrite (written_subject d b)) (reply.Write w) × (s ≡ after bounds s (call.Write d b))
+    → IsReply bounds s (call.AskWrite (block_subject d b)) (reply.Write w) × (s ≡ after bounds s (call.Write d b))
 written bounds s d b w kept refused is = (asked bounds s d b w kept is, unchanged s d b w refused ∙ ap (after_write s d b) is)
 
 unchanged_by : (s : State) (c : Certificate) (w : CertifyReply) → (w ≢ certify.Certified) → s ≡ after_certify s c w
@@ -56,7 +57,7 @@ unchanged_by s c certify.Certified refused = absurd (refused refl)
 unchanged_by s c other refused = refl
 
 certified : (bounds : Bounds) (s : State) (c : Certificate) (w : CertifyReply) → (w ≢ certify.Certified) → w ≡ certify_reply bounds s c
-    → IsReply bounds s (call.AskCertify (certified_subject c)) (reply.Certify w) × (s ≡ after bounds s (call.Certify c))
+    → IsReply bounds s (call.AskCertify (certificate_subject c)) (reply.Certify w) × (s ≡ after bounds s (call.Certify c))
 certified bounds s c w refused is = (is, unchanged_by s c w refused ∙ ap (after_certify s c) is)
 
 pub same_step : RecordedCallsTakeTheSameStep

@@ -38,14 +38,6 @@ certificate_slot c = (c.round, c.author)
 abbrev pub subject_slot : Subject → Slot
 subject_slot q = (q.round, q.author)
 
--- the subject of a block that is written under d
-abbrev pub written_subject : Digest → Block → Subject
-written_subject d b = record { digest = d; round = b.round; author = b.author }
-
--- the subject of a certificate
-abbrev pub certified_subject : Certificate → Subject
-certified_subject c = record { digest = c.digest; round = c.round; author = c.author }
-
 -- the code of a digest: digests with equal codes are equal
 abbrev pub coded_digest : Coded Digest
 coded_digest = code_by (List ℕ) (coded_list coded_ℕ) (λ d. d.0) (λ b. record { 0 = b }) (λ _. refl)

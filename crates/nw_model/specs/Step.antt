@@ -9,7 +9,8 @@ use Rattle.nw_codec.specs.declared.block.Block.{Block}
 use Rattle.nw_codec.specs.declared.certificate.Certificate.{Certificate}
 use Rattle.nw_digest.specs.Order.{digest_cmp, Slot}
 use Rattle.nw_codec.specs.declared.subject.Subject.{Subject}
-use Rattle.nw_model.specs.State.{State, block_slot, certificate_slot, subject_slot, written_subject, certified_subject, coded_state}
+use Rattle.nw_codec.specs.Subject.{block_subject, certificate_subject}
+use Rattle.nw_model.specs.State.{State, block_slot, certificate_slot, subject_slot, coded_state}
 use Rattle.nw_model.specs.Paths.{IsComplete, IsCausalList}
 use Rattle.nw_model.specs.Missing.{AreFirstWanted, AreCounts}
 use Rattle.nw_model.specs.declared.call.Call.{Call}
@@ -157,7 +158,7 @@ asked_certify_reply bounds s q =
 
 -- the reply to the certificate c depends on its subject only
 abbrev pub certify_reply : Bounds → State → Certificate → CertifyReply
-certify_reply bounds s c = asked_certify_reply bounds s (certified_subject c)
+certify_reply bounds s c = asked_certify_reply bounds s (certificate_subject c)
 
 -- the state in which c is kept under its digest
 abbrev pub with_certificate : State → Certificate → State
@@ -235,9 +236,9 @@ recorded other = other
 abbrev pub recorded_call : Call → Reply → Call
 recorded_call (call.Write d b) (reply.Write (write.Stored vote)) = call.Write d b
 recorded_call (call.Write d b) (reply.Write write.Clash) = call.Write d b
-recorded_call (call.Write d b) (reply.Write other) = call.AskWrite (written_subject d b)
+recorded_call (call.Write d b) (reply.Write other) = call.AskWrite (block_subject d b)
 recorded_call (call.Certify c) (reply.Certify certify.Certified) = call.Certify c
-recorded_call (call.Certify c) (reply.Certify other) = call.AskCertify (certified_subject c)
+recorded_call (call.Certify c) (reply.Certify other) = call.AskCertify (certificate_subject c)
 recorded_call asked r = asked
 
 -- the two replies are equal, except that one may have Ready in place of the list

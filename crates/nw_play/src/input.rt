@@ -1,7 +1,6 @@
 //! Reading a whole script.
 ghost use Rattle.std.specs.Prelude.{◌≡◌, ◌≤◌, IfOk, IfErr, IfSome, vec_len};
-ghost use Rattle.nw_play.specs.declared.input.TheConstants.{MAX_SCRIPT};
-ghost use Rattle.nw_play.specs.Unread.{IsUnread};
+ghost use Rattle.nw_play.specs.Unread.{IsUnread, longest_script};
 
 use crate::PlayFault;
 use std::alloc::Global;
@@ -15,7 +14,7 @@ pub const MAX_SCRIPT: usize = 1_048_576;
 /// `TooLong` if the reader gives more than `MAX_SCRIPT` bytes, or these reads do not reach its end. `Read` if it fails, and
 /// `NoMemory` if an allocation fails.
 pub fn read_script<R: Read>(alloc: Global, reader: &mut R) -> Result<Vec<u8>, PlayFault>
-    ensures within { IfOk result (λ script. vec_len script ≤ MAX_SCRIPT) }
+    ensures within { IfOk result (λ script. vec_len script ≤ longest_script) }
     ensures whole { IfOk result (λ script.
         IfSome (R.remaining reader.old) (λ bytes. script.items ≡ bytes)) }
     ensures unread { IfErr result IsUnread }

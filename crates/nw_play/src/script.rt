@@ -1,7 +1,6 @@
 //! A whole script.
 ghost use Rattle.std.specs.Prelude.{◌<◌, length, IfSome, IsErrAnd};
-ghost use Rattle.nw_play.specs.declared.input.TheConstants.{MAX_SCRIPT};
-ghost use Rattle.nw_play.specs.Unread.{IsUnread};
+ghost use Rattle.nw_play.specs.Unread.{IsUnread, longest_script};
 
 use crate::books::{Start, default_start, read_committee};
 use crate::fault::PlayFault;
@@ -32,7 +31,7 @@ pub fn play<Rt: Wait, R: Read + Drop, W: Write + Drop>(
     writer: W,
 ) -> Result<(), PlayFault>
     ensures { IfSome (R.remaining reader)
-        (λ bytes. MAX_SCRIPT < length bytes → IsErrAnd result IsUnread) }
+        (λ bytes. longest_script < length bytes → IsErrAnd result IsUnread) }
 {
     let script = read_script(alloc, &mut reader)?;
     let mut out = Output::new(alloc, writer)?;

@@ -2,7 +2,6 @@
 use Rattle.std.specs.Prelude.{ℕ, ◌≡◌, ◌≢◌, ◌≤◌, ◌||◌, Bool, true, List, length, slice_index}
 use Rattle.std.specs.Char.{is_ascii_lowercase, is_ascii_digit}
 use Rattle.std.specs.List.{AllPass}
-use Rattle.nw_script.specs.declared.word.TheConstants.{LONGEST_NAME}
 
 -- `a` to `z`, or `0` to `9`
 abbrev pub is_word_byte : ℕ → Bool
@@ -19,8 +18,8 @@ pub record IsWord (most : ℕ) (word : List ℕ) : Type 0 where
 
 -- the word is a name
 pub record IsName (word : List ℕ) : Type 0 where
-  -- it is a word of at most `LONGEST_NAME` bytes
-  pub short_word : IsWord LONGEST_NAME word
+  -- it is a word of at most 16 bytes
+  pub short_word : IsWord 16 word
   -- its first byte is a lowercase letter
   pub letter_first : is_ascii_lowercase (slice_index word 0) ≡ true
 

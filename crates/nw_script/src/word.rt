@@ -48,7 +48,7 @@ fn is_name(word: &[u8]) -> bool
 
 /// The word, if it is a transaction: 1 to 64 bytes from `a` to `z` and `0` to `9`. `None` if it is not.
 pub fn transaction(word: &str) -> Option<&str>
-    ensures found { IsSome result ↔ IsWord LONGEST_TRANSACTION word.now }
+    ensures found { IsSome result ↔ IsWord 64 word.now }
     ensures value { IfSome result (λ bytes. bytes.now ≡ word.now) }
 {
     is_word(word.as_bytes(), LONGEST_TRANSACTION).then_some(word)

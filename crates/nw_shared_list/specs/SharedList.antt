@@ -1,8 +1,11 @@
 -- Lists of full chunks and a tail.
-use Rattle.std.specs.Prelude.{◌≡◌, ◌^◌, ◌<◌, ◌≤◌, List, ◌++◌, length, reverse, All, refl}
+use Rattle.std.specs.Prelude.{ℕ, ◌≡◌, ◌^◌, ◌<◌, ◌≤◌, List, ◌++◌, length, reverse, All, refl}
 use Rattle.std.specs.Coded.{Coded, code_by, coded×, coded_list}
 use Rattle.std.specs.List.{flat_map}
-use Rattle.nw_shared_list.specs.declared.chunk.TheConstants.{CHUNK}
+
+-- the number of items in a full chunk
+abbrev pub chunk_items : ℕ
+chunk_items = 256
 
 -- a list of items in chunks
 pub record Chunked (H T : Type 0) : Type 0 where
@@ -30,8 +33,8 @@ chunked head chunks tail = record { head = head; chunks = chunks; tail = reverse
 -- the list is well formed
 pub record AreChunked {H T : Type 0} (c : Chunked H T) : Type 0 where
   -- each chunk is full
-  pub whole : All (λ chunk. length chunk ≡ CHUNK) c.chunks
+  pub whole : All (λ chunk. length chunk ≡ chunk_items) c.chunks
   -- the tail is shorter than a chunk
-  pub few : length c.tail < CHUNK
+  pub few : length c.tail < chunk_items
   -- there are at most 2^32 items
   pub small : length (items_of c) ≤ 2 ^ 32

@@ -1,5 +1,6 @@
 //! Chunks: 256 items of a list.
 ghost use Rattle.std.specs.Prelude.{◌≡◌, ◌<◌, length, slice_get, Some};
+ghost use Rattle.nw_shared_list.specs.SharedList.{chunk_items};
 
 use crate::trail::Link;
 use std::marker::Model;
@@ -15,19 +16,19 @@ pub(crate) struct Chunk<T: Drop> {
 
 impl<T: Drop> Model for Chunk<T> {
     ghost use Rattle.std.specs.Prelude.{◌≡◌, List, length};
-    ghost use Rattle.nw_shared_list.specs.declared.chunk.TheConstants.{CHUNK};
+    ghost use Rattle.nw_shared_list.specs.SharedList.{chunk_items};
 
     ghost Value = { List T };
 
     ghost view = { λ c. c.items.items };
 
-    ghost invariant = { λ c. length c.items.items ≡ CHUNK };
+    ghost invariant = { λ c. length c.items.items ≡ chunk_items };
 }
 
 impl<T: Drop> Chunk<T> {
     /// The chunk of these items. Allocates nothing.
     pub(crate) fn new(items: Vec<Link<T>>) -> Chunk<T>
-        requires { length items.items ≡ CHUNK }
+        requires { length items.items ≡ chunk_items }
         ensures { result ≡ items.items }
     {
         Chunk { items }
@@ -35,9 +36,9 @@ impl<T: Drop> Chunk<T> {
 
     /// The item at the index.
     pub(crate) fn item(&self, index: usize) -> &T
-        requires { index < CHUNK }
+        requires { index < chunk_items }
         ensures item { slice_get self.now index ≡ Some result.now }
-        ensures whole { length self.now ≡ CHUNK }
+        ensures whole { length self.now ≡ chunk_items }
     {
         self.items[index].item()
     }

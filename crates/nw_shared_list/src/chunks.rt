@@ -2,7 +2,7 @@
 ghost use Rattle.std.specs.Prelude.{◌≡◌, ◌+◌, ◌-◌, ◌^◌, ◌<◌, ◌==◌, ◌++◌, ◌∷◌, []};
 ghost use Rattle.std.specs.Prelude.{IfOk, length, reverse, slice_get};
 ghost use Rattle.std.specs.Option.{option_copied};
-ghost use Rattle.nw_shared_list.specs.SharedList.{AreChunked, items_of};
+ghost use Rattle.nw_shared_list.specs.SharedList.{AreChunked, chunk_items, items_of};
 
 use crate::chunk::{CHUNK, Chunk};
 use crate::trail::Trail;
@@ -157,7 +157,7 @@ fn with_chunk<T: Drop>(
     chunks: &[Shared<Chunk<T>>],
     items: &Trail<T>,
 ) -> Result<Vec<Shared<Chunk<T>>>, NoMemory>
-    requires { length items.now ≡ CHUNK }
+    requires { length items.now ≡ chunk_items }
     ensures { IfOk result (λ all. all.items ≡ chunks.now ++ reverse items.now ∷ []) }
 {
     let chunk = Shared::new(alloc, Chunk::new(items.items(alloc, CHUNK)?))?;

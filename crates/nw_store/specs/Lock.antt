@@ -1,15 +1,14 @@
 -- Invariants of a store's lock and of its sessions.
 use Rattle.std.specs.Prelude.{◌≡◌, ℕ, ◌+◌, ◌<◌, ◌≤◌, List, length, All}
 use Rattle.nw_sig.specs.Signed.{Meaning}
-use Rattle.nw_history.specs.Limits.{AreInRange}
-use Rattle.nw_history.specs.declared.limits.TheConstants.{MAX_SESSIONS}
+use Rattle.nw_history.specs.Limits.{AreInRange, most_sessions}
 use Rattle.nw_history.specs.Story.{Story, IsLegalStory}
 use Rattle.nw_history.specs.Prefix.{IsPrefixOf}
 use Rattle.nw_store.specs.Journal.{Guarded, Journal, AreAmong, AreAnswers}
 
 -- the number of parts of a store's ledger: one for each possible session, and one more
 abbrev pub parts_of_a_ledger : ℕ
-parts_of_a_ledger = MAX_SESSIONS + 1
+parts_of_a_ledger = most_sessions + 1
 
 -- the invariant of the lock: `total` is what the ledger counts, `spare` the number of its spare parts, `idle` what these count, and
 -- `log` the fronts that the store handed out
@@ -32,7 +31,7 @@ pub record IsLockInvariant (accepts : Meaning) (held : Guarded) (total spare idl
 -- the invariant of a session, which has `parts` parts of the ledger that count `amount` calls
 pub record IsSession (parts amount : ℕ) (j : Journal) : Type 0 where
   -- the id is below the maximum number of sessions
-  pub id_below : j.id < MAX_SESSIONS
+  pub id_below : j.id < most_sessions
   -- the session has one part of the ledger
   pub part : parts ≡ 1
   -- this part counts the session's answers

@@ -2,8 +2,7 @@
 ghost use Rattle.std.specs.Prelude.{◌≡◌, ◌↔◌, ◌+◌, ◌<◌, ◌≤◌, ◌++◌, ◌∷◌, []};
 ghost use Rattle.std.specs.Prelude.{IsErr, IfOk, IfErr, OnOk, OnErr};
 ghost use mathlib.Core.List.{IsPrefix};
-ghost use Rattle.nw_history.specs.Limits.{AreInRange};
-ghost use Rattle.nw_history.specs.declared.limits.TheConstants.{MAX_EVENTS, MAX_SESSIONS};
+ghost use Rattle.nw_history.specs.Limits.{AreInRange, most_events, most_sessions};
 ghost use Rattle.nw_model.specs.Look.{IsLook};
 ghost use Rattle.nw_history.specs.Story.{IsLegalStory, reopened, state_of};
 ghost use Rattle.nw_store.specs.Journal.{ArePrefixesOf, AreComparable, AreAnswers, origin_of};
@@ -57,7 +56,7 @@ impl<S: Scheme, L: Home> Tally<S, L> {
     /// The number of the session's next call. It fits, since a session has at most as many calls as the history has events.
     pub(crate) fn next_number(&mut self, pass: &mut Pass<S, L>, calls: usize) -> u32
         requires counted { pass.old.share.amount ≡ calls }
-        requires few { self.old.calls.total ≤ MAX_EVENTS }
+        requires few { self.old.calls.total ≤ most_events }
         ensures number { result ≡ calls + 1 }
         ensures total { self.new.calls.total ≡ self.old.calls.total }
         ensures keeper { self.new.keeper ≡ self.old.keeper }
@@ -205,7 +204,7 @@ pub fn check_journal_locked<S: Scheme, L: Home>(
     ensures starts { origin_of locked.old.history ≡ L.origin }
     ensures legal { IsLegalStory S.accepts locked.old.history }
     ensures numbered { AreAnswers session.old.id 1 session.old.answers }
-    ensures below { session.old.id < MAX_SESSIONS }
+    ensures below { session.old.id < most_sessions }
     ensures same { locked.new ≡ locked.old }
     ensures session { session.new ≡ session.old }
 {

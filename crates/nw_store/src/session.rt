@@ -1,6 +1,6 @@
 //! Sessions and their journals.
 ghost use Rattle.std.specs.Prelude.{◌≡◌, ◌<◌, length};
-ghost use Rattle.nw_history.specs.declared.limits.TheConstants.{MAX_SESSIONS};
+ghost use Rattle.nw_history.specs.Limits.{most_sessions};
 
 use crate::Home;
 use crate::locked::Pass;
@@ -42,7 +42,7 @@ impl<S: Scheme, L: Home> Session<S, L> {
     /// The session's id. A store numbers its sessions from 0, in the order in which it makes them.
     pub fn id(&self) -> u16
         ensures id { result ≡ self.now.id }
-        ensures below { result < MAX_SESSIONS }
+        ensures below { result < most_sessions }
     {
         self.id
     }

@@ -4,7 +4,7 @@ ghost use Rattle.std.specs.Prelude.{IsOk, IsNone, IsTrue, OnOk, OnErr, IfOk, IfE
 ghost use Rattle.std.specs.Prelude.{All, Some, length, slice_get, sum_by};
 ghost use Rattle.std.specs.List.Sorted.{IsPermutation, IsNonDecreasingBy};
 ghost use Rattle.nw_history.specs.Story.{IsLegalStory, reopened};
-ghost use Rattle.nw_history.specs.declared.limits.TheConstants.{MAX_SESSIONS};
+ghost use Rattle.nw_history.specs.Limits.{most_sessions};
 ghost use Rattle.nw_store.specs.Journal.{Journal, ArePrefixesOf, AreAnswers, origin_of};
 ghost use Rattle.nw_store.specs.Settled.{AreAllSessions, AreAllComparable, AreSettled, IsFault};
 ghost use Rattle.nw_store.specs.Settled.{IsFirstStray, IsStray, ids_of};
@@ -147,7 +147,7 @@ fn sort<S: Scheme, L: Home>(sessions: &mut [Session<S, L>])
 
 /// The least stray id of the sessions, of which the store made `made`.
 fn first_stray<S: Scheme, L: Home>(sessions: &[Session<S, L>], made: u16) -> Option<u16>
-    requires below { All (λ s. s.id < MAX_SESSIONS) sessions.now }
+    requires below { All (λ s. s.id < most_sessions) sessions.now }
     ensures stray { IfSome result (λ id. IsFirstStray made (ids_of sessions.now) id) }
     ensures none { IfNone result ((id : ℕ) → IsStray made (ids_of sessions.now) id → ⊥) }
 {
@@ -171,7 +171,7 @@ fn is_stray<S: Scheme, L: Home>(sessions: &[Session<S, L>], id: u16, made: u16) 
 fn check_all_journals<S: Scheme, L: Home>(locked: &mut Locked<S, L>, sessions: &mut [Session<S, L>])
     ensures begun { All
         (λ s. ArePrefixesOf locked.old.history s.answers × AreAnswers s.id 1 s.answers) sessions.old }
-    ensures below { All (λ s. s.id < MAX_SESSIONS) sessions.old }
+    ensures below { All (λ s. s.id < most_sessions) sessions.old }
     ensures same { locked.new ≡ locked.old }
     ensures sessions { sessions.new ≡ sessions.old }
 {

@@ -14,9 +14,8 @@ ghost use Rattle.std.specs.Prelude.{
 };
 ghost use Rattle.std.specs.Result.{IsErrOf};
 ghost use Rattle.nw_model.specs.Checks.{digest_of};
-ghost use Rattle.nw_history.specs.Limits.{AreInRange};
+ghost use Rattle.nw_history.specs.Limits.{AreInRange, most_sessions};
 ghost use Rattle.nw_history.specs.Story.{first_origin};
-ghost use Rattle.nw_history.specs.declared.limits.TheConstants.{MAX_SESSIONS};
 ghost use Rattle.nw_book.specs.Answer.{IsTicketFor, front_of, reply_of};
 ghost use Rattle.nw_book.specs.Command.{call_of, committee_of};
 ghost use Rattle.nw_book.specs.Turn.{MatchesCommittee};
@@ -98,7 +97,7 @@ impl<S: Scheme, L: Home> Store<S, L> {
     ///
     /// `TooMany`: the store has made as many sessions as its limit allows.
     pub fn session<R: Wait>(&self, rt: &R, alloc: Global) -> Result<Session<S, L>, TooMany>
-        ensures { IfOk result (λ session. (session.answers ≡ []) × (session.id < MAX_SESSIONS)) }
+        ensures { IfOk result (λ session. (session.answers ≡ []) × (session.id < most_sessions)) }
     {
         session_locked(&mut *self.locked.lock(rt), alloc)
     }

@@ -1,0 +1,13 @@
+-- The subjects of blocks and of certificates.
+use Rattle.nw_digest.specs.declared.digest.Digest.{Digest}
+use Rattle.nw_codec.specs.declared.block.Block.{Block}
+use Rattle.nw_codec.specs.declared.certificate.Certificate.{Certificate}
+use Rattle.nw_codec.specs.declared.subject.Subject.{Subject}
+
+-- the subject of a block under this digest
+abbrev pub block_subject : Digest → Block → Subject
+block_subject d b = record { digest = d; round = b.round; author = b.author }
+
+-- the subject of a certificate
+abbrev pub certificate_subject : Certificate → Subject
+certificate_subject c = record { digest = c.digest; round = c.round; author = c.author }
