@@ -356,8 +356,7 @@ int32_t nw_vote_message(const nw_slot *slot, uint16_t signer, const nw_signature
    the sizes do not add up to the number of bytes. It checks nothing against a committee. */
 int32_t nw_block_new(uint16_t author, uint64_t round, const nw_parent *parents, size_t parents_len, const uint8_t *transactions, size_t transactions_len, const uint32_t *lengths, size_t lengths_len, nw_block *out);
 
-/* Writes the digest, round and author of the block. Returns NW_OVER_LIMIT if the block breaks a limit of the
-   format; no checked block does. */
+/* Writes the digest, round and author of the block. It hashes nothing: every block handle keeps its digest. */
 int32_t nw_block_slot(nw_block *block, nw_slot *out);
 
 /* Writes how many parents and how many transactions the block has. */

@@ -4,7 +4,7 @@ use crate::body::Body;
 use crate::code::Code;
 use crate::error::error_texts;
 use crate::ffi::{self, Handle};
-use crate::raw::{RawEvent, RawParent};
+use crate::raw::RawParent;
 use crate::room::Room;
 use crate::{Digest, Signature, Slot, Transactions, text_of_block};
 use std::fmt;
@@ -13,12 +13,9 @@ use std::sync::{Arc, Mutex, MutexGuard, OnceLock, PoisonError};
 /// A block: its author, its round, its references to blocks of the preceding round, and its
 /// transactions.
 ///
-/// A clone is a second owner of the same block. The parts are decoded on first use, and then kept.
-///
-/// For a block from a walk, the first use of the digest computes SHA-256 of the whole body. The
-/// first use of any other part, even of the round or the author, copies the whole body once. That
-/// is cheaper than the digest. In one walk, no two blocks have the same round and author, so round
-/// and author identify a block there.
+/// A clone is a second owner of the same block. Digest, round and author are always at hand. The
+/// first use of the parents, the transactions or the body copies the whole body once, and keeps
+/// it.
 ///
 /// A block made by [`Block::new`] is within the limits of the format, but it is not checked under a
 /// committee. [`Message::check`](crate::Message::check) does that for a signed block.
@@ -53,7 +50,7 @@ pub(crate) enum Source {
 /// The state that all owners of a block share.
 struct Inner {
     handle: Mutex<Handle>,
-    digest: OnceLock<Digest>,
+    slot: Slot,
     body: OnceLock<Body>,
 }
 
@@ -98,18 +95,9 @@ impl Block {
         }
     }
 
-    /// The block of a handle, whose digest is known.
-    pub(crate) fn known(handle: Handle, digest: Digest) -> Block {
-        Block::shared(Arc::new(Inner {
-            handle: Mutex::new(handle),
-            digest: OnceLock::from(digest),
-            body: OnceLock::new(),
-        }))
-    }
-
     /// The block that a read found. The answer stays usable.
     pub(crate) fn found(answer: &mut Handle) -> Block {
-        Block::shared(Arc::new(Inner::found(answer)))
+        Block::at(Source::Own(opened(|out| ffi::nw_answer_block(answer, out))))
     }
 
     fn shared(inner: Arc<Inner>) -> Block {
@@ -140,35 +128,25 @@ impl Block {
     /// Returns the SHA-256 digest of the body.
     #[must_use]
     pub fn digest(&self) -> Digest {
-        let inner = self.inner();
-        *inner.digest.get_or_init(|| {
-            let mut slot = Slot::EMPTY;
-            ffi::nw_block_slot(&mut inner.lock(), &mut slot).or_abort();
-            slot.digest
-        })
+        self.slot().digest
     }
 
-    /// Returns the round, which is below 2^48. The first use of a part copies the whole body.
+    /// Returns the round, which is below 2^48.
     #[must_use]
     pub fn round(&self) -> u64 {
-        self.decoded().round
+        self.slot().round
     }
 
-    /// Returns the number of the member that made the block. The first use of a part copies the
-    /// whole body.
+    /// Returns the number of the member that made the block.
     #[must_use]
     pub fn author(&self) -> u16 {
-        self.decoded().author
+        self.slot().author
     }
 
     /// Returns the digest with the round and the author.
     #[must_use]
     pub fn slot(&self) -> Slot {
-        Slot {
-            digest: self.digest(),
-            round: self.round(),
-            author: self.author(),
-        }
+        self.inner().slot
     }
 
     /// Returns the author and the digest of each parent, in ascending order of the authors.
@@ -210,29 +188,19 @@ impl Inner {
     /// Opens a handle for this block only. If memory runs out, this ends the process, as `Vec`
     /// does.
     fn of(source: Source) -> Inner {
-        let handle = match source {
+        let mut handle = match source {
             Source::Own(handle) => handle,
-            Source::Answer(mut answer) => return Inner::found(&mut answer),
+            Source::Answer(mut answer) => opened(|out| ffi::nw_answer_block(&mut answer, out)),
             Source::Listed(list, index) => {
                 let mut list = list.lock().unwrap_or_else(PoisonError::into_inner);
                 opened(|out| ffi::nw_list_block(&mut list, index, out))
             }
         };
+        let mut slot = Slot::EMPTY;
+        ffi::nw_block_slot(&mut handle, &mut slot).or_abort();
         Inner {
             handle: Mutex::new(handle),
-            digest: OnceLock::new(),
-            body: OnceLock::new(),
-        }
-    }
-
-    /// The block that a read found. It has the digest that the read asked for.
-    fn found(answer: &mut Handle) -> Inner {
-        let (mut events, mut last) = (0, RawEvent::EMPTY);
-        ffi::nw_answer_events(answer, &mut events).or_abort();
-        ffi::nw_answer_event(answer, events - 1, &mut last).or_abort();
-        Inner {
-            handle: Mutex::new(opened(|out| ffi::nw_answer_block(answer, out))),
-            digest: OnceLock::from(last.call.digest),
+            slot,
             body: OnceLock::new(),
         }
     }
@@ -255,11 +223,8 @@ impl Clone for Block {
 
 impl fmt::Debug for Block {
     fn fmt(&self, f: &mut fmt::Formatter<'_>) -> fmt::Result {
-        // The digest is costly to compute, so it is shown only if it is known.
         f.debug_struct("Block")
-            .field("round", &self.round())
-            .field("author", &self.author())
-            .field("digest", &self.inner().digest.get())
+            .field("slot", &self.slot())
             .finish_non_exhaustive()
     }
 }

@@ -7,8 +7,6 @@ use std::iter::FusedIterator;
 /// An encoded body, with the places of its parts. docs/FORMATS.md of the repository has the format.
 pub(crate) struct Body {
     pub(crate) bytes: Vec<u8>,
-    pub(crate) author: u16,
-    pub(crate) round: u64,
     pub(crate) parents: Box<[(u16, Digest)]>,
     /// Where the first transaction begins.
     start: usize,
@@ -20,10 +18,8 @@ impl Body {
     /// Finds the parts of a body that the library encoded.
     pub(crate) fn of(bytes: Vec<u8>) -> Body {
         let mut fields = Fields(&bytes);
-        let [_version] = fields.next();
-        let author = u16::from_be_bytes(fields.next());
-        let [a, b, c, d, e, f] = fields.next();
-        let round = u64::from_be_bytes([0, 0, a, b, c, d, e, f]);
+        // The version, the author and the round.
+        let _: [u8; 9] = fields.next();
         let parents = u16::from_be_bytes(fields.next());
         let mut parent = |_| (u16::from_be_bytes(fields.next()), Digest(fields.next()));
         let parents = (0..parents).map(&mut parent).collect();
@@ -31,8 +27,6 @@ impl Body {
         let start = bytes.len() - fields.0.len();
         Body {
             bytes,
-            author,
-            round,
             parents,
             start,
             count,

@@ -1,6 +1,6 @@
 //! Checked messages.
 
-use crate::block::opened;
+use crate::block::{Source, opened};
 use crate::ffi::{self, Handle};
 use crate::raw::RawMessage;
 use crate::{Block, Slot};
@@ -43,7 +43,7 @@ impl CheckedBlock {
     #[must_use]
     pub fn block(&self) -> Block {
         let handle = opened(|out| ffi::nw_checked_block(&mut self.handle.borrow_mut(), out));
-        Block::known(handle, self.slot.digest)
+        Block::at(Source::Own(handle))
     }
 }
 

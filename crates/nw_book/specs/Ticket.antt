@@ -1,9 +1,10 @@
 -- Tickets for causal reads, their lists, and their agreement.
-use Rattle.std.specs.Prelude.{◌≡◌, ◌≤◌, ℕ, List, [], ◌∷◌, ◌++◌, Some}
+use Rattle.std.specs.Prelude.{◌≡◌, ◌≤◌, ℕ, List, [], ◌∷◌, ◌++◌, Some, All}
 use Rattle.std.specs.FinMap.{get}
 use Rattle.nw_digest.specs.declared.digest.Digest.{Digest}
 use Rattle.nw_codec.specs.declared.block.Block.{Block}
 use Rattle.nw_sig.specs.Signed.{Meaning}
+use Rattle.nw_model.specs.Checks.{digest_of}
 use Rattle.nw_model.specs.Laws.{AreCollision}
 use Rattle.nw_model.specs.Paths.{IsComplete}
 use Rattle.nw_model.specs.Step.{IsReply}
@@ -11,6 +12,7 @@ use Rattle.nw_model.specs.View.{Frozen, Shows}
 use Rattle.nw_model.specs.declared.call.Call.TheVariants as calls
 use Rattle.nw_model.specs.declared.event.Event.{Event}
 use Rattle.nw_model.specs.declared.reply.Reply.TheVariants as replies
+use Rattle.nw_causal.specs.declared.ancestor.Ancestor.{Ancestor}
 use Rattle.nw_causal.specs.declared.agreement.Agreement.{Agreement}
 use Rattle.nw_causal.specs.declared.agreement.Agreement.TheVariants as agreements
 use Rattle.nw_history.specs.Story.{Story, IsLegalStory, bounds_of, state_of}
@@ -37,6 +39,10 @@ pub record IsTicketWith (accepts : Meaning) (t : TicketView) (v : Frozen) : Type
   pub ticket : IsTicket accepts t
   -- the view shows the state after the front
   pub shows : Shows v (state_of t.front)
+
+-- each digest is that of its block
+abbrev pub HaveTheirDigests : List Ancestor → Type 0
+HaveTheirDigests = All (λ (a : Ancestor). a.digest.now ≡ digest_of a.block.now)
 
 -- the list is the reply to the ticket's causal read
 abbrev pub IsListOf : TicketView → List Block → Type 0

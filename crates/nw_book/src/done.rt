@@ -1,7 +1,11 @@
 //! Answers to calls.
-ghost use Rattle.std.specs.Prelude.{◌≡◌, ◌≢◌, ◌-◌, Some, length, slice_get};
+ghost use Rattle.std.specs.Prelude.{◌≡◌, ◌≢◌, ◌-◌, Some, IfSome, IsNone, length, slice_get};
+ghost use Rattle.nw_codec.specs.declared.block.Block.{Block};
+ghost use Rattle.nw_model.specs.Checks.{digest_of};
 
 use crate::Entry;
+use nw_codec::Block;
+use nw_digest::{Digest, Shared};
 use nw_history::Front;
 use nw_model::{Call, Reply};
 use nw_sig::Scheme;
@@ -54,6 +58,18 @@ impl<S: Scheme> Done<S> {
         ensures not_ready { result.now ≢ Reply.Ready }
     {
         self.entry.reply()
+    }
+
+    /// The block that a read found, with its digest. `None` if the call is no read, or the read found no block.
+    pub fn found(&self) -> Option<(Digest, &Shared<Block>)>
+        ensures found { IfSome result (λ found. (self.now.event.reply ≡ Reply.Read (Some found.1.now))
+            × (found.0 ≡ digest_of found.1.now)) }
+        ensures none { IsNone result → (b : Block) → self.now.event.reply ≢ Reply.Read (Some b) }
+    {
+        match (self.call(), self.reply()) {
+            (Call::Read(digest), Reply::Read(Some(block))) => Some((*digest, block)),
+            _ => None,
+        }
     }
 
     /// The history up to and including the call.

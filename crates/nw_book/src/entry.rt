@@ -1,6 +1,7 @@
 //! Entries: the form in which a journal keeps answers.
 ghost use Rattle.std.specs.Prelude.{◌≡◌, ◌-◌, ◌<◌, ◌++◌, ◌∷◌, [], List, Some, length, slice_get};
 ghost use Rattle.nw_model.specs.declared.event.Event.{Event};
+ghost use Rattle.nw_history.specs.Story.{IsLegalStory};
 
 use nw_history::Front;
 use nw_model::{Call, Event, Reply};
@@ -49,6 +50,7 @@ impl<S: Scheme> Entry<S> {
         ensures call { result.now ≡ self.now.event.call }
         ensures last { slice_get self.now.front.events (length self.now.front.events - 1)
             ≡ Some self.now.event }
+        ensures legal { IsLegalStory S.accepts self.now.front }
     {
         &self.event().call
     }
@@ -72,6 +74,7 @@ impl<S: Scheme> Entry<S> {
         ensures event { result.now ≡ self.now.event }
         ensures last { slice_get self.now.front.events (length self.now.front.events - 1)
             ≡ Some self.now.event }
+        ensures legal { IsLegalStory S.accepts self.now.front }
     {
         self.front.last().unwrap()
     }

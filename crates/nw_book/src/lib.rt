@@ -22,7 +22,7 @@ pub use done::Done;
 pub use entry::Entry;
 pub use error::{BookError, NoStep};
 pub use moves::{Answer, Cause, Move, Run, Stop};
-pub use nw_causal::Agreement;
+pub use nw_causal::{Agreement, Ancestor};
 pub use nw_check::{CheckedBlock, CheckedCert};
 pub use nw_codec::Block;
 pub use nw_dag::{Call, Digest, Reply, Round, Sequence, View};

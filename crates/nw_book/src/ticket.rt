@@ -1,13 +1,14 @@
 //! Tickets: opened causal reads, which are walked later.
-ghost use Rattle.std.specs.Prelude.{◌≡◌, IfOk, map};
+ghost use Rattle.std.specs.Prelude.{◌≡◌, IfOk};
 ghost use Rattle.nw_model.specs.Step.{IsReply};
 ghost use Rattle.nw_model.specs.View.{Shows};
 ghost use Rattle.nw_model.specs.declared.call.Call.TheVariants as Call;
 ghost use Rattle.nw_model.specs.declared.reply.Reply.TheVariants as Reply;
+ghost use Rattle.nw_causal.specs.Looked.{blocks};
 ghost use Rattle.nw_history.specs.Story.{bounds_of, state_of};
-ghost use Rattle.nw_book.specs.Ticket.{IsAgreed, IsTicket, IsTicketWith};
+ghost use Rattle.nw_book.specs.Ticket.{HaveTheirDigests, IsAgreed, IsTicket, IsTicketWith};
 
-use nw_causal::{Agreement, agree, walk, walk_lent};
+use nw_causal::{Agreement, Ancestor, agree, walk, walk_lent};
 use nw_codec::Block;
 use nw_digest::{Digest, NoMemory, Shared};
 use nw_generation::View;
@@ -90,13 +91,13 @@ impl<S: Scheme> Ticket<S> {
         walk(alloc, &self.view, self.digest)
     }
 
-    /// The same list, with blocks that the ticket lends. It takes no owner of a block, so it takes less time.
+    /// The same list, with the digest of each block. The ticket lends both, so it takes no owner of a block.
     ///
     /// `NoMemory`: an allocation failed. A later walk may succeed.
-    pub fn walk_lent(&self, alloc: Global) -> Result<Vec<&Shared<Block>>, NoMemory>
-        ensures list { IfOk result (λ blocks. IsReply (bounds_of self.now.front.limits)
-            (state_of self.now.front) (Call.Causal self.now.digest)
-            (Reply.List (map (λ b. b.now) blocks.items))) }
+    pub fn walk_lent(&self, alloc: Global) -> Result<Vec<Ancestor<'_>>, NoMemory>
+        ensures list { IfOk result (λ walked. IsReply (bounds_of self.now.front.limits)
+            (state_of self.now.front) (Call.Causal self.now.digest) (Reply.List (blocks walked.items))) }
+        ensures digests { IfOk result (λ walked. HaveTheirDigests walked.items) }
         ensures ticket { IsTicket S.accepts self.now }
     {
         walk_lent(alloc, &self.view, &self.digest)

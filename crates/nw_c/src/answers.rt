@@ -8,6 +8,7 @@ ghost use Rattle.nw_c.specs.declared.codes.TheConstants.{ABSENT, CLOSED, OPEN, O
 use crate::codes::{ABSENT, CLOSED, DONE, NO_MEMORY, OPEN, OTHER_KIND};
 use crate::content::Content;
 use crate::handle::{AnswerHandle, BlockHandle, put};
+use crate::hashed::HashedBlock;
 use crate::plain::{CSlot, slot};
 use crate::texts::{certificate_text, hand_out_encoded};
 use nw_model::Reply;
@@ -62,12 +63,12 @@ pub extern "C" fn nw_answer_block(
         return OPEN;
     }
     match answer.lend() {
-        Content::Answer(done) => match done.reply() {
-            Reply::Read(Some(block)) => match block.try_clone() {
-                Ok(block) => put(alloc, out, Content::Block(block)),
+        Content::Answer(done) => match (done.found(), done.reply()) {
+            (Some((digest, block)), _) => match block.try_clone() {
+                Ok(block) => put(alloc, out, Content::Block(HashedBlock::new(digest, block))),
                 Err(_) => NO_MEMORY,
             },
-            Reply::Read(None) => ABSENT,
+            (None, Reply::Read(None)) => ABSENT,
             _ => OTHER_KIND,
         },
         _ => OTHER_KIND,

@@ -5,12 +5,12 @@ ghost use Rattle.nw_c.specs.Blocks.{HasBody, HasCounts, HasMessage, HasNoParentA
 ghost use Rattle.nw_c.specs.Kinds.{IsUnchanged, HoldsBlock};
 ghost use Rattle.nw_c.specs.declared.codes.TheConstants.{ABSENT, CLOSED, OTHER_KIND, OVER_LIMIT, SMALL};
 
-use crate::codes::{ABSENT, CLOSED, DONE, OTHER_KIND, OVER_LIMIT};
+use crate::codes::{ABSENT, CLOSED, DONE, OTHER_KIND};
 use crate::content::Content;
 use crate::handle::BlockHandle;
 use crate::plain::{CDigest, CSignature, CSlot, slot};
 use crate::texts::{hand_out, hand_out_encoded};
-use nw_codec::{Signature, Transactions, block_digest, encode_block, encode_body};
+use nw_codec::{Signature, Transactions, encode_block, encode_body};
 use std::alloc::Global;
 
 mod making;
@@ -23,15 +23,13 @@ pub struct CParent {
     pub digest: CDigest,
 }
 
-/// Writes the digest, round and author of the block. Returns `NW_OVER_LIMIT` if the block breaks a limit of the format; no checked block
-/// does.
+/// Writes the digest, round and author of the block. It hashes nothing: every block handle keeps its digest.
 #[unsafe(no_mangle)]
 pub extern "C" fn nw_block_slot(block: &mut BlockHandle, out: &mut CSlot) -> i32
     ensures slot { result ≡ pos 0 → HasSlot block.old.value out.new }
     ensures same { IsUnchanged block.old block.new }
     ensures closed { result ≡ CLOSED → block.old.held ≡ true → ⊥ }
     ensures other_kind { result ≡ OTHER_KIND → HoldsBlock block.old.value → ⊥ }
-    ensures over_limit { result ≡ OVER_LIMIT → IsBlockOverLimit block.old.value }
 {
     if !block.is_open() {
         return CLOSED;
@@ -39,11 +37,7 @@ pub extern "C" fn nw_block_slot(block: &mut BlockHandle, out: &mut CSlot) -> i32
     let Content::Block(held) = block.lend() else {
         return OTHER_KIND;
     };
-    let held = held.get();
-    if !held.fits() {
-        return OVER_LIMIT;
-    }
-    *out = slot(block_digest(held), held.round, held.author);
+    *out = slot(held.digest(), held.block().round, held.block().author);
     DONE
 }
 
@@ -64,8 +58,8 @@ pub extern "C" fn nw_block_counts(
     }
     match block.lend() {
         Content::Block(held) => {
-            *parents = held.get().parents.as_slice().len();
-            *transactions = held.get().transactions.len();
+            *parents = held.block().parents.as_slice().len();
+            *transactions = held.block().transactions.len();
             DONE
         }
         _ => OTHER_KIND,
@@ -87,7 +81,7 @@ pub extern "C" fn nw_block_parent(block: &mut BlockHandle, index: usize, out: &m
     let Content::Block(held) = block.lend() else {
         return OTHER_KIND;
     };
-    match held.get().parents.as_slice().get(index) {
+    match held.block().parents.as_slice().get(index) {
         Some(parent) => {
             *out = CParent {
                 author: parent.author,
@@ -136,7 +130,7 @@ pub extern "C" fn nw_block_transaction(
     let Content::Block(held) = block.lend() else {
         return OTHER_KIND;
     };
-    match transaction_at(&held.get().transactions, index) {
+    match transaction_at(&held.block().transactions, index) {
         Some(transaction) => hand_out(transaction, buffer, needed),
         None => ABSENT,
     }
@@ -164,7 +158,7 @@ pub extern "C" fn nw_block_body(
     }
     match block.lend() {
         Content::Block(held) => {
-            let text = encode_body(alloc, held.get());
+            let text = encode_body(alloc, held.block());
             hand_out_encoded(text, buffer, needed)
         }
         _ => OTHER_KIND,
@@ -194,7 +188,7 @@ pub extern "C" fn nw_block_message(
     }
     match block.lend() {
         Content::Block(held) => {
-            let text = encode_block(alloc, held.get(), &Signature(signature.bytes));
+            let text = encode_block(alloc, held.block(), &Signature(signature.bytes));
             hand_out_encoded(text, buffer, needed)
         }
         _ => OTHER_KIND,

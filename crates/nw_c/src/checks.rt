@@ -8,6 +8,7 @@ ghost use Rattle.nw_c.specs.declared.codes.TheConstants.{CLOSED, OPEN, OTHER_KIN
 use crate::codes::{CLOSED, DONE, NO_MEMORY, OPEN, OTHER_KIND};
 use crate::content::Content;
 use crate::handle::{BlockHandle, CheckedHandle, CommitteeHandle, put};
+use crate::hashed::HashedBlock;
 use crate::messages::{CMessage, message_of};
 use crate::texts::{certificate_text, hand_out_encoded};
 use nw_check::{Checked, check_message};
@@ -90,7 +91,10 @@ pub extern "C" fn nw_checked_block(
     }
     match checked.lend() {
         Content::Checked(Checked::Block(checked)) => match checked.block().try_clone() {
-            Ok(block) => put(alloc, out, Content::Block(block)),
+            Ok(block) => {
+                let block = HashedBlock::new(checked.digest(), block);
+                put(alloc, out, Content::Block(block))
+            }
             Err(_) => NO_MEMORY,
         },
         _ => OTHER_KIND,

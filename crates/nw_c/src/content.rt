@@ -1,7 +1,7 @@
 //! The contents of handles.
+use crate::hashed::HashedBlock;
 use nw_book::{Book, Done, Ticket};
 use nw_check::{Checked, Gather};
-use nw_codec::Block;
 use nw_committee::Committee;
 use nw_digest::{Sequence, Shared};
 use nw_ed25519::Ed25519;
@@ -25,7 +25,7 @@ pub enum Content {
     /// A ticket, which can be walked at any time.
     Ticket(Ticket<Ed25519>),
     /// The list of blocks of a walk.
-    List(Sequence<Shared<Block>>),
+    List(Sequence<HashedBlock>),
     /// A block.
-    Block(Shared<Block>),
+    Block(HashedBlock),
 }

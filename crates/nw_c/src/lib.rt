@@ -15,6 +15,7 @@ mod events;
 mod gathers;
 mod handed;
 mod handle;
+mod hashed;
 mod interface;
 mod messages;
 mod parts;

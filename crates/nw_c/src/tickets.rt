@@ -1,6 +1,6 @@
 //! Tickets of causal reads, and the lists of their walks.
 ghost use Rattle.std.specs.Prelude.{◌≡◌, ◌↔◌, pos, IfOk, IfErr, IsTrue, true};
-ghost use Rattle.nw_book.specs.Ticket.{HaveOneList};
+ghost use Rattle.nw_book.specs.Ticket.{HaveOneList, IsListOf};
 ghost use Rattle.nw_c.specs.Tickets.{Agrees, AreApart, HasBlocks, HasNoBlockAt, IsAbout, IsBlockAt, IsWalkOf};
 ghost use Rattle.nw_c.specs.Tickets.{IsWhyApart};
 ghost use Rattle.nw_c.specs.Kinds.{IsUnchanged, HoldsList, HoldsTicket};
@@ -9,10 +9,11 @@ ghost use Rattle.nw_c.specs.declared.codes.TheConstants.{ABSENT, NOT_COMPARABLE,
 use crate::codes::{ABSENT, CLOSED, DONE, NO_MEMORY, NOT_COMPARABLE, OPEN, OTHER_KIND};
 use crate::content::Content;
 use crate::handle::{AnswerHandle, BlockHandle, ListHandle, put};
+use crate::hashed::HashedBlock;
 use crate::plain::CDigest;
 use nw_book::Ticket;
 use nw_causal::Agreement;
-use nw_digest::Sequence;
+use nw_digest::{NoMemory, Sequence};
 use nw_ed25519::Ed25519;
 use std::alloc::Global;
 
@@ -87,6 +88,18 @@ pub extern "C" fn nw_ticket_agree(
     }
 }
 
+/// The list of the ticket, with an owner of each block.
+fn walked(alloc: Global, ticket: &Ticket<Ed25519>) -> Result<Vec<HashedBlock>, NoMemory>
+    ensures { IfOk result (λ list. IsListOf ticket.now list.items) }
+{
+    let lent = ticket.walk_lent(alloc)?;
+    let mut list = Vec::with_capacity(alloc, lent.len())?;
+    for ancestor in lent {
+        list.push(HashedBlock::new(*ancestor.digest, ancestor.block.try_clone()?))?;
+    }
+    Ok(list)
+}
+
 /// Walks the ticket and opens the list of its block and all ancestors from the garbage round on. The list is as of the call that gave the
 /// ticket, and ascends by round and author. A ticket can be walked any number of times, at any time, without a lock.
 #[unsafe(no_mangle)]
@@ -110,7 +123,7 @@ pub extern "C" fn nw_ticket_walk(
         return OPEN;
     }
     match ticket.lend() {
-        Content::Ticket(ticket) => match ticket.walk(alloc) {
+        Content::Ticket(ticket) => match walked(alloc, ticket) {
             Ok(blocks) => put(alloc, out, Content::List(Sequence::new(blocks))),
             Err(_) => NO_MEMORY,
         },

@@ -11,17 +11,19 @@ use Rattle.std.proofs.lemmas.Bool.{cases_lt}
 use Rattle.std.proofs.lemmas.Bool.Decides.{nat_tests}
 use Rattle.std.proofs.lemmas.Cmp.{ranked}
 use Rattle.std.proofs.lemmas.List.{take-append-drop, length-map, length-reverse, length-drop, length-take-le, reverse-append, get_or-map, get_or-take, get_or-drop, get_or-reverse}
-use Rattle.std.proofs.lemmas.List.Elements.{All-nil, All-cons, All-head, All-tail, All-append, All-from_recursion, Contains-get_or, recursion_from_All}
+use Rattle.std.proofs.lemmas.List.Elements.{All-nil, All-cons, All-head, All-tail, All-append, All-contains, All-contains_itself, All-from_recursion, All-weaker, Contains-get_or, recursion_from_All}
 use Rattle.std.proofs.lemmas.List.Sorted.{All-permutation, Contains-permutation, IsPermutation-insert, IsPermutation-map, IsPermutation-reverse, IsPermutation-sym}
 use Rattle.std.proofs.lemmas.Map.Keys.{Less-from_sorted, sorted_from_all_adjacent}
 use Rattle.nw_digest.specs.declared.digest.Digest.{Digest}
 use Rattle.nw_codec.specs.declared.block.Ref.{Ref}
 use Rattle.nw_codec.specs.declared.block.Block.{Block}
 use Rattle.nw_model.specs.Paths.{block_cmp}
-use Rattle.nw_model.specs.View.{Frozen, HasParent, IsClosed, IsWalk}
+use Rattle.nw_model.specs.View.{Frozen, HasBlock, HasParent, IsClosed, IsWalk}
 use Rattle.nw_model.proofs.Listed.{blocks_total, contains_first, contains_later, contains_cases, contains_none}
 use Rattle.nw_causal.specs.declared.ancestor.Ancestor.{Ancestor}
-use Rattle.nw_causal.specs.Looked.{AreFound, Gains, IsLevel, blocks, descending, digests}
+use Rattle.nw_model.proofs.Complete.{one_block}
+use Rattle.nw_model.proofs.Views.{last_there}
+use Rattle.nw_causal.specs.Looked.{AreFound, AreUnderTheirDigests, Gains, IsLevel, blocks, descending, digests}
 
 -- ---- the order of rounds and authors
 
@@ -105,14 +107,6 @@ blocks_at v (x ∷ xs) at =
     let rest : map (get v.blocks) (digests xs) ≡ map Some (blocks xs) = blocks_at v xs at.1 in
     cc
 
--- the last ancestor is the first of the reversed ones
-pub back_first : (rest : List Ancestor) (a : Ancestor) → blocks (reverse (rest ++ a ∷ [])) ≡ a.block.now ∷ blocks (reverse rest)
-back_first rest a = ap blocks (reverse-append rest (a ∷ []))
-
-pub none_back : (rest : List Ancestor) → length rest ≡ 0 → blocks (reverse rest) ≡ []
-none_back [] none = refl
-none_back (a ∷ rest) none = absurd (omega (arith, none))
-
 -- the blocks of the found ancestors, reversed, are the walk
 pub walk_of : (v : Frozen) (d : Digest) (found : List Ancestor) → AreFound v d found → IsWalk v d (blocks (reverse found))
 walk_of v d found are = record {
@@ -128,6 +122,14 @@ walk_of v d found are = record {
   where
     moved : IsPermutation (digests found) (digests (reverse found))
     moved = IsPermutation-map (λ (x : Ancestor). x.digest.now) found (reverse found) (IsPermutation-reverse found)
+
+-- the view has the found ancestors' blocks, at or above the floor
+pub under_digests : (v : Frozen) (d : Digest) (found : List Ancestor) → AreFound v d found → AreUnderTheirDigests v (reverse found)
+under_digests v d found are = All-permutation (λ (a : Ancestor). HasBlock v a.digest.now a.block.now) found (reverse found) (IsPermutation-reverse found) (All-weaker (Contains found) (λ (a : Ancestor). HasBlock v a.digest.now a.block.now) (λ a among.
+    let at : get v.blocks a.digest.now ≡ Some a.block.now = All-contains (λ (x : Ancestor). get v.blocks x.digest.now ≡ Some x.block.now) found a are.at among in
+    let (path, on) = (are.exactly a.digest.now).0 (among_digests found a among) in
+    let (b, there) = last_there v d path a.digest.now on in
+    (at, subst (λ (x : Block). v.floor ≤ x.round) (one_block b a.block.now there.0 at) there.1)) found (All-contains_itself found))
 
 -- ---- one more block of a round
 

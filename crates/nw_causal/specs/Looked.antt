@@ -6,7 +6,7 @@ use Rattle.std.specs.declared.cmp.Ordering.{Ordering}
 use Rattle.nw_digest.specs.declared.digest.Digest.{Digest}
 use Rattle.nw_codec.specs.declared.block.Block.{Block}
 use Rattle.nw_model.specs.Paths.{block_cmp}
-use Rattle.nw_model.specs.View.{Frozen, IsAncestorIn}
+use Rattle.nw_model.specs.View.{Frozen, HasBlock, IsAncestorIn}
 use Rattle.nw_causal.specs.declared.ancestor.Ancestor.{Ancestor}
 
 -- the digests of the ancestors, in order
@@ -20,6 +20,10 @@ blocks = map (λ (a : Ancestor). a.block.now)
 -- each ancestor has the view's block under its digest
 abbrev pub AreAt : Frozen → List Ancestor → Type 0
 AreAt v = All (λ (a : Ancestor). get v.blocks a.digest.now ≡ Some a.block.now)
+
+-- the view has each ancestor's block under its digest, at or above the floor
+abbrev pub AreUnderTheirDigests : Frozen → List Ancestor → Type 0
+AreUnderTheirDigests v = All (λ (a : Ancestor). HasBlock v a.digest.now a.block.now)
 
 -- the descending order by round, and then by author
 abbrev pub descending : Ancestor → Ancestor → Ordering

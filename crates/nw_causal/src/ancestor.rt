@@ -7,11 +7,11 @@ use nw_codec::Block;
 use nw_digest::{Digest, Round, Shared};
 use nw_generation::Descent;
 
-/// A digest, and its block in the view.
+/// A digest, and the block that the view has under it.
 #[derive(Drop)]
-pub(crate) struct Ancestor<'a> {
-    pub(crate) digest: &'a Digest,
-    pub(crate) block: &'a Shared<Block>,
+pub struct Ancestor<'a> {
+    pub digest: &'a Digest,
+    pub block: &'a Shared<Block>,
 }
 
 impl<'a> Ancestor<'a> {

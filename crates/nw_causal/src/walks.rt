@@ -1,12 +1,13 @@
 //! Walks: lists of the ancestors of a digest in a view.
-ghost use Rattle.std.specs.Prelude.{◌≡◌, ◌+◌, ◌≤◌, IfOk, OnOk, [], All, length, map};
+ghost use Rattle.std.specs.Prelude.{◌≡◌, ◌+◌, ◌≤◌, IfOk, OnOk, [], All, length};
 ghost use Rattle.std.specs.List.Sorted.{IsBinarySearchResult, IsSearchInRange};
 ghost use Rattle.std.specs.Ordering.{nat_cmp};
 ghost use Rattle.nw_model.specs.View.{HasParent, IsClosed, HasBlock, IsWalk};
 ghost use Rattle.nw_model.specs.Search.{IsNamed, IsParentOfAny};
 ghost use Rattle.nw_generation.specs.Seen.{HasUpTo};
 ghost use Rattle.nw_causal.specs.declared.ancestor.Ancestor.{Ancestor};
-ghost use Rattle.nw_causal.specs.Looked.{AreFound, Gains, IsLevel, digests};
+ghost use Rattle.nw_causal.specs.Looked.{AreFound, AreUnderTheirDigests, Gains, IsLevel};
+ghost use Rattle.nw_causal.specs.Looked.{blocks, digests};
 
 use crate::ancestor::Ancestor;
 use nw_codec::{Block, Ref};
@@ -26,30 +27,28 @@ pub fn walk(alloc: Global, view: &View, digest: Digest) -> Result<Vec<Shared<Blo
 {
     let lent = walk_lent(alloc, view, &digest)?;
     let mut blocks = Vec::with_capacity(alloc, lent.len())?;
-    for block in lent {
-        blocks.push(block.try_clone()?)?;
+    for ancestor in lent {
+        blocks.push(ancestor.block.try_clone()?)?;
     }
     Ok(blocks)
 }
 
-/// The same walk, with blocks that the view lends. It takes no owner of a block.
+/// The same walk, with the digest of each block. The view lends both, so it takes no owner of a block.
 ///
 /// `NoMemory`: an allocation failed.
 pub fn walk_lent<'a>(
     alloc: Global,
     view: &'a View,
     digest: &'a Digest,
-) -> Result<Vec<&'a Shared<Block>>, NoMemory>
+) -> Result<Vec<Ancestor<'a>>, NoMemory>
     requires { (b : Block) × HasBlock view.now.frozen digest.now b }
-    ensures { IfOk result
-        (λ blocks. IsWalk view.now.frozen digest.now (map (λ b. b.now) blocks.items)) }
+    ensures walk { IfOk result
+        (λ walked. IsWalk view.now.frozen digest.now (blocks walked.items)) }
+    ensures digests { IfOk result (λ walked. AreUnderTheirDigests view.now.frozen walked.items) }
 {
-    let found = ancestors(alloc, view, digest)?;
-    let mut blocks = Vec::with_capacity(alloc, found.len())?;
-    for ancestor in found.iter().rev() {
-        blocks.push(ancestor.block)?;
-    }
-    Ok(blocks)
+    let mut found = ancestors(alloc, view, digest)?;
+    found.reverse();
+    Ok(found)
 }
 
 /// The ancestors of the digest, strictly descending by round and author.

@@ -3,9 +3,9 @@
 use crate::fault::LineFault;
 use crate::interpreter::Interpreter;
 use crate::print::Answer;
-use nw_book::Ticket;
+use nw_book::{Ancestor, Ticket};
 use nw_codec::{Block, Seal};
-use nw_digest::{Digest, Round, Shared};
+use nw_digest::{Digest, Round};
 use nw_model::{CausalReply, CertifyReply, CollectReply, Reply, Wanted, WriteReply};
 use nw_script::Name;
 use nw_sig::DemoScheme;
@@ -61,9 +61,8 @@ impl<'a> Interpreter<'a> {
         wanted: &[Wanted],
     ) -> Result<Vec<Name<'a>>, LineFault> {
         let mut names = Vec::with_capacity(alloc, wanted.len())?;
-        let mut search = self.names.in_list();
         for parent in wanted {
-            names.push(search.name_of_wanted(parent)?)?;
+            names.push(self.names.first_name(&parent.digest)?)?;
         }
         Ok(names)
     }
@@ -126,13 +125,13 @@ impl<'a> Interpreter<'a> {
         Ok(Answer::Listed { name, names })
     }
 
-    // The first names of the blocks, each after a space.
-    fn names_of(&self, alloc: Global, blocks: &[&Shared<Block>]) -> Result<Vec<u8>, LineFault> {
+    // The first names of the walked blocks, each after a space.
+    fn names_of(&self, alloc: Global, walked: &[Ancestor<'_>]) -> Result<Vec<u8>, LineFault> {
         let mut names = Vec::new(alloc);
-        let mut search = self.names.in_list();
-        for block in blocks {
+        for ancestor in walked {
             names.push(b' ')?;
-            names.extend_from_slice(search.name_of(block.get())?.as_str().as_bytes())?;
+            let name = self.names.first_name(ancestor.digest)?;
+            names.extend_from_slice(name.as_str().as_bytes())?;
         }
         Ok(names)
     }

@@ -13,7 +13,7 @@ use Rattle.nw_model.specs.State.{State}
 use Rattle.nw_model.specs.Checks.{digest_of}
 use Rattle.nw_model.specs.Sound.{IsSound}
 use Rattle.nw_model.specs.Step.{Bounds, IsReply, after, after_write, after_certify, after_collect, write_reply, certify_reply, collect_reply}
-use Rattle.nw_model.specs.History.{AreReplies, IsAdmitted}
+use Rattle.nw_model.specs.History.{Terms, IsLegal, AreReplies, IsAdmitted}
 use Rattle.nw_model.specs.Laws.{IsReadOf, RaisesAbove, IsCollectedBetween, AreCollision, ReadsAgree}
 use Rattle.nw_model.specs.declared.call.Call.{Call}
 use Rattle.nw_model.specs.declared.call.Call.TheVariants as call
@@ -128,6 +128,11 @@ read_digest accepts members bounds s (x ∷ es) d b admitted are each (suc i) e 
     (admitted_after accepts members bounds s x.call (All-head (λ (y : Event). IsAdmitted accepts members y.call) x es each) admitted)
     are.2 (All-tail (λ (y : Event). IsAdmitted accepts members y.call) x es each) i e at read
 
+-- the block that a read in a legal history gives has the digest that was read
+pub read_named : (accepts : Meaning) (terms : Terms) (base : State) (es : List Event) (d : Digest) (b : Block) → IsLegal accepts terms base es → (i : ℕ) (e : Event) → slice_get es i ≡ Some e → IsReadOf d b e → digest_of b ≡ d
+read_named accepts terms base es d b legal =
+    read_digest accepts terms.committee terms.bounds base es d b (admitted_base accepts terms base legal.based) legal.replies legal.admitted
+
 pub reads_agree : ReadsAgree
 reads_agree accepts terms base es legal d b c i j e f order at_i at_j read_e read_f = by (same_block b c) refl
   where
@@ -135,8 +140,8 @@ reads_agree accepts terms base es legal d b c i j e f order at_i at_j read_e rea
     by true is = inl ((same_block_decides b c).0 is)
     by false is =
         let differ : b ≢ c = λ same. let wrong : same_block b c ≡ true = (same_block_decides b c).1 same in absurd cc in
-        let first : digest_of b ≡ d = read_digest accepts terms.committee terms.bounds base es d b (admitted_base accepts terms base legal.based) legal.replies legal.admitted i e at_i read_e in
-        let second : digest_of c ≡ d = read_digest accepts terms.committee terms.bounds base es d c (admitted_base accepts terms base legal.based) legal.replies legal.admitted j f at_j read_f in
+        let first : digest_of b ≡ d = read_named accepts terms base es d b legal i e at_i read_e in
+        let second : digest_of c ≡ d = read_named accepts terms base es d c legal j f at_j read_f in
         elim (reads_between terms.bounds base es d b c (sound_base accepts terms base legal.based) legal.replies i j e f order at_i at_j read_e read_f) [
           | inl same ↦ absurd (differ same)
           | inr between ↦ inr (between, record { differ = differ; first = first; second = second })

@@ -8,7 +8,8 @@ use super::CParent;
 use crate::codes::{BAD_ROUND, NO_MEMORY, OPEN, OVER_LIMIT};
 use crate::content::Content;
 use crate::handle::{BlockHandle, put};
-use nw_codec::{Block, EncodeError, Ref, Transactions};
+use crate::hashed::HashedBlock;
+use nw_codec::{Block, EncodeError, Ref, Transactions, block_digest};
 use nw_digest::{Digest, NoMemory, Round, Sequence, Shared};
 use std::alloc::Global;
 
@@ -97,8 +98,9 @@ pub extern "C" fn nw_block_new(
     if !block.fits() {
         return OVER_LIMIT;
     }
+    let digest = block_digest(&block);
     match Shared::new(alloc, block) {
-        Ok(block) => put(alloc, out, Content::Block(block)),
+        Ok(block) => put(alloc, out, Content::Block(HashedBlock::new(digest, block))),
         Err(_) => NO_MEMORY,
     }
 }
