@@ -79,9 +79,9 @@ def names_of(crate):
 
 @functools.cache
 def words():
-    """All words in sources, specifications and proofs, in crates.txt and the drawn script, and in the names of files in their folders."""
+    """All words in sources, specifications and proofs, in crates.txt and docs/picture.script, and in the names of files in their folders."""
     crates, bindings = ("src/**/*.rt", "specs/**/*.antt", "proofs/**/*.antt"), ("c/*.[ch]", "rust/src/**/*.rs")
-    sources = [*(f"crates/*/{it}" for it in crates), *(f"bindings/{it}" for it in bindings), "crates.txt", "crates/nw_picture/stdin"]
+    sources = [*(f"crates/*/{it}" for it in crates), *(f"bindings/{it}" for it in bindings), "crates.txt", "docs/picture.script"]
     texts = [content(path) for source in sources for path in paths(source)] + paths("crates/*/[mpsw]*/**/*") + paths("bindings/*/*")
     return {word for text in texts for word in re.findall(NAME, text)}
 

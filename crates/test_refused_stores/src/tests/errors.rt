@@ -1,6 +1,5 @@
 //! The texts of errors.
 use super::*;
-use nw_drawing::DrawFault;
 use nw_store::TooMany;
 use std::fmt::Display;
 
@@ -14,12 +13,6 @@ const OF_STEPS: [(NoStep, &str); 4] = [
     (NoStep::OtherCommittee, "checked under another committee"),
     (NoStep::HistoryFull, "the history is full"),
     (NoStep::NoMemory, "out of memory"),
-];
-
-const OF_PICTURES: [(DrawFault, &str); 3] = [
-    (DrawFault::TooMany, "too many blocks for a picture"),
-    (DrawFault::Write, "the picture can't be written"),
-    (DrawFault::NoMemory, "out of memory"),
 ];
 
 /// The text of the error.
@@ -47,8 +40,7 @@ fn errors_have_their_texts(rt: HostRuntime) -> Result<(), Fail> {
         wrong_text(alloc, &OF_BOOKS)?,
         wrong_text(alloc, &OF_STEPS)?,
         wrong_text(alloc, &[(TooMany, "too many sessions")])?,
-        wrong_text(alloc, &OF_PICTURES)?,
     ];
-    assert_eq!(rt; wrong, [None; 4]);
+    assert_eq!(rt; wrong, [None; 3]);
     Ok(())
 }
