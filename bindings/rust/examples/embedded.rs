@@ -1,4 +1,4 @@
-//! Measures how long the calls of a store take, and how much of a validator's time goes into checks.
+//! Measures how long the calls of a store take, how much of a validator's time goes into checks, and what more threads gain.
 //!
 //! ```text
 //! cargo run --release --example embedded               committees of 4, 10 and 100 members
@@ -10,17 +10,21 @@
 //!
 //! One thread checks every message once. Then it plays the messages to new stores for a second or more. It writes, certifies and reads each
 //! block. It reads one block of each round causally, and walks its ticket. The garbage round stays 20 rounds behind.
+//!
+//! Finally, `check_all` checks all messages with 1, 2, 4, .. threads, up to the number of cores. `gain` is the time of one thread divided by
+//! that of these threads. `blocks/s` and `MB/s` say how many blocks, and bytes of their bodies, a node takes in a second: it checks the blocks
+//! and certificates with these threads, and then makes the calls above in one thread.
 
 #[path = "../tests/corpus/records.rs"]
 mod file;
 
 use narwhal_store::{CheckError, Checked, CheckedBlock, CheckedCertificate, Committee};
-use narwhal_store::{Digest, Limits, Message, Store, TextFault};
+use narwhal_store::{Digest, Limits, Message, Store, TextFault, check_all};
 use std::error::Error;
 use std::path::Path;
 use std::process::Command;
 use std::time::{Duration, Instant};
-use std::{env, fs, hint};
+use std::{env, fs, hint, thread};
 
 type Result<T> = std::result::Result<T, Box<dyn Error>>;
 
@@ -39,7 +43,8 @@ fn main() -> Result<()> {
 }
 
 fn measure([members, rounds]: [usize; 2]) -> Result<()> {
-    let load = Load::new(&messages(members, rounds)?)?;
+    let file = messages(members, rounds)?;
+    let mut load = Load::new(&file)?;
     let blocks = load.blocks.len();
     let body = load.blocks[blocks - 1].block().body().len();
     println!("\n{members} members, {rounds} rounds: {blocks} blocks, the last of {body} bytes");
@@ -52,8 +57,8 @@ fn measure([members, rounds]: [usize; 2]) -> Result<()> {
         "{:18} {:>9} {:>10} {:>9} {:>9} {:>9}",
         "", "calls", "calls/s", "p50 us", "p99 us", "max us"
     );
-    let (of_blocks, of_certificates) = (load.block_checks, load.certificate_checks);
-    let checks = of_blocks.print("check block") + of_certificates.print("check certificate");
+    let of_blocks = load.block_checks.print("check block");
+    let checks = of_blocks + load.certificate_checks.print("check certificate");
     let calls = calls.print() / plays;
     let signatures = checks.saturating_sub(load.digests + load.decoding);
     let share = |part: Duration| 100.0 * part.as_secs_f64() / (checks + calls).as_secs_f64();
@@ -64,7 +69,7 @@ fn measure([members, rounds]: [usize; 2]) -> Result<()> {
         share(load.decoding),
         share(calls)
     );
-    Ok(())
+    load.print_threads(calls)
 }
 
 /// The signed messages, made by the script unless an earlier run left them.
@@ -87,8 +92,9 @@ fn messages(members: usize, rounds: usize) -> Result<Vec<u8>> {
 }
 
 /// The messages of a committee with the times of their checks.
-struct Load {
+struct Load<'a> {
     committee: Committee,
+    messages: Vec<&'a [u8]>,
     blocks: Vec<CheckedBlock>,
     certificates: Vec<CheckedCertificate>,
     block_checks: Times,
@@ -98,12 +104,12 @@ struct Load {
     decoding: Duration,
 }
 
-impl Load {
-    fn new(file: &[u8]) -> Result<Load> {
+impl<'a> Load<'a> {
+    fn new(file: &'a [u8]) -> Result<Load<'a>> {
         let mut records = file::records(file);
         let (_, keys) = records.next().ok_or("no committee")?;
         let committee = file::committee(keys);
-        let (mut blocks, mut certificates) = (Vec::new(), Vec::new());
+        let (mut messages, mut blocks, mut certificates) = (Vec::new(), Vec::new(), Vec::new());
         let (mut block_checks, mut certificate_checks) = (Times::default(), Times::default());
         let (mut digests, mut decoding) = (Times::default(), Times::default());
         for (kind, record) in records {
@@ -112,6 +118,7 @@ impl Load {
                 b'B' => (&mut block_checks, &record[32..]),
                 _ => (&mut certificate_checks, record),
             };
+            messages.push(message);
             match times.take(|| Message::check(&committee, message))? {
                 Checked::Block(block) => {
                     let body = block.block().body();
@@ -128,6 +135,7 @@ impl Load {
         }
         Ok(Load {
             committee,
+            messages,
             blocks,
             certificates,
             block_checks,
@@ -161,6 +169,34 @@ impl Load {
         }
         Ok(())
     }
+
+    /// Prints a row for each number of threads. `calls` is the time of the calls for all messages.
+    fn print_threads(&self, calls: Duration) -> Result<()> {
+        println!(
+            "{:18} {:>9} {:>10} {:>9} {:>9}",
+            "", "checks/s", "gain", "blocks/s", "MB/s"
+        );
+        let bodies = self.blocks.iter().map(|block| block.block().body().len());
+        let megabytes = bodies.sum::<usize>() as f64 / 1e6;
+        let (mut alone, cores) = (None, thread::available_parallelism()?.get());
+        for threads in (0..).map(|n| 1 << n).take_while(|it| *it <= cores) {
+            let start = Instant::now();
+            let checked = check_all(&self.committee, &self.messages, threads);
+            let checks = start.elapsed();
+            assert!(checked.iter().all(|outcome| outcome.is_ok()));
+            let (all, checks) = ((checks + calls).as_secs_f64(), checks.as_secs_f64());
+            let alone = *alone.get_or_insert(checks);
+            println!(
+                "{:18} {:>9.0} {:>10.2} {:>9.0} {:>9.1}",
+                format!("threads: {threads}"),
+                self.messages.len() as f64 / checks,
+                alone / checks,
+                self.blocks.len() as f64 / all,
+                megabytes / all
+            );
+        }
+        Ok(())
+    }
 }
 
 #[derive(Default)]
@@ -185,7 +221,7 @@ impl Calls {
             ("collect", self.collect),
         ];
         rows.into_iter()
-            .map(|(name, times)| times.print(name))
+            .map(|(name, mut times)| times.print(name))
             .sum()
     }
 }
@@ -207,7 +243,7 @@ impl Times {
     }
 
     /// Prints a row, and returns the time of all calls.
-    fn print(mut self, name: &str) -> Duration {
+    fn print(&mut self, name: &str) -> Duration {
         self.0.sort_unstable();
         let (calls, whole) = (self.0.len(), self.sum());
         let at = |percent: usize| 1e6 * self.0[(calls - 1) * percent / 100].as_secs_f64();
