@@ -62,7 +62,9 @@ int main(void)
 	nw_list list = {0};
 	nw_block found = {0};
 	nw_message message;
+	nw_subject subject;
 	nw_status status;
+	uint32_t size = 0;
 	size_t length = 0, events = 0;
 
 	bytes_of(KEYS, keys);
@@ -78,21 +80,25 @@ int main(void)
 	tell("check of the block", nw_check(&committee, text, bytes_of(BLOCK, text), &block));
 	tell("check of the certificate", nw_check(&committee, text, bytes_of(CERTIFICATE, text), &certificate));
 	tell("what the certificate is", nw_checked_kind(&certificate, &message));
-	printf("  kind %d round %llu author %d\n", (int)message.kind, (unsigned long long)message.slot.round, (int)message.slot.author);
+	printf("  kind %d round %llu author %d\n", (int)message.kind, (unsigned long long)message.subject.round, (int)message.subject.author);
 
 	tell_reply("write", nw_book_hand_in(&book, 0, 1, &block, &answer), &answer);
 	tell_reply("write out of turn", nw_book_hand_in(&book, 0, 1, &block, &answer), &answer);
 	tell_reply("write again", nw_book_hand_in(&book, 0, 2, &block, &answer), &answer);
-	tell_reply("causal read", nw_book_open(&book, 0, 3, &message.slot.digest, &ticket), &ticket);
+	tell_reply("causal read", nw_book_open(&book, 0, 3, &message.subject.digest, &ticket), &ticket);
 	tell_reply("certify", nw_book_hand_in(&book, 0, 4, &certificate, &answer), &answer);
-	tell_reply("causal read", nw_book_open(&book, 0, 5, &message.slot.digest, &ticket), &ticket);
+	tell_reply("causal read", nw_book_open(&book, 0, 5, &message.subject.digest, &ticket), &ticket);
 	tell_reply("collect", nw_book_collect(&book, 0, 6, 1, &answer), &answer);
-	tell_reply("read", nw_book_read(&book, 0, 7, &message.slot.digest, &answer), &answer);
+	tell_reply("read", nw_book_read(&book, 0, 7, &message.subject.digest, &answer), &answer);
 
 	tell("walk", nw_ticket_walk(&ticket, &list));
 	tell("length", nw_list_len(&list, &length));
 	printf("  %zu block\n", length);
 	tell("first block", nw_list_block(&list, 0, &found));
+	tell("subject", nw_block_subject(&found, &subject));
+	printf("  the certified digest: %s\n", memcmp(subject.digest.bytes, message.subject.digest.bytes, 32) ? "no" : "yes");
+	tell("transactions", nw_block_transactions(&found, body, sizeof body, &size, 1, &length));
+	printf("  %zu byte, the first has %u: %c\n", length, (unsigned)size, body[0]);
 	tell("body in little room", nw_block_body(&found, body, 4, &length));
 	tell("body", nw_block_body(&found, body, sizeof body, &length));
 	printf("  %zu bytes, the last is %c\n", length, body[length - 1]);

@@ -229,13 +229,12 @@ typedef struct {
 	uint8_t bytes[64];
 } nw_signature;
 
-/* The digest of a block with the block's round and author. In docs/MODEL.md, a slot is the round and the
-   author only. */
+/* The digest of a block with the block's round and author. Votes and certificates are for a subject. */
 typedef struct {
 	nw_digest digest;
 	uint64_t round;
 	uint16_t author;
-} nw_slot;
+} nw_subject;
 
 /* What a call or a reply is: its kind, and the number or digest that the kind's comment names. A number or
    digest that it does not name is 0. */
@@ -267,12 +266,12 @@ typedef struct {
 	nw_digest digest;
 } nw_parent;
 
-/* What a checked text is, or what the front of a text says: its kind, the slot of a block, certificate or
+/* What a checked text is, or what the front of a text says: its kind, the subject of a block, certificate or
    vote, and the signer of a vote or of a wrong signature. Fields that the kind does not use are 0. */
 typedef struct {
 	int32_t kind;
 	uint16_t signer;
-	nw_slot slot;
+	nw_subject subject;
 } nw_message;
 
 /* The limits of a book. blocks limits the stored blocks, and separately the certificates: 1 to 65,536.
@@ -342,12 +341,12 @@ void nw_text_of_block(const nw_digest *digest, nw_block_text *out);
 
 /* Writes the text that a member signs to vote for the block of this digest, round and author. Returns
    NW_BAD_ROUND if the round is not below 2^48. */
-int32_t nw_text_of_vote(const nw_slot *slot, nw_vote_text *out);
+int32_t nw_text_of_vote(const nw_subject *subject, nw_vote_text *out);
 
 /* Writes the message of the signer's vote for the block of this digest, round and author: 107 bytes. Writes
    this size to needed. Returns NW_SMALL if the buffer is smaller, and NW_BAD_ROUND if the round is not below
    2^48. It does not check the signature. */
-int32_t nw_vote_message(const nw_slot *slot, uint16_t signer, const nw_signature *signature, uint8_t *buffer, size_t buffer_len, size_t *needed);
+int32_t nw_vote_message(const nw_subject *subject, uint16_t signer, const nw_signature *signature, uint8_t *buffer, size_t buffer_len, size_t *needed);
 
 /* Makes a block of this author and round. transactions has the bytes of all transactions, one after another,
    and lengths has the size of each. Parents must ascend strictly by author. A block has at most 100 parents,
@@ -357,7 +356,7 @@ int32_t nw_vote_message(const nw_slot *slot, uint16_t signer, const nw_signature
 int32_t nw_block_new(uint16_t author, uint64_t round, const nw_parent *parents, size_t parents_len, const uint8_t *transactions, size_t transactions_len, const uint32_t *lengths, size_t lengths_len, nw_block *out);
 
 /* Writes the digest, round and author of the block. It hashes nothing: every block handle keeps its digest. */
-int32_t nw_block_slot(nw_block *block, nw_slot *out);
+int32_t nw_block_subject(nw_block *block, nw_subject *out);
 
 /* Writes how many parents and how many transactions the block has. */
 int32_t nw_block_counts(nw_block *block, size_t *parents, size_t *transactions);
@@ -365,10 +364,6 @@ int32_t nw_block_counts(nw_block *block, size_t *parents, size_t *transactions);
 /* Writes the parent at the index, counted from 0. Parents ascend by author. Returns NW_ABSENT if the block
    has no such parent. */
 int32_t nw_block_parent(nw_block *block, size_t index, nw_parent *out);
-
-/* Copies the transaction at the index, counted from 0, to the buffer. Writes its size to needed. Returns
-   NW_SMALL if the buffer is smaller, and NW_ABSENT if the block has no such transaction. */
-int32_t nw_block_transaction(nw_block *block, size_t index, uint8_t *buffer, size_t buffer_len, size_t *needed);
 
 /* Writes the encoded body of the block to the buffer. The block's digest is SHA-256 of these bytes. Writes
    their size to needed. Returns NW_SMALL if the buffer is smaller, and NW_OVER_LIMIT if the block breaks a
@@ -379,6 +374,11 @@ int32_t nw_block_body(nw_block *block, uint8_t *buffer, size_t buffer_len, size_
    to needed. Returns NW_SMALL if the buffer is smaller, and NW_OVER_LIMIT if the block breaks a limit of the
    format. It does not check the signature. */
 int32_t nw_block_message(nw_block *block, const nw_signature *signature, uint8_t *buffer, size_t buffer_len, size_t *needed);
+
+/* Copies all transactions of the block to the buffer, one after another, and their sizes to lengths, in the
+   form that nw_block_new takes. Writes the size of all together to needed. Returns NW_SMALL if the buffer is
+   smaller than that, or if lengths has fewer places than the block has transactions (nw_block_counts). */
+int32_t nw_block_transactions(nw_block *block, uint8_t *buffer, size_t buffer_len, uint32_t *lengths, size_t lengths_len, size_t *needed);
 
 /* Writes what the front of the text says: the kind of message, its round and author, the digest of a
    certificate or vote, and the signer of a vote. A block's digest is not in its text, and is written as 0.
@@ -403,9 +403,9 @@ int32_t nw_checked_block(nw_checked *checked, nw_block *out);
    certificate nor a vote. */
 int32_t nw_checked_message(nw_checked *checked, uint8_t *buffer, size_t buffer_len, size_t *needed);
 
-/* Starts to gather votes for the block of this slot. Returns NW_BAD_ROUND if the round is not below 2^48,
+/* Starts to gather votes for the block of this subject. Returns NW_BAD_ROUND if the round is not below 2^48,
    and NW_NO_MEMBER if the author is not a member. */
-int32_t nw_gather_new(nw_committee *committee, const nw_slot *slot, nw_gather *out);
+int32_t nw_gather_new(nw_committee *committee, const nw_subject *subject, nw_gather *out);
 
 /* Checks the signature of the vote and counts the vote. Writes to quorum whether the counted votes reach the
    quorum. Refuses a vote with NW_OTHER_BLOCK, NW_REPEATED, NW_NO_MEMBER or NW_BAD_SIGNATURE, the first that
@@ -481,7 +481,7 @@ int32_t nw_answer_message(nw_answer *answer, uint8_t *buffer, size_t buffer_len,
 
 /* Writes one of the parents that a call for missing parents listed. index counts from 0. Returns NW_ABSENT
    if the list has no parent at that index, and NW_OTHER_KIND if the answer is to another call. */
-int32_t nw_answer_missing(nw_answer *answer, size_t index, nw_slot *out);
+int32_t nw_answer_missing(nw_answer *answer, size_t index, nw_subject *out);
 
 /* Writes the counts of a call for the status. Returns NW_OTHER_KIND if the answer is to another call. */
 int32_t nw_answer_status(nw_answer *answer, nw_status *out);

@@ -10,10 +10,10 @@ It is a thin ctypes layer over the C interface (bindings/c/nw.h). For a validato
     >>> store, checked = Store(committee), committee.check(block)
     >>> store.take(checked), store.take(committee.check(certificate))
     ('STORED_VOTE', 'CERTIFIED')
-    >>> [block.slot == checked.slot for block in store.causal(checked.slot[2])]
+    >>> [block.subject == checked.subject for block in store.causal(checked.subject[2])]
     [True]
 
-Keys, digests and messages are bytes-like objects or strings of hex digits; a slot has its digest in hex. A wrong length or a number out of
+Keys, digests and messages are bytes-like objects or strings of hex digits; a subject has its digest in hex. A wrong length or a number out of
 range raises ValueError. A refused call raises NwError with the name of its code in nw.h.
 
 A Store has one session: use it in one thread. If two threads use it, a call can raise OUT_OF_TURN or return the reply of the other thread.
@@ -51,10 +51,10 @@ def record(name, **fields):
 Digest = record("Digest", bytes=c_uint8 * 32)
 Member = record("Member", key=c_uint8 * 32, weight=c_uint32)
 Limits = record("Limits", blocks=c_uint32, events=c_uint32, window=c_uint32, sessions=c_uint32)
-Slot = record("Slot", digest=Digest, round=c_uint64, author=c_uint16)
+Subject = record("Subject", digest=Digest, round=c_uint64, author=c_uint16)
 Told = record("Told", kind=c_int32, number=c_uint64, digest=Digest)
 Event = record("Event", session=c_uint16, number=c_uint32, call=Told, reply=Told)
-Message = record("Message", kind=c_int32, signer=c_uint16, slot=Slot)
+Message = record("Message", kind=c_int32, signer=c_uint16, subject=Subject)
 Status = record("Status", floor=c_uint64, blocks=c_uint64, certificates=c_uint64, complete=c_uint64, wanted=c_uint64)
 
 
@@ -108,9 +108,9 @@ class Handle:
             LIBRARY.nw_free(self.ref)
 
 
-def place(slot):
+def place(subject):
     """The round, the author and the digest in hex."""
-    return slot.round, slot.author, bytes(slot.digest.bytes).hex()
+    return subject.round, subject.author, bytes(subject.digest.bytes).hex()
 
 
 class Committee(Handle):
@@ -129,11 +129,11 @@ class Checked(Handle):
     """The result of a message's check. `kind` is BLOCK, CERTIFICATE, VOTE, or the rule that the message breaks."""
 
     kind = property(lambda self: KINDS[self.read("checked_kind", Message).kind])
-    slot = property(lambda self: place(self.read("checked_kind", Message).slot))
+    subject = property(lambda self: place(self.read("checked_kind", Message).subject))
 
 
 class Block(Handle):
-    slot = property(lambda self: place(self.read("block_slot", Slot)))
+    subject = property(lambda self: place(self.read("block_subject", Subject)))
     body = property(lambda self: text("block_body", self.ref))
 
 
@@ -172,7 +172,7 @@ class Store(Handle):
     def missing(self, most=1_024):
         self.make("book_missing", number(most, c_uint16))
         count = self.answer.read("answer_reply", Told).number
-        return [place(self.answer.read("answer_missing", Slot, c_size_t(index))) for index in range(count)]
+        return [place(self.answer.read("answer_missing", Subject, c_size_t(index))) for index in range(count)]
 
     def status(self):
         self.make("book_status")

@@ -44,12 +44,12 @@ def main():
     committee = Committee([(KEYS[at : at + 32], 1) for at in range(0, len(KEYS), 32)])
     store = Store(committee)
     block, certificate, broken = committee.check(BLOCK), committee.check(CERTIFICATE), committee.check(BLOCK[:-1])
-    digest = block.slot[2]
+    digest = block.subject[2]
     assert (block.kind, certificate.kind, broken.kind) == ("BLOCK", "CERTIFICATE", "TEXT_SHORT")
     assert store.take(block) == "STORED_VOTE" and store.take(block) == "HELD"
     assert store.causal(digest) == "UNCERTIFIED"
     assert store.take(certificate) == "CERTIFIED"
-    assert [each.slot for each in store.causal(digest)] == [block.slot] == [(0, 0, digest)]
+    assert [each.subject for each in store.causal(digest)] == [block.subject] == [(0, 0, digest)]
     assert store.read_block(digest).body == store.read_block(bytearray.fromhex(digest)).body == BLOCK[1:-64]
     assert store.missing() == [] and store.status()["complete"] == 1
     assert store.collect(1) == "RAISED" and store.read_block(digest) is None

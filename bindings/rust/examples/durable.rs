@@ -26,7 +26,7 @@ use flow::Flow;
 use lab::Com;
 use log::{Log, Opened};
 use narwhal_store::{CertifyReply, Checked, CollectReply, Committee, Digest, Limits, Message};
-use narwhal_store::{Session, Slot, Store, WriteReply};
+use narwhal_store::{Session, Store, Subject, WriteReply};
 use std::error::Error;
 use std::hash::{BuildHasher, RandomState};
 use std::path::Path;
@@ -61,11 +61,11 @@ fn messages() -> Vec<u8> {
         for author in 0..MEMBERS {
             let block =
                 |transaction: &[u8]| com.block(author, round, &parents, &[transaction.into()]);
-            let (message, slot) = block(b"one");
+            let (message, subject) = block(b"one");
             push(message);
             push(block(b"other").0);
-            push(com.certificate(&slot, &[0, 1, 2]));
-            certified.push((author, slot.digest));
+            push(com.certificate(&subject, &[0, 1, 2]));
+            certified.push((author, subject.digest));
         }
         parents = certified;
     }
@@ -118,19 +118,19 @@ fn validator(path: &Path, mode: &str) -> Result<()> {
     order.sort_by_cached_key(late); // So two blocks of one round and author come in any order.
     for (_, message) in order {
         validator.take(message)?;
-        let absent: Vec<Slot> = validator.flow.absent().collect();
-        for slot in absent {
-            validator.take(fetched(&messages, &slot)?)?;
+        let absent: Vec<Subject> = validator.flow.absent().collect();
+        for subject in absent {
+            validator.take(fetched(&messages, &subject)?)?;
         }
     }
     Ok(())
 }
 
 /// Fetches the block of a certificate. Its signers have it; here it is one of the messages.
-fn fetched<'a>(messages: &[&'a [u8]], slot: &Slot) -> Result<&'a [u8]> {
+fn fetched<'a>(messages: &[&'a [u8]], subject: &Subject) -> Result<&'a [u8]> {
     let is_block = |message: &&&[u8]| {
         let body = &message[1..message.len() - 64];
-        message[0] == 1 && Digest::of(body) == slot.digest
+        message[0] == 1 && Digest::of(body) == subject.digest
     };
     let found = messages.iter().find(is_block);
     Ok(found.ok_or("a certified block is in no message")?)
@@ -154,7 +154,7 @@ impl Validator {
         }
         let voted = self.make(message)?;
         // A block with all its parents shows how far the others are.
-        let newest = voted.iter().map(|slot| slot.round).max().unwrap_or(0);
+        let newest = voted.iter().map(|subject| subject.round).max().unwrap_or(0);
         let garbage_round = (newest / 5 * 5).saturating_sub(15);
         if garbage_round > self.store.look(0, 0).garbage_round {
             self.make(&garbage_round.to_be_bytes())?;
@@ -163,7 +163,7 @@ impl Validator {
     }
 
     /// Makes a call. If it changed the store, logs it, and sends the votes that are due. Returns these.
-    fn make(&mut self, record: &[u8]) -> Result<Vec<Slot>> {
+    fn make(&mut self, record: &[u8]) -> Result<Vec<Subject>> {
         let Some(due) = self.call(record)? else {
             return Ok(Vec::new());
         };
@@ -178,8 +178,8 @@ impl Validator {
         Ok(due)
     }
 
-    /// Makes the call of a record: a message, or a round to collect. Returns the slots to vote for if the store changed.
-    fn call(&mut self, record: &[u8]) -> Result<Option<Vec<Slot>>> {
+    /// Makes the call of a record: a message, or a round to collect. Returns the subjects to vote for if the store changed.
+    fn call(&mut self, record: &[u8]) -> Result<Option<Vec<Subject>>> {
         if let Ok(round) = record.try_into() {
             let round = u64::from_be_bytes(round);
             let answer = self.session.collect(round)?;
@@ -197,15 +197,15 @@ impl Validator {
             Checked::Certificate(certificate) => {
                 let answer = self.session.certify(&certificate)?;
                 let is_new = *answer.reply() == CertifyReply::Certified;
-                is_new.then(|| self.flow.certified(&certificate.slot()))
+                is_new.then(|| self.flow.certified(&certificate.subject()))
             }
             Checked::Vote(_) => None,
         })
     }
 }
 
-fn send(slot: &Slot) {
-    println!("{} {} {}", slot.round, slot.author, slot.digest);
+fn send(subject: &Subject) {
+    println!("{} {} {}", subject.round, subject.author, subject.digest);
 }
 
 fn random() -> u64 {

@@ -150,19 +150,21 @@ impl<'a> Load<'a> {
         let store = Store::new(&self.committee, Limits::default())?;
         let session = store.session()?;
         for (block, certificate) in self.blocks.iter().zip(&self.certificates) {
-            let slot = block.slot();
+            let subject = block.subject();
             calls.write.take(|| session.write(block).map(drop))?;
             calls
                 .certify
                 .take(|| session.certify(certificate).map(drop))?;
-            calls.read.take(|| session.read(&slot.digest).map(drop))?;
-            if slot.author == 0 {
-                let answer = calls.causal.take(|| session.causal(&slot.digest))?;
+            calls
+                .read
+                .take(|| session.read(&subject.digest).map(drop))?;
+            if subject.author == 0 {
+                let answer = calls.causal.take(|| session.causal(&subject.digest))?;
                 let ticket = answer.into_ticket()?;
                 calls.walk.take(|| ticket.walk().map(drop))?;
                 calls.collect.take(|| {
                     session
-                        .collect(slot.round.saturating_sub(KEPT_ROUNDS))
+                        .collect(subject.round.saturating_sub(KEPT_ROUNDS))
                         .map(drop)
                 })?;
             }

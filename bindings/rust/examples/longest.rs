@@ -11,7 +11,7 @@
 mod lab;
 
 use lab::Com;
-use narwhal_store::{Checked, Digest, Limits, Message, Session, Slot, Store, check_all};
+use narwhal_store::{Checked, Digest, Limits, Message, Session, Store, Subject, check_all};
 use std::error::Error;
 use std::hint::black_box;
 use std::time::Instant;
@@ -44,9 +44,9 @@ fn main() -> Result<()> {
 fn drops_and_checks() -> Result<()> {
     let lab = Lab::new(&[1; 100])?;
     let everybody: Vec<u16> = (0..100).collect();
-    let (block, slot) = lab.com.block(0, 0, &[], &[vec![7; 10_000]]);
-    let known = lab.com.certificate(&slot, &everybody[..67]);
-    let long = lab.com.certificate(&slot, &everybody);
+    let (block, subject) = lab.com.block(0, 0, &[], &[vec![7; 10_000]]);
+    let known = lab.com.certificate(&subject, &everybody[..67]);
+    let long = lab.com.certificate(&subject, &everybody);
     lab.take(&[block.clone(), known.clone()])?;
     mean("peek at a certificate", 2_000_000, || {
         black_box(Message::peek(black_box(&known)));
@@ -116,7 +116,10 @@ fn withheld_certificate(rounds: u64, parents: usize) -> Result<()> {
     lab.certify(&first[1..])?;
     let mut last = first.clone();
     for round in 1..rounds {
-        let of_last: Vec<_> = last.iter().map(|slot| (slot.author, slot.digest)).collect();
+        let of_last: Vec<_> = last
+            .iter()
+            .map(|subject| (subject.author, subject.digest))
+            .collect();
         last = lab.round(round, 0..100, &of_last[..parents])?;
         lab.certify(&last)?;
     }
@@ -182,16 +185,16 @@ impl Lab {
         round: u64,
         authors: std::ops::Range<u16>,
         parents: &[(u16, Digest)],
-    ) -> Result<Vec<Slot>> {
+    ) -> Result<Vec<Subject>> {
         let block = |author| self.com.block(author, round, parents, &[]);
-        let (messages, slots): (Vec<_>, Vec<_>) = authors.map(block).unzip();
+        let (messages, subjects): (Vec<_>, Vec<_>) = authors.map(block).unzip();
         self.take(&messages)?;
-        Ok(slots)
+        Ok(subjects)
     }
 
-    fn certify(&self, slots: &[Slot]) -> Result<()> {
-        let certificate = |slot: &Slot| self.com.certificate(slot, &[0]);
-        self.take(&slots.iter().map(certificate).collect::<Vec<_>>())
+    fn certify(&self, subjects: &[Subject]) -> Result<()> {
+        let certificate = |subject: &Subject| self.com.certificate(subject, &[0]);
+        self.take(&subjects.iter().map(certificate).collect::<Vec<_>>())
     }
 
     fn take(&self, messages: &[Vec<u8>]) -> Result<()> {

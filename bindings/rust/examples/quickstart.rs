@@ -18,12 +18,12 @@ fn main() -> Result<(), Box<dyn Error>> {
                 let first = WriteReply::Stored { vote: true }; // of its round and author
                 let reply = session.write(&block)?.into_reply();
                 if reply == first && has_parents(&store, &block.block()) {
-                    println!("vote for {}", block.slot().digest); // log, sync, sign `text_of_vote`
+                    println!("vote for {}", block.subject().digest); // log, sync, sign `text_of_vote`
                 }
             }
             Checked::Certificate(certificate) => {
                 session.certify(&certificate)?;
-                newest = certificate.slot().digest;
+                newest = certificate.subject().digest;
             }
             Checked::Vote(_) => {} // the author of a block gathers its votes with `Gather`
         }

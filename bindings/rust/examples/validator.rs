@@ -16,7 +16,7 @@ mod network;
 
 use flow::Flow;
 use narwhal_store::{Causal, CertifyReply, Checked, CheckedBlock, CheckedCertificate, CheckedVote};
-use narwhal_store::{Digest, Gather, Limits, Message, Peek, Session, Slot, Store, Ticket};
+use narwhal_store::{Digest, Gather, Limits, Message, Peek, Session, Store, Subject, Ticket};
 use narwhal_store::{WriteReply, check_all, text_of_vote, vote_message};
 use network::{MEMBERS, Network, Outcome, Packet};
 use std::collections::{HashMap, VecDeque};
@@ -92,7 +92,7 @@ struct Intake<'a> {
     me: u16,
     session: Session,
     /// Tells the decider about each certificate and each block.
-    news: Sender<Option<Slot>>,
+    news: Sender<Option<Subject>>,
     /// The messages of its own blocks that are not sent yet.
     own: VecDeque<Vec<u8>>,
     flow: Flow,
@@ -135,7 +135,7 @@ impl Intake<'_> {
     /// of the peer that sent it.
     fn wants(&mut self, from: u16, message: &[u8]) -> bool {
         let is_wanted = match Message::peek(message) {
-            Some(Peek::Vote { slot, .. }) => self.gathers.contains_key(&slot.digest),
+            Some(Peek::Vote { subject, .. }) => self.gathers.contains_key(&subject.digest),
             _ => self.flow.wants(message),
         };
         if self.since.elapsed() >= Duration::from_secs(1) {
@@ -158,10 +158,12 @@ impl Intake<'_> {
             if !self.flow.has_parents(&block.block()) {
                 return Ok(());
             }
-            let slot = block.slot();
-            self.gathers
-                .insert(slot.digest, Gather::new(&self.network.committee, &slot)?);
-            match (slot.round, slot.author) {
+            let subject = block.subject();
+            self.gathers.insert(
+                subject.digest,
+                Gather::new(&self.network.committee, &subject)?,
+            );
+            match (subject.round, subject.author) {
                 (3, 1) => self.network.send(1, 3, &data::values("twin")[0]),
                 (5, 2) => self.network.broadcast(2, &data::values("forged")[0]),
                 _ => {}
@@ -188,7 +190,7 @@ impl Intake<'_> {
     /// Counts a vote for one of its blocks, and sends the certificate when the votes reach the
     /// quorum.
     fn take_vote(&mut self, vote: &CheckedVote) -> Outcome<()> {
-        let digest = vote.slot().digest;
+        let digest = vote.subject().digest;
         let Some(gather) = self.gathers.get_mut(&digest) else {
             return Ok(());
         };
@@ -202,14 +204,14 @@ impl Intake<'_> {
 
     /// Hands in a certificate, and fetches its block if another block of its slot came first.
     fn certify(&mut self, certificate: &CheckedCertificate) -> Outcome<()> {
-        let slot = certificate.slot();
+        let subject = certificate.subject();
         if *self.session.certify(certificate)?.reply() != CertifyReply::Certified {
             return Ok(());
         }
-        let _ = self.news.send(Some(slot));
-        let due = self.flow.certified(&slot);
-        if self.flow.absent().any(|absent| absent == slot) {
-            self.network.fetch(self.me, &slot);
+        let _ = self.news.send(Some(subject));
+        let due = self.flow.certified(&subject);
+        if self.flow.absent().any(|absent| absent == subject) {
+            self.network.fetch(self.me, &subject);
         }
         self.vote(&due)
     }
@@ -221,11 +223,11 @@ impl Intake<'_> {
     }
 
     /// Votes for the blocks whose parents are now satisfied.
-    fn vote(&self, due: &[Slot]) -> Outcome<()> {
-        for slot in due {
-            let signature = self.network.sign(self.me, &text_of_vote(slot)?);
-            let vote = vote_message(slot, self.me, &signature)?;
-            self.network.send(self.me, slot.author, &vote);
+    fn vote(&self, due: &[Subject]) -> Outcome<()> {
+        for subject in due {
+            let signature = self.network.sign(self.me, &text_of_vote(subject)?);
+            let vote = vote_message(subject, self.me, &signature)?;
+            self.network.send(self.me, subject.author, &vote);
         }
         Ok(())
     }
@@ -234,15 +236,18 @@ impl Intake<'_> {
 /// Decides one leader after another, and delivers the new blocks of its causal list.
 fn decide_all(
     session: &Session,
-    heard: &Receiver<Option<Slot>>,
+    heard: &Receiver<Option<Subject>>,
     collected: impl Fn(u64),
 ) -> Outcome<Decided> {
     let (mut order, mut leaders, mut next) = (Vec::new(), HashMap::new(), 2);
     loop {
         let certified = heard.recv_timeout(PATIENCE)?;
-        let is_leader = |slot: &Slot| slot.round / 2 % u64::from(MEMBERS) == slot.author.into();
-        if let Some(slot) = certified.filter(|slot| slot.round % 2 == 0 && is_leader(slot)) {
-            leaders.insert(slot.round, slot.digest);
+        let is_leader =
+            |subject: &Subject| subject.round / 2 % u64::from(MEMBERS) == subject.author.into();
+        if let Some(subject) =
+            certified.filter(|subject| subject.round % 2 == 0 && is_leader(subject))
+        {
+            leaders.insert(subject.round, subject.digest);
         }
         while let Some(digest) = leaders.get(&next) {
             let Causal::Ready(ticket) = session.causal(digest)? else {

@@ -1,12 +1,12 @@
 //! Blocks.
 
-use crate::body::Body;
 use crate::code::Code;
 use crate::error::error_texts;
 use crate::ffi::{self, Handle};
+use crate::parts::Parts;
 use crate::raw::RawParent;
 use crate::room::Room;
-use crate::{Digest, Signature, Slot, Transactions, text_of_block};
+use crate::{Digest, Signature, Subject, Transactions, text_of_block};
 use std::fmt;
 use std::sync::{Arc, Mutex, MutexGuard, OnceLock, PoisonError};
 
@@ -14,8 +14,7 @@ use std::sync::{Arc, Mutex, MutexGuard, OnceLock, PoisonError};
 /// transactions.
 ///
 /// A clone is a second owner of the same block. Digest, round and author are always at hand. The
-/// first use of the parents, the transactions or the body copies the whole body once, and keeps
-/// it.
+/// first use of the parents or the transactions copies them all, once.
 ///
 /// A block made by [`Block::new`] is within the limits of the format, but it is not checked under a
 /// committee. [`Message::check`](crate::Message::check) does that for a signed block.
@@ -50,8 +49,8 @@ pub(crate) enum Source {
 /// The state that all owners of a block share.
 struct Inner {
     handle: Mutex<Handle>,
-    slot: Slot,
-    body: OnceLock<Body>,
+    subject: Subject,
+    parts: OnceLock<Parts>,
 }
 
 impl Block {
@@ -117,54 +116,52 @@ impl Block {
         })
     }
 
-    fn decoded(&self) -> &Body {
+    fn parts(&self) -> &Parts {
         let inner = self.inner();
-        inner.body.get_or_init(|| {
-            let bytes = ffi::block_body(&mut inner.lock());
-            Body::of(bytes.unwrap_or_else(|code| code.abort()))
-        })
+        inner.parts.get_or_init(|| Parts::of(&mut inner.lock()))
     }
 
     /// Returns the SHA-256 digest of the body.
     #[must_use]
     pub fn digest(&self) -> Digest {
-        self.slot().digest
+        self.subject().digest
     }
 
     /// Returns the round, which is below 2^48.
     #[must_use]
     pub fn round(&self) -> u64 {
-        self.slot().round
+        self.subject().round
     }
 
     /// Returns the number of the member that made the block.
     #[must_use]
     pub fn author(&self) -> u16 {
-        self.slot().author
+        self.subject().author
     }
 
     /// Returns the digest with the round and the author.
     #[must_use]
-    pub fn slot(&self) -> Slot {
-        self.inner().slot
+    pub fn subject(&self) -> Subject {
+        self.inner().subject
     }
 
     /// Returns the author and the digest of each parent, in ascending order of the authors.
     #[must_use]
     pub fn parents(&self) -> &[(u16, Digest)] {
-        &self.decoded().parents
+        &self.parts().parents
     }
 
     /// Returns the transactions, in order.
     #[must_use]
     pub fn transactions(&self) -> Transactions<'_> {
-        self.decoded().transactions()
+        self.parts().transactions()
     }
 
     /// Returns the encoded body, at most 1,048,576 bytes. Its SHA-256 is the digest of the block.
     #[must_use]
     pub fn body(&self) -> Vec<u8> {
-        self.decoded().bytes.clone()
+        let body = ffi::block_body(&mut self.inner().lock());
+        body.unwrap_or_else(|code| code.abort())
     }
 
     /// Returns the 36 bytes that the author signs.
@@ -196,12 +193,12 @@ impl Inner {
                 opened(|out| ffi::nw_list_block(&mut list, index, out))
             }
         };
-        let mut slot = Slot::EMPTY;
-        ffi::nw_block_slot(&mut handle, &mut slot).or_abort();
+        let mut subject = Subject::EMPTY;
+        ffi::nw_block_subject(&mut handle, &mut subject).or_abort();
         Inner {
             handle: Mutex::new(handle),
-            slot,
-            body: OnceLock::new(),
+            subject,
+            parts: OnceLock::new(),
         }
     }
 
@@ -224,7 +221,7 @@ impl Clone for Block {
 impl fmt::Debug for Block {
     fn fmt(&self, f: &mut fmt::Formatter<'_>) -> fmt::Result {
         f.debug_struct("Block")
-            .field("slot", &self.slot())
+            .field("subject", &self.subject())
             .finish_non_exhaustive()
     }
 }
@@ -287,11 +284,10 @@ mod tests {
         let (source, handle) = (block(), block());
         poisoned(&source.source);
         assert_eq!(source.round(), 1);
-        let size = handle.inner().body.get().map(|body| body.bytes.len());
         poisoned(&handle.inner().handle);
         assert_eq!(
-            (size, handle.body(), handle.digest()),
-            (None, source.body(), source.digest())
+            (handle.body(), handle.digest()),
+            (source.body(), source.digest())
         );
     }
 

@@ -3,7 +3,7 @@
 use crate::block::{Source, opened};
 use crate::ffi::{self, Handle};
 use crate::raw::RawMessage;
-use crate::{Block, Slot};
+use crate::{Block, Subject};
 use std::cell::RefCell;
 use std::fmt;
 
@@ -27,7 +27,7 @@ pub enum Checked {
 /// again to the same store.
 pub struct CheckedBlock {
     pub(crate) handle: RefCell<Handle>,
-    pub(crate) slot: Slot,
+    pub(crate) subject: Subject,
     /// The bytes of its body.
     pub(crate) size: u64,
 }
@@ -35,8 +35,8 @@ pub struct CheckedBlock {
 impl CheckedBlock {
     /// Returns the digest of the block, with its round and author.
     #[must_use]
-    pub fn slot(&self) -> Slot {
-        self.slot
+    pub fn subject(&self) -> Subject {
+        self.subject
     }
 
     /// Returns the block.
@@ -50,19 +50,19 @@ impl CheckedBlock {
 impl fmt::Debug for CheckedBlock {
     fn fmt(&self, f: &mut fmt::Formatter<'_>) -> fmt::Result {
         f.debug_struct("CheckedBlock")
-            .field("slot", &self.slot)
+            .field("subject", &self.subject)
             .finish_non_exhaustive()
     }
 }
 
 /// A certificate that is valid under its committee: members that reach the quorum signed votes for
-/// one slot.
+/// one subject.
 ///
 /// [`Session::certify`](crate::Session::certify) takes it. It can be handed to several stores, and
 /// again to the same store.
 pub struct CheckedCertificate {
     pub(crate) handle: RefCell<Handle>,
-    pub(crate) slot: Slot,
+    pub(crate) subject: Subject,
     /// The bytes of its message.
     pub(crate) size: u64,
 }
@@ -78,15 +78,15 @@ impl CheckedCertificate {
         let size = ffi::checked_message(&mut handle).map_or(LARGEST, |message| message.len());
         CheckedCertificate {
             handle: RefCell::new(handle),
-            slot: raw.slot,
+            subject: raw.subject,
             size: size as u64,
         }
     }
 
-    /// Returns the slot that the votes are for.
+    /// Returns the subject that the votes are for.
     #[must_use]
-    pub fn slot(&self) -> Slot {
-        self.slot
+    pub fn subject(&self) -> Subject {
+        self.subject
     }
 
     /// Returns the encoded certificate, to be sent to other validators.
@@ -99,12 +99,12 @@ impl CheckedCertificate {
 impl fmt::Debug for CheckedCertificate {
     fn fmt(&self, f: &mut fmt::Formatter<'_>) -> fmt::Result {
         f.debug_struct("CheckedCertificate")
-            .field("slot", &self.slot)
+            .field("subject", &self.subject)
             .finish_non_exhaustive()
     }
 }
 
-/// A vote: a member's signature for a slot.
+/// A vote: a member's signature for a subject.
 ///
 /// The message is decoded, but the signature is not verified and the signer need not be a member.
 /// [`Gather::add`] checks both.
@@ -112,15 +112,15 @@ impl fmt::Debug for CheckedCertificate {
 /// [`Gather::add`]: crate::Gather::add
 pub struct CheckedVote {
     pub(crate) handle: RefCell<Handle>,
-    pub(crate) slot: Slot,
+    pub(crate) subject: Subject,
     pub(crate) signer: u16,
 }
 
 impl CheckedVote {
-    /// Returns the slot that the vote is for.
+    /// Returns the subject that the vote is for.
     #[must_use]
-    pub fn slot(&self) -> Slot {
-        self.slot
+    pub fn subject(&self) -> Subject {
+        self.subject
     }
 
     /// Returns the number of the member that the vote names as its signer.
@@ -139,7 +139,7 @@ impl CheckedVote {
 impl fmt::Debug for CheckedVote {
     fn fmt(&self, f: &mut fmt::Formatter<'_>) -> fmt::Result {
         f.debug_struct("CheckedVote")
-            .field("slot", &self.slot)
+            .field("subject", &self.subject)
             .field("signer", &self.signer)
             .finish_non_exhaustive()
     }

@@ -7,7 +7,7 @@ mod allocator;
 
 use crate::code::Code;
 use crate::raw::{RawEvent, RawLook, RawMessage, RawParent, RawTagged};
-use crate::{Digest, Limits, Member, Signature, Slot, Status};
+use crate::{Digest, Limits, Member, Signature, Status, Subject};
 #[cfg(target_os = "linux")]
 use std::arch::global_asm;
 use std::ffi::c_void;
@@ -119,13 +119,15 @@ exports! {
     nw_committee_size(committee: At, out: &mut usize);
     nw_committee_member(committee: At, index: u16, out: &mut Member);
     nw_committee_quorum(committee: At, out: &mut u32);
-    nw_text_of_vote(slot: &Slot, out: &mut [u8; 44]);
+    nw_text_of_vote(subject: &Subject, out: &mut [u8; 44]);
 
-    nw_block_slot(block: At, out: &mut Slot);
+    nw_block_subject(block: At, out: &mut Subject);
+    nw_block_counts(block: At, parents: &mut usize, transactions: &mut usize);
+    nw_block_parent(block: At, index: usize, out: &mut RawParent);
     nw_checked_kind(checked: At, out: &mut RawMessage);
     nw_checked_block(checked: At, out: At);
 
-    nw_gather_new(committee: At, slot: &Slot, out: At);
+    nw_gather_new(committee: At, subject: &Subject, out: At);
     nw_gather_add(gather: At, vote: At, quorum: &mut bool);
     nw_gather_certificate(gather: At, out: At);
 
@@ -146,7 +148,7 @@ exports! {
     nw_answer_reply(answer: At, out: &mut RawTagged);
     nw_answer_status(answer: At, out: &mut Status);
     nw_answer_block(answer: At, out: At);
-    nw_answer_missing(answer: At, index: usize, out: &mut Slot);
+    nw_answer_missing(answer: At, index: usize, out: &mut Subject);
     nw_answer_events(answer: At, out: &mut usize);
     nw_answer_event(answer: At, index: usize, out: &mut RawEvent);
     nw_answer_begins(answer: At, other: At, out: &mut bool);
@@ -180,6 +182,14 @@ unsafe extern "C" {
         lengths_len: usize,
         out: &mut Handle,
     ) -> Code;
+    fn nw_block_transactions(
+        block: &mut Handle,
+        room: *mut u8,
+        room_len: usize,
+        lengths: *mut u32,
+        lengths_len: usize,
+        needed: &mut usize,
+    ) -> Code;
 }
 
 /// The exports that write bytes into a buffer. `needed` gets the number of bytes.
@@ -202,7 +212,7 @@ macro_rules! rooms {
 rooms! {
     nw_block_body as block_body(block: &mut Handle);
     nw_block_message as block_message(block: &mut Handle, signature: &Signature);
-    nw_vote_message as vote_message(slot: &Slot, signer: u16, signature: &Signature);
+    nw_vote_message as vote_message(subject: &Subject, signer: u16, signature: &Signature);
     nw_checked_message as checked_message(checked: &mut Handle);
     nw_answer_message as answer_message(answer: &mut Handle);
 }
@@ -220,12 +230,35 @@ fn written(mut call: impl FnMut(*mut u8, usize, &mut usize) -> Code) -> Result<V
         Code::SMALL => {}
         refused => return Err(refused),
     }
-    let mut bytes = Vec::with_capacity(needed);
+    filled(needed, call)
+}
+
+/// The bytes that a call writes into a buffer of this size.
+fn filled(
+    size: usize,
+    mut call: impl FnMut(*mut u8, usize, &mut usize) -> Code,
+) -> Result<Vec<u8>, Code> {
+    let (mut bytes, mut needed) = (Vec::with_capacity(size), 0);
     call(bytes.as_mut_ptr(), bytes.capacity(), &mut needed).done()?;
     assert!(needed <= bytes.capacity());
-    // SAFETY: as before.
+    // SAFETY: a call that succeeded wrote the first `needed` bytes of the buffer.
     unsafe { bytes.set_len(needed) };
     Ok(bytes)
+}
+
+/// All transactions of a block, one after another. `lengths` has a place for the length of each.
+pub(crate) fn block_transactions(block: &mut Handle, lengths: &mut [u32]) -> Result<Vec<u8>, Code> {
+    let (places, count) = (lengths.as_mut_ptr(), lengths.len());
+    let mut call = |room, len, needed: &mut usize| {
+        // SAFETY: each pointer has the length of its buffer, which may be written to.
+        unsafe { nw_block_transactions(block, room, len, places, count, needed) }
+    };
+    let mut needed = 0;
+    match call(ptr::null_mut(), 0, &mut needed) {
+        Code::DONE => Ok(Vec::new()),
+        Code::SMALL => filled(needed, call),
+        refused => Err(refused),
+    }
 }
 
 /// Makes a committee.

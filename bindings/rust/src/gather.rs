@@ -3,17 +3,17 @@
 use crate::code::Code;
 use crate::error::error_texts;
 use crate::ffi::{self, Handle};
-use crate::{CheckedCertificate, CheckedVote, Committee, Slot};
+use crate::{CheckedCertificate, CheckedVote, Committee, Subject};
 use std::fmt;
 
-/// The votes for one slot, gathered until they make a certificate.
+/// The votes for one subject, gathered until they make a certificate.
 ///
 /// The author of a block gathers the votes of the other members, and sends the certificate to all
 /// of them.
 ///
 /// ```
 /// # mod data { include!(concat!(env!("CARGO_MANIFEST_DIR"), "/examples/data/mod.rs")); }
-/// # use narwhal_store::{CheckedVote, GatherError, Slot};
+/// # use narwhal_store::{CheckedVote, GatherError, Subject};
 /// # let (keys, messages) = (data::keys(), data::values("vote"));
 /// use narwhal_store::{Checked, Committee, Gather, Message};
 ///
@@ -25,9 +25,9 @@ use std::fmt;
 /// #     other => panic!("{other:?}"),
 /// # });
 /// # let votes: Vec<CheckedVote> = votes.collect();
-/// # let slot: Slot = votes[0].slot();
-/// // `votes` are three votes for `slot`, by three of the four members.
-/// let mut gather = Gather::new(&committee, &slot)?;
+/// # let subject: Subject = votes[0].subject();
+/// // `votes` are three votes for `subject`, by three of the four members.
+/// let mut gather = Gather::new(&committee, &subject)?;
 /// assert!(!gather.add(&votes[0])?);
 /// assert_eq!(gather.add(&votes[0]), Err(GatherError::Repeated));
 /// assert!(!gather.add(&votes[1])?);
@@ -35,35 +35,35 @@ use std::fmt;
 ///
 /// let certificate = gather.certificate()?;
 /// let received = Message::check(&committee, &certificate.message())?;
-/// assert!(matches!(received, Checked::Certificate(received) if received.slot() == slot));
+/// assert!(matches!(received, Checked::Certificate(received) if received.subject() == subject));
 /// # Ok::<(), Box<dyn std::error::Error>>(())
 /// ```
 pub struct Gather {
     handle: Handle,
-    slot: Slot,
+    subject: Subject,
 }
 
 impl Gather {
-    /// Starts to gather votes for the slot.
+    /// Starts to gather votes for the subject.
     ///
     /// # Errors
     ///
-    /// - [`GatherError::BadRound`] if the slot's round is 2^48 or more.
-    /// - [`GatherError::NoMember`] if the slot's author is not a member of the committee.
-    pub fn new(committee: &Committee, slot: &Slot) -> Result<Gather, GatherError> {
+    /// - [`GatherError::BadRound`] if the subject's round is 2^48 or more.
+    /// - [`GatherError::NoMember`] if the subject's author is not a member of the committee.
+    pub fn new(committee: &Committee, subject: &Subject) -> Result<Gather, GatherError> {
         let mut committee = committee.share().map_err(GatherError::of)?;
-        let handle = Handle::opened(|out| ffi::nw_gather_new(&mut committee, slot, out));
+        let handle = Handle::opened(|out| ffi::nw_gather_new(&mut committee, subject, out));
         let handle = handle.map_err(GatherError::of)?;
         Ok(Gather {
             handle,
-            slot: *slot,
+            subject: *subject,
         })
     }
 
-    /// Returns the slot that the votes are for.
+    /// Returns the subject that the votes are for.
     #[must_use]
-    pub fn slot(&self) -> Slot {
-        self.slot
+    pub fn subject(&self) -> Subject {
+        self.subject
     }
 
     /// Verifies a vote and counts it. Returns whether the votes now reach the quorum.
@@ -72,7 +72,7 @@ impl Gather {
     ///
     /// A refused vote is not counted. The error is the first that applies:
     ///
-    /// - [`GatherError::OtherBlock`] if the vote is for another slot.
+    /// - [`GatherError::OtherBlock`] if the vote is for another subject.
     /// - [`GatherError::Repeated`] if a vote of its signer is already counted.
     /// - [`GatherError::NoMember`] if its signer is not a member.
     /// - [`GatherError::BadSignature`] if its signature does not verify.
@@ -98,7 +98,7 @@ impl Gather {
 impl fmt::Debug for Gather {
     fn fmt(&self, f: &mut fmt::Formatter<'_>) -> fmt::Result {
         f.debug_struct("Gather")
-            .field("slot", &self.slot)
+            .field("subject", &self.subject)
             .finish_non_exhaustive()
     }
 }
@@ -107,11 +107,11 @@ impl fmt::Debug for Gather {
 #[derive(Clone, Copy, Debug, PartialEq, Eq)]
 #[non_exhaustive]
 pub enum GatherError {
-    /// The author of the slot, or the signer of the vote, is not a member.
+    /// The author of the subject, or the signer of the vote, is not a member.
     NoMember,
-    /// The round of the slot is 2^48 or more.
+    /// The round of the subject is 2^48 or more.
     BadRound,
-    /// The vote is for another slot.
+    /// The vote is for another subject.
     OtherBlock,
     /// A vote of this signer is already counted.
     Repeated,

@@ -40,7 +40,7 @@
 //!         }
 //!         Checked::Certificate(certificate) => {
 //!             session.certify(&certificate)?;
-//!             last = certificate.slot().digest;
+//!             last = certificate.subject().digest;
 //!         }
 //!         Checked::Vote(_) => {}
 //!     }
@@ -84,7 +84,6 @@ extern crate self as narwhal_store;
 
 mod answer;
 mod block;
-mod body;
 mod builder;
 mod bytes;
 mod checked;
@@ -100,6 +99,7 @@ mod intake;
 mod limits;
 mod look;
 mod message;
+mod parts;
 mod peek;
 mod raw;
 #[cfg(test)]
@@ -107,14 +107,13 @@ mod refusals;
 mod reply;
 mod room;
 mod session;
-mod slot;
 mod store;
+mod subject;
 mod ticket;
 mod walk;
 
 pub use answer::{Answer, Causal};
 pub use block::{Block, BlockError};
-pub use body::Transactions;
 pub use builder::StoreBuilder;
 pub use bytes::{Digest, HexError, PublicKey, Signature};
 pub use checked::{Checked, CheckedBlock, CheckedCertificate, CheckedVote};
@@ -128,11 +127,12 @@ pub use intake::check_all;
 pub use limits::Limits;
 pub use look::Look;
 pub use message::Message;
+pub use parts::Transactions;
 pub use peek::Peek;
 pub use reply::{CausalFault, CertifyReply, CollectReply, Status, WriteReply};
 pub use session::Session;
-pub use slot::{Slot, text_of_block, text_of_vote, vote_message};
 pub use store::Store;
+pub use subject::{Subject, text_of_block, text_of_vote, vote_message};
 pub use ticket::{AgreeError, Ticket};
 pub use walk::Walk;
 

@@ -40,7 +40,7 @@ impl Message {
     /// let Checked::Block(block) = Message::check(&committee, &bytes)? else {
     ///     panic!("the first message is a block");
     /// };
-    /// assert_eq!(block.slot(), block.block().slot());
+    /// assert_eq!(block.subject(), block.block().subject());
     ///
     /// // The message ends with the signature. With another last byte it does not verify.
     /// *bytes.last_mut().unwrap() ^= 1;
@@ -66,21 +66,21 @@ pub(crate) fn check_with(committee: &mut Handle, message: &[u8]) -> Result<Check
     let mut handle = ffi::check(committee, message).map_err(Code::no_memory)?;
     let mut raw = RawMessage::EMPTY;
     ffi::nw_checked_kind(&mut handle, &mut raw).or_abort();
-    let (handle, slot, length) = (RefCell::new(handle), raw.slot, message.len() as u64);
+    let (handle, subject, length) = (RefCell::new(handle), raw.subject, message.len() as u64);
     match raw.kind {
         message::BLOCK => Ok(Checked::Block(CheckedBlock {
             handle,
-            slot,
+            subject,
             size: length - AROUND_A_BODY,
         })),
         message::CERTIFICATE => Ok(Checked::Certificate(CheckedCertificate {
             handle,
-            slot,
+            subject,
             size: length,
         })),
         message::VOTE => Ok(Checked::Vote(CheckedVote {
             handle,
-            slot,
+            subject,
             signer: raw.signer,
         })),
         _ => Err(CheckError::of(&raw)),

@@ -2,7 +2,7 @@
 
 use crate::ffi;
 use crate::raw::{message as kind, unexpected_kind};
-use crate::{Message, Slot};
+use crate::{Message, Subject};
 
 /// What the first bytes of a message say, before any check. See [`Message::peek`].
 #[derive(Clone, Copy, Debug, PartialEq, Eq, Hash)]
@@ -14,12 +14,12 @@ pub enum Peek {
         /// The number of the member that the block names as its author.
         author: u16,
     },
-    /// A certificate for this slot.
-    Certificate(Slot),
-    /// A vote for this slot.
+    /// A certificate for this subject.
+    Certificate(Subject),
+    /// A vote for this subject.
     Vote {
-        /// The slot that the vote is for.
-        slot: Slot,
+        /// The subject that the vote is for.
+        subject: Subject,
         /// The number of the member that the vote names as its signer.
         signer: u16,
     },
@@ -31,7 +31,7 @@ impl Peek {
     pub fn round(&self) -> u64 {
         match self {
             Peek::Block { round, .. } => *round,
-            Peek::Certificate(slot) | Peek::Vote { slot, .. } => slot.round,
+            Peek::Certificate(subject) | Peek::Vote { subject, .. } => subject.round,
         }
     }
 
@@ -40,7 +40,7 @@ impl Peek {
     pub fn author(&self) -> u16 {
         match self {
             Peek::Block { author, .. } => *author,
-            Peek::Certificate(slot) | Peek::Vote { slot, .. } => slot.author,
+            Peek::Certificate(subject) | Peek::Vote { subject, .. } => subject.author,
         }
     }
 }
@@ -72,7 +72,7 @@ impl Message {
     /// let Checked::Block(block) = Message::check(&Committee::equal(&keys)?, &bytes)? else {
     ///     panic!("the first message is a block");
     /// };
-    /// assert_eq!((round, author), (block.slot().round, block.slot().author));
+    /// assert_eq!((round, author), (block.subject().round, block.subject().author));
     ///
     /// // The first ten bytes of a block are enough, and fewer are not.
     /// assert_eq!(Message::peek(&bytes[..10]), Message::peek(&bytes));
@@ -82,15 +82,15 @@ impl Message {
     #[must_use]
     pub fn peek(message: &[u8]) -> Option<Peek> {
         let raw = ffi::peek(message)?;
-        let slot = raw.slot;
+        let subject = raw.subject;
         match raw.kind {
             kind::BLOCK => Some(Peek::Block {
-                round: slot.round,
-                author: slot.author,
+                round: subject.round,
+                author: subject.author,
             }),
-            kind::CERTIFICATE => Some(Peek::Certificate(slot)),
+            kind::CERTIFICATE => Some(Peek::Certificate(subject)),
             kind::VOTE => Some(Peek::Vote {
-                slot,
+                subject,
                 signer: raw.signer,
             }),
             other => unexpected_kind(other),
@@ -101,7 +101,9 @@ impl Message {
 #[cfg(test)]
 mod tests {
     use crate::refusals::data;
-    use crate::{Block, Checked, Committee, Digest, Message, Peek, Signature, Slot, vote_message};
+    use crate::{
+        Block, Checked, Committee, Digest, Message, Peek, Signature, Subject, vote_message,
+    };
 
     #[test]
     fn fronts_are_those_of_the_checked_messages() {
@@ -109,12 +111,12 @@ mod tests {
         for message in data::values("message") {
             let front = match Message::check(&committee, &message).unwrap() {
                 Checked::Block(block) => Peek::Block {
-                    round: block.slot().round,
-                    author: block.slot().author,
+                    round: block.subject().round,
+                    author: block.subject().author,
                 },
-                Checked::Certificate(certificate) => Peek::Certificate(certificate.slot()),
+                Checked::Certificate(certificate) => Peek::Certificate(certificate.subject()),
                 Checked::Vote(vote) => Peek::Vote {
-                    slot: vote.slot(),
+                    subject: vote.subject(),
                     signer: vote.signer(),
                 },
             };
@@ -125,18 +127,18 @@ mod tests {
     #[test]
     fn fronts_end_after_their_last_field() {
         let signature = Signature([7; 64]);
-        let slot = Slot {
+        let subject = Subject {
             digest: Digest([9; 32]),
             round: (1 << 48) - 2,
             author: 258,
         };
-        let vote = vote_message(&slot, 7, &signature).unwrap();
-        let block = Block::new(258, slot.round, &[], &[b"x"]).unwrap();
-        let (round, author) = (slot.round, slot.author);
+        let vote = vote_message(&subject, 7, &signature).unwrap();
+        let block = Block::new(258, subject.round, &[], &[b"x"]).unwrap();
+        let (round, author) = (subject.round, subject.author);
         let fronts = [
             (block.message(&signature), 10, Peek::Block { round, author }),
-            ([&[2], &vote[1..]].concat(), 41, Peek::Certificate(slot)),
-            (vote, 43, Peek::Vote { slot, signer: 7 }),
+            ([&[2], &vote[1..]].concat(), 41, Peek::Certificate(subject)),
+            (vote, 43, Peek::Vote { subject, signer: 7 }),
         ];
         for (message, size, front) in fronts {
             assert_eq!((front.round(), front.author()), (round, author));

@@ -1,7 +1,7 @@
 //! The structs that the library writes into, and the kinds that they have.
 
 use crate::ffi::{self, Handle};
-use crate::{Digest, Limits, Member, Slot, Status};
+use crate::{Digest, Limits, Member, Status, Subject};
 
 /// A call or a reply: its kind, with a number and a digest if its kind has them.
 #[derive(Clone, Copy, Debug)]
@@ -55,7 +55,7 @@ impl RawEvent {
 pub(crate) struct RawMessage {
     pub(crate) kind: i32,
     pub(crate) signer: u16,
-    pub(crate) slot: Slot,
+    pub(crate) subject: Subject,
 }
 
 impl RawMessage {
@@ -63,7 +63,7 @@ impl RawMessage {
     pub(crate) const EMPTY: RawMessage = RawMessage {
         kind: 0,
         signer: 0,
-        slot: Slot::EMPTY,
+        subject: Subject::EMPTY,
     };
 }
 
@@ -73,6 +73,14 @@ impl RawMessage {
 pub(crate) struct RawParent {
     pub(crate) author: u16,
     pub(crate) digest: Digest,
+}
+
+impl RawParent {
+    /// A parent for the library to write into.
+    pub(crate) const EMPTY: RawParent = RawParent {
+        author: 0,
+        digest: Digest::ZERO,
+    };
 }
 
 /// What a book has in a slot.
@@ -103,7 +111,7 @@ impl RawLook {
 const _: () = {
     assert!(size_of::<Member>() == 36 && align_of::<Member>() == 4);
     assert!(size_of::<Limits>() == 16 && size_of::<Status>() == 40);
-    assert!(size_of::<Slot>() == 48 && align_of::<Slot>() == 8);
+    assert!(size_of::<Subject>() == 48 && align_of::<Subject>() == 8);
     assert!(size_of::<RawParent>() == 34 && align_of::<RawParent>() == 2);
     assert!(size_of::<RawTagged>() == 48 && size_of::<RawEvent>() == 104);
     assert!(size_of::<RawMessage>() == 56 && size_of::<RawLook>() == 80);

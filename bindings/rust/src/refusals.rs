@@ -79,7 +79,7 @@ impl World {
         blocks.iter().for_each(|block| drop(write(block)));
         let certify = |certificate| session.certify(certificate).unwrap();
         certificates.iter().for_each(|one| drop(certify(one)));
-        let leader = certificates.last().unwrap().slot().digest;
+        let leader = certificates.last().unwrap().subject().digest;
         let ticket = || session.causal(&leader).unwrap().into_ticket().unwrap();
         let votes = check_all(&committee, &data::values("vote"), 1).into_iter();
         let vote = |checked| match checked {
@@ -159,11 +159,13 @@ fn checks() {
 #[test]
 fn gathering() {
     refuse_each(GatherError::NoMemory, |world| {
-        let mut gather = Gather::new(&world.committee, &world.votes[0].slot())?;
+        let mut gather = Gather::new(&world.committee, &world.votes[0].subject())?;
         for vote in &world.votes {
             gather.add(vote)?;
         }
-        gather.certificate().map(|certificate| certificate.slot())
+        gather
+            .certificate()
+            .map(|certificate| certificate.subject())
     });
 }
 
@@ -211,7 +213,7 @@ fn all_is_freed_at_the_end() {
         drop([(); 3].map(|()| world.session.status().unwrap()));
         let blocks: Vec<Block> = one.walk().unwrap().collect();
         assert!(blocks.iter().all(|block| !block.body().is_empty()));
-        let mut gather = Gather::new(&world.committee, &world.votes[0].slot()).unwrap();
+        let mut gather = Gather::new(&world.committee, &world.votes[0].subject()).unwrap();
         world
             .votes
             .iter()

@@ -8,7 +8,7 @@ use crate::raw::{reply, tagged};
 use crate::room::{Content, Room};
 use crate::store::Inner;
 use crate::{Block, Causal, CertifyReply, CheckedBlock, CheckedCertificate, CollectReply, Digest};
-use crate::{Slot, Status, StepError, WriteReply};
+use crate::{Status, StepError, Subject, WriteReply};
 use std::fmt;
 use std::sync::Arc;
 
@@ -45,7 +45,7 @@ impl Session {
     ///
     /// - `Stored { vote: true }`: log the block. Vote for it once all its parents are satisfied: they
     ///   are stored and certified, with the named authors and the preceding round
-    ///   ([`Look::satisfies`](crate::Look::satisfies)). Until then, keep its slot, and
+    ///   ([`Look::satisfies`](crate::Look::satisfies)). Until then, keep its subject, and
     ///   [look](crate::Store::look) again when a parent is stored or certified, and when the garbage
     ///   round is raised. A block of the garbage round needs no parents. A validator that votes for
     ///   blocks with made-up parents never completes a leader again.
@@ -77,7 +77,7 @@ impl Session {
     ///     match session.write(&block)?.reply() {
     ///         WriteReply::Stored { vote: true } => {
     ///             // Once its parents are satisfied: sign this text, and send the vote to the author.
-    ///             let _text = text_of_vote(&block.slot())?;
+    ///             let _text = text_of_vote(&block.subject())?;
     ///         }
     ///         WriteReply::Stored { vote: false } | WriteReply::Held => {}
     ///         refused => println!("not stored: {refused:?}"),
@@ -159,7 +159,7 @@ impl Session {
     /// #         Checked::Block(block) => drop(session.write(&block)?),
     /// #         Checked::Certificate(certificate) => {
     /// #             session.certify(&certificate)?;
-    /// #             last = certificate.slot().digest;
+    /// #             last = certificate.subject().digest;
     /// #         }
     /// #         Checked::Vote(_) => {}
     /// #     }
@@ -212,11 +212,11 @@ impl Session {
     /// # Errors
     ///
     /// Those that every call can have.
-    pub fn missing(&self, most: u16) -> Result<Answer<Vec<Slot>>, StepError> {
+    pub fn missing(&self, most: u16) -> Result<Answer<Vec<Subject>>, StepError> {
         let answer = self.step(Content::Parents(most), |book, session, number, answer| {
             ffi::nw_book_missing(book, session, number, most, answer)
         })?;
-        Ok(Answer::new(answer, |answer, _| slots_of(answer)))
+        Ok(Answer::new(answer, |answer, _| subjects_of(answer)))
     }
 
     /// Counts the blocks, certificates, complete blocks and missing parents of the store.
@@ -273,14 +273,14 @@ fn block_of(answer: &mut Room, is_last: bool) -> Option<Block> {
 }
 
 /// The listed missing parents.
-fn slots_of(answer: &mut Handle) -> Vec<Slot> {
+fn subjects_of(answer: &mut Handle) -> Vec<Subject> {
     let listed = tagged(answer).number as usize;
-    let slot = |index| {
-        let mut slot = Slot::EMPTY;
-        ffi::nw_answer_missing(answer, index, &mut slot).or_abort();
-        slot
+    let subject = |index| {
+        let mut subject = Subject::EMPTY;
+        ffi::nw_answer_missing(answer, index, &mut subject).or_abort();
+        subject
     };
-    (0..listed).map(slot).collect()
+    (0..listed).map(subject).collect()
 }
 
 fn status_of(answer: &mut Handle) -> Status {
@@ -299,14 +299,14 @@ impl fmt::Debug for Session {
 
 #[cfg(test)]
 mod tests {
-    use super::{block_of, certificate_of, slots_of, status_of};
+    use super::{block_of, certificate_of, status_of, subjects_of};
     use crate::refusals::{closed, closed_room, refuses};
 
     #[test]
     fn what_cannot_be_read_is_not_empty() {
         refuses(|| certificate_of(&mut closed()));
         refuses(|| block_of(&mut closed_room(), false));
-        refuses(|| slots_of(&mut closed()));
+        refuses(|| subjects_of(&mut closed()));
         refuses(|| status_of(&mut closed()));
     }
 }

@@ -39,8 +39,8 @@ use std::sync::{Arc, Mutex, MutexGuard, PoisonError};
 /// if let Checked::Block(block) = Message::check(&committee, &messages[0])? {
 ///     let answer = session.write(&block)?;
 ///     assert_eq!(answer.reply(), &WriteReply::Stored { vote: true });
-///     let found = session.read(&block.slot().digest)?.into_reply();
-///     assert_eq!(found.unwrap().slot(), block.slot());
+///     let found = session.read(&block.subject().digest)?.into_reply();
+///     assert_eq!(found.unwrap().subject(), block.subject());
 /// }
 /// assert_eq!(store.events(), 2);
 /// # Ok::<(), Box<dyn std::error::Error>>(())
@@ -211,9 +211,9 @@ impl Store {
     /// # let messages = data::values("message");
     /// # let Checked::Block(block) = Message::check(&committee, &messages[0])? else { panic!() };
     /// session.write(&block)?;
-    /// let slot = block.slot();
-    /// let look = store.look(slot.round, slot.author);
-    /// assert_eq!(look.first, Some(slot.digest));
+    /// let subject = block.subject();
+    /// let look = store.look(subject.round, subject.author);
+    /// assert_eq!(look.first, Some(subject.digest));
     /// assert_eq!((look.certified, look.stands), (None, false));
     /// # Ok::<(), Box<dyn std::error::Error>>(())
     /// ```

@@ -76,7 +76,7 @@ impl Ticket {
     /// #         Checked::Block(block) => drop(session.write(&block)?),
     /// #         Checked::Certificate(certificate) => {
     /// #             session.certify(&certificate)?;
-    /// #             last = certificate.slot().digest;
+    /// #             last = certificate.subject().digest;
     /// #         }
     /// #         Checked::Vote(_) => {}
     /// #     }

@@ -7,7 +7,7 @@ mod lab;
 
 use lab::Com;
 use narwhal_store::{Call, Causal, Checked, Event, History, Limits, Message, Reply};
-use narwhal_store::{Session, Slot, Store, WriteReply};
+use narwhal_store::{Session, Store, Subject, WriteReply};
 use std::collections::{BTreeMap, HashMap};
 use std::hash::{DefaultHasher, Hash, Hasher};
 use std::sync::Barrier;
@@ -28,28 +28,28 @@ const SESSIONS: usize = 40;
 struct Network {
     com: Com,
     messages: Vec<Vec<u8>>,
-    slots: Vec<Slot>,
+    subjects: Vec<Subject>,
 }
 
 impl Network {
     fn new() -> Network {
         let com = Com::new(MEMBERS);
-        let (mut messages, mut slots, mut parents) = (Vec::new(), Vec::new(), Vec::new());
+        let (mut messages, mut subjects, mut parents) = (Vec::new(), Vec::new(), Vec::new());
         for round in 0..ROUNDS {
             let mut blocks = Vec::new();
             for author in 0..MEMBERS {
-                let (message, slot) = com.block(author, round, &parents, &[vec![1; 300]]);
+                let (message, subject) = com.block(author, round, &parents, &[vec![1; 300]]);
                 messages.push(message);
-                messages.push(com.certificate(&slot, &[0, 1, 2]));
-                blocks.push((author, slot.digest));
-                slots.push(slot);
+                messages.push(com.certificate(&subject, &[0, 1, 2]));
+                blocks.push((author, subject.digest));
+                subjects.push(subject);
             }
             parents = blocks;
         }
         Network {
             com,
             messages,
-            slots,
+            subjects,
         }
     }
 
@@ -89,7 +89,7 @@ struct Caller<'a> {
     own: Vec<Session>,
     checked: Vec<Checked>,
     seen: Vec<Seen>,
-    votes: Vec<Slot>,
+    votes: Vec<Subject>,
 }
 
 impl<'a> Caller<'a> {
@@ -113,21 +113,21 @@ impl<'a> Caller<'a> {
             _ => &shared[choice % shared.len()],
         };
         let id = session.id();
-        let digest = self.network.slots[choice % self.network.slots.len()].digest;
+        let digest = self.network.subjects[choice % self.network.subjects.len()].digest;
         let seen = match choice % 11 {
             0..4 => match &self.checked[choice / 11 % self.checked.len()] {
                 Checked::Block(block) => {
                     let answer = session.write(block).expect("a write");
                     let reply = *answer.reply();
                     if reply == (WriteReply::Stored { vote: true }) {
-                        self.votes.push(block.slot());
+                        self.votes.push(block.subject());
                     }
-                    let call = Call::Write(block.slot().digest);
+                    let call = Call::Write(block.subject().digest);
                     Seen::of(answer.history(), id, call, reply_of(reply))
                 }
                 Checked::Certificate(certificate) => {
                     let answer = session.certify(certificate).expect("a certificate");
-                    let call = Call::Certify(certificate.slot().digest);
+                    let call = Call::Certify(certificate.subject().digest);
                     Seen::of(answer.history(), id, call, None)
                 }
                 Checked::Vote(_) => unreachable!("the network has no votes"),
@@ -293,12 +293,12 @@ fn check_sessions(callers: &[Caller]) {
 
 /// Each block above the garbage round got one vote, and each other block at most one.
 fn check_votes(network: &Network, callers: &[Caller]) {
-    for slot in &network.slots {
+    for subject in &network.subjects {
         let votes = callers.iter().flat_map(|caller| &caller.votes);
-        let votes = votes.filter(|vote| *vote == slot).count();
+        let votes = votes.filter(|vote| *vote == subject).count();
         assert!(
-            votes == 1 || votes == 0 && slot.round < FLOOR,
-            "{votes} votes for {slot:?}"
+            votes == 1 || votes == 0 && subject.round < FLOOR,
+            "{votes} votes for {subject:?}"
         );
     }
 }

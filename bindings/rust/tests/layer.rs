@@ -4,7 +4,7 @@ mod lab;
 
 use lab::Com;
 use narwhal_store::{AgreeError, Checked, Gather, GatherError, Limits, Member, Message, OpenError};
-use narwhal_store::{PublicKey, Session, Slot, Store, Ticket};
+use narwhal_store::{PublicKey, Session, Store, Subject, Ticket};
 use std::fmt::Debug;
 use std::fs;
 use std::path::{Path, PathBuf};
@@ -22,10 +22,10 @@ fn a_member_votes_with_its_weight() {
     let weights = [0, 1, 2, 3].map(|author| committee.member(author).expect("a member").weight);
     assert_eq!(weights, [3, 1, 1, 1]);
     assert_eq!(committee.member(4), None);
-    let (_, slot) = com.block(0, 0, &[], &[]);
-    let mut gather = Gather::new(committee, &slot).expect("a gatherer");
+    let (_, subject) = com.block(0, 0, &[], &[]);
+    let mut gather = Gather::new(committee, &subject).expect("a gatherer");
     for (signer, is_quorum) in [(0, false), (1, false), (3, true)] {
-        let Checked::Vote(vote) = checked(&com, &com.vote(&slot, signer)) else {
+        let Checked::Vote(vote) = checked(&com, &com.vote(&subject, signer)) else {
             panic!("the message is a vote");
         };
         assert_eq!(gather.certificate().err(), Some(GatherError::FewVotes));
@@ -33,9 +33,9 @@ fn a_member_votes_with_its_weight() {
     }
     gather.certificate().expect("a certificate");
     // Three members of weight 1 are three of four members, and have half of the votes.
-    let light = com.certificate(&slot, &[1, 2, 3]);
+    let light = com.certificate(&subject, &[1, 2, 3]);
     Message::check(committee, &light).expect_err("too few votes");
-    Message::check(committee, &com.certificate(&slot, &[0, 1, 2])).expect("enough votes");
+    Message::check(committee, &com.certificate(&subject, &[0, 1, 2])).expect("enough votes");
 }
 
 #[test]
@@ -93,32 +93,32 @@ fn a_store_has_the_limits_that_it_was_opened_with() {
     }
 }
 
-/// A store with a chain of complete blocks, one for each round, and their slots.
-fn chain(com: &Com, rounds: u64) -> (Session, Vec<Slot>) {
+/// A store with a chain of complete blocks, one for each round, and their subjects.
+fn chain(com: &Com, rounds: u64) -> (Session, Vec<Subject>) {
     let store = Store::new(&com.committee, Limits::default()).expect("a store");
     let session = store.session().expect("a session");
-    let mut slots: Vec<Slot> = Vec::new();
+    let mut subjects: Vec<Subject> = Vec::new();
     for round in 0..rounds {
-        let parents: Vec<_> = slots
+        let parents: Vec<_> = subjects
             .last()
-            .map(|slot| (slot.author, slot.digest))
+            .map(|subject| (subject.author, subject.digest))
             .into_iter()
             .collect();
-        let (message, slot) = com.block(0, round, &parents, &[vec![round as u8; 3], vec![]]);
-        for message in [message, com.certificate(&slot, &[0])] {
+        let (message, subject) = com.block(0, round, &parents, &[vec![round as u8; 3], vec![]]);
+        for message in [message, com.certificate(&subject, &[0])] {
             match checked(com, &message) {
                 Checked::Block(block) => drop(session.write(&block).expect("a write")),
                 Checked::Certificate(one) => drop(session.certify(&one).expect("a certificate")),
                 Checked::Vote(vote) => panic!("{vote:?}"),
             }
         }
-        slots.push(slot);
+        subjects.push(subject);
     }
-    (session, slots)
+    (session, subjects)
 }
 
-fn ticket(session: &Session, slot: &Slot) -> Ticket {
-    let causal = session.causal(&slot.digest).expect("a causal read");
+fn ticket(session: &Session, subject: &Subject) -> Ticket {
+    let causal = session.causal(&subject.digest).expect("a causal read");
     causal.into_ticket().expect("a complete block")
 }
 
@@ -152,12 +152,12 @@ fn goes_each_way<I, K: Debug + PartialEq>(
 #[test]
 fn events_and_walks_go_each_way() {
     let com = Com::new(1);
-    let (session, slots) = chain(&com, 6);
-    let ticket = ticket(&session, &slots[5]);
+    let (session, subjects) = chain(&com, 6);
+    let ticket = ticket(&session, &subjects[5]);
     goes_each_way(
         || ticket.walk().expect("a walk"),
-        &slots,
-        |block| block.slot(),
+        &subjects,
+        |block| block.subject(),
     );
     let store = Store::new(&com.committee, Limits::default()).expect("a store");
     let session = store.session().expect("a session");
@@ -173,12 +173,12 @@ fn events_and_walks_go_each_way() {
 #[test]
 fn tickets_of_two_blocks_or_floors_are_not_compared() {
     let com = Com::new(1);
-    let (session, slots) = chain(&com, 3);
-    let [low, high, again] = [1, 2, 2].map(|round: usize| ticket(&session, &slots[round]));
+    let (session, subjects) = chain(&com, 3);
+    let [low, high, again] = [1, 2, 2].map(|round: usize| ticket(&session, &subjects[round]));
     assert_eq!(high.agrees(&again), Ok(true));
     assert_eq!(high.agrees(&low), Err(AgreeError::NotComparable));
     session.collect(1).expect("a collection");
-    let collected = ticket(&session, &slots[2]);
+    let collected = ticket(&session, &subjects[2]);
     assert_eq!(high.agrees(&collected), Err(AgreeError::NotComparable));
     assert_eq!((high.floor(), collected.floor()), (0, 1));
 }

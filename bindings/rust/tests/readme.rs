@@ -4,16 +4,16 @@
 mod data;
 
 use narwhal_store::{Causal, Checked, CheckedBlock, Committee, Gather, Limits, Message};
-use narwhal_store::{Slot, Store, Transactions, WriteReply, text_of_vote};
+use narwhal_store::{Store, Subject, Transactions, WriteReply, text_of_vote};
 use std::error::Error;
 
-/// The last slot that gets a certificate, and the messages: blocks, certificates and votes.
-fn network(keys: &[narwhal_store::PublicKey]) -> (Slot, Vec<Vec<u8>>) {
+/// The last subject that gets a certificate, and the messages: blocks, certificates and votes.
+fn network(keys: &[narwhal_store::PublicKey]) -> (Subject, Vec<Vec<u8>>) {
     let committee = Committee::equal(keys).expect("a committee");
     let (mut messages, mut last) = (data::values("message"), None);
     for message in &messages {
         if let Ok(Checked::Certificate(certificate)) = Message::check(&committee, message) {
-            last = Some(certificate.slot());
+            last = Some(certificate.subject());
         }
     }
     messages.extend(data::values("vote"));
@@ -32,7 +32,7 @@ fn the_code_of_the_readme_runs() -> Result<(), Box<dyn Error>> {
     let mut has_parents = |_: &CheckedBlock| { voted += 1; true };
     let mut broadcast = |message: Vec<u8>| sent.push(message);
     let mut deliver = |transactions: Transactions| delivered += transactions.count();
-    let mut gather = Gather::new(&Committee::equal(&keys)?, &slot_of_votes(&keys))?;
+    let mut gather = Gather::new(&Committee::equal(&keys)?, &subject_of_votes(&keys))?;
     let mut is_sent = false;
 
     let committee = Committee::equal(&keys)?;             // Ed25519 public keys, each of weight 1
@@ -45,7 +45,7 @@ fn the_code_of_the_readme_runs() -> Result<(), Box<dyn Error>> {
                 let first = WriteReply::Stored { vote: true }; // of its round and author
                 let reply = session.write(&block)?.into_reply();
                 if reply == first && has_parents(&block) {    // if not, vote when the last of them arrives
-                    let text = text_of_vote(&block.slot())?; // log the block and sync, sign this, send the vote
+                    let text = text_of_vote(&block.subject())?; // log the block and sync, sign this, send the vote
                 }
             }
             Ok(Checked::Certificate(certificate)) => {
@@ -73,11 +73,11 @@ fn the_code_of_the_readme_runs() -> Result<(), Box<dyn Error>> {
     Ok(())
 }
 
-/// The slot that the votes of the examples are for.
-fn slot_of_votes(keys: &[narwhal_store::PublicKey]) -> Slot {
+/// The subject that the votes of the examples are for.
+fn subject_of_votes(keys: &[narwhal_store::PublicKey]) -> Subject {
     let committee = Committee::equal(keys).expect("a committee");
     match Message::check(&committee, &data::values("vote")[0]) {
-        Ok(Checked::Vote(vote)) => vote.slot(),
+        Ok(Checked::Vote(vote)) => vote.subject(),
         other => panic!("{other:?}"),
     }
 }

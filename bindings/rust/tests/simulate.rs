@@ -15,7 +15,7 @@ mod simulator;
 
 use model::{Call, Certificate};
 use narwhal_store::{CheckError, Checked, Gather, GatherError, Message, TextFault};
-use simulator::{Case, Draw, Plan, Tally, World, code_of, corpus, slot_of, votes_of};
+use simulator::{Case, Draw, Plan, Tally, World, code_of, corpus, subject_of, votes_of};
 
 /// Prints the seed if its run fails.
 struct Named(u64);
@@ -148,7 +148,7 @@ fn gather(case: &Case, draw: &mut Draw, certificate: &Certificate) {
         message[at] ^= 0x80;
         vote_of(&message)
     };
-    let mut gather = Gather::new(&case.committee, &slot_of(certificate)).expect("a gatherer");
+    let mut gather = Gather::new(&case.committee, &subject_of(certificate)).expect("a gatherer");
     let mut votes = votes_of(certificate);
     let quorum = case.committee.quorum() as usize;
     for count in 1..=votes.len() {

@@ -66,8 +66,21 @@ impl<S: Scheme> Done<S> {
             × (found.0 ≡ digest_of found.1.now)) }
         ensures none { IsNone result → (b : Block) → self.now.event.reply ≢ Reply.Read (Some b) }
     {
-        match (self.call(), self.reply()) {
-            (Call::Read(digest), Reply::Read(Some(block))) => Some((*digest, block)),
+        let block = self.read_block()?;
+        match self.entry.call() {
+            Call::Read(digest) => Some((*digest, block)),
+            _ => unreachable!(),
+        }
+    }
+
+    /// The block in the reply to a read, if there is one.
+    fn read_block(&self) -> Option<&Shared<Block>>
+        ensures found { IfSome result
+            (λ block. self.now.event.reply ≡ Reply.Read (Some block.now)) }
+        ensures none { IsNone result → (b : Block) → self.now.event.reply ≢ Reply.Read (Some b) }
+    {
+        match self.entry.reply() {
+            Reply::Read(Some(block)) => Some(block),
             _ => None,
         }
     }

@@ -9,9 +9,9 @@ use Rattle.nw_model.specs.declared.wanted.Wanted.{Wanted}
 use Rattle.nw_model.specs.declared.reply.Counts.{Counts}
 use Rattle.nw_model.specs.declared.reply.Reply.{Reply}
 use Rattle.nw_model.specs.declared.reply.Reply.TheVariants as reply
-use Rattle.nw_c.specs.Plain.{slot_of}
+use Rattle.nw_c.specs.Plain.{subject_of}
 use Rattle.nw_c.specs.declared.answers.CStatus.{CStatus}
-use Rattle.nw_c.specs.declared.plain.CSlot.{CSlot}
+use Rattle.nw_c.specs.declared.plain.CSubject.{CSubject}
 use Rattle.nw_c.specs.declared.content.Content.{Content}
 use Rattle.nw_c.specs.declared.content.Content.TheVariants as kind
 
@@ -30,18 +30,18 @@ abbrev pub EncodesCertificate : Content → List ℕ → Type 0
 EncodesCertificate (kind.Answer told) text = IsSpelledIn told.event.reply text
 EncodesCertificate other text = ⊥
 
--- the option has a missing parent, and it has this slot
-abbrev pub IsSlotOf : Option Wanted → CSlot → Type 0
-IsSlotOf (Some w) s = s ≡ slot_of w.digest w.round w.author
-IsSlotOf None s = ⊥
+-- the option has a missing parent, and it has this subject
+abbrev pub IsSubjectOf : Option Wanted → CSubject → Type 0
+IsSubjectOf (Some w) s = s ≡ subject_of w.digest w.round w.author
+IsSubjectOf None s = ⊥
 
--- the reply lists missing parents, and the one at the index has this slot
-abbrev pub IsListedIn : Reply → ℕ → CSlot → Type 0
-IsListedIn (reply.Missing wanted) index s = IsSlotOf (slice_get wanted index) s
+-- the reply lists missing parents, and the one at the index has this subject
+abbrev pub IsListedIn : Reply → ℕ → CSubject → Type 0
+IsListedIn (reply.Missing wanted) index s = IsSubjectOf (slice_get wanted index) s
 IsListedIn other index s = ⊥
 
--- it is the answer to a call for missing parents, and the listed one at the index has this slot
-abbrev pub IsMissingAt : Content → ℕ → CSlot → Type 0
+-- it is the answer to a call for missing parents, and the listed one at the index has this subject
+abbrev pub IsMissingAt : Content → ℕ → CSubject → Type 0
 IsMissingAt (kind.Answer told) index s = IsListedIn told.event.reply index s
 IsMissingAt other index s = ⊥
 

@@ -1,5 +1,5 @@
 -- Making and reading blocks.
-use Rattle.std.specs.Prelude.{◌≡◌, ℕ, ◌≤◌, List, Some, None, All, length, map, slice_get}
+use Rattle.std.specs.Prelude.{◌≡◌, ℕ, ◌≤◌, List, Some, None, All, length, map, slice_get, take}
 use Rattle.std.specs.List.{flat_map}
 use Rattle.nw_codec.specs.Fits.{Fits}
 use Rattle.nw_codec.specs.Grammar.{body}
@@ -9,8 +9,8 @@ use Rattle.nw_codec.specs.declared.block.Ref.{Ref}
 use Rattle.nw_codec.specs.Limits.{longest_transaction}
 use Rattle.nw_codec.specs.declared.message.Message.TheVariants as messages
 use Rattle.nw_model.specs.Checks.{digest_of}
-use Rattle.nw_c.specs.Plain.{digest_in, slot_of}
-use Rattle.nw_c.specs.declared.plain.CSlot.{CSlot}
+use Rattle.nw_c.specs.Plain.{digest_in, subject_of}
+use Rattle.nw_c.specs.declared.plain.CSubject.{CSubject}
 use Rattle.nw_c.specs.declared.plain.CSignature.{CSignature}
 use Rattle.nw_c.specs.declared.blocks.CParent.{CParent}
 use Rattle.nw_c.specs.declared.content.Content.{Content}
@@ -38,10 +38,10 @@ IsNoBlock author round parents bytes lengths = (b : Block) → IsMadeBlock autho
 abbrev pub CannotBeCut : List ℕ → List ℕ → Type 0
 CannotBeCut bytes lengths = (transactions : List (List ℕ)) → AreCutFrom bytes lengths transactions → All (λ t. length t ≤ longest_transaction) transactions → ⊥
 
--- it is a block with this slot
-abbrev pub HasSlot : Content → CSlot → Type 0
-HasSlot (kind.Block b) s = s ≡ slot_of (digest_of b) b.round b.author
-HasSlot other s = ⊥
+-- it is a block with this subject
+abbrev pub HasSubject : Content → CSubject → Type 0
+HasSubject (kind.Block b) s = s ≡ subject_of (digest_of b) b.round b.author
+HasSubject other s = ⊥
 
 -- it is a block with these numbers of parents and transactions
 abbrev pub HasCounts : Content → ℕ → ℕ → Type 0
@@ -53,10 +53,19 @@ abbrev pub HasParentAt : Content → ℕ → CParent → Type 0
 HasParentAt (kind.Block b) index p = slice_get b.parents index ≡ Some (parent_in p)
 HasParentAt other index p = ⊥
 
--- it is a block whose transaction at the index has these bytes
-abbrev pub HasTransaction : Content → ℕ → List ℕ → Type 0
-HasTransaction (kind.Block b) index bytes = slice_get b.transactions index ≡ Some bytes
-HasTransaction other index bytes = ⊥
+-- it is a block. Its transactions, one after another, are these bytes, and their lengths come first in this list
+abbrev pub HasTransactions : Content → List ℕ → List ℕ → Type 0
+HasTransactions (kind.Block b) bytes lengths = AreCutFrom bytes (take (length b.transactions) lengths) b.transactions
+HasTransactions other bytes lengths = ⊥
+
+-- the transactions have more than this many bytes together, or there are more of them than places
+abbrev pub NeedMoreThan : ℕ → ℕ → List (List ℕ) → Type 0
+NeedMoreThan bytes places transactions = length (flat_map (λ t. t) transactions) ≤ bytes → length transactions ≤ places → ⊥
+
+-- it is a block whose transactions need more room
+abbrev pub HasNoRoom : Content → ℕ → ℕ → Type 0
+HasNoRoom (kind.Block b) bytes places = NeedMoreThan bytes places b.transactions
+HasNoRoom other bytes places = ⊥
 
 -- it is a block with this body
 abbrev pub HasBody : Content → List ℕ → Type 0
@@ -77,8 +86,3 @@ IsBlockOverLimit other = ⊥
 abbrev pub HasNoParentAt : Content → ℕ → Type 0
 HasNoParentAt (kind.Block b) index = slice_get b.parents index ≡ None
 HasNoParentAt other index = ⊥
-
--- it is a block with no transaction at the index
-abbrev pub HasNoTransactionAt : Content → ℕ → Type 0
-HasNoTransactionAt (kind.Block b) index = slice_get b.transactions index ≡ None
-HasNoTransactionAt other index = ⊥

@@ -8,12 +8,12 @@ use Rattle.nw_check.specs.Gathering.{CountsVote, CanCount, IsGatherFault, certif
 use Rattle.nw_check.specs.declared.fault.GatherFault.{GatherFault}
 use Rattle.nw_check.specs.declared.message.Checked.TheVariants as checked
 use Rattle.nw_c.specs.Plain.{digest_in}
-use Rattle.nw_c.specs.declared.plain.CSlot.{CSlot}
+use Rattle.nw_c.specs.declared.plain.CSubject.{CSubject}
 use Rattle.nw_c.specs.declared.content.Content.{Content}
 use Rattle.nw_c.specs.declared.content.Content.TheVariants as kind
 
--- it gathers votes for the block of this slot under the committee, and has none yet
-abbrev pub IsNewGather : Content → CSlot → Content → Type 0
+-- it gathers votes for the block of this subject under the committee, and has none yet
+abbrev pub IsNewGather : Content → CSubject → Content → Type 0
 IsNewGather (kind.Committee members) s (kind.Gather g) =
     g ≡ record { digest = digest_in s.digest; round = s.round; author = s.author; committee = members; seals = [] }
 IsNewGather committee s other = ⊥

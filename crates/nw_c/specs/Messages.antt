@@ -12,7 +12,7 @@ use Rattle.nw_check.specs.declared.fault.CertFault.TheVariants as cert_fault
 use Rattle.nw_check.specs.declared.message.Checked.{Checked}
 use Rattle.nw_check.specs.declared.message.Checked.TheVariants as checked
 use Rattle.nw_model.specs.Checks.{digest_of}
-use Rattle.nw_c.specs.Plain.{slot_of}
+use Rattle.nw_c.specs.Plain.{subject_of}
 use Rattle.nw_c.specs.declared.messages.CMessage.{CMessage}
 use Rattle.nw_c.specs.declared.messages.TheConstants.{BLOCK, CERTIFICATE, VOTE, TEXT_SHORT, TEXT_TRAILING, TEXT_TAG, TEXT_VERSION, TEXT_MANY_PARENTS, TEXT_PARENT_ORDER, TEXT_MANY_TRANSACTIONS, TEXT_LONG_TRANSACTION, TEXT_LONG_BODY, TEXT_MANY_VOTES, TEXT_VOTE_ORDER, BLOCK_AUTHOR, BLOCK_PARENT_AUTHOR, BLOCK_GENESIS_PARENTS, BLOCK_FEW_PARENTS, BLOCK_SIGNATURE, CERT_AUTHOR, CERT_SIGNER, CERT_FEW_VOTES, CERT_SIGNATURE}
 
@@ -48,11 +48,11 @@ cert_kind cert_fault.FewVotes = CERT_FEW_VOTES
 cert_kind (cert_fault.Signature signer) = CERT_SIGNATURE
 cert_kind cert_fault.NoMemory = pos 0
 
--- m is what the checked text is: a block, certificate or vote with its slot, or a fault
+-- m is what the checked text is: a block, certificate or vote with its subject, or a fault
 abbrev pub IsMessageOf : {S : Type 0} → Checked S → CMessage → Type 0
-IsMessageOf (checked.Block c) m = (m.kind ≡ BLOCK) × (m.slot ≡ slot_of (digest_of c.block) c.block.round c.block.author)
-IsMessageOf (checked.Cert c) m = (m.kind ≡ CERTIFICATE) × (m.slot ≡ slot_of c.certificate.digest c.certificate.round c.certificate.author)
-IsMessageOf (checked.Vote v) m = (m.kind ≡ VOTE) × (m.slot ≡ slot_of v.digest v.round v.author) × (m.signer ≡ v.signer)
+IsMessageOf (checked.Block c) m = (m.kind ≡ BLOCK) × (m.subject ≡ subject_of (digest_of c.block) c.block.round c.block.author)
+IsMessageOf (checked.Cert c) m = (m.kind ≡ CERTIFICATE) × (m.subject ≡ subject_of c.certificate.digest c.certificate.round c.certificate.author)
+IsMessageOf (checked.Vote v) m = (m.kind ≡ VOTE) × (m.subject ≡ subject_of v.digest v.round v.author) × (m.signer ≡ v.signer)
 IsMessageOf (checked.BadText e) m = m.kind ≡ text_kind e
 IsMessageOf (checked.BadBlock fault) m = m.kind ≡ block_kind fault
 IsMessageOf (checked.BadCert (cert_fault.Signature signer)) m = (m.kind ≡ CERT_SIGNATURE) × (m.signer ≡ signer)
@@ -62,8 +62,8 @@ IsMessageOf (checked.BadCert fault) m = m.kind ≡ cert_kind fault
 abbrev pub no_digest : Digest
 no_digest = record { 0 = replicate 32 0 }
 
--- m is what the front says: a block with its round and author, a certificate with its slot, or a vote with its slot and signer
+-- m is what the front says: a block with its round and author, a certificate with its subject, or a vote with its subject and signer
 abbrev pub IsFrontOf : Peek → CMessage → Type 0
-IsFrontOf (peeks.Block round author) m = (m.kind ≡ BLOCK) × (m.slot ≡ slot_of no_digest round author)
-IsFrontOf (peeks.Certificate s) m = (m.kind ≡ CERTIFICATE) × (m.slot ≡ slot_of s.digest s.round s.author)
-IsFrontOf (peeks.Vote s signer) m = (m.kind ≡ VOTE) × (m.slot ≡ slot_of s.digest s.round s.author) × (m.signer ≡ signer)
+IsFrontOf (peeks.Block round author) m = (m.kind ≡ BLOCK) × (m.subject ≡ subject_of no_digest round author)
+IsFrontOf (peeks.Certificate s) m = (m.kind ≡ CERTIFICATE) × (m.subject ≡ subject_of s.digest s.round s.author)
+IsFrontOf (peeks.Vote s signer) m = (m.kind ≡ VOTE) × (m.subject ≡ subject_of s.digest s.round s.author) × (m.signer ≡ signer)

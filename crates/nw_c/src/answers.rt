@@ -9,7 +9,7 @@ use crate::codes::{ABSENT, CLOSED, DONE, NO_MEMORY, OPEN, OTHER_KIND};
 use crate::content::Content;
 use crate::handle::{AnswerHandle, BlockHandle, put};
 use crate::hashed::HashedBlock;
-use crate::plain::{CSlot, slot};
+use crate::plain::CSubject;
 use crate::texts::{certificate_text, hand_out_encoded};
 use nw_model::Reply;
 use std::alloc::Global;
@@ -113,7 +113,7 @@ pub extern "C" fn nw_answer_message(
 /// Writes one of the parents that a call for missing parents listed. `index` counts from 0. Returns `NW_ABSENT` if the list has no parent
 /// at that index, and `NW_OTHER_KIND` if the answer is to another call.
 #[unsafe(no_mangle)]
-pub extern "C" fn nw_answer_missing(answer: &mut AnswerHandle, index: usize, out: &mut CSlot) -> i32
+pub extern "C" fn nw_answer_missing(answer: &mut AnswerHandle, index: usize, out: &mut CSubject) -> i32
     ensures missing { result ≡ pos 0 → IsMissingAt answer.old.value index out.new }
     ensures same { IsUnchanged answer.old answer.new }
     ensures closed { result ≡ CLOSED → answer.old.held ≡ true → ⊥ }
@@ -127,7 +127,7 @@ pub extern "C" fn nw_answer_missing(answer: &mut AnswerHandle, index: usize, out
         Content::Answer(done) => match done.reply() {
             Reply::Missing(wanted) => match wanted.as_slice().get(index) {
                 Some(wanted) => {
-                    *out = slot(wanted.digest, wanted.round, wanted.author);
+                    *out = CSubject::of(wanted.digest, wanted.round, wanted.author);
                     DONE
                 }
                 None => ABSENT,

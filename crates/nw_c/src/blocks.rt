@@ -1,19 +1,19 @@
 //! Reading blocks: their parts, bodies and messages.
-ghost use Rattle.std.specs.Prelude.{◌≡◌, ◌<◌, pos, take, slice_get, true, length};
-ghost use Rattle.std.specs.Option.{option_copied};
-ghost use Rattle.nw_c.specs.Blocks.{HasBody, HasCounts, HasMessage, HasNoParentAt, HasNoTransactionAt, HasParentAt, HasSlot, HasTransaction, IsBlockOverLimit};
+ghost use Rattle.std.specs.Prelude.{◌≡◌, ◌<◌, pos, take, true, length, IsTrue};
+ghost use Rattle.nw_c.specs.Blocks.{HasBody, HasCounts, HasMessage, HasNoParentAt, HasParentAt, HasSubject, IsBlockOverLimit};
 ghost use Rattle.nw_c.specs.Kinds.{IsUnchanged, HoldsBlock};
 ghost use Rattle.nw_c.specs.declared.codes.TheConstants.{ABSENT, CLOSED, OTHER_KIND, OVER_LIMIT, SMALL};
 
-use crate::codes::{ABSENT, CLOSED, DONE, OTHER_KIND};
+use crate::codes::{ABSENT, CLOSED, DONE, OTHER_KIND, SMALL};
 use crate::content::Content;
 use crate::handle::BlockHandle;
-use crate::plain::{CDigest, CSignature, CSlot, slot};
-use crate::texts::{hand_out, hand_out_encoded};
-use nw_codec::{Signature, Transactions, encode_block, encode_body};
+use crate::plain::{CDigest, CSignature, CSubject};
+use crate::texts::hand_out_encoded;
+use nw_codec::{Block, Signature, encode_block, encode_body};
 use std::alloc::Global;
 
 mod making;
+mod transactions;
 
 /// A parent of a block: its author and its digest.
 #[repr(C)]
@@ -25,8 +25,8 @@ pub struct CParent {
 
 /// Writes the digest, round and author of the block. It hashes nothing: every block handle keeps its digest.
 #[unsafe(no_mangle)]
-pub extern "C" fn nw_block_slot(block: &mut BlockHandle, out: &mut CSlot) -> i32
-    ensures slot { result ≡ pos 0 → HasSlot block.old.value out.new }
+pub extern "C" fn nw_block_subject(block: &mut BlockHandle, out: &mut CSubject) -> i32
+    ensures subject { result ≡ pos 0 → HasSubject block.old.value out.new }
     ensures same { IsUnchanged block.old block.new }
     ensures closed { result ≡ CLOSED → block.old.held ≡ true → ⊥ }
     ensures other_kind { result ≡ OTHER_KIND → HoldsBlock block.old.value → ⊥ }
@@ -37,7 +37,7 @@ pub extern "C" fn nw_block_slot(block: &mut BlockHandle, out: &mut CSlot) -> i32
     let Content::Block(held) = block.lend() else {
         return OTHER_KIND;
     };
-    *out = slot(held.digest(), held.block().round, held.block().author);
+    *out = CSubject::of(held.digest(), held.block().round, held.block().author);
     DONE
 }
 
@@ -93,47 +93,20 @@ pub extern "C" fn nw_block_parent(block: &mut BlockHandle, index: usize, out: &m
     }
 }
 
-/// The transaction at the index, or `None` if the block has no such transaction.
-fn transaction_at(transactions: &Transactions, index: usize) -> Option<&[u8]>
-    ensures { option_copied result ≡ slice_get transactions.now index }
-{
-    let mut left = index;
-    for transaction in transactions.iter() {
-        if left == 0 {
-            return Some(transaction);
-        }
-        left -= 1;
-    }
-    None
-}
+/// The bytes of a block's message around the body: the tag and the signature.
+const AROUND_A_BODY: usize = 65;
 
-/// Copies the transaction at the index, counted from 0, to the buffer. Writes its size to `needed`. Returns `NW_SMALL` if the buffer is
-/// smaller, and `NW_ABSENT` if the block has no such transaction.
-#[unsafe(no_mangle)]
-pub extern "C" fn nw_block_transaction(
-    block: &mut BlockHandle,
-    index: usize,
-    buffer: &mut [u8],
-    needed: &mut usize,
-) -> i32
-    ensures transaction { result ≡ pos 0 → HasTransaction block.old.value index (take needed.new buffer.new) }
-    ensures same { IsUnchanged block.old block.new }
-    ensures closed { result ≡ CLOSED → block.old.held ≡ true → ⊥ }
-    ensures other_kind { result ≡ OTHER_KIND → HoldsBlock block.old.value → ⊥ }
-    ensures absent { result ≡ ABSENT → HasNoTransactionAt block.old.value index }
-    ensures small { result ≡ SMALL → length buffer.old < needed.new }
-    ensures unchanged { (result ≡ pos 0 → ⊥) → buffer.new ≡ buffer.old }
+/// Whether the block fits the format, and its body with this many more bytes does not fit into the buffer. Then it writes their size to
+/// `needed`. So a caller that asks for the size encodes nothing.
+fn is_too_small(block: &Block, more: usize, buffer: &[u8], needed: &mut usize) -> bool
+    ensures { IsTrue result → length buffer.now < needed.new }
 {
-    if !block.is_open() {
-        return CLOSED;
+    if !block.fits() {
+        return false;
     }
-    let Content::Block(held) = block.lend() else {
-        return OTHER_KIND;
-    };
-    match transaction_at(&held.block().transactions, index) {
-        Some(transaction) => hand_out(transaction, buffer, needed),
-        None => ABSENT,
-    }
+    let size = block.body_size() + more;
+    *needed = size;
+    size > buffer.len()
 }
 
 /// Writes the encoded body of the block to the buffer. The block's digest is SHA-256 of these bytes. Writes their size to `needed`. Returns
@@ -158,6 +131,9 @@ pub extern "C" fn nw_block_body(
     }
     match block.lend() {
         Content::Block(held) => {
+            if is_too_small(held.block(), 0, buffer, needed) {
+                return SMALL;
+            }
             let text = encode_body(alloc, held.block());
             hand_out_encoded(text, buffer, needed)
         }
@@ -188,6 +164,9 @@ pub extern "C" fn nw_block_message(
     }
     match block.lend() {
         Content::Block(held) => {
+            if is_too_small(held.block(), AROUND_A_BODY, buffer, needed) {
+                return SMALL;
+            }
             let text = encode_block(alloc, held.block(), &Signature(signature.bytes));
             hand_out_encoded(text, buffer, needed)
         }

@@ -12,30 +12,30 @@ use crate::codes::{
 };
 use crate::content::Content;
 use crate::handle::{CheckedHandle, CommitteeHandle, GatherHandle, put};
-use crate::plain::CSlot;
+use crate::plain::CSubject;
 use nw_check::{Checked, Counted, FinishFault, Gather, StartFault};
 use nw_digest::Round;
 use nw_ed25519::Ed25519;
 use std::alloc::Global;
 
-/// Starts to gather votes for the block of this slot. Returns `NW_BAD_ROUND` if the round is not below 2^48, and `NW_NO_MEMBER` if the
+/// Starts to gather votes for the block of this subject. Returns `NW_BAD_ROUND` if the round is not below 2^48, and `NW_NO_MEMBER` if the
 /// author is not a member.
 #[unsafe(no_mangle)]
 pub extern "C" fn nw_gather_new(
     alloc: Global,
     committee: &mut CommitteeHandle,
-    slot: &CSlot,
+    subject: &CSubject,
     out: &mut GatherHandle,
 ) -> i32
-    ensures new { result ≡ pos 0 → IsNewGather committee.old.value slot.now out.new.value }
+    ensures new { result ≡ pos 0 → IsNewGather committee.old.value subject.now out.new.value }
     ensures same { IsUnchanged committee.old committee.new }
     ensures unchanged { (result ≡ pos 0 → ⊥) → IsUnchanged out.old out.new }
     ensures opened { result ≡ pos 0 → out.new.held ≡ true }
     ensures occupied { result ≡ OPEN → out.old.held ≡ true }
     ensures closed { result ≡ CLOSED → committee.old.held ≡ true → ⊥ }
     ensures other_kind { result ≡ OTHER_KIND → HoldsCommittee committee.old.value → ⊥ }
-    ensures bad_round { result ≡ BAD_ROUND → 2 ^ 48 ≤ slot.now.round }
-    ensures no_member { result ≡ NO_MEMBER → LacksAuthor committee.old.value slot.now.author }
+    ensures bad_round { result ≡ BAD_ROUND → 2 ^ 48 ≤ subject.now.round }
+    ensures no_member { result ≡ NO_MEMBER → LacksAuthor committee.old.value subject.now.author }
 {
     if !committee.is_open() {
         return CLOSED;
@@ -43,13 +43,13 @@ pub extern "C" fn nw_gather_new(
     if out.is_open() {
         return OPEN;
     }
-    let Some(round) = Round::new(slot.round) else {
+    let Some(round) = Round::new(subject.round) else {
         return BAD_ROUND;
     };
     let Content::Committee(members) = committee.lend() else {
         return OTHER_KIND;
     };
-    match Gather::<Ed25519>::new(alloc, members, slot.digest.get(), round, slot.author) {
+    match Gather::<Ed25519>::new(alloc, members, subject.digest.get(), round, subject.author) {
         Ok(gather) => put(alloc, out, Content::Gather(gather)),
         Err(StartFault::Author) => NO_MEMBER,
         Err(StartFault::NoMemory) => NO_MEMORY,

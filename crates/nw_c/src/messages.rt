@@ -2,7 +2,7 @@
 ghost use Rattle.std.specs.Prelude.{◌≡◌, pos};
 ghost use Rattle.nw_c.specs.Messages.{IsMessageOf, block_kind, cert_kind, text_kind};
 
-use crate::plain::{CDigest, CSlot, slot};
+use crate::plain::{CDigest, CSubject};
 use nw_check::{BlockFault, CertFault, Checked};
 use nw_codec::DecodeError;
 use nw_ed25519::Ed25519;
@@ -54,14 +54,14 @@ pub(crate) const CERT_FEW_VOTES: i32 = 42;
 /// The signature of `signer` is not that member's. All signatures before it are correct.
 pub(crate) const CERT_SIGNATURE: i32 = 43;
 
-/// What a checked text is, or what the front of a text says: its kind, the slot of a block, certificate or vote, and the signer of a vote
+/// What a checked text is, or what the front of a text says: its kind, the subject of a block, certificate or vote, and the signer of a vote
 /// or of a wrong signature. Fields that the kind does not use are 0.
 #[repr(C)]
 #[derive(Clone, Copy)]
 pub struct CMessage {
     pub kind: i32,
     pub signer: u16,
-    pub slot: CSlot,
+    pub subject: CSubject,
 }
 
 /// The kind of a text that is not a message. A checked text never has the fault `NoMemory`.
@@ -111,7 +111,7 @@ fn kind_of_cert(fault: &CertFault) -> i32
     }
 }
 
-/// A message of this kind and signer, without a slot.
+/// A message of this kind and signer, without a subject.
 fn faulty(kind: i32, signer: u16) -> CMessage
     ensures kind { result.kind ≡ kind }
     ensures signer { result.signer ≡ signer }
@@ -119,7 +119,7 @@ fn faulty(kind: i32, signer: u16) -> CMessage
     CMessage {
         kind,
         signer,
-        slot: CSlot {
+        subject: CSubject {
             digest: CDigest { bytes: [0; 32] },
             round: 0,
             author: 0,
@@ -137,7 +137,7 @@ pub(crate) fn message_of(checked: &Checked<Ed25519>) -> CMessage
             CMessage {
                 kind: BLOCK,
                 signer: 0,
-                slot: slot(checked.digest(), block.round, block.author),
+                subject: CSubject::of(checked.digest(), block.round, block.author),
             }
         }
         Checked::Cert(checked) => {
@@ -145,13 +145,13 @@ pub(crate) fn message_of(checked: &Checked<Ed25519>) -> CMessage
             CMessage {
                 kind: CERTIFICATE,
                 signer: 0,
-                slot: slot(certificate.digest, certificate.round, certificate.author),
+                subject: CSubject::of(certificate.digest, certificate.round, certificate.author),
             }
         }
         Checked::Vote(vote) => CMessage {
             kind: VOTE,
             signer: vote.signer,
-            slot: slot(vote.digest, vote.round, vote.author),
+            subject: CSubject::of(vote.digest, vote.round, vote.author),
         },
         Checked::BadText(fault) => faulty(kind_of_text(*fault), 0),
         Checked::BadBlock(fault) => faulty(kind_of_block(*fault), 0),

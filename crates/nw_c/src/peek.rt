@@ -9,7 +9,7 @@ ghost use Rattle.nw_c.specs.declared.codes.TheConstants.{ABSENT};
 
 use crate::codes::{ABSENT, DONE};
 use crate::messages::{BLOCK, CERTIFICATE, CMessage, VOTE};
-use crate::plain::slot;
+use crate::plain::CSubject;
 use nw_codec::{Peek, peek_message};
 use nw_digest::Digest;
 
@@ -36,7 +36,7 @@ pub extern "C" fn nw_peek(text: &[u8], out: &mut CMessage) -> i32
     }
 }
 
-/// The kind, slot and signer of the front. The digest of a block is 0.
+/// The kind, subject and signer of the front. The digest of a block is 0.
 fn message_of_front(front: &Peek) -> CMessage
     ensures { IsFrontOf front.now result }
 {
@@ -44,17 +44,17 @@ fn message_of_front(front: &Peek) -> CMessage
         Peek::Block { round, author } => CMessage {
             kind: BLOCK,
             signer: 0,
-            slot: slot(Digest([0; 32]), *round, *author),
+            subject: CSubject::of(Digest([0; 32]), *round, *author),
         },
         Peek::Certificate(subject) => CMessage {
             kind: CERTIFICATE,
             signer: 0,
-            slot: slot(subject.digest, subject.round, subject.author),
+            subject: CSubject::of(subject.digest, subject.round, subject.author),
         },
         Peek::Vote { subject, signer } => CMessage {
             kind: VOTE,
             signer: *signer,
-            slot: slot(subject.digest, subject.round, subject.author),
+            subject: CSubject::of(subject.digest, subject.round, subject.author),
         },
     }
 }

@@ -1,6 +1,6 @@
 //! Plain values that cross between C and the store.
 ghost use Rattle.std.specs.Prelude.{◌≡◌};
-ghost use Rattle.nw_c.specs.Plain.{digest_in, slot_of};
+ghost use Rattle.nw_c.specs.Plain.{digest_in, subject_of};
 
 use nw_digest::{Digest, Round};
 
@@ -18,10 +18,10 @@ pub struct CSignature {
     pub bytes: [u8; 64],
 }
 
-/// The digest of a block with the block's round and author. In docs/MODEL.md, a slot is the round and the author only.
+/// The digest of a block with the block's round and author. Votes and certificates are for a subject.
 #[repr(C)]
 #[derive(Clone, Copy)]
-pub struct CSlot {
+pub struct CSubject {
     pub digest: CDigest,
     pub round: u64,
     pub author: u16,
@@ -35,6 +35,19 @@ pub struct CTagged {
     pub kind: i32,
     pub number: u64,
     pub digest: CDigest,
+}
+
+impl CSubject {
+    /// The subject of this digest, round and author.
+    pub(crate) fn of(digest: Digest, round: Round, author: u16) -> CSubject
+        ensures { result ≡ subject_of digest round author }
+    {
+        CSubject {
+            digest: CDigest::of(&digest),
+            round: round.get(),
+            author,
+        }
+    }
 }
 
 impl CDigest {
@@ -51,17 +64,6 @@ impl CDigest {
         ensures { result ≡ digest_in self.now }
     {
         Digest(self.bytes)
-    }
-}
-
-/// The slot of this digest, round and author.
-pub(crate) fn slot(digest: Digest, round: Round, author: u16) -> CSlot
-    ensures { result ≡ slot_of digest round author }
-{
-    CSlot {
-        digest: CDigest::of(&digest),
-        round: round.get(),
-        author,
     }
 }
 

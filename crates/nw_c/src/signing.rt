@@ -8,7 +8,7 @@ ghost use Rattle.nw_c.specs.Votes.{vote_of};
 ghost use Rattle.nw_c.specs.declared.codes.TheConstants.{BAD_ROUND, SMALL};
 
 use crate::codes::{BAD_ROUND, DONE};
-use crate::plain::{CDigest, CSignature, CSlot};
+use crate::plain::{CDigest, CSignature, CSubject};
 use crate::texts::hand_out_encoded;
 use nw_codec::{Message, Signature, Vote, encode_message};
 use nw_digest::{Round, digest_of};
@@ -50,16 +50,16 @@ pub extern "C" fn nw_text_of_block(digest: &CDigest, out: &mut CBlockText)
 /// Writes the text that a member signs to vote for the block of this digest, round and author. Returns `NW_BAD_ROUND` if the round is not
 /// below 2^48.
 #[unsafe(no_mangle)]
-pub extern "C" fn nw_text_of_vote(slot: &CSlot, out: &mut CVoteText) -> i32
+pub extern "C" fn nw_text_of_vote(subject: &CSubject, out: &mut CVoteText) -> i32
     ensures text { result ≡ pos 0 → out.new.bytes
-        ≡ text_of_vote (digest_in slot.now.digest) slot.now.round slot.now.author }
-    ensures bad_round { result ≡ BAD_ROUND → 2 ^ 48 ≤ slot.now.round }
+        ≡ text_of_vote (digest_in subject.now.digest) subject.now.round subject.now.author }
+    ensures bad_round { result ≡ BAD_ROUND → 2 ^ 48 ≤ subject.now.round }
 {
-    let Some(round) = Round::new(slot.round) else {
+    let Some(round) = Round::new(subject.round) else {
         return BAD_ROUND;
     };
     *out = CVoteText {
-        bytes: text_of_vote(&slot.digest.get(), round, slot.author),
+        bytes: text_of_vote(&subject.digest.get(), round, subject.author),
     };
     DONE
 }
@@ -69,25 +69,25 @@ pub extern "C" fn nw_text_of_vote(slot: &CSlot, out: &mut CVoteText) -> i32
 #[unsafe(no_mangle)]
 pub extern "C" fn nw_vote_message(
     alloc: Global,
-    slot: &CSlot,
+    subject: &CSubject,
     signer: u16,
     signature: &CSignature,
     buffer: &mut [u8],
     needed: &mut usize,
 ) -> i32
     ensures message { result ≡ pos 0 → Spells (take needed.new buffer.new)
-        (vote_of slot.now signer signature.now) }
-    ensures bad_round { result ≡ BAD_ROUND → 2 ^ 48 ≤ slot.now.round }
+        (vote_of subject.now signer signature.now) }
+    ensures bad_round { result ≡ BAD_ROUND → 2 ^ 48 ≤ subject.now.round }
     ensures small { result ≡ SMALL → length buffer.old < needed.new }
     ensures unchanged { (result ≡ pos 0 → ⊥) → buffer.new ≡ buffer.old }
 {
-    let Some(round) = Round::new(slot.round) else {
+    let Some(round) = Round::new(subject.round) else {
         return BAD_ROUND;
     };
     let vote = Vote {
-        digest: slot.digest.get(),
+        digest: subject.digest.get(),
         round,
-        author: slot.author,
+        author: subject.author,
         signer,
         signature: Signature(signature.bytes),
     };

@@ -117,21 +117,35 @@ reads_between bounds s (x ∷ es) d b c sound are (suc i) (suc j) e f order at_i
       | inr later ↦ inr (suc later.0, later.1, omega (arith, later.2), omega (arith, later.3), later.4, later.5)
     ]
 
--- the block that a read gives has the digest that was read
-read_digest : (accepts : Meaning) (members : List Member) (bounds : Bounds) (s : State) (es : List Event) (d : Digest) (b : Block)
-    → AreAdmitted accepts members s → AreReplies bounds s es → All (λ e. IsAdmitted accepts members e.call) es → (i : ℕ) (e : Event) → slice_get es i ≡ Some e → IsReadOf d b e → digest_of b ≡ d
-read_digest accepts members bounds s [] d b admitted are each i e at read = absurd cc
-read_digest accepts members bounds s (x ∷ es) d b admitted are each zero e at read =
-    sym (admitted d b (read_held bounds s x d b are.0 (subst (IsReadOf d b) (sym (same_event x e at)) read))).0
-read_digest accepts members bounds s (x ∷ es) d b admitted are each (suc i) e at read =
-    read_digest accepts members bounds (after bounds s x.call) es d b
-    (admitted_after accepts members bounds s x.call (All-head (λ (y : Event). IsAdmitted accepts members y.call) x es each) admitted)
-    are.2 (All-tail (λ (y : Event). IsAdmitted accepts members y.call) x es each) i e at read
+-- a call with this reply is the read of the block's digest
+read_call : (accepts : Meaning) (members : List Member) (bounds : Bounds) (s : State) (asked : Call) (b : Block) → AreAdmitted accepts members s → IsReply bounds s asked (reply.Read (Some b)) → asked ≡ call.Read (digest_of b)
+read_call accepts members bounds s (call.Read d) b admitted is = ap call.Read (admitted d b (sym is)).0
+read_call accepts members bounds s other b admitted is = absurd is
 
--- the block that a read in a legal history gives has the digest that was read
-pub read_named : (accepts : Meaning) (terms : Terms) (base : State) (es : List Event) (d : Digest) (b : Block) → IsLegal accepts terms base es → (i : ℕ) (e : Event) → slice_get es i ≡ Some e → IsReadOf d b e → digest_of b ≡ d
-read_named accepts terms base es d b legal =
-    read_digest accepts terms.committee terms.bounds base es d b (admitted_base accepts terms base legal.based) legal.replies legal.admitted
+read_named : (accepts : Meaning) (members : List Member) (bounds : Bounds) (s : State) (es : List Event) (b : Block)
+    → AreAdmitted accepts members s → AreReplies bounds s es → All (λ e. IsAdmitted accepts members e.call) es → (i : ℕ) (e : Event) → slice_get es i ≡ Some e → e.reply ≡ reply.Read (Some b) → e.call ≡ call.Read (digest_of b)
+read_named accepts members bounds s [] b admitted are each i e at replied = absurd cc
+read_named accepts members bounds s (x ∷ es) b admitted are each zero e at replied =
+    let same : x ≡ e = same_event x e at in
+    read_call accepts members bounds s e.call b admitted (subst (IsReply bounds s e.call) replied (subst (λ (y : Event). IsReply bounds s y.call y.reply) same are.0))
+read_named accepts members bounds s (x ∷ es) b admitted are each (suc i) e at replied =
+    read_named accepts members bounds (after bounds s x.call) es b
+    (admitted_after accepts members bounds s x.call (All-head (λ (y : Event). IsAdmitted accepts members y.call) x es each) admitted)
+    are.2 (All-tail (λ (y : Event). IsAdmitted accepts members y.call) x es each) i e at replied
+
+-- in a legal history, each event that found a block is the read of the block's digest
+pub found_by : (accepts : Meaning) (terms : Terms) (base : State) (es : List Event) (b : Block) → IsLegal accepts terms base es
+    → (i : ℕ) (e : Event) → slice_get es i ≡ Some e → e.reply ≡ reply.Read (Some b) → e.call ≡ call.Read (digest_of b)
+found_by accepts terms base es b legal = read_named accepts terms.committee terms.bounds base es b (admitted_base accepts terms base legal.based) legal.replies legal.admitted
+
+-- the digest that a read asks for
+abbrev digest_asked : Call → Digest → Digest
+digest_asked (call.Read d) e = d
+digest_asked other e = e
+
+-- a call reads one digest
+pub reads_one : (asked : Call) (d e : Digest) → asked ≡ call.Read d → asked ≡ call.Read e → d ≡ e
+reads_one asked d e is_d is_e = ap (λ (q : Call). digest_asked q d) (sym is_d ∙ is_e)
 
 pub reads_agree : ReadsAgree
 reads_agree accepts terms base es legal d b c i j e f order at_i at_j read_e read_f = by (same_block b c) refl
@@ -140,8 +154,8 @@ reads_agree accepts terms base es legal d b c i j e f order at_i at_j read_e rea
     by true is = inl ((same_block_decides b c).0 is)
     by false is =
         let differ : b ≢ c = λ same. let wrong : same_block b c ≡ true = (same_block_decides b c).1 same in absurd cc in
-        let first : digest_of b ≡ d = read_named accepts terms base es d b legal i e at_i read_e in
-        let second : digest_of c ≡ d = read_named accepts terms base es d c legal j f at_j read_f in
+        let first : digest_of b ≡ d = reads_one e.call (digest_of b) d (found_by accepts terms base es b legal i e at_i read_e.1) read_e.0 in
+        let second : digest_of c ≡ d = reads_one f.call (digest_of c) d (found_by accepts terms base es c legal j f at_j read_f.1) read_f.0 in
         elim (reads_between terms.bounds base es d b c (sound_base accepts terms base legal.based) legal.replies i j e f order at_i at_j read_e read_f) [
           | inl same ↦ absurd (differ same)
           | inr between ↦ inr (between, record { differ = differ; first = first; second = second })

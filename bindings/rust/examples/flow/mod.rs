@@ -6,19 +6,19 @@
 //! window, so a peer cannot make it grow.
 #![allow(dead_code)] // Each program uses a part.
 
-use narwhal_store::{Block, CheckedBlock, Digest, Message, Peek, Slot, Store};
+use narwhal_store::{Block, CheckedBlock, Digest, Message, Peek, Store, Subject};
 use std::collections::BTreeMap;
 
 /// A round and an author.
 type Key = (u64, u16);
 
-fn key_of(slot: &Slot) -> Key {
-    (slot.round, slot.author)
+fn key_of(subject: &Subject) -> Key {
+    (subject.round, subject.author)
 }
 
 /// A stored block that waits for its parents.
 struct Waiting {
-    slot: Slot,
+    subject: Subject,
     /// Whether it gets a vote once its parents are satisfied.
     vote: bool,
     /// The parents that are not satisfied.
@@ -28,8 +28,8 @@ struct Waiting {
 /// A store, with the blocks that it waits for.
 pub struct Flow {
     store: Store,
-    /// The certified slots without a stored block.
-    absent: BTreeMap<Key, Slot>,
+    /// The certified subjects without a stored block.
+    absent: BTreeMap<Key, Subject>,
     /// The first block of a round and author, or the certified one if there is one.
     waiting: BTreeMap<Key, Waiting>,
 }
@@ -56,7 +56,7 @@ impl Flow {
             Peek::Block { .. } => {
                 !look.stands && (look.first.is_none() || look.certified.is_some())
             }
-            Peek::Certificate(slot) => look.certified != Some(slot.digest),
+            Peek::Certificate(subject) => look.certified != Some(subject.digest),
             Peek::Vote { .. } => return true,
         };
         let end = look.garbage_round + u64::from(self.store.limits().window);
@@ -64,17 +64,17 @@ impl Flow {
     }
 
     /// The certified digests without a stored block: fetch these blocks from the signers.
-    pub fn absent(&self) -> impl Iterator<Item = Slot> {
+    pub fn absent(&self) -> impl Iterator<Item = Subject> {
         self.absent.values().copied()
     }
 
     /// The parents that stored blocks lack, each after the block that names it. Ask the author of
     /// the block for its blocks and certificates, and others too if the block is certified: only
     /// then the parents surely exist.
-    pub fn missing(&self) -> impl Iterator<Item = (Slot, Slot)> {
+    pub fn missing(&self) -> impl Iterator<Item = (Subject, Subject)> {
         self.waiting.values().flat_map(|waiting| {
-            let child = waiting.slot;
-            let parent = move |&(author, digest): &(u16, Digest)| Slot {
+            let child = waiting.subject;
+            let parent = move |&(author, digest): &(u16, Digest)| Subject {
                 digest,
                 round: child.round - 1,
                 author,
@@ -87,7 +87,7 @@ impl Flow {
     /// The bytes that the flow keeps.
     pub fn bytes(&self) -> usize {
         let parents = self.waiting.values().map(|waiting| waiting.parents.len());
-        size_of::<(Key, Slot)>() * self.absent.len()
+        size_of::<(Key, Subject)>() * self.absent.len()
             + size_of::<(Key, Waiting)>() * self.waiting.len()
             + size_of::<(u16, Digest)>() * parents.sum::<usize>()
     }
@@ -98,42 +98,42 @@ impl Flow {
         members * window as usize * (size_of::<(Key, Waiting)>() + parents)
     }
 
-    /// Notes a write that answered `Stored { vote }`. Returns the slots to vote for now.
-    pub fn stored(&mut self, block: &CheckedBlock, vote: bool) -> Vec<Slot> {
-        let slot = block.slot();
+    /// Notes a write that answered `Stored { vote }`. Returns the subjects to vote for now.
+    pub fn stored(&mut self, block: &CheckedBlock, vote: bool) -> Vec<Subject> {
+        let subject = block.subject();
         let mut due = Vec::new();
-        let look = self.store.look(slot.round, slot.author);
+        let look = self.store.look(subject.round, subject.author);
         // If another block is certified, no quorum votes for this one, and no block needs it.
-        if look.certified.is_none_or(|digest| digest == slot.digest) {
+        if look.certified.is_none_or(|digest| digest == subject.digest) {
             let parents: Vec<_> = self.unsatisfied(&block.block()).collect();
-            self.absent.remove(&key_of(&slot));
+            self.absent.remove(&key_of(&subject));
             if !parents.is_empty() {
                 let waiting = Waiting {
-                    slot,
+                    subject,
                     vote,
                     parents,
                 };
-                self.waiting.insert(key_of(&slot), waiting);
+                self.waiting.insert(key_of(&subject), waiting);
             } else if vote {
-                due.push(slot);
+                due.push(subject);
             }
         }
-        due.extend(self.came(&slot));
+        due.extend(self.came(&subject));
         due
     }
 
-    /// Notes a certificate that answered `Certified`. Returns the slots to vote for now.
-    pub fn certified(&mut self, slot: &Slot) -> Vec<Slot> {
-        if !self.store.look(slot.round, slot.author).stands {
-            self.absent.insert(key_of(slot), *slot);
-            self.waiting.remove(&key_of(slot)); // another block of the round and author
+    /// Notes a certificate that answered `Certified`. Returns the subjects to vote for now.
+    pub fn certified(&mut self, subject: &Subject) -> Vec<Subject> {
+        if !self.store.look(subject.round, subject.author).stands {
+            self.absent.insert(key_of(subject), *subject);
+            self.waiting.remove(&key_of(subject)); // another block of the round and author
         }
-        self.came(slot)
+        self.came(subject)
     }
 
-    /// Notes a collection that answered `Raised`. Returns the slots to vote for now: blocks of the
+    /// Notes a collection that answered `Raised`. Returns the subjects to vote for now: blocks of the
     /// garbage round need no parents.
-    pub fn collected(&mut self, garbage_round: u64) -> Vec<Slot> {
+    pub fn collected(&mut self, garbage_round: u64) -> Vec<Subject> {
         self.absent = self.absent.split_off(&(garbage_round, 0));
         let mut of_garbage_round = self.waiting.split_off(&(garbage_round, 0));
         self.waiting = of_garbage_round.split_off(&(garbage_round + 1, 0));
@@ -155,14 +155,14 @@ impl Flow {
         block.parents().iter().copied().filter(is_unsatisfied)
     }
 
-    /// Lets no block wait for this one, if it is now stored and certified. Returns the slots to
+    /// Lets no block wait for this one, if it is now stored and certified. Returns the subjects to
     /// vote for.
-    fn came(&mut self, slot: &Slot) -> Vec<Slot> {
-        let look = self.store.look(slot.round, slot.author);
-        if !look.satisfies(&slot.digest) {
+    fn came(&mut self, subject: &Subject) -> Vec<Subject> {
+        let look = self.store.look(subject.round, subject.author);
+        if !look.satisfies(&subject.digest) {
             return Vec::new();
         }
-        let (round, parent) = (slot.round + 1, (slot.author, slot.digest));
+        let (round, parent) = (subject.round + 1, (subject.author, subject.digest));
         let mut complete = Vec::new();
         for (key, waiting) in self.waiting.range_mut((round, 0)..(round + 1, 0)) {
             waiting.parents.retain(|missing| *missing != parent);
@@ -174,8 +174,8 @@ impl Flow {
     }
 }
 
-/// The slots of those blocks that get a vote.
-fn voted(blocks: impl Iterator<Item = Waiting>) -> Vec<Slot> {
+/// The subjects of those blocks that get a vote.
+fn voted(blocks: impl Iterator<Item = Waiting>) -> Vec<Subject> {
     let with_vote = blocks.filter(|block| block.vote);
-    with_vote.map(|block| block.slot).collect()
+    with_vote.map(|block| block.subject).collect()
 }

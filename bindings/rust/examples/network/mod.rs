@@ -1,7 +1,7 @@
 //! A network of four validators in one process: an inbox for each, and signatures from the corpus.
 
 use crate::data;
-use narwhal_store::{Committee, Digest, Signature, Slot};
+use narwhal_store::{Committee, Digest, Signature, Subject};
 use std::collections::HashMap;
 use std::error::Error;
 use std::sync::mpsc::Sender;
@@ -62,11 +62,11 @@ impl Network {
 
     /// Asks for the block of a certificate. A signer of the certificate answers; here the corpus has
     /// the block.
-    pub fn fetch(&self, to: u16, slot: &Slot) {
+    pub fn fetch(&self, to: u16, subject: &Subject) {
         let is_block =
-            |message: &Vec<u8>| Digest::of(&message[1..message.len() - 64]) == slot.digest;
+            |message: &Vec<u8>| Digest::of(&message[1..message.len() - 64]) == subject.digest;
         if let Some(message) = data::values("block").into_iter().find(is_block) {
-            self.send(slot.author, to, &message);
+            self.send(subject.author, to, &message);
         }
     }
 }

@@ -6,7 +6,7 @@
 
 use crate::lab::Com;
 use narwhal_store::{Checked, CheckedBlock, CheckedCertificate, Digest, Limits, Message, Session};
-use narwhal_store::{Slot, Status, Store};
+use narwhal_store::{Status, Store, Subject};
 use std::hint::black_box;
 use std::ops::Range;
 
@@ -97,8 +97,8 @@ impl Costs {
         }
     }
 
-    fn certificate(&self, slot: &Slot) -> CheckedCertificate {
-        let message = self.com.certificate(slot, &[0]);
+    fn certificate(&self, subject: &Subject) -> CheckedCertificate {
+        let message = self.com.certificate(subject, &[0]);
         match Message::check(&self.com.committee, &message) {
             Ok(Checked::Certificate(certificate)) => certificate,
             other => panic!("no certificate, but {other:?}"),
@@ -116,10 +116,10 @@ impl Costs {
             }
             let block = |author| self.block(author, round, &parents);
             let honest: Vec<_> = (0..HONEST).map(block).collect();
-            let slots: Vec<_> = honest.iter().map(CheckedBlock::slot).collect();
+            let subjects: Vec<_> = honest.iter().map(CheckedBlock::subject).collect();
             blocks.extend(honest);
-            certificates.extend(slots.iter().map(|slot| self.certificate(slot)));
-            parents = slots.iter().map(|of| (of.author, of.digest)).collect();
+            certificates.extend(subjects.iter().map(|subject| self.certificate(subject)));
+            parents = subjects.iter().map(|of| (of.author, of.digest)).collect();
         }
         (blocks, certificates)
     }
@@ -176,11 +176,11 @@ impl Costs {
 
     /// Calls that change nothing, with a stored block and a stored certificate.
     fn unchanging(&self, block: &CheckedBlock, certificate: &CheckedCertificate) {
-        let Slot {
+        let Subject {
             digest,
             round,
             author,
-        } = block.slot();
+        } = block.subject();
         let twin = self.block(author, round, &made_up(0));
         let far = self.block(author, 2_000, &made_up(0));
         self.repeat("write a stored block", 0, |one| one.write(block));
@@ -226,7 +226,7 @@ fn no_call_takes_more_look_ups_than_its_bound() {
     costs.compare("write a withheld block", 1, NEW_BLOCK, write);
     assert_eq!(costs.status().complete, 3 * COMPLETE);
 
-    let causal = |one: &Session| one.causal(&last.slot().digest);
+    let causal = |one: &Session| one.causal(&last.subject().digest);
     costs.compare("the first causal", 1, 3 * COMPLETE, causal);
     costs.unchanging(last, &certificates[0]);
     costs.compare("collect a part", 1, of_round, |one| {

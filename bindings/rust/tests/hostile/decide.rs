@@ -40,9 +40,9 @@ impl Decider {
 
     /// Notes a stored block.
     pub fn stored(&mut self, block: &CheckedBlock) {
-        let slot = block.slot();
-        if slot.round % 2 == 1 && slot.round > self.next {
-            let key = (slot.round, slot.author, slot.digest.0);
+        let subject = block.subject();
+        if subject.round % 2 == 1 && subject.round > self.next {
+            let key = (subject.round, subject.author, subject.digest.0);
             self.parents.insert(key, block.block().parents().to_vec());
         }
     }
@@ -54,9 +54,9 @@ impl Decider {
         }
         let (round, digest) = self.due.pop_front()?;
         for block in causal(session, &digest)?.walk().expect("memory") {
-            let slot = (block.round(), block.author());
-            if self.delivered.insert(slot) {
-                self.order.push(slot);
+            let subject = (block.round(), block.author());
+            if self.delivered.insert(subject) {
+                self.order.push(subject);
             }
         }
         self.leaders.push(round);

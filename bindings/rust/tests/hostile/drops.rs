@@ -4,7 +4,7 @@ use crate::flow::Flow;
 use crate::honest::{BUDGET, Honest, Rules};
 use crate::lab::Com;
 use crate::world::{Checks, Packet, Post};
-use narwhal_store::{CertifyReply, Checked, Digest, Limits, Message, Session, Slot, Store};
+use narwhal_store::{CertifyReply, Checked, Digest, Limits, Message, Session, Store, Subject};
 use narwhal_store::{CollectReply, WriteReply};
 
 const WINDOW: u32 = 16;
@@ -33,8 +33,8 @@ impl Drops {
         }
     }
 
-    /// Writes a block that the store takes. Returns the slots to vote for.
-    fn write(&mut self, message: &[u8]) -> Vec<Slot> {
+    /// Writes a block that the store takes. Returns the subjects to vote for.
+    fn write(&mut self, message: &[u8]) -> Vec<Subject> {
         let Ok(Checked::Block(block)) = Message::check(&self.com.committee, message) else {
             panic!("no block");
         };
@@ -44,31 +44,31 @@ impl Drops {
         }
     }
 
-    /// Certifies a slot. Returns the slots to vote for.
-    fn certify(&mut self, slot: &Slot) -> Vec<Slot> {
+    /// Certifies a subject. Returns the subjects to vote for.
+    fn certify(&mut self, subject: &Subject) -> Vec<Subject> {
         let signers: Vec<u16> = (0..self.com.committee.quorum() as u16).collect();
-        let message = self.com.certificate(slot, &signers);
+        let message = self.com.certificate(subject, &signers);
         let Ok(Checked::Certificate(made)) = Message::check(&self.com.committee, &message) else {
             panic!("no certificate");
         };
         let reply = self.session.certify(&made).unwrap().into_reply();
         assert_eq!(reply, CertifyReply::Certified);
-        self.flow.certified(slot)
+        self.flow.certified(subject)
     }
 
-    /// Raises the garbage round. Returns the slots to vote for.
-    fn collect(&mut self, round: u64) -> Vec<Slot> {
+    /// Raises the garbage round. Returns the subjects to vote for.
+    fn collect(&mut self, round: u64) -> Vec<Subject> {
         let reply = self.session.collect(round).unwrap().into_reply();
         assert!(matches!(reply, CollectReply::Raised { .. }));
         self.flow.collected(round)
     }
 
     /// A block of round 0, which is stored and certified.
-    fn stands(&mut self, author: u16) -> Slot {
-        let (message, slot) = self.com.block(author, 0, &[], &[]);
-        assert_eq!(self.write(&message), [slot]);
-        self.certify(&slot);
-        slot
+    fn stands(&mut self, author: u16) -> Subject {
+        let (message, subject) = self.com.block(author, 0, &[], &[]);
+        assert_eq!(self.write(&message), [subject]);
+        self.certify(&subject);
+        subject
     }
 
     fn made_up(&self, author: u16, round: u64) -> Vec<u8> {
@@ -83,9 +83,9 @@ impl Drops {
 #[test]
 fn copies_of_a_certificate_are_dropped_without_a_check() {
     let mut drops = Drops::new(100);
-    let slot = drops.stands(7);
+    let subject = drops.stands(7);
     let signers: Vec<u16> = (0..67).collect();
-    let mut copy = drops.com.certificate(&slot, &signers);
+    let mut copy = drops.com.certificate(&subject, &signers);
     assert_eq!(copy.len(), 4_465);
     assert!(!drops.flow.wants(&copy));
     copy[100] ^= 1;
@@ -98,10 +98,10 @@ fn copies_of_a_certificate_are_dropped_without_a_check() {
 #[test]
 fn refused_blocks_are_dropped_without_a_check() {
     let mut drops = Drops::new(4);
-    let (first, slot) = drops.com.block(1, 0, &[], &[]);
+    let (first, subject) = drops.com.block(1, 0, &[], &[]);
     let (twin, of_twin) = drops.com.block(1, 0, &[], &[vec![1]]);
     assert!(drops.flow.wants(&first) && drops.flow.wants(&twin));
-    assert_eq!(drops.write(&first), [slot]);
+    assert_eq!(drops.write(&first), [subject]);
     assert!(!drops.flow.wants(&first) && !drops.flow.wants(&twin));
     let window = u64::from(WINDOW);
     assert!(!drops.flow.wants(&drops.made_up(2, window)));
@@ -164,9 +164,9 @@ fn invented_parents_do_not_hide_the_missing_parent_of_a_certified_block() {
     let (message, child) = drops.com.block(50, 1, &parents, &[]);
     assert!(drops.write(&message).is_empty());
     drops.certify(&child);
-    let is_certified = |slot: &Slot| {
-        let look = drops.store.look(slot.round, slot.author);
-        look.certified == Some(slot.digest)
+    let is_certified = |subject: &Subject| {
+        let look = drops.store.look(subject.round, subject.author);
+        look.certified == Some(subject.digest)
     };
     let asked = drops.flow.missing().filter(|(of, _)| is_certified(of));
     assert_eq!(asked.collect::<Vec<_>>(), [(child, lacking)]);
@@ -203,18 +203,18 @@ fn a_vote_waits_for_all_parents() {
         .collect();
     let parents: Vec<_> = made
         .iter()
-        .map(|(_, slot)| (slot.author, slot.digest))
+        .map(|(_, subject)| (subject.author, subject.digest))
         .collect();
     let (message, child) = drops.com.block(3, 1, &parents, &[]);
     assert!(drops.write(&message).is_empty());
-    for (message, slot) in &made[..2] {
-        assert_eq!(drops.write(message), [*slot]);
-        assert!(drops.certify(slot).is_empty());
+    for (message, subject) in &made[..2] {
+        assert_eq!(drops.write(message), [*subject]);
+        assert!(drops.certify(subject).is_empty());
     }
     // The last certificate comes before its block.
-    let (message, slot) = &made[2];
-    assert!(drops.certify(slot).is_empty());
-    assert_eq!(drops.write(message), [*slot, child]);
+    let (message, subject) = &made[2];
+    assert!(drops.certify(subject).is_empty());
+    assert_eq!(drops.write(message), [*subject, child]);
     let others = [0, 1, 2].map(|author| (author, child.digest));
     let (message, next) = drops.com.block(2, 2, &others, &[]);
     assert!(drops.write(&message).is_empty());

@@ -4,7 +4,7 @@ use crate::honest::LIMITS;
 use crate::lab::Com;
 use crate::simulator_draw::Draw;
 use crate::world::{Packet, Post};
-use narwhal_store::{Digest, Message, Peek, Slot};
+use narwhal_store::{Digest, Message, Peek, Subject};
 use std::collections::{BTreeMap, BTreeSet};
 use std::rc::Rc;
 
@@ -54,7 +54,7 @@ pub struct Faulty<'a> {
     certified: BTreeMap<u64, BTreeMap<u16, Digest>>,
     heard: Vec<Rc<[u8]>>,
     /// Who voted for its blocks.
-    voters: BTreeMap<[u8; 32], (Slot, BTreeSet<u16>)>,
+    voters: BTreeMap<[u8; 32], (Subject, BTreeSet<u16>)>,
     /// The rounds in which it made its one block of each kind.
     made: BTreeSet<(Attack, u64)>,
     /// Certificates to send once the round is reached.
@@ -93,31 +93,31 @@ impl<'a> Faulty<'a> {
         }
         self.heard.push(message.clone());
         match Message::peek(message) {
-            Some(Peek::Certificate(slot)) => {
-                let round = self.certified.entry(slot.round).or_default();
-                round.insert(slot.author, slot.digest);
+            Some(Peek::Certificate(subject)) => {
+                let round = self.certified.entry(subject.round).or_default();
+                round.insert(subject.author, subject.digest);
             }
-            Some(Peek::Vote { slot, signer }) => self.count(slot, signer, post),
+            Some(Peek::Vote { subject, signer }) => self.count(subject, signer, post),
             _ => {}
         }
     }
 
     /// Counts a vote for one of its blocks. At a quorum it has a certificate.
-    fn count(&mut self, slot: Slot, signer: u16, post: &mut Post) {
+    fn count(&mut self, subject: Subject, signer: u16, post: &mut Post) {
         let quorum = self.com.committee.quorum() as usize;
-        let Some((_, voters)) = self.voters.get_mut(&slot.digest.0) else {
+        let Some((_, voters)) = self.voters.get_mut(&subject.digest.0) else {
             return;
         };
         if !voters.insert(signer) || voters.len() != quorum {
             return;
         }
         let signers: Vec<u16> = voters.iter().copied().collect();
-        let message: Rc<[u8]> = self.com.certificate(&slot, &signers).into();
+        let message: Rc<[u8]> = self.com.certificate(&subject, &signers).into();
         if self
             .made
-            .contains(&(Attack::WithheldCertificate, slot.round))
+            .contains(&(Attack::WithheldCertificate, subject.round))
         {
-            self.withheld.push((slot.round + 6, message));
+            self.withheld.push((subject.round + 6, message));
         } else {
             post.broadcast(self.me, &message);
         }
@@ -204,9 +204,9 @@ impl<'a> Faulty<'a> {
             vec![draw.next() as u8; bytes],
             draw.next().to_be_bytes().into(),
         ];
-        let (message, slot) = self.com.block(self.me, round, &parents, &transaction);
+        let (message, subject) = self.com.block(self.me, round, &parents, &transaction);
         let voters = self.faulty.iter().copied().collect();
-        self.voters.insert(slot.digest.0, (slot, voters));
+        self.voters.insert(subject.digest.0, (subject, voters));
         message.into()
     }
 

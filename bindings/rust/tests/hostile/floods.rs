@@ -2,7 +2,7 @@
 
 use crate::lab::Com;
 use narwhal_store::{Checked, CheckedBlock, CheckedCertificate, Digest, Limits, Message, Store};
-use narwhal_store::{Session, Slot, WriteReply};
+use narwhal_store::{Session, Subject, WriteReply};
 use std::fs;
 
 /// A store of four members with the defaults, and one session.
@@ -31,8 +31,8 @@ impl Flooded {
         }
     }
 
-    fn certificate(&self, slot: &Slot, signers: &[u16]) -> CheckedCertificate {
-        let message = self.com.certificate(slot, signers);
+    fn certificate(&self, subject: &Subject, signers: &[u16]) -> CheckedCertificate {
+        let message = self.com.certificate(subject, signers);
         match Message::check(&self.com.committee, &message) {
             Ok(Checked::Certificate(certificate)) => certificate,
             other => panic!("no certificate, but {other:?}"),
@@ -103,7 +103,7 @@ fn a_block_replayed_100_000_times_fills_nothing() {
 fn twins_of_one_slot_stay_within_the_bound() {
     let flooded = Flooded::new();
     let first = flooded.block(&flooded.com.block(2, 0, &[], &[]).0);
-    let voted = first.slot().digest;
+    let voted = first.subject().digest;
     assert_eq!(flooded.write(&first), WriteReply::Stored { vote: true });
     for twin in 0..1_500_u32 {
         let transactions = [vec![0; 60_000], twin.to_be_bytes().to_vec()];
@@ -119,8 +119,8 @@ fn twins_of_one_slot_stay_within_the_bound() {
 #[test]
 fn a_certificate_replayed_100_000_times_fills_nothing() {
     let flooded = Flooded::new();
-    let (_, slot) = flooded.com.block(1, 0, &[], &[]);
-    let copies = [[0, 1, 2], [1, 2, 3]].map(|signers| flooded.certificate(&slot, &signers));
+    let (_, subject) = flooded.com.block(1, 0, &[], &[]);
+    let copies = [[0, 1, 2], [1, 2, 3]].map(|signers| flooded.certificate(&subject, &signers));
     for copy in 0..100_000 {
         flooded.session.certify(&copies[copy % 2]).unwrap();
     }

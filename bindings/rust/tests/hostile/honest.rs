@@ -5,7 +5,7 @@ use crate::flow::Flow;
 use crate::lab::Com;
 use crate::world::{Checks, Packet, Post};
 use narwhal_store::{CertifyReply, Checked, CheckedBlock, CheckedCertificate, CollectReply};
-use narwhal_store::{Digest, Gather, Limits, Message, Peek, Session, Slot, Store, WriteReply};
+use narwhal_store::{Digest, Gather, Limits, Message, Peek, Session, Store, Subject, WriteReply};
 use std::collections::{BTreeMap, HashMap};
 use std::rc::Rc;
 
@@ -88,8 +88,8 @@ impl<'a> Honest<'a> {
     /// Handles a packet from a member.
     pub fn take(&mut self, from: u16, packet: &Packet, checks: &mut Checks, post: &mut Post) {
         match packet {
-            Packet::Fetch(slot) => {
-                for message in self.disk.get(&slot.digest).into_iter().flatten() {
+            Packet::Fetch(subject) => {
+                for message in self.disk.get(&subject.digest).into_iter().flatten() {
                     post.send(self.me, from, Packet::Message(message.clone()));
                 }
             }
@@ -107,10 +107,10 @@ impl<'a> Honest<'a> {
 
     /// Whether the message is worth its check.
     fn wants(&mut self, from: u16, message: &[u8]) -> bool {
-        let is_own = |gather: &Gather, slot: Slot| gather.slot() == slot;
+        let is_own = |gather: &Gather, subject: Subject| gather.subject() == subject;
         let is_wanted = match Message::peek(message) {
-            Some(Peek::Vote { slot, .. }) => {
-                self.gather.as_ref().is_some_and(|own| is_own(own, slot))
+            Some(Peek::Vote { subject, .. }) => {
+                self.gather.as_ref().is_some_and(|own| is_own(own, subject))
             }
             _ => self.checks_all() || self.flow.wants(message),
         };
@@ -143,17 +143,17 @@ impl<'a> Honest<'a> {
     }
 
     fn write(&mut self, block: &CheckedBlock, message: &Rc<[u8]>, post: &mut Post) {
-        let slot = block.slot();
+        let subject = block.subject();
         match self.session.write(block).expect("memory").into_reply() {
             WriteReply::Stored { vote } => {
                 self.disk
-                    .entry(slot.digest)
+                    .entry(subject.digest)
                     .or_default()
                     .push(message.clone());
                 self.decider.stored(block);
                 let due = self.flow.stored(block, vote);
                 match self.rules {
-                    Rules::VotesAtOnce if vote => self.vote(&[slot], post),
+                    Rules::VotesAtOnce if vote => self.vote(&[subject], post),
                     Rules::VotesAtOnce => {}
                     _ => self.vote(&due, post),
                 }
@@ -166,7 +166,7 @@ impl<'a> Honest<'a> {
     }
 
     fn certify(&mut self, certificate: &CheckedCertificate, message: &Rc<[u8]>, post: &mut Post) {
-        let slot = certificate.slot();
+        let subject = certificate.subject();
         match self
             .session
             .certify(certificate)
@@ -175,10 +175,10 @@ impl<'a> Honest<'a> {
         {
             CertifyReply::Certified => {
                 self.disk
-                    .entry(slot.digest)
+                    .entry(subject.digest)
                     .or_default()
                     .push(message.clone());
-                let due = self.flow.certified(&slot);
+                let due = self.flow.certified(&subject);
                 self.vote_later(&due, post);
                 self.decide(post);
             }
@@ -187,18 +187,20 @@ impl<'a> Honest<'a> {
         }
     }
 
-    fn vote_later(&mut self, due: &[Slot], post: &mut Post) {
+    fn vote_later(&mut self, due: &[Subject], post: &mut Post) {
         if self.rules != Rules::VotesAtOnce {
             self.vote(due, post);
         }
     }
 
-    fn vote(&mut self, due: &[Slot], post: &mut Post) {
-        for slot in due {
-            let before = self.votes.insert((slot.round, slot.author), slot.digest);
-            assert_eq!(before, None, "a second vote for {slot:?}");
-            let vote = self.com.vote(slot, self.me);
-            post.send(self.me, slot.author, Packet::Message(vote.into()));
+    fn vote(&mut self, due: &[Subject], post: &mut Post) {
+        for subject in due {
+            let before = self
+                .votes
+                .insert((subject.round, subject.author), subject.digest);
+            assert_eq!(before, None, "a second vote for {subject:?}");
+            let vote = self.com.vote(subject, self.me);
+            post.send(self.me, subject.author, Packet::Message(vote.into()));
         }
     }
 
@@ -238,9 +240,9 @@ impl<'a> Honest<'a> {
                 continue;
             }
             let transactions = [vec![self.me as u8; 20]];
-            let (message, slot) = self.com.block(self.me, round, &parents, &transactions);
+            let (message, subject) = self.com.block(self.me, round, &parents, &transactions);
             self.round = round + 1;
-            self.gather = Some(Gather::new(&self.com.committee, &slot).expect("a member"));
+            self.gather = Some(Gather::new(&self.com.committee, &subject).expect("a member"));
             let message: Rc<[u8]> = message.into();
             self.own = vec![message.clone()];
             // It takes its own block before the others do, as it takes a block of the network.
@@ -251,8 +253,8 @@ impl<'a> Honest<'a> {
 
     /// Asks for the blocks of certificates, and for the parents of stored blocks.
     fn ask(&self, post: &mut Post) {
-        for slot in self.flow.absent() {
-            post.ask_some(self.me, slot.author, slot);
+        for subject in self.flow.absent() {
+            post.ask_some(self.me, subject.author, subject);
         }
         let mut asked = vec![0; self.spent.len()];
         for (child, parent) in self.flow.missing() {

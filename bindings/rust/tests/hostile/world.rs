@@ -4,7 +4,7 @@ use crate::faulty::{ATTACKS, Attack, Faulty};
 use crate::honest::{Honest, Rules};
 use crate::lab::Com;
 use crate::simulator_draw::Draw;
-use narwhal_store::{CheckError, Checked, Message, Slot};
+use narwhal_store::{CheckError, Checked, Message, Subject};
 use std::collections::{BTreeMap, HashMap};
 use std::rc::Rc;
 
@@ -17,7 +17,7 @@ const TICK: u64 = 10;
 pub enum Packet {
     Message(Rc<[u8]>),
     /// Asks for the block and the certificate of a digest.
-    Fetch(Slot),
+    Fetch(Subject),
 }
 
 /// What a member sends, before the network draws the delays.
@@ -56,11 +56,11 @@ impl Post {
     }
 
     /// Asks the author and two other members, in turn.
-    pub fn ask_some(&mut self, from: u16, author: u16, slot: Slot) {
-        self.send(from, author, Packet::Fetch(slot));
+    pub fn ask_some(&mut self, from: u16, author: u16, subject: Subject) {
+        self.send(from, author, Packet::Fetch(subject));
         for _ in 0..2 {
             self.turn = (self.turn + 1) % self.members;
-            self.send(from, self.turn, Packet::Fetch(slot));
+            self.send(from, self.turn, Packet::Fetch(subject));
         }
     }
 }

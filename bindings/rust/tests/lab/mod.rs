@@ -5,7 +5,7 @@
 
 mod signing;
 
-use narwhal_store::{Block, Committee, Digest, Member, PublicKey, Signature, Slot};
+use narwhal_store::{Block, Committee, Digest, Member, PublicKey, Signature, Subject};
 use narwhal_store::{text_of_block, text_of_vote, vote_message};
 
 /// A committee, and signers for all its members.
@@ -36,23 +36,23 @@ impl Com {
         signing::sign(&self.keys, member, text)
     }
 
-    /// A block's message and its slot. The parents are authors and digests of the preceding round, ascending by author.
+    /// A block's message and its subject. The parents are authors and digests of the preceding round, ascending by author.
     pub fn block(
         &self,
         author: u16,
         round: u64,
         parents: &[(u16, Digest)],
         transactions: &[Vec<u8>],
-    ) -> (Vec<u8>, Slot) {
+    ) -> (Vec<u8>, Subject) {
         let block = Block::new(author, round, parents, transactions).expect("a block");
         let signature = self.sign(author, &text_of_block(&block.digest()));
-        (block.message(&signature), block.slot())
+        (block.message(&signature), block.subject())
     }
 
     /// The message of a certificate: votes of these signers, who must be in ascending order.
-    pub fn certificate(&self, slot: &Slot, signers: &[u16]) -> Vec<u8> {
+    pub fn certificate(&self, subject: &Subject, signers: &[u16]) -> Vec<u8> {
         // docs/FORMATS.md: the text of a vote is 4 bytes of its own and the subject.
-        let text = text_of_vote(slot).expect("a round");
+        let text = text_of_vote(subject).expect("a round");
         let mut message = vec![2];
         message.extend(&text[4..]);
         message.extend((signers.len() as u16).to_be_bytes());
@@ -64,9 +64,9 @@ impl Com {
     }
 
     /// The message of a vote.
-    pub fn vote(&self, slot: &Slot, signer: u16) -> Vec<u8> {
-        let text = text_of_vote(slot).expect("a round");
-        vote_message(slot, signer, &self.sign(signer, &text)).expect("a round")
+    pub fn vote(&self, subject: &Subject, signer: u16) -> Vec<u8> {
+        let text = text_of_vote(subject).expect("a round");
+        vote_message(subject, signer, &self.sign(signer, &text)).expect("a round")
     }
 }
 
@@ -81,25 +81,26 @@ mod tests {
         let everybody: Vec<u16> = (0..100).collect();
         let mut parents = Vec::new();
         for &author in &everybody {
-            let (message, slot) = com.block(author, 0, &[], &[vec![7; 3]]);
+            let (message, subject) = com.block(author, 0, &[], &[vec![7; 3]]);
             let checked = Message::check(&com.committee, &message);
-            assert!(matches!(checked, Ok(Checked::Block(block)) if block.slot() == slot));
-            parents.push((author, slot.digest));
+            assert!(matches!(checked, Ok(Checked::Block(block)) if block.subject() == subject));
+            parents.push((author, subject.digest));
         }
-        let (message, slot) = com.block(99, 1, &parents, &[]);
+        let (message, subject) = com.block(99, 1, &parents, &[]);
         assert!(Message::check(&com.committee, &message).is_ok());
-        let message = com.certificate(&slot, &everybody);
+        let message = com.certificate(&subject, &everybody);
         let checked = Message::check(&com.committee, &message);
-        assert!(matches!(checked, Ok(Checked::Certificate(made)) if made.slot() == slot));
+        assert!(matches!(checked, Ok(Checked::Certificate(made)) if made.subject() == subject));
     }
 
     #[test]
     fn votes_gather_by_weight() {
         let com = Com::weighted(&[1, 5, 1]);
-        let (_, slot) = com.block(2, 0, &[], &[]);
-        let mut gather = Gather::new(&com.committee, &slot).unwrap();
+        let (_, subject) = com.block(2, 0, &[], &[]);
+        let mut gather = Gather::new(&com.committee, &subject).unwrap();
         for (signer, quorum) in [(0, false), (1, true)] {
-            let Ok(Checked::Vote(vote)) = Message::check(&com.committee, &com.vote(&slot, signer))
+            let Ok(Checked::Vote(vote)) =
+                Message::check(&com.committee, &com.vote(&subject, signer))
             else {
                 panic!("the message is a vote");
             };
@@ -107,18 +108,18 @@ mod tests {
         }
         assert_eq!(
             gather.certificate().unwrap().message(),
-            com.certificate(&slot, &[0, 1])
+            com.certificate(&subject, &[0, 1])
         );
     }
 
     #[test]
     fn altered_signatures_are_refused() {
         let com = Com::new(4);
-        let (mut message, slot) = com.block(3, 0, &[], &[]);
+        let (mut message, subject) = com.block(3, 0, &[], &[]);
         *message.last_mut().unwrap() ^= 1;
         let fault = Message::check(&com.committee, &message).unwrap_err();
         assert_eq!(fault, CheckError::Block(BlockFault::Signature));
-        let mut message = com.certificate(&slot, &[0, 2, 3]);
+        let mut message = com.certificate(&subject, &[0, 2, 3]);
         *message.last_mut().unwrap() ^= 1;
         let fault = Message::check(&com.committee, &message).unwrap_err();
         assert_eq!(

@@ -8,7 +8,7 @@ use narwhal_store::{
 };
 use narwhal_store::{BlockFault, CertificateFault, CheckError, TextFault};
 use narwhal_store::{Call as ToldCall, Reply as ToldReply};
-use narwhal_store::{CertifyReply, CollectReply, Slot, Status, WriteReply};
+use narwhal_store::{CertifyReply, CollectReply, Status, Subject, WriteReply};
 use std::rc::Rc;
 
 /// An answer or a ticket, which carries a history.
@@ -87,11 +87,11 @@ pub fn ask_store(
             CollectReply::Raised { dropped } => Reply::Raised { dropped },
             CollectReply::NotHigher { garbage_round } => Reply::NotHigher(garbage_round),
         }),
-        (Call::Missing(most), _) => Heard::of(session.missing(*most)?, |slots| {
+        (Call::Missing(most), _) => Heard::of(session.missing(*most)?, |subjects| {
             Reply::Missing(
-                slots
+                subjects
                     .iter()
-                    .map(|slot| ((slot.round, slot.author), slot.digest.0))
+                    .map(|subject| ((subject.round, subject.author), subject.digest.0))
                     .collect(),
             )
         }),
@@ -144,7 +144,7 @@ fn to_certify(reply: &CertifyReply) -> Reply {
 pub fn block_of(block: &narwhal_store::Block) -> Block {
     Block {
         digest: block.digest().0,
-        slot: (block.round(), block.author()),
+        subject: (block.round(), block.author()),
         parents: block
             .parents()
             .iter()
@@ -154,10 +154,10 @@ pub fn block_of(block: &narwhal_store::Block) -> Block {
     }
 }
 
-/// The crate's slot.
-pub fn slot_of(certificate: &Certificate) -> Slot {
-    let (round, author) = certificate.slot;
-    Slot {
+/// The crate's subject.
+pub fn subject_of(certificate: &Certificate) -> Subject {
+    let (round, author) = certificate.subject;
+    Subject {
         digest: Digest(certificate.digest),
         round,
         author,
@@ -226,8 +226,8 @@ fn to_told(reply: &Reply) -> ToldReply {
         Reply::NotHigher(garbage_round) => ToldReply::NotHigher {
             garbage_round: *garbage_round,
         },
-        Reply::Missing(slots) => ToldReply::Missing {
-            listed: slots.len() as u64,
+        Reply::Missing(subjects) => ToldReply::Missing {
+            listed: subjects.len() as u64,
         },
         Reply::Status(_) => ToldReply::Status,
     }

@@ -7,7 +7,7 @@ mod node;
 
 use crate::model::{Call, Digest, Reply};
 use answers::block_of;
-pub use answers::{code_of, slot_of};
+pub use answers::{code_of, subject_of};
 pub use corpus::{Case, corpus, votes_of};
 pub use draw::{Draw, Tally};
 use narwhal_store::{AgreeError, Limits, Ticket};
@@ -115,7 +115,7 @@ impl<'a> World<'a> {
             if delivery.faulty && !self.plan.faulty || self.draw.chance(self.plan.lost) {
                 continue;
             }
-            let sent = delivery.slot.0.min(50) * 10 + self.draw.below(8);
+            let sent = delivery.subject.0.min(50) * 10 + self.draw.below(8);
             let late = if self.draw.chance(self.plan.late) {
                 self.draw.below(100)
             } else {
@@ -164,7 +164,7 @@ impl<'a> World<'a> {
             .case
             .deliveries
             .iter()
-            .filter(|delivery| (36..40).contains(&delivery.slot.0));
+            .filter(|delivery| (36..40).contains(&delivery.subject.0));
         let newest: BTreeSet<_> = newest.map(|delivery| delivery.digest).collect();
         for node in 0..self.nodes.len() {
             self.ask(node, Call::Collect(floor));

@@ -9,4 +9,4 @@ pub returns-clause-list : goal.returns-clause-list
 returns-clause-list g c = rw (← c.self.view_is) (ticket_walks (λ walked. blocks walked.items) g.S.Scheme.accepts _ _ _ c.self.invariant c.walk_lent.ensures.walk)
 
 pub returns-clause-digests : goal.returns-clause-digests
-returns-clause-digests g c = rw (← c.self.view_is) (ticket_digests (λ walked. walked.items) g.S.Scheme.accepts _ _ _ c.self.invariant c.walk_lent.ensures.digests)
+returns-clause-digests g c = ticket_digests (λ walked. walked.items) g.S.Scheme.accepts _ _ _ c.self.invariant c.walk_lent.ensures.digests

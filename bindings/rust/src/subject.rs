@@ -1,16 +1,15 @@
-//! Slots, and the texts that authors and voters sign.
+//! Subjects, and the texts that authors and voters sign.
 
 use crate::code::Code;
 use crate::ffi;
 use crate::{BadRound, Digest, Signature};
 
-/// A block's digest, with the block's round and author. In docs/MODEL.md, a slot is the round and
-/// the author only.
+/// A block's digest, with the block's round and author.
 ///
-/// Each vote is for a slot, and a certificate proves that a quorum voted for one.
+/// Each vote is for a subject, and a certificate proves that a quorum voted for one.
 #[derive(Clone, Copy, Debug, PartialEq, Eq, Hash)]
 #[repr(C)]
-pub struct Slot {
+pub struct Subject {
     /// The digest of the block.
     pub digest: Digest,
     /// The round of the block, below 2^48.
@@ -19,9 +18,9 @@ pub struct Slot {
     pub author: u16,
 }
 
-impl Slot {
-    /// A slot for the library to write into.
-    pub(crate) const EMPTY: Slot = Slot {
+impl Subject {
+    /// A subject for the library to write into.
+    pub(crate) const EMPTY: Subject = Subject {
         digest: Digest::ZERO,
         round: 0,
         author: 0,
@@ -36,7 +35,7 @@ pub fn text_of_block(digest: &Digest) -> [u8; 36] {
     text
 }
 
-/// Returns the 44 bytes that a voter for a slot signs: `NWVT`, the digest, the round and the
+/// Returns the 44 bytes that a voter for a subject signs: `NWVT`, the digest, the round and the
 /// author.
 ///
 /// Sign this text only when the store answered the block's write with `Stored { vote: true }`.
@@ -44,16 +43,16 @@ pub fn text_of_block(digest: &Digest) -> [u8; 36] {
 /// # Errors
 ///
 /// [`BadRound`] if the round is 2^48 or more.
-pub fn text_of_vote(slot: &Slot) -> Result<[u8; 44], BadRound> {
+pub fn text_of_vote(subject: &Subject) -> Result<[u8; 44], BadRound> {
     let mut text = [0; 44];
-    match ffi::nw_text_of_vote(slot, &mut text) {
+    match ffi::nw_text_of_vote(subject, &mut text) {
         Code::DONE => Ok(text),
         Code::BAD_ROUND => Err(BadRound),
         other => other.unexpected(),
     }
 }
 
-/// Returns the message of a vote: the slot, the number of the member that signed it, and the
+/// Returns the message of a vote: the subject, the number of the member that signed it, and the
 /// signature of [`text_of_vote`].
 ///
 /// The message has 107 bytes. This does not verify the signature:
@@ -62,8 +61,12 @@ pub fn text_of_vote(slot: &Slot) -> Result<[u8; 44], BadRound> {
 /// # Errors
 ///
 /// [`BadRound`] if the round is 2^48 or more.
-pub fn vote_message(slot: &Slot, signer: u16, signature: &Signature) -> Result<Vec<u8>, BadRound> {
-    let message = ffi::vote_message(slot, signer, signature);
+pub fn vote_message(
+    subject: &Subject,
+    signer: u16,
+    signature: &Signature,
+) -> Result<Vec<u8>, BadRound> {
+    let message = ffi::vote_message(subject, signer, signature);
     message.map_err(|code| match code {
         Code::BAD_ROUND => BadRound,
         other => other.abort(),

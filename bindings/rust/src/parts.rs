@@ -1,88 +1,68 @@
-//! The parts of a block, read from its encoded body.
+//! The parents and transactions of a block.
 
 use crate::Digest;
+use crate::ffi::{self, Handle};
+use crate::raw::RawParent;
 use std::fmt;
 use std::iter::FusedIterator;
+use std::slice;
 
-/// An encoded body, with the places of its parts. docs/FORMATS.md of the repository has the format.
-pub(crate) struct Body {
-    pub(crate) bytes: Vec<u8>,
+/// The parents and the transactions of a block, copied from the library.
+pub(crate) struct Parts {
     pub(crate) parents: Box<[(u16, Digest)]>,
-    /// Where the first transaction begins.
-    start: usize,
-    /// How many transactions there are.
-    count: usize,
+    /// All transactions, one after another.
+    bytes: Vec<u8>,
+    lengths: Box<[u32]>,
 }
 
-impl Body {
-    /// Finds the parts of a body that the library encoded.
-    pub(crate) fn of(bytes: Vec<u8>) -> Body {
-        let mut fields = Fields(&bytes);
-        // The version, the author and the round.
-        let _: [u8; 9] = fields.next();
-        let parents = u16::from_be_bytes(fields.next());
-        let mut parent = |_| (u16::from_be_bytes(fields.next()), Digest(fields.next()));
-        let parents = (0..parents).map(&mut parent).collect();
-        let count = u16::from_be_bytes(fields.next()).into();
-        let start = bytes.len() - fields.0.len();
-        Body {
-            bytes,
+impl Parts {
+    /// Copies the parts of the block.
+    pub(crate) fn of(block: &mut Handle) -> Parts {
+        let (mut parents, mut transactions) = (0, 0);
+        ffi::nw_block_counts(block, &mut parents, &mut transactions).or_abort();
+        let parent = |index| {
+            let mut raw = RawParent::EMPTY;
+            ffi::nw_block_parent(block, index, &mut raw).or_abort();
+            (raw.author, raw.digest)
+        };
+        let parents = (0..parents).map(parent).collect();
+        let mut lengths = vec![0; transactions].into_boxed_slice();
+        let bytes = ffi::block_transactions(block, &mut lengths);
+        Parts {
             parents,
-            start,
-            count,
+            bytes: bytes.unwrap_or_else(|code| code.abort()),
+            lengths,
         }
     }
 
     pub(crate) fn transactions(&self) -> Transactions<'_> {
         Transactions {
-            fields: Fields(&self.bytes[self.start..]),
-            left: self.count,
+            bytes: &self.bytes,
+            lengths: self.lengths.iter(),
         }
     }
 }
-
-/// The fields that were not read yet.
-#[derive(Clone)]
-struct Fields<'a>(&'a [u8]);
-
-impl<'a> Fields<'a> {
-    /// Reads a field of `N` bytes.
-    fn next<const N: usize>(&mut self) -> [u8; N] {
-        let (field, rest) = self.0.split_first_chunk().expect(MALFORMED);
-        self.0 = rest;
-        *field
-    }
-
-    /// Reads a transaction: its length, and its bytes.
-    fn transaction(&mut self) -> &'a [u8] {
-        let length = u32::from_be_bytes(self.next()) as usize;
-        let (transaction, rest) = self.0.split_at_checked(length).expect(MALFORMED);
-        self.0 = rest;
-        transaction
-    }
-}
-
-const MALFORMED: &str = "the linked library does not match narwhal-store: a body is malformed";
 
 /// The transactions of a block, in order.
 ///
 /// [`Block::transactions`](crate::Block::transactions) returns it.
 #[derive(Clone)]
 pub struct Transactions<'a> {
-    fields: Fields<'a>,
-    left: usize,
+    bytes: &'a [u8],
+    lengths: slice::Iter<'a, u32>,
 }
 
 impl<'a> Iterator for Transactions<'a> {
     type Item = &'a [u8];
 
     fn next(&mut self) -> Option<&'a [u8]> {
-        self.left = self.left.checked_sub(1)?;
-        Some(self.fields.transaction())
+        let (transaction, rest) = self.bytes.split_at(*self.lengths.next()? as usize);
+        self.bytes = rest;
+        Some(transaction)
     }
 
     fn size_hint(&self) -> (usize, Option<usize>) {
-        (self.left, Some(self.left))
+        self.lengths.size_hint()
     }
 }
 
@@ -116,7 +96,7 @@ mod tests {
         assert_eq!(block.digest(), Digest::of(&block.body()));
         let message = block.message(&Signature([7; 64]));
         assert_eq!(message, [&[1], &block.body()[..], &[7; 64]].concat());
-        assert_eq!(block.clone().slot(), block.slot());
+        assert_eq!(block.clone().subject(), block.subject());
     }
 
     #[test]

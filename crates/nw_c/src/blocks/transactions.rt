@@ -1,0 +1,92 @@
+//! Copying the transactions of a block.
+ghost use Rattle.std.specs.Prelude.{◌≡◌, ◌⊎◌, ◌-◌, ◌≤◌, ◌^◌, pos, length, map, min, take, IsTrue, true, false};
+ghost use Rattle.std.specs.List.{flat_map};
+ghost use Rattle.nw_c.specs.Blocks.{AreCutFrom, HasNoRoom, HasTransactions, NeedMoreThan};
+ghost use Rattle.nw_c.specs.Kinds.{IsUnchanged, HoldsBlock};
+ghost use Rattle.nw_c.specs.declared.codes.TheConstants.{CLOSED, OTHER_KIND, SMALL};
+
+use crate::codes::{CLOSED, DONE, OTHER_KIND, SMALL};
+use crate::content::Content;
+use crate::handle::BlockHandle;
+use nw_codec::Transactions;
+
+/// The number of bytes of all transactions together, and at most the largest `usize`.
+fn size_of_all(transactions: &Transactions) -> usize
+    ensures { result ≡ min (2 ^ 64 - 1) (length (flat_map (λ t. t) transactions.now)) }
+{
+    let mut size = 0usize;
+    for transaction in transactions.iter() {
+        size = size.saturating_add(transaction.len());
+    }
+    size
+}
+
+/// Copies the transactions, one after another, and their lengths.
+fn copy_all(transactions: &Transactions, bytes: &mut [u8], lengths: &mut [u32])
+    requires room { length (flat_map (λ t. t) transactions.now) ≤ length bytes.old }
+    requires places { length transactions.now ≤ length lengths.old }
+    ensures bytes { take (length (flat_map (λ t. t) transactions.now)) bytes.new
+        ≡ flat_map (λ t. t) transactions.now }
+    ensures lengths { take (length transactions.now) lengths.new ≡ map length transactions.now }
+{
+    let (mut start, mut index) = (0, 0);
+    for transaction in transactions.iter() {
+        let end = start + transaction.len();
+        bytes[start..end].copy_from_slice(transaction);
+        lengths[index] = transaction.len() as u32;
+        start = end;
+        index += 1;
+    }
+}
+
+/// Writes the size of all transactions to `needed`, and copies them with their lengths if there is room.
+fn copied(
+    transactions: &Transactions,
+    bytes: &mut [u8],
+    lengths: &mut [u32],
+    needed: &mut usize,
+) -> bool
+    ensures done { IsTrue result → AreCutFrom (take needed.new bytes.new)
+        (take (length transactions.now) lengths.new) transactions.now }
+    ensures small { IsTrue result ⊎ NeedMoreThan (length bytes.old) (length lengths.old) transactions.now }
+    ensures unchanged { result ≡ false → (bytes.new ≡ bytes.old) × (lengths.new ≡ lengths.old) }
+{
+    let size = size_of_all(transactions);
+    *needed = size;
+    if size > bytes.len() || transactions.len() > lengths.len() {
+        return false;
+    }
+    copy_all(transactions, bytes, lengths);
+    true
+}
+
+/// Copies all transactions of the block to the buffer, one after another, and their sizes to `lengths`, in the form that `nw_block_new`
+/// takes. Writes the size of all together to `needed`. Returns `NW_SMALL` if the buffer is smaller than that, or if `lengths` has fewer
+/// places than the block has transactions (`nw_block_counts`).
+#[unsafe(no_mangle)]
+pub extern "C" fn nw_block_transactions(
+    block: &mut BlockHandle,
+    buffer: &mut [u8],
+    lengths: &mut [u32],
+    needed: &mut usize,
+) -> i32
+    ensures transactions { result ≡ pos 0
+        → HasTransactions block.old.value (take needed.new buffer.new) lengths.new }
+    ensures same { IsUnchanged block.old block.new }
+    ensures closed { result ≡ CLOSED → block.old.held ≡ true → ⊥ }
+    ensures other_kind { result ≡ OTHER_KIND → HoldsBlock block.old.value → ⊥ }
+    ensures small { result ≡ SMALL → HasNoRoom block.old.value (length buffer.old) (length lengths.old) }
+    ensures unchanged { (result ≡ pos 0 → ⊥) → (buffer.new ≡ buffer.old) × (lengths.new ≡ lengths.old) }
+{
+    if !block.is_open() {
+        return CLOSED;
+    }
+    let Content::Block(held) = block.lend() else {
+        return OTHER_KIND;
+    };
+    if copied(&held.block().transactions, buffer, lengths, needed) {
+        DONE
+    } else {
+        SMALL
+    }
+}
