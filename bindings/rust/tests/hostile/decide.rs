@@ -54,9 +54,9 @@ impl Decider {
         }
         let (round, digest) = self.due.pop_front()?;
         for block in causal(session, &digest)?.walk().expect("memory") {
-            let subject = (block.round(), block.author());
-            if self.delivered.insert(subject) {
-                self.order.push(subject);
+            let slot = (block.round(), block.author());
+            if self.delivered.insert(slot) {
+                self.order.push(slot);
             }
         }
         self.leaders.push(round);

@@ -8,12 +8,12 @@ use std::rc::Rc;
 pub type Digest = [u8; 32];
 
 /// A round and an author.
-pub type Subject = (u64, u16);
+pub type Slot = (u64, u16);
 
 #[derive(Debug, PartialEq)]
 pub struct Block {
     pub digest: Digest,
-    pub subject: Subject,
+    pub slot: Slot,
     pub parents: Vec<(u16, Digest)>,
     pub body: Vec<u8>,
 }
@@ -21,7 +21,7 @@ pub struct Block {
 #[derive(Debug, PartialEq)]
 pub struct Certificate {
     pub digest: Digest,
-    pub subject: Subject,
+    pub slot: Slot,
     pub message: Vec<u8>,
 }
 
@@ -64,7 +64,7 @@ pub enum Reply {
         dropped: u64,
     },
     NotHigher(u64),
-    Missing(Vec<(Subject, Digest)>),
+    Missing(Vec<(Slot, Digest)>),
     Status(Counts),
 }
 
@@ -82,7 +82,7 @@ pub struct Counts {
 pub struct Model {
     blocks: BTreeMap<Digest, Rc<Block>>,
     certificates: BTreeMap<Digest, Rc<Certificate>>,
-    firsts: BTreeMap<Subject, Digest>,
+    firsts: BTreeMap<Slot, Digest>,
     floor: u64,
     most: usize,
     window: u64,
@@ -129,9 +129,9 @@ impl Model {
     }
 
     fn write(&mut self, block: &Rc<Block>) -> Reply {
-        let (digest, round) = (block.digest, block.subject.0);
+        let (digest, round) = (block.digest, block.slot.0);
         let certified = self.certificates.get(&digest);
-        let first = self.firsts.get(&block.subject).copied();
+        let first = self.firsts.get(&block.slot).copied();
         if round < self.floor {
             Reply::Collected(self.floor)
         } else if round >= self.floor + self.window {
@@ -142,7 +142,7 @@ impl Model {
             } else {
                 Reply::Clash
             }
-        } else if certified.is_some_and(|certificate| certificate.subject != block.subject) {
+        } else if certified.is_some_and(|certificate| certificate.slot != block.slot) {
             Reply::Misfit
         } else if let (Some(first), None) = (first.filter(|first| *first != digest), certified) {
             Reply::Equivocates(first)
@@ -150,7 +150,7 @@ impl Model {
             Reply::Full
         } else {
             self.blocks.insert(digest, block.clone());
-            self.firsts.entry(block.subject).or_insert(digest);
+            self.firsts.entry(block.slot).or_insert(digest);
             Reply::Stored {
                 vote: first.is_none(),
             }
@@ -158,29 +158,25 @@ impl Model {
     }
 
     fn certify(&mut self, certificate: &Rc<Certificate>) -> Reply {
-        let (digest, subject) = (certificate.digest, certificate.subject);
+        let (digest, slot) = (certificate.digest, certificate.slot);
         let held = self.blocks.get(&digest);
-        if subject.0 < self.floor {
+        if slot.0 < self.floor {
             return Reply::Collected(self.floor);
         }
-        if subject.0 >= self.floor + self.window {
+        if slot.0 >= self.floor + self.window {
             return Reply::TooFar;
         }
         if let Some(kept) = self.certificates.get(&digest) {
-            return if kept.subject == subject {
+            return if kept.slot == slot {
                 Reply::Already
             } else {
                 Reply::Misfit
             };
         }
-        if held.is_some_and(|block| block.subject != subject) {
+        if held.is_some_and(|block| block.slot != slot) {
             return Reply::Misfit;
         }
-        if let Some(other) = self
-            .certificates
-            .values()
-            .find(|kept| kept.subject == subject)
-        {
+        if let Some(other) = self.certificates.values().find(|kept| kept.slot == slot) {
             return Reply::Conflict(other.digest);
         }
         if self.certificates.len() == self.most {
@@ -196,10 +192,10 @@ impl Model {
         }
         let before = self.blocks.len();
         self.floor = round;
-        self.blocks.retain(|_, block| block.subject.0 >= round);
+        self.blocks.retain(|_, block| block.slot.0 >= round);
         self.certificates
-            .retain(|_, certificate| certificate.subject.0 >= round);
-        self.firsts.retain(|subject, _| subject.0 >= round);
+            .retain(|_, certificate| certificate.slot.0 >= round);
+        self.firsts.retain(|slot, _| slot.0 >= round);
         Reply::Raised {
             dropped: (before - self.blocks.len()) as u64,
         }
@@ -221,10 +217,10 @@ impl Model {
                 .iter()
                 .filter(|parent| self.is_satisfied(block, parent));
             let satisfied: Vec<_> = satisfied.map(|(_, parent)| *parent).collect();
-            if block.subject.0 > self.floor && satisfied.len() < block.parents.len() {
+            if block.slot.0 > self.floor && satisfied.len() < block.parents.len() {
                 return Reply::Incomplete;
             }
-            if ancestors.insert(block.subject, block.clone()).is_none() {
+            if ancestors.insert(block.slot, block.clone()).is_none() {
                 open.extend(satisfied);
             }
         }
@@ -237,21 +233,19 @@ impl Model {
             .blocks
             .get(digest)
             .filter(|_| self.certificates.contains_key(digest));
-        named.is_some_and(|named| {
-            named.subject.1 == *author && named.subject.0 + 1 == block.subject.0
-        })
+        named.is_some_and(|named| named.slot.1 == *author && named.slot.0 + 1 == block.slot.0)
     }
 
     /// The complete digests: those that stand and, above the garbage round, have all references satisfied by complete digests.
     fn complete(&self) -> BTreeSet<Digest> {
         let mut ascending: Vec<_> = self.blocks.values().collect();
-        ascending.sort_by_key(|block| block.subject);
+        ascending.sort_by_key(|block| block.slot);
         let mut complete = BTreeSet::new();
         for block in ascending {
             let is_met = |parent: &(u16, Digest)| {
                 self.is_satisfied(block, parent) && complete.contains(&parent.1)
             };
-            let is_met = block.subject.0 <= self.floor || block.parents.iter().all(is_met);
+            let is_met = block.slot.0 <= self.floor || block.parents.iter().all(is_met);
             if is_met && self.certificates.contains_key(&block.digest) {
                 complete.insert(block.digest);
             }
@@ -260,18 +254,18 @@ impl Model {
     }
 
     /// The wanted parents: those named by the references of blocks above the garbage round that are not satisfied.
-    fn wanted(&self) -> BTreeSet<(Subject, Digest)> {
+    fn wanted(&self) -> BTreeSet<(Slot, Digest)> {
         let mut wanted = BTreeSet::new();
         for block in self
             .blocks
             .values()
-            .filter(|block| block.subject.0 > self.floor)
+            .filter(|block| block.slot.0 > self.floor)
         {
             let open = block
                 .parents
                 .iter()
                 .filter(|parent| !self.is_satisfied(block, parent));
-            wanted.extend(open.map(|(author, digest)| ((block.subject.0 - 1, *author), *digest)));
+            wanted.extend(open.map(|(author, digest)| ((block.slot.0 - 1, *author), *digest)));
         }
         wanted
     }

@@ -144,7 +144,7 @@ fn to_certify(reply: &CertifyReply) -> Reply {
 pub fn block_of(block: &narwhal_store::Block) -> Block {
     Block {
         digest: block.digest().0,
-        subject: (block.round(), block.author()),
+        slot: (block.round(), block.author()),
         parents: block
             .parents()
             .iter()
@@ -156,7 +156,7 @@ pub fn block_of(block: &narwhal_store::Block) -> Block {
 
 /// The crate's subject.
 pub fn subject_of(certificate: &Certificate) -> Subject {
-    let (round, author) = certificate.subject;
+    let (round, author) = certificate.slot;
     Subject {
         digest: Digest(certificate.digest),
         round,

@@ -3,7 +3,7 @@
 #[path = "../corpus/records.rs"]
 mod file;
 
-use crate::model::{Block, Call, Certificate, Digest, Subject};
+use crate::model::{Block, Call, Certificate, Digest, Slot};
 pub use file::committee;
 use file::records;
 use narwhal_store::{Checked, Committee, check_all};
@@ -15,7 +15,7 @@ pub struct Delivery {
     pub checked: Checked,
     pub call: Call,
     pub digest: Digest,
-    pub subject: Subject,
+    pub slot: Slot,
     /// Whether only a faulty quorum signs it.
     pub faulty: bool,
 }
@@ -84,25 +84,25 @@ impl Case {
 impl Delivery {
     /// The crate and this module must decode the message alike.
     fn new((checked, (kind, call)): (Checked, (u8, Call))) -> Delivery {
-        let (told, digest, subject) = match (&checked, &call) {
+        let (told, digest, slot) = match (&checked, &call) {
             (Checked::Block(checked), Call::Write(block)) => {
-                (checked.subject(), block.digest, block.subject)
+                (checked.subject(), block.digest, block.slot)
             }
             (Checked::Certificate(checked), Call::Certify(certificate)) => {
-                (checked.subject(), certificate.digest, certificate.subject)
+                (checked.subject(), certificate.digest, certificate.slot)
             }
             _ => panic!("a message of another kind than its record says"),
         };
         assert_eq!(
             (told.digest.0, (told.round, told.author)),
-            (digest, subject),
-            "the subject of a message"
+            (digest, slot),
+            "the slot of a message"
         );
         Delivery {
             checked,
             call,
             digest,
-            subject,
+            slot,
             faulty: kind == b'Q',
         }
     }
@@ -126,7 +126,7 @@ fn block_of(digest: Digest, message: &[u8]) -> Block {
         .take(number(&body[9..11]) as usize);
     Block {
         digest,
-        subject: (number(&body[3..9]), number(&body[1..3]) as u16),
+        slot: (number(&body[3..9]), number(&body[1..3]) as u16),
         parents: parents
             .map(|parent| (number(&parent[..2]) as u16, array(&parent[2..])))
             .collect(),
@@ -147,7 +147,7 @@ fn refused_of(record: &[u8]) -> Refused {
 pub fn certificate_of(message: &[u8]) -> Certificate {
     Certificate {
         digest: array(&message[1..33]),
-        subject: (number(&message[33..39]), number(&message[39..41]) as u16),
+        slot: (number(&message[33..39]), number(&message[39..41]) as u16),
         message: message.to_vec(),
     }
 }

@@ -115,7 +115,7 @@ impl<'a> World<'a> {
             if delivery.faulty && !self.plan.faulty || self.draw.chance(self.plan.lost) {
                 continue;
             }
-            let sent = delivery.subject.0.min(50) * 10 + self.draw.below(8);
+            let sent = delivery.slot.0.min(50) * 10 + self.draw.below(8);
             let late = if self.draw.chance(self.plan.late) {
                 self.draw.below(100)
             } else {
@@ -164,7 +164,7 @@ impl<'a> World<'a> {
             .case
             .deliveries
             .iter()
-            .filter(|delivery| (36..40).contains(&delivery.subject.0));
+            .filter(|delivery| (36..40).contains(&delivery.slot.0));
         let newest: BTreeSet<_> = newest.map(|delivery| delivery.digest).collect();
         for node in 0..self.nodes.len() {
             self.ask(node, Call::Collect(floor));

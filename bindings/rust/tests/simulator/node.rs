@@ -3,7 +3,7 @@
 use super::answers::{Explained, ask_store, event_of, row_of};
 use super::corpus::{Case, Delivery, committee};
 use super::{Draw, Plan};
-use crate::model::{Block, Call, Digest, Model, Reply, Subject};
+use crate::model::{Block, Call, Digest, Model, Reply, Slot};
 use narwhal_store::{
     Checked, Committee, Event, Limits, OpenError, Session, StepError, Store, Ticket,
 };
@@ -50,7 +50,7 @@ pub struct Node<'a> {
     /// An answer of the history before, with the index of its last event, and that event.
     outlived: Option<(Rc<dyn Explained>, usize, Event)>,
     log: Vec<Logged<'a>>,
-    votes: BTreeMap<Subject, Digest>,
+    votes: BTreeMap<Slot, Digest>,
     pub tickets: Vec<Kept>,
     /// The newest round of a stored block, and the last digests that were stored or certified.
     pub newest: u64,
@@ -122,16 +122,12 @@ impl<'a> Node<'a> {
             });
         }
         if let (Call::Write(block), Reply::Stored { vote: true }) = (call, &reply) {
-            let before = self.votes.insert(block.subject, block.digest);
-            assert_eq!(
-                before, None,
-                "a second vote for the slot {:?}",
-                block.subject
-            );
+            let before = self.votes.insert(block.slot, block.digest);
+            assert_eq!(before, None, "a second vote for the slot {:?}", block.slot);
         }
         match (call, &reply) {
             (Call::Write(block), Reply::Stored { .. }) => {
-                self.newest = self.newest.max(block.subject.0);
+                self.newest = self.newest.max(block.slot.0);
                 self.recent.push_back(block.digest);
             }
             (Call::Certify(certificate), Reply::Certified) => {
@@ -195,10 +191,10 @@ impl<'a> Node<'a> {
             assert_eq!(reply, logged.reply, "the reply to a call of the log");
             if let (Call::Write(block), Reply::Stored { vote: true }) = (&logged.call, reply) {
                 assert_eq!(
-                    self.votes.get(&block.subject),
+                    self.votes.get(&block.slot),
                     Some(&block.digest),
                     "another vote for the slot {:?}",
-                    block.subject
+                    block.slot
                 );
             }
         }
@@ -429,8 +425,8 @@ fn bytes_of(call: &Call, reply: &Reply) -> u64 {
 
 fn round_of(call: &Call) -> Option<u64> {
     match call {
-        Call::Write(block) => Some(block.subject.0),
-        Call::Certify(certificate) => Some(certificate.subject.0),
+        Call::Write(block) => Some(block.slot.0),
+        Call::Certify(certificate) => Some(certificate.slot.0),
         _ => None,
     }
 }
