@@ -1,13 +1,17 @@
 -- The content of a handle can be sent to another thread.
 use denote.Enum.Enum.{Enum}
 use denote.Enum.Declared.{shape, Declared}
-use denote.Param.Send.{IsSend, enum_send, recorded_send, sendable}
+use denote.Param.Send.{IsSend, enum_send, recorded_send, sendable, view_send}
+use denote.Param.SendFields.{declared_send}
 use Rattle.std.proofs.Crossing.{crosses}
+use Rattle.nw_digest.proofs.digest.Digest.TheSendSync as digest
 use Rattle.nw_ed25519.specs.contracts.scheme.Ed25519 as ed25519
 use Rattle.nw_ed25519.specs.contracts.scheme.Ed25519Scheme.TheImpl.{ghosts}
 use Rattle.nw_check.specs.contracts.message.Checked as checked
 use Rattle.nw_book.proofs.Send.{book_send, done_send, ticket_send}
 use Rattle.nw_c.specs.contracts.content.Content as content
+use Rattle.nw_c.specs.contracts.hashed.HashedBlock as hashed
+use Rattle.nw_c.specs.contracts.hashed.HashedBlock.TheInside as hashed_inside
 
 abbrev Message : Declared
 Message = checked.the_type ed25519.the_row ghosts
@@ -25,6 +29,10 @@ checked_send = enum_send (shape Message) (
   ),
 )
 
+-- a block with its digest
+hashed_send : IsSend hashed.the_row
+hashed_send = view_send hashed_inside.the_row _ _ _ _ (declared_send hashed_inside.the_type (digest.the_send, (search (sendable, crosses) depth 30, tt)))
+
 pub content_send : IsSend content.the_row
 content_send = recorded_send (Enum (shape content.the_type)) (content.the_type).D (content.the_type).to (content.the_type).to_one (enum_send (shape content.the_type) (
   tt,
@@ -40,7 +48,7 @@ content_send = recorded_send (Enum (shape content.the_type)) (content.the_type).
             (search (sendable, crosses, done_send) depth 30, tt),
             (
               (search (sendable, crosses, ticket_send) depth 30, tt),
-              ((search (sendable, crosses) depth 30, tt), ((search (sendable, crosses) depth 30, tt), tt)),
+              ((search (sendable, crosses, hashed_send) depth 30, tt), ((search (sendable, crosses, hashed_send) depth 30, tt), tt)),
             ),
           ),
         ),

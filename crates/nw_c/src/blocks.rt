@@ -1,5 +1,5 @@
 //! Reading blocks: their parts, bodies and messages.
-ghost use Rattle.std.specs.Prelude.{◌≡◌, ◌<◌, pos, take, true, length, IsTrue};
+ghost use Rattle.std.specs.Prelude.{◌≡◌, ◌<◌, ◌≤◌, pos, take, true, length, IsTrue};
 ghost use Rattle.nw_c.specs.Blocks.{HasBody, HasCounts, HasMessage, HasNoParentAt, HasParentAt, HasSubject, IsBlockOverLimit};
 ghost use Rattle.nw_c.specs.Kinds.{IsUnchanged, HoldsBlock};
 ghost use Rattle.nw_c.specs.declared.codes.TheConstants.{ABSENT, CLOSED, OTHER_KIND, OVER_LIMIT, SMALL};
@@ -99,6 +99,7 @@ const AROUND_A_BODY: usize = 65;
 /// Whether the block fits the format, and its body with this many more bytes does not fit into the buffer. Then it writes their size to
 /// `needed`. So a caller that asks for the size encodes nothing.
 fn is_too_small(block: &Block, more: usize, buffer: &[u8], needed: &mut usize) -> bool
+    requires { more ≤ 65 }
     ensures { IsTrue result → length buffer.now < needed.new }
 {
     if !block.fits() {

@@ -1,5 +1,5 @@
 //! Copying the transactions of a block.
-ghost use Rattle.std.specs.Prelude.{◌≡◌, ◌⊎◌, ◌-◌, ◌≤◌, ◌^◌, pos, length, map, min, take, IsTrue, true, false};
+ghost use Rattle.std.specs.Prelude.{◌≡◌, ◌-◌, ◌≤◌, ◌^◌, pos, length, map, min, take, true};
 ghost use Rattle.std.specs.List.{flat_map};
 ghost use Rattle.nw_c.specs.Blocks.{AreCutFrom, HasNoRoom, HasTransactions, NeedMoreThan};
 ghost use Rattle.nw_c.specs.Kinds.{IsUnchanged, HoldsBlock};
@@ -39,25 +39,26 @@ fn copy_all(transactions: &Transactions, bytes: &mut [u8], lengths: &mut [u32])
     }
 }
 
-/// Writes the size of all transactions to `needed`, and copies them with their lengths if there is room.
+/// Writes the size of all transactions to `needed`, and copies them with their lengths. Returns `SMALL` if there is no room.
 fn copied(
     transactions: &Transactions,
     bytes: &mut [u8],
     lengths: &mut [u32],
     needed: &mut usize,
-) -> bool
-    ensures done { IsTrue result → AreCutFrom (take needed.new bytes.new)
+) -> i32
+    ensures done { result ≡ pos 0 → AreCutFrom (take needed.new bytes.new)
         (take (length transactions.now) lengths.new) transactions.now }
-    ensures small { IsTrue result ⊎ NeedMoreThan (length bytes.old) (length lengths.old) transactions.now }
-    ensures unchanged { result ≡ false → (bytes.new ≡ bytes.old) × (lengths.new ≡ lengths.old) }
+    ensures refused { (result ≡ pos 0 → ⊥) → result ≡ SMALL }
+    ensures small { result ≡ SMALL → NeedMoreThan (length bytes.old) (length lengths.old) transactions.now }
+    ensures unchanged { (result ≡ pos 0 → ⊥) → (bytes.new ≡ bytes.old) × (lengths.new ≡ lengths.old) }
 {
     let size = size_of_all(transactions);
     *needed = size;
     if size > bytes.len() || transactions.len() > lengths.len() {
-        return false;
+        return SMALL;
     }
     copy_all(transactions, bytes, lengths);
-    true
+    DONE
 }
 
 /// Copies all transactions of the block to the buffer, one after another, and their sizes to `lengths`, in the form that `nw_block_new`
@@ -81,12 +82,8 @@ pub extern "C" fn nw_block_transactions(
     if !block.is_open() {
         return CLOSED;
     }
-    let Content::Block(held) = block.lend() else {
-        return OTHER_KIND;
-    };
-    if copied(&held.block().transactions, buffer, lengths, needed) {
-        DONE
-    } else {
-        SMALL
+    match block.lend() {
+        Content::Block(held) => copied(&held.block().transactions, buffer, lengths, needed),
+        _ => OTHER_KIND,
     }
 }
