@@ -377,7 +377,8 @@ int32_t nw_block_message(nw_block *block, const nw_signature *signature, uint8_t
 
 /* Copies all transactions of the block to the buffer, one after another, and their sizes to lengths, in the
    form that nw_block_new takes. Writes the size of all together to needed. Returns NW_SMALL if the buffer is
-   smaller than that, or if lengths has fewer places than the block has transactions (nw_block_counts). */
+   smaller than that, or if lengths has fewer places than the block has transactions (nw_block_counts).
+   Returns NW_OVER_LIMIT if the block breaks a limit of the format; no checked block does. */
 int32_t nw_block_transactions(nw_block *block, uint8_t *buffer, size_t buffer_len, uint32_t *lengths, size_t lengths_len, size_t *needed);
 
 /* Writes what the front of the text says: the kind of message, its round and author, the digest of a

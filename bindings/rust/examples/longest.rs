@@ -37,6 +37,37 @@ fn main() -> Result<()> {
     for rounds in [64, 512] {
         unmet_parents(rounds)?;
     }
+    large_walk()
+}
+
+/// A walk of 1,000 blocks of 100 KB that reads every part, beside a copy of their bodies.
+fn large_walk() -> Result<()> {
+    let lab = Lab::heavy(1)?;
+    let (mut bodies, mut parents, mut last) = (Vec::new(), Vec::new(), None);
+    for round in 0..1_000 {
+        let transactions = vec![vec![round as u8; 1_024]; 100];
+        let (message, subject) = lab.com.block(0, round, &parents, &transactions);
+        bodies.push(message[1..message.len() - 64].to_vec());
+        lab.take(&[message])?;
+        lab.certify(&[subject])?;
+        parents = vec![(0, subject.digest)];
+        last = Some(subject.digest);
+    }
+    let answer = lab.session.causal(&last.ok_or("a block")?)?;
+    let ticket = answer.into_ticket().map_err(|why| format!("{why:?}"))?;
+    mean("copy 1,000 bodies of 100 KB", 1, || {
+        for body in &bodies {
+            black_box(body.clone());
+        }
+    });
+    mean("walk their blocks, all parts", 1, || {
+        for block in ticket.walk().expect("memory") {
+            black_box(block.subject());
+            block
+                .transactions()
+                .for_each(|bytes| drop(black_box(bytes)));
+        }
+    });
     Ok(())
 }
 

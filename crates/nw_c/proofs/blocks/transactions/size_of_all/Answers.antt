@@ -1,10 +1,30 @@
-use Rattle.std.proofs.Common.{◌≡◌, length, ap, arith}
+use Rattle.std.proofs.Common.{◌≡◌, ℕ, ◌+◌, ◌*◌, List, [], ◌∷◌, length, refl, ap, arith, length-append}
 use Rattle.std.specs.List.{flat_map}
+use Rattle.std.proofs.lemmas.List.Sums.{sum_by-cons}
+use Rattle.nw_codec.specs.Fits.{transactions_size}
 use Rattle.nw_c.proofs.blocks.transactions.size_of_all.Goals as goal
+
+-- in a body, transactions take their bytes and 4 for each length
+in_body : (ts : List (List ℕ)) → transactions_size ts ≡ 4 * length ts + length (flat_map (λ t. t) ts)
+in_body [] = refl
+in_body (t ∷ ts) =
+    let first = sum_by-cons (λ (t : List ℕ). 4 + length t) t ts in
+    let rest = in_body ts in
+    let bytes = length-append t (flat_map (λ t. t) ts) in
+    omega (arith, first, rest, bytes)
+
+pub overflow_sub-result : goal.overflow_sub-result
+overflow_sub-result c =
+    let body = c.body_size.ensures.size in
+    let parts = in_body c.args.block.now.transactions in
+    let parents = ap length c.as_slice.ensures in
+    let count = c.len-count.ensures.count in
+    omega (arith, body, parts, parents, count)
 
 pub returns : goal.returns
 returns c =
-    let none = ap (λ ts. length (flat_map (λ t. t) ts)) c.in-None.ensures.steps.0 in
-    let sum = c.loop-transaction.invariant.0 in
-    let most = c.loop-transaction.invariant.1 in
-    omega (arith, none, sum, most)
+    let body = c.body_size.ensures.size in
+    let parts = in_body c.args.block.now.transactions in
+    let parents = ap length c.as_slice.ensures in
+    let count = c.len-count.ensures.count in
+    omega (arith, body, parts, parents, count)
