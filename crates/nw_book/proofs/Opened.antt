@@ -75,8 +75,8 @@ pub ticket_digests : {W E : Type 0} (walked : W → List Ancestor) (accepts : Me
     → IfOk r (λ walk. HaveTheirDigests (walked walk))
 ticket_digests walked accepts t v (Ok walk) h under =
     All-weaker (λ (a : Ancestor). HasBlock v a.digest.now a.block.now) (λ (a : Ancestor). a.digest.now ≡ digest_of a.block.now)
-        (λ a there. (admitted_left accepts (terms_of t.front) t.front.base t.front.events h.ticket.legal a.digest.now a.block.now
-            (there_held v (state_of t.front) a.digest.now a.block.now h.shows there)).0) (walked walk) under
+    (λ a there. (admitted_left accepts (terms_of t.front) t.front.base t.front.events h.ticket.legal a.digest.now a.block.now
+    (there_held v (state_of t.front) a.digest.now a.block.now h.shows there)).0) (walked walk) under
 ticket_digests walked accepts t v (Err e) h under = tt
 
 -- if a walk in a ticket's view succeeds, its blocks are the list of the ticket's causal read

@@ -113,7 +113,11 @@ pub extern "C" fn nw_answer_message(
 /// Writes one of the parents that a call for missing parents listed. `index` counts from 0. Returns `NW_ABSENT` if the list has no parent
 /// at that index, and `NW_OTHER_KIND` if the answer is to another call.
 #[unsafe(no_mangle)]
-pub extern "C" fn nw_answer_missing(answer: &mut AnswerHandle, index: usize, out: &mut CSubject) -> i32
+pub extern "C" fn nw_answer_missing(
+    answer: &mut AnswerHandle,
+    index: usize,
+    out: &mut CSubject,
+) -> i32
     ensures missing { result ≡ pos 0 → IsMissingAt answer.old.value index out.new }
     ensures same { IsUnchanged answer.old answer.new }
     ensures closed { result ≡ CLOSED → answer.old.held ≡ true → ⊥ }

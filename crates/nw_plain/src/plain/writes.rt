@@ -85,7 +85,12 @@ impl Plain {
     }
 
     /// Adds the block under the digest. If `vote` is set, the digest becomes the first of the block's slot.
-    pub(super) fn store(&mut self, digest: Digest, block: Shared<Block>, vote: bool) -> Result<(), NoMemory>
+    pub(super) fn store(
+        &mut self,
+        digest: Digest,
+        block: Shared<Block>,
+        vote: bool,
+    ) -> Result<(), NoMemory>
         requires absent { IsNone (map.get self.old.state.blocks digest) }
         requires open { IsTrue vote → IsNone (map.get self.old.state.firsts (block_slot block)) }
         requires misfit { has_other_slot certificate_slot (map.get self.old.state.certificates digest)

@@ -25,5 +25,5 @@ pub returns-clause-found : goal.returns-clause-found
 returns-clause-found g c = (
   c.in_ok-block.ensures.found,
   reads_one c.call.result.now c.in-Read.digest (digest_of c.in_ok-block.block.now) c.in-Read.is
-  (c.call.ensures.call ∙ called g.S.Scheme.accepts c.self.inside.entry c.args.self.now c.in_ok-block.block.now c.call.ensures.legal c.call.ensures.last c.self.view_is c.in_ok-block.ensures.found),
+      (c.call.ensures.call ∙ called g.S.Scheme.accepts c.self.inside.entry c.args.self.now c.in_ok-block.block.now c.call.ensures.legal c.call.ensures.last c.self.view_is c.in_ok-block.ensures.found),
 )

@@ -26,12 +26,11 @@ loop-transaction-preserved c =
     let within : start ≤ length bytes = omega (arith, room) in
     let place : c.loop-transaction.index < length lengths = let most = c.loop-transaction.invariant.3 in omega (arith, most, count) in
     let kept : length (put_mid start (start + length t - start) bytes piece) ≡ length bytes = same_len_mid start (start + length t - start) bytes piece c.copy_from_slice.ensures.len in
-    let same : length (slice_set lengths c.loop-transaction.index (length t)) ≡ length lengths = length-set lengths c.loop-transaction.index (length t) in
-    (
+    let same : length (slice_set lengths c.loop-transaction.index (length t)) ≡ length lengths = length-set lengths c.loop-transaction.index (length t) in (
       ap (λ bs. bs ++ joined rest) (take-put_mid start (start + length t - start) bytes piece (start + length t) ends within ∙ ap (λ xs. take start bytes ++ xs) copied)
-        ∙ append_assoc (take start bytes) t (joined rest) ∙ ap (λ ts. take start bytes ++ joined ts) (sym steps) ∙ c.loop-transaction.invariant.0,
+          ∙ append_assoc (take start bytes) t (joined rest) ∙ ap (λ ts. take start bytes ++ joined ts) (sym steps) ∙ c.loop-transaction.invariant.0,
       ap (λ ns. ns ++ map length rest) (take_more_set lengths c.loop-transaction.index (length t) place)
-        ∙ append_assoc (take c.loop-transaction.index lengths) (length t ∷ []) (map length rest) ∙ ap (λ ts. take c.loop-transaction.index lengths ++ map length ts) (sym steps) ∙ c.loop-transaction.invariant.1,
+          ∙ append_assoc (take c.loop-transaction.index lengths) (length t ∷ []) (map length rest) ∙ ap (λ ts. take c.loop-transaction.index lengths ++ map length ts) (sym steps) ∙ c.loop-transaction.invariant.1,
       omega (arith, room, size, kept),
       let most = c.loop-transaction.invariant.3 in omega (arith, most, count, same),
     )
