@@ -1,4 +1,5 @@
 //! A network of four validators in one process: an inbox for each, and signatures from the corpus.
+#![allow(dead_code)] // Each program uses a part.
 
 use crate::data;
 use narwhal_store::{Committee, Digest, Signature, Subject};
@@ -41,6 +42,15 @@ impl Network {
             inboxes,
             signatures,
         })
+    }
+
+    /// A network without the corpus, for members that sign at run time.
+    pub fn of(committee: Committee, inboxes: Vec<Sender<Packet>>) -> Network {
+        Network {
+            committee,
+            inboxes,
+            signatures: HashMap::new(),
+        }
     }
 
     pub fn sign(&self, member: u16, text: &[u8]) -> Signature {

@@ -1,0 +1,249 @@
+//! The part of a validator that a crash loses: its store, and what is derived from it.
+
+use crate::decide::Decider;
+use crate::flow::Flow;
+use crate::log::digest_of;
+use crate::network::{MEMBERS, Outcome};
+use narwhal_store::{Answer, Block, Causal, CertifyReply, Checked, CheckedBlock};
+use narwhal_store::{CheckedCertificate, CollectReply, Committee, Digest, Gather, Limits, Message};
+use narwhal_store::{Peek, Session, Slot, Status, Store, WriteReply};
+use std::collections::{BTreeMap, BTreeSet};
+
+/// How far the garbage round stays below the last leader.
+const LAG: u64 = 6;
+/// How many rounds the page shows at most.
+const SHOWN: u64 = 20;
+/// The most missing parents that the page shows.
+const LISTED: u16 = 64;
+const LIMITS: Limits = Limits {
+    blocks: 4_096,
+    events: 512,
+    window: 64,
+    sessions: 2,
+};
+
+/// A round, an author and a digest.
+pub type Key = (u64, u16, Digest);
+
+pub fn key_of(slot: &Slot) -> Key {
+    (slot.round, slot.author, slot.digest)
+}
+
+/// A block that was written, with the answer to its last write.
+pub type Seen = (Block, Answer<WriteReply>);
+
+pub struct Node {
+    me: u16,
+    pub store: Store,
+    session: Session,
+    /// The session of the page.
+    reader: Session,
+    flow: Flow,
+    decider: Decider,
+    /// The votes for its last block until it has a certificate, the messages of that block, and the round of its next one.
+    pub gather: Option<Gather>,
+    pub own: Vec<Vec<u8>>,
+    round: u64,
+    /// The blocks that it voted for.
+    pub votes: BTreeMap<(u64, u16), Slot>,
+    pub seen: BTreeMap<Key, Seen>,
+    /// The signers of the certificates.
+    pub signers: BTreeMap<Key, Vec<u16>>,
+    /// The walk of the last leader, which is the last digest.
+    pub walk: Vec<Digest>,
+    pub status: Status,
+    complete: BTreeSet<Key>,
+    missing: Vec<Slot>,
+}
+
+impl Node {
+    pub fn new(me: u16, committee: &Committee) -> Outcome<Node> {
+        let store = Store::new(committee, LIMITS)?;
+        let (session, reader) = (store.session()?, store.session()?);
+        Ok(Node {
+            me,
+            flow: Flow::new(&store),
+            decider: Decider::new(MEMBERS),
+            status: reader.status()?.into_reply(),
+            store,
+            session,
+            reader,
+            gather: None,
+            own: Vec::new(),
+            round: 0,
+            votes: BTreeMap::new(),
+            seen: BTreeMap::new(),
+            signers: BTreeMap::new(),
+            walk: Vec::new(),
+            complete: BTreeSet::new(),
+            missing: Vec::new(),
+        })
+    }
+
+    /// The highest round of a block or certificate.
+    pub fn newest(&self) -> u64 {
+        let newest = |key: Option<&Key>| key.map_or(0, |key| key.0);
+        newest(self.seen.keys().next_back()).max(newest(self.signers.keys().next_back()))
+    }
+
+    /// Whether the message is worth its check.
+    pub fn wants(&self, message: &[u8]) -> bool {
+        match Message::peek(message) {
+            Some(Peek::Vote { slot, .. }) => {
+                self.gather.as_ref().is_some_and(|own| own.slot() == slot)
+            }
+            Some(Peek::Block { round, author }) => {
+                self.flow.wants(message) || self.is_twin(round, author, message)
+            }
+            _ => self.flow.wants(message),
+        }
+    }
+
+    /// Whether this is another block than the first one. A validator drops it. The explorer writes it, so that a history shows `Equivocates`.
+    fn is_twin(&self, round: u64, author: u16, message: &[u8]) -> bool {
+        let has_first = self.store.look(round, author).first.is_some();
+        let is_new = |digest| !self.seen.contains_key(&(round, author, digest));
+        has_first && digest_of(message).is_some_and(is_new)
+    }
+
+    /// Makes the call of a message. Returns the slots to vote for if the store changed.
+    pub fn call(&mut self, committee: &Committee, message: &[u8]) -> Outcome<Option<Vec<Slot>>> {
+        match Message::check(committee, message) {
+            Ok(Checked::Block(block)) => self.write(&block, message),
+            Ok(Checked::Certificate(certificate)) => self.certify(&certificate),
+            Ok(Checked::Vote(vote)) => {
+                let _ = self.gather.as_mut().map(|gather| gather.add(&vote));
+                Ok(None)
+            }
+            Err(_) => Ok(None),
+        }
+    }
+
+    fn write(&mut self, block: &CheckedBlock, message: &[u8]) -> Outcome<Option<Vec<Slot>>> {
+        let (slot, answer) = (block.slot(), self.session.write(block)?);
+        let reply = *answer.reply();
+        self.seen.insert(key_of(&slot), (block.block(), answer));
+        let WriteReply::Stored { vote } = reply else {
+            return Ok(None);
+        };
+        if vote && slot.author == self.me {
+            self.gather = Some(Gather::new(self.store.committee(), &slot)?);
+            (self.own, self.round) = (vec![message.to_vec()], slot.round + 1);
+        }
+        self.decider.stored(block);
+        Ok(Some(self.flow.stored(block, vote)))
+    }
+
+    fn certify(&mut self, certificate: &CheckedCertificate) -> Outcome<Option<Vec<Slot>>> {
+        if *self.session.certify(certificate)?.reply() != CertifyReply::Certified {
+            return Ok(None);
+        }
+        let slot = certificate.slot();
+        // docs/FORMATS.md: the signers begin after 43 bytes, and each has 2 bytes and a signature.
+        let message = certificate.message();
+        let signer = |seal: &[u8]| u16::from_be_bytes([seal[0], seal[1]]);
+        let signers = message[43..].chunks_exact(66).map(signer).collect();
+        self.signers.insert(key_of(&slot), signers);
+        if self.gather.take_if(|own| own.slot() == slot).is_some() {
+            self.own.push(message);
+        }
+        Ok(Some(self.flow.certified(&slot)))
+    }
+
+    /// Raises the garbage round. Returns the slots to vote for if it was raised.
+    pub fn collect(&mut self, round: u64) -> Outcome<Option<Vec<Slot>>> {
+        let answer = self.session.collect(round)?;
+        let is_raised = matches!(answer.reply(), CollectReply::Raised { .. });
+        Ok(is_raised.then(|| self.flow.collected(round)))
+    }
+
+    /// Decides all leaders that it can. Returns the garbage round if it was raised, and the slots to vote for.
+    pub fn decide(&mut self) -> Outcome<(Option<u64>, Vec<Slot>)> {
+        let (mut raised, mut due) = (None, Vec::new());
+        while self.decider.decide(&self.session, &self.store).is_some() {
+            let leader = self.decider.leaders.pop().unwrap_or(0);
+            self.decider.order.clear();
+            let author = (leader / 2 % u64::from(MEMBERS)) as u16;
+            if let Some(digest) = self.store.look(leader, author).certified {
+                let ticket = self.session.causal(&digest)?.into_ticket()?;
+                self.walk = ticket.walk()?.map(|block| block.digest()).collect();
+            }
+            let floor = leader.saturating_sub(LAG);
+            if let Some(more) = self.collect(floor)? {
+                raised = Some(floor);
+                due.extend(more);
+            }
+        }
+        Ok((raised, due))
+    }
+
+    /// The round and the parents of its next block, if a quorum of parents is satisfied.
+    pub fn next_block(&self) -> Option<(u64, Vec<(u16, Digest)>)> {
+        let parents = |round: u64| {
+            let parent = |author| {
+                let look = self.store.look(round.checked_sub(1)?, author);
+                let digest = look.certified.filter(|_| look.stands)?;
+                Some((author, digest))
+            };
+            (0..MEMBERS).filter_map(parent).collect::<Vec<_>>()
+        };
+        let quorum = self.store.committee().quorum() as usize;
+        let rounds = self.round..self.newest() + 2;
+        let found = |round| Some((round, parents(round))).filter(|(_, all)| all.len() >= quorum);
+        let first = (self.round == 0).then(|| (0, Vec::new()));
+        rounds.rev().find_map(found).or(first)
+    }
+
+    /// The digests to ask for: certified blocks that are not stored, and missing parents.
+    pub fn unknown(&self) -> BTreeSet<Digest> {
+        let parents = self.flow.missing().map(|(_, parent)| parent);
+        let slots = self.flow.absent().chain(parents);
+        slots.map(|slot| slot.digest).collect()
+    }
+
+    /// Reads what the page shows, and forgets what it no longer shows.
+    pub fn observe(&mut self) -> Outcome<()> {
+        let oldest = (self.newest().saturating_sub(SHOWN), 0, Digest([0; 32]));
+        self.seen = self.seen.split_off(&oldest);
+        self.signers = self.signers.split_off(&oldest);
+        self.complete = self.complete.split_off(&oldest);
+        self.status = self.reader.status()?.into_reply();
+        self.votes = self.votes.split_off(&(self.status.garbage_round, 0));
+        self.missing = match self.status.wanted {
+            0 => Vec::new(),
+            _ => self.reader.missing(LISTED)?.into_reply(),
+        };
+        for key in self.seen.keys() {
+            let look = self.store.look(key.0, key.1);
+            let is_open = look.satisfies(&key.2) && !self.complete.contains(key);
+            if is_open && matches!(self.reader.causal(&key.2)?, Causal::Ready(_)) {
+                self.complete.insert(*key);
+            }
+        }
+        Ok(())
+    }
+
+    /// The blocks that the page shows, each with its state.
+    pub fn rows(&self) -> BTreeMap<Key, &'static str> {
+        let mut keys: BTreeSet<Key> = self.seen.keys().copied().collect();
+        let absent = self.flow.absent().chain(self.missing.iter().copied());
+        keys.extend(absent.map(|slot| key_of(&slot)));
+        let is_same_slot = |one: &Key, other: &Key| (one.0, one.1) == (other.0, other.1);
+        let count = |key: &Key| keys.iter().filter(|other| is_same_slot(key, other)).count();
+        let state = |key: &Key| (*key, self.state(key, count(key) == 1));
+        keys.iter().map(state).collect()
+    }
+
+    fn state(&self, key: &Key, is_alone: bool) -> &'static str {
+        let look = self.store.look(key.0, key.1);
+        match (look.certified == Some(key.2), look.stands) {
+            _ if key.0 < look.garbage_round => "collected",
+            (true, false) => "missing",
+            (true, true) if self.complete.contains(key) => "complete",
+            (true, true) => "certified",
+            _ if !is_alone => "equivocating",
+            _ if look.first == Some(key.2) => "held",
+            _ => "missing",
+        }
+    }
+}
