@@ -29,7 +29,7 @@ impl Log {
         self.messages
             .iter()
             .filter(move |message| match Message::peek(message) {
-                Some(Peek::Certificate(slot)) => slot.digest == *digest,
+                Some(Peek::Certificate(subject)) => subject.digest == *digest,
                 _ => digest_of(message) == Some(*digest),
             })
     }

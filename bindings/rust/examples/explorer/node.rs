@@ -6,7 +6,7 @@ use crate::log::digest_of;
 use crate::network::{MEMBERS, Outcome};
 use narwhal_store::{Answer, Block, Causal, CertifyReply, Checked, CheckedBlock};
 use narwhal_store::{CheckedCertificate, CollectReply, Committee, Digest, Gather, Limits, Message};
-use narwhal_store::{Peek, Session, Slot, Status, Store, WriteReply};
+use narwhal_store::{Peek, Session, Status, Store, Subject, WriteReply};
 use std::collections::{BTreeMap, BTreeSet};
 
 /// How far the garbage round stays below the last leader.
@@ -25,8 +25,8 @@ const LIMITS: Limits = Limits {
 /// A round, an author and a digest.
 pub type Key = (u64, u16, Digest);
 
-pub fn key_of(slot: &Slot) -> Key {
-    (slot.round, slot.author, slot.digest)
+pub fn key_of(subject: &Subject) -> Key {
+    (subject.round, subject.author, subject.digest)
 }
 
 /// A block that was written, with the answer to its last write.
@@ -45,7 +45,7 @@ pub struct Node {
     pub own: Vec<Vec<u8>>,
     round: u64,
     /// The blocks that it voted for.
-    pub votes: BTreeMap<(u64, u16), Slot>,
+    pub votes: BTreeMap<(u64, u16), Subject>,
     pub seen: BTreeMap<Key, Seen>,
     /// The signers of the certificates.
     pub signers: BTreeMap<Key, Vec<u16>>,
@@ -53,7 +53,7 @@ pub struct Node {
     pub walk: Vec<Digest>,
     pub status: Status,
     complete: BTreeSet<Key>,
-    missing: Vec<Slot>,
+    missing: Vec<Subject>,
 }
 
 impl Node {
@@ -89,9 +89,10 @@ impl Node {
     /// Whether the message is worth its check.
     pub fn wants(&self, message: &[u8]) -> bool {
         match Message::peek(message) {
-            Some(Peek::Vote { slot, .. }) => {
-                self.gather.as_ref().is_some_and(|own| own.slot() == slot)
-            }
+            Some(Peek::Vote { subject, .. }) => self
+                .gather
+                .as_ref()
+                .is_some_and(|own| own.subject() == subject),
             Some(Peek::Block { round, author }) => {
                 self.flow.wants(message) || self.is_twin(round, author, message)
             }
@@ -106,8 +107,8 @@ impl Node {
         has_first && digest_of(message).is_some_and(is_new)
     }
 
-    /// Makes the call of a message. Returns the slots to vote for if the store changed.
-    pub fn call(&mut self, committee: &Committee, message: &[u8]) -> Outcome<Option<Vec<Slot>>> {
+    /// Makes the call of a message. Returns the subjects to vote for if the store changed.
+    pub fn call(&mut self, committee: &Committee, message: &[u8]) -> Outcome<Option<Vec<Subject>>> {
         match Message::check(committee, message) {
             Ok(Checked::Block(block)) => self.write(&block, message),
             Ok(Checked::Certificate(certificate)) => self.certify(&certificate),
@@ -119,46 +120,50 @@ impl Node {
         }
     }
 
-    fn write(&mut self, block: &CheckedBlock, message: &[u8]) -> Outcome<Option<Vec<Slot>>> {
-        let (slot, answer) = (block.slot(), self.session.write(block)?);
+    fn write(&mut self, block: &CheckedBlock, message: &[u8]) -> Outcome<Option<Vec<Subject>>> {
+        let (subject, answer) = (block.subject(), self.session.write(block)?);
         let reply = *answer.reply();
-        self.seen.insert(key_of(&slot), (block.block(), answer));
+        self.seen.insert(key_of(&subject), (block.block(), answer));
         let WriteReply::Stored { vote } = reply else {
             return Ok(None);
         };
-        if vote && slot.author == self.me {
-            self.gather = Some(Gather::new(self.store.committee(), &slot)?);
-            (self.own, self.round) = (vec![message.to_vec()], slot.round + 1);
+        if vote && subject.author == self.me {
+            self.gather = Some(Gather::new(self.store.committee(), &subject)?);
+            (self.own, self.round) = (vec![message.to_vec()], subject.round + 1);
         }
         self.decider.stored(block);
         Ok(Some(self.flow.stored(block, vote)))
     }
 
-    fn certify(&mut self, certificate: &CheckedCertificate) -> Outcome<Option<Vec<Slot>>> {
+    fn certify(&mut self, certificate: &CheckedCertificate) -> Outcome<Option<Vec<Subject>>> {
         if *self.session.certify(certificate)?.reply() != CertifyReply::Certified {
             return Ok(None);
         }
-        let slot = certificate.slot();
+        let subject = certificate.subject();
         // docs/FORMATS.md: the signers begin after 43 bytes, and each has 2 bytes and a signature.
         let message = certificate.message();
         let signer = |seal: &[u8]| u16::from_be_bytes([seal[0], seal[1]]);
         let signers = message[43..].chunks_exact(66).map(signer).collect();
-        self.signers.insert(key_of(&slot), signers);
-        if self.gather.take_if(|own| own.slot() == slot).is_some() {
+        self.signers.insert(key_of(&subject), signers);
+        if self
+            .gather
+            .take_if(|own| own.subject() == subject)
+            .is_some()
+        {
             self.own.push(message);
         }
-        Ok(Some(self.flow.certified(&slot)))
+        Ok(Some(self.flow.certified(&subject)))
     }
 
-    /// Raises the garbage round. Returns the slots to vote for if it was raised.
-    pub fn collect(&mut self, round: u64) -> Outcome<Option<Vec<Slot>>> {
+    /// Raises the garbage round. Returns the subjects to vote for if it was raised.
+    pub fn collect(&mut self, round: u64) -> Outcome<Option<Vec<Subject>>> {
         let answer = self.session.collect(round)?;
         let is_raised = matches!(answer.reply(), CollectReply::Raised { .. });
         Ok(is_raised.then(|| self.flow.collected(round)))
     }
 
-    /// Decides all leaders that it can. Returns the garbage round if it was raised, and the slots to vote for.
-    pub fn decide(&mut self) -> Outcome<(Option<u64>, Vec<Slot>)> {
+    /// Decides all leaders that it can. Returns the garbage round if it was raised, and the subjects to vote for.
+    pub fn decide(&mut self) -> Outcome<(Option<u64>, Vec<Subject>)> {
         let (mut raised, mut due) = (None, Vec::new());
         while self.decider.decide(&self.session, &self.store).is_some() {
             let leader = self.decider.leaders.pop().unwrap_or(0);
@@ -197,8 +202,8 @@ impl Node {
     /// The digests to ask for: certified blocks that are not stored, and missing parents.
     pub fn unknown(&self) -> BTreeSet<Digest> {
         let parents = self.flow.missing().map(|(_, parent)| parent);
-        let slots = self.flow.absent().chain(parents);
-        slots.map(|slot| slot.digest).collect()
+        let subjects = self.flow.absent().chain(parents);
+        subjects.map(|subject| subject.digest).collect()
     }
 
     /// Reads what the page shows, and forgets what it no longer shows.
@@ -227,7 +232,7 @@ impl Node {
     pub fn rows(&self) -> BTreeMap<Key, &'static str> {
         let mut keys: BTreeSet<Key> = self.seen.keys().copied().collect();
         let absent = self.flow.absent().chain(self.missing.iter().copied());
-        keys.extend(absent.map(|slot| key_of(&slot)));
+        keys.extend(absent.map(|subject| key_of(&subject)));
         let is_same_slot = |one: &Key, other: &Key| (one.0, one.1) == (other.0, other.1);
         let count = |key: &Key| keys.iter().filter(|other| is_same_slot(key, other)).count();
         let state = |key: &Key| (*key, self.state(key, count(key) == 1));

@@ -2,7 +2,7 @@
 
 use crate::lab::Com;
 use crate::network::{MEMBERS, Network, Outcome, Packet};
-use narwhal_store::{Digest, Message, Peek, Slot};
+use narwhal_store::{Digest, Message, Peek, Subject};
 use std::collections::BTreeMap;
 use std::sync::mpsc::Sender;
 use std::sync::{Condvar, Mutex, MutexGuard, PoisonError};
@@ -55,7 +55,7 @@ impl Post {
                 traffic.is_losing[usize::from(to)] = false;
                 return;
             }
-            Some(Peek::Vote { slot, signer }) => traffic.note_vote(&slot, signer),
+            Some(Peek::Vote { subject, signer }) => traffic.note_vote(&subject, signer),
             _ => {}
         }
         traffic.on_their_way += 1;
@@ -103,11 +103,11 @@ impl Post {
 }
 
 impl Traffic {
-    fn note_vote(&mut self, slot: &Slot, signer: u16) {
-        let key = (slot.round, slot.author, signer);
-        let first = *self.votes.entry(key).or_insert(slot.digest);
-        self.double_votes += u64::from(first != slot.digest);
-        let oldest = slot.round.saturating_sub(MEMORY);
+    fn note_vote(&mut self, subject: &Subject, signer: u16) {
+        let key = (subject.round, subject.author, signer);
+        let first = *self.votes.entry(key).or_insert(subject.digest);
+        self.double_votes += u64::from(first != subject.digest);
+        let oldest = subject.round.saturating_sub(MEMORY);
         self.votes = self.votes.split_off(&(oldest, 0, 0));
     }
 }

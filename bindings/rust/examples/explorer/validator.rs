@@ -4,7 +4,7 @@ use crate::log::Log;
 use crate::network::{MEMBERS, Outcome};
 use crate::node::Node;
 use crate::post::{Post, REQUEST};
-use narwhal_store::{Digest, Message, Peek, Slot};
+use narwhal_store::{Digest, Message, Peek, Subject};
 
 #[derive(Default)]
 pub struct Validator {
@@ -71,18 +71,18 @@ impl Validator {
         }
     }
 
-    fn vote(&mut self, due: &[Slot], post: &Post) {
-        for slot in due {
+    fn vote(&mut self, due: &[Subject], post: &Post) {
+        for subject in due {
             if let Some(node) = &mut self.node {
-                node.votes.insert((slot.round, slot.author), *slot);
+                node.votes.insert((subject.round, subject.author), *subject);
             }
-            self.send_vote(slot, post);
+            self.send_vote(subject, post);
         }
     }
 
-    fn send_vote(&self, slot: &Slot, post: &Post) {
+    fn send_vote(&self, subject: &Subject, post: &Post) {
         if !self.is_silent {
-            post.send(self.me, slot.author, &post.com.vote(slot, self.me));
+            post.send(self.me, subject.author, &post.com.vote(subject, self.me));
         }
     }
 
@@ -128,9 +128,14 @@ impl Validator {
             self.asked += 1;
             post.send_to_others(self.me, &[&[REQUEST][..], &digest.0].concat());
         }
-        for slot in node.votes.values() {
-            if node.store.look(slot.round, slot.author).certified.is_none() {
-                self.send_vote(slot, post);
+        for subject in node.votes.values() {
+            if node
+                .store
+                .look(subject.round, subject.author)
+                .certified
+                .is_none()
+            {
+                self.send_vote(subject, post);
             }
         }
         match node.next_block() {
