@@ -1,6 +1,6 @@
 /* An example of a validator in C. It stores a block and its certificate, and reads the block causally.
 
-       cc -std=c99 -I bindings/c bindings/c/example.c bindings/c/alloc.c bindings/prebuilt/x86_64-linux/libnw.a -o /tmp/example
+       cc -std=c99 -I bindings/c bindings/c/example.c bindings/c/alloc.c bindings/rust/prebuilt/x86_64-linux/libnw.a -o /tmp/example
        /tmp/example
 
    OpenSSL signed the messages. The committee has four members. Each printed line has a call and its code. The exit status is 1 if memory

@@ -1,25 +1,25 @@
 //! Links the static library of the store.
 //!
-//! This is the one that the repository ships in `bindings/prebuilt`. If `NW_LIB_DIR` is set, it is
-//! the one in that folder, and cargo prints a warning that names it.
+//! This is the one that the package ships in `prebuilt`. If `NW_LIB_DIR` is set, it is the one in
+//! that folder, and cargo prints a warning that names it.
 
 use std::env;
 use std::fs;
 use std::path::{Path, PathBuf};
 use std::process;
 
-/// Where the repository ships the library, from the folder of this package.
-const SHIPPED: &str = "../prebuilt/x86_64-linux";
-/// The target of the shipped library.
-const TARGET: &str = "x86_64-unknown-linux-gnu";
+/// The folder of the shipped library in this package.
+const SHIPPED: &str = "prebuilt/x86_64-linux";
+/// The targets of the shipped library. It serves both, because it calls only the `mem*` functions
+/// of libc.
+const TARGETS: [&str; 2] = ["x86_64-unknown-linux-gnu", "x86_64-unknown-linux-musl"];
 /// The names that a library may have in the folder `NW_LIB_DIR`: as a proof leaves it, and as the
-/// repository ships it.
+/// package ships it.
 const NAMES: [&str; 2] = ["libnw_c.a", "libnw.a"];
-
-const MISSING: &str = "bindings/prebuilt/x86_64-linux has no libnw.a, or no libnw.record with its \
-     hash: restore these files, or set NW_LIB_DIR to the folder that has libnw_c.a";
-const OTHER_TARGET: &str = "the static library of the store is built for x86_64-unknown-linux-gnu: \
-     set NW_LIB_DIR to a folder that has libnw_c.a for your target";
+/// How to get another library.
+const BUILD_ONE: &str = "Or set NW_LIB_DIR to the absolute path of a folder with libnw_c.a for \
+     your target: in a clone of the repository, `rt lib` in crates/nw_c leaves it in \
+     crates/nw_c/out, if the toolchain builds for your target.";
 
 /// A library, and what the crate says of it.
 struct Library {
@@ -30,6 +30,12 @@ struct Library {
 fn main() {
     println!("cargo::rerun-if-changed=build.rs");
     println!("cargo::rerun-if-env-changed=NW_LIB_DIR");
+    println!("cargo::rerun-if-env-changed=DOCS_RS");
+    // Documents need no library, so a machine that only builds documents may have any target.
+    if env::var_os("DOCS_RS").is_some() {
+        println!("cargo::rustc-env=NW_ARCHIVE=none");
+        return;
+    }
     let library = match env::var_os("NW_LIB_DIR") {
         Some(folder) => chosen(Path::new(&folder)),
         None => shipped(),
@@ -64,10 +70,15 @@ fn chosen(folder: &Path) -> Result<Library, String> {
     })
 }
 
-/// The library that the repository ships, or what to do to get one.
+/// The library that the package ships, or what to do to get one.
 fn shipped() -> Result<Library, String> {
-    if env::var("TARGET").is_ok_and(|target| target != TARGET) {
-        return Err(OTHER_TARGET.into());
+    let target = env::var("TARGET").unwrap_or_default();
+    if !TARGETS.contains(&target.as_str()) {
+        let [gnu, musl] = TARGETS;
+        return Err(format!(
+            "narwhal-store ships a library for {gnu} and {musl}, and not for {target}. Build for \
+             one of these. {BUILD_ONE}"
+        ));
     }
     let package = PathBuf::from(env::var_os("CARGO_MANIFEST_DIR").unwrap_or_default());
     let (path, record) = (
@@ -75,11 +86,21 @@ fn shipped() -> Result<Library, String> {
         package.join(SHIPPED).join("libnw.record"),
     );
     println!("cargo::rerun-if-changed={}", record.display());
-    let record = fs::read_to_string(record).map_err(|_| MISSING)?;
+    let missing = || {
+        format!(
+            "{} has no libnw.a, or no libnw.record with its hash. Get the package narwhal-store \
+             again, with this folder. {BUILD_ONE}",
+            package.join(SHIPPED).display()
+        )
+    };
+    let record = fs::read_to_string(record).map_err(|_| missing())?;
     let mut hashes = record
         .lines()
         .filter_map(|line| line.strip_prefix("archive "));
-    let hash = hashes.next().filter(|_| path.is_file()).ok_or(MISSING)?;
+    let hash = hashes
+        .next()
+        .filter(|_| path.is_file())
+        .ok_or_else(missing)?;
     Ok(Library {
         path,
         description: format!("shipped libnw.a sha256:{hash}"),

@@ -138,10 +138,11 @@ pub use walk::Walk;
 
 /// Which static library this crate was linked with. The text has no path.
 ///
-/// - `shipped libnw.a sha256:` and 64 hex digits: the library that the repository ships, with the
+/// - `shipped libnw.a sha256:` and 64 hex digits: the library that the package ships, with the
 ///   hash of its record.
 /// - `NW_LIB_DIR` and a file name: the library in the folder that this environment variable named
 ///   when the crate was built.
+/// - `none`: the environment variable `DOCS_RS` was set, so that only the documents were built.
 pub const ARCHIVE: &str = env!("NW_ARCHIVE");
 
 /// The types that can be sent to another thread, and those that can be shared.

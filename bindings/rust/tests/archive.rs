@@ -7,10 +7,7 @@ use narwhal_store::{ARCHIVE, Digest};
 use std::fs;
 use std::process::Command;
 
-const SHIPPED: &str = concat!(
-    env!("CARGO_MANIFEST_DIR"),
-    "/../prebuilt/x86_64-linux/libnw.a"
-);
+const SHIPPED: &str = concat!(env!("CARGO_MANIFEST_DIR"), "/prebuilt/x86_64-linux/libnw.a");
 
 #[test]
 fn the_shipped_archive_has_the_hash_of_its_record() {

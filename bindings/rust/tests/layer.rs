@@ -183,11 +183,18 @@ fn tickets_of_two_blocks_or_floors_are_not_compared() {
     assert_eq!((high.floor(), collected.floor()), (0, 1));
 }
 
+/// A run of build.rs for this target.
+fn command(script: &Path, target: &str) -> Command {
+    let mut command = Command::new(script);
+    command.env_remove("NW_LIB_DIR").env_remove("DOCS_RS");
+    command.env("TARGET", target);
+    command.env("CARGO_MANIFEST_DIR", env!("CARGO_MANIFEST_DIR"));
+    command
+}
+
 /// Runs build.rs for this target, and with the folder `NW_LIB_DIR` if it is given.
 fn build(script: &Path, target: &str, folder: Option<&Path>) -> Output {
-    let mut command = Command::new(script);
-    command.env_remove("NW_LIB_DIR").env("TARGET", target);
-    command.env("CARGO_MANIFEST_DIR", env!("CARGO_MANIFEST_DIR"));
+    let mut command = command(script, target);
     if let Some(folder) = folder {
         command.env("NW_LIB_DIR", folder);
     }
@@ -205,14 +212,24 @@ fn build_rs_links_the_chosen_library_or_the_shipped_one_for_its_target() {
     compiler.args(["--edition=2024", source, "-o"]).arg(&script);
     assert!(compiler.status().expect("rustc").success());
     let (own, other) = ("x86_64-unknown-linux-gnu", "aarch64-unknown-linux-gnu");
+    let musl = "x86_64-unknown-linux-musl";
     let said = |output: &Output| String::from_utf8_lossy(&output.stdout).into_owned();
 
-    let shipped = build(&script, own, None);
-    assert!(shipped.status.success());
-    assert!(said(&shipped).contains("NW_ARCHIVE=shipped libnw.a sha256:"));
+    for target in [own, musl] {
+        let shipped = build(&script, target, None);
+        assert!(shipped.status.success());
+        assert!(said(&shipped).contains("NW_ARCHIVE=shipped libnw.a sha256:"));
+    }
     let refused = build(&script, other, None);
     assert_eq!(refused.status.code(), Some(1));
-    assert!(String::from_utf8_lossy(&refused.stderr).contains(own));
+    let message = String::from_utf8_lossy(&refused.stderr);
+    assert!(
+        [own, musl].iter().all(|it| message.contains(it)),
+        "{message}"
+    );
+    let documents = command(&script, other).env("DOCS_RS", "1").output();
+    let documents = documents.expect("build.rs runs");
+    assert!(documents.status.success() && !said(&documents).contains("rustc-link"));
     for target in [own, other] {
         let linked = said(&build(&script, target, Some(&chosen)));
         let folder = format!("rustc-link-search=native={}\n", chosen.display());

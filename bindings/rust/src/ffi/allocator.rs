@@ -80,8 +80,45 @@ global_asm!(
 
 #[cfg(test)]
 mod tests {
-    use super::Allocated;
+    use super::{Allocated, rattle_alloc, rattle_dealloc};
+    use std::alloc::{GlobalAlloc, Layout, System};
+    use std::cell::Cell;
     use std::ptr;
+
+    thread_local! {
+        /// The allocations of this thread with the global allocator.
+        static GLOBAL: Cell<usize> = const { Cell::new(0) };
+    }
+
+    struct Counting;
+
+    #[global_allocator]
+    static COUNTING: Counting = Counting;
+
+    // SAFETY: it passes each call to the system's allocator.
+    unsafe impl GlobalAlloc for Counting {
+        unsafe fn alloc(&self, layout: Layout) -> *mut u8 {
+            GLOBAL.set(GLOBAL.get() + 1);
+            // SAFETY: the caller meets the contract of `alloc`.
+            unsafe { System.alloc(layout) }
+        }
+
+        unsafe fn dealloc(&self, at: *mut u8, layout: Layout) {
+            // SAFETY: `at` is from `alloc` above.
+            unsafe { System.dealloc(at, layout) }
+        }
+    }
+
+    #[test]
+    fn the_library_does_not_use_the_global_allocator() {
+        let before = GLOBAL.get();
+        let allocated = rattle_alloc(64, 8);
+        assert_eq!(GLOBAL.get(), before);
+        // SAFETY: it is freed once.
+        unsafe { rattle_dealloc(allocated.at) };
+        drop(std::hint::black_box(Box::new(0_u64)));
+        assert_eq!(GLOBAL.get(), before + 1);
+    }
 
     #[test]
     fn a_failed_allocation_is_not_there_and_not_null() {
