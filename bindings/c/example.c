@@ -67,6 +67,7 @@ int main(void)
 	uint32_t size = 0;
 	size_t length = 0, events = 0;
 
+	printf("version %d, interface %d\n", (int)nw_version(), (int)NW_ABI);
 	bytes_of(KEYS, keys);
 	for (size_t i = 0; i < 4; i++) {
 		memcpy(members[i].key, keys + 32 * i, 32);
@@ -109,15 +110,16 @@ int main(void)
 	tell("events", nw_answer_events(&answer, &events));
 	printf("  %zu explain the answer\n", events);
 
-	nw_free(&found);
-	nw_free(&list);
-	nw_free(&ticket);
-	nw_free(&answer);
-	nw_free(&book);
-	nw_free(&certificate);
-	nw_free(&block);
-	nw_free(&committee);
-	nw_free(&committee);
+	nw_block_free(&found);
+	nw_list_free(&list);
+	nw_answer_free(&ticket);
+	nw_answer_free(&answer);
+	nw_book_free(&book);
+	nw_checked_free(&certificate);
+	nw_checked_free(&block);
+	nw_committee_free(&committee);
+	nw_committee_free(&committee);
 	tell("walk after the end", nw_ticket_walk(&ticket, &list));
+	printf("  %s\n", nw_code_text(NW_CLOSED));
 	return 0;
 }

@@ -1,14 +1,26 @@
 /* nw.h: the verified block store of a Narwhal validator, for C. Made by bindings/c/header from crates/nw_c; do not edit.
 
    A handle is one pointer, and {0} if it is closed. A function that makes a value takes a closed handle and opens it if it returns
-   NW_DONE. For a closed handle or a handle of another kind, a function returns a code. Never copy an open handle. Close each with
-   nw_free, which takes the handle's address.
+   NW_DONE. For a closed handle or a handle of another kind, a function returns a code. Never copy an open handle. Close each with the
+   function of its kind, as nw_block_free. It does nothing for NULL or a closed handle.
 
-   Every pointer must be valid; only an array of length 0 may be NULL. All other values are checked. A function that writes bytes into a
-   buffer first writes how many bytes are needed, so a buffer of length 0 asks for the size.
+   If several codes apply, a function returns the first of NW_CLOSED, NW_OPEN, NW_BAD_ROUND and NW_OTHER_KIND, and otherwise the first
+   that its comment names. But nw_book_hand_in looks at its text before all else, and nw_book_collect at its round. The numbers of codes,
+   kinds of texts, replies and calls do not overlap.
 
-   Any thread may call any function, with one call at a time on one handle. Two threads may use two handles at once, even if these share
-   a committee, blocks or a history. Put a lock of your own around a book. Checks and walks need no lock.
+   The caller owes what the library cannot check:
+
+   - Every pointer is valid, and only an array of length 0 may be NULL. No two parameters of one call are the same handle or overlap.
+   - There is one call at a time on one handle. A handle passes to another thread by a lock, by starting or joining a thread, or by a
+     sequentially consistent atomic operation.
+   - No call comes from a signal handler, or from the child of a fork of a process with more than one thread.
+   - The allocation functions are as in nw_alloc.h.
+
+   All other values are checked. A function that writes bytes into a buffer first writes how many bytes are needed, so a buffer of
+   length 0 asks for the size.
+
+   Two threads may use two handles at once, even if these share a committee, blocks or a history. Put a lock of your own around a book.
+   Checks and walks need no lock.
 
    Each session numbers its calls of a book from 1, and again from 1 after a restart. A refused call uses no number, and changes nothing
    except what its comment names. The store is in memory only: docs/EMBEDDING.md says what a validator logs. */
@@ -17,6 +29,42 @@
 #include <stdbool.h>
 #include <stddef.h>
 #include <stdint.h>
+
+/* The version of this header. nw_version() returns that of the library. */
+#define NW_VERSION "0.1.0"
+#define NW_VERSION_NUMBER 100
+/* The interface of this header. A program links only with a library of the same interface: see nw_interface_4. */
+#define NW_ABI 4
+
+/* The largest number of members of a committee. */
+#define NW_MAX_MEMBERS 100
+/* The largest weight of a member. */
+#define NW_MAX_WEIGHT 1000000
+/* The largest number of parents of a block. */
+#define NW_MAX_PARENTS 100
+/* The largest number of transactions of a block. */
+#define NW_MAX_TRANSACTIONS 1024
+/* The largest size of a transaction in bytes. */
+#define NW_MAX_TRANSACTION 65536
+/* The largest size of a body in bytes. */
+#define NW_MAX_BODY 1048576
+/* The largest number of votes of a certificate. */
+#define NW_MAX_VOTES 100
+/* The largest limit on blocks, and on certificates. */
+#define NW_MAX_BLOCKS 65536
+/* The largest limit on events of a history. */
+#define NW_MAX_EVENTS 65536
+/* The largest window. */
+#define NW_MAX_WINDOW 4096
+/* The largest limit on sessions. */
+#define NW_MAX_SESSIONS 256
+
+/* The compiler warns if a code is not used. */
+#if defined(__GNUC__)
+#define NW_USE __attribute__((warn_unused_result))
+#else
+#define NW_USE
+#endif
 
 #ifdef __cplusplus
 extern "C" {
@@ -71,122 +119,125 @@ enum {
 /* The kinds of checked texts. */
 enum {
 	/* A block. A checked one is valid. */
-	NW_BLOCK = 1,
+	NW_BLOCK = 101,
 	/* A certificate. A checked one is valid. */
-	NW_CERTIFICATE = 2,
+	NW_CERTIFICATE = 102,
 	/* A vote. Its signature is not checked until it is added to the gathered votes. */
-	NW_VOTE = 3,
+	NW_VOTE = 103,
 	/* The text ends too early. */
-	NW_TEXT_SHORT = 10,
+	NW_TEXT_SHORT = 110,
 	/* Bytes follow the message. */
-	NW_TEXT_TRAILING = 11,
+	NW_TEXT_TRAILING = 111,
 	/* The first byte is not that of a message. */
-	NW_TEXT_TAG = 12,
+	NW_TEXT_TAG = 112,
 	/* The version of the block is not 1. */
-	NW_TEXT_VERSION = 13,
+	NW_TEXT_VERSION = 113,
 	/* The block has more than 100 parents. */
-	NW_TEXT_MANY_PARENTS = 14,
+	NW_TEXT_MANY_PARENTS = 114,
 	/* The parents' authors do not ascend strictly. */
-	NW_TEXT_PARENT_ORDER = 15,
+	NW_TEXT_PARENT_ORDER = 115,
 	/* The block has more than 1,024 transactions. */
-	NW_TEXT_MANY_TRANSACTIONS = 16,
+	NW_TEXT_MANY_TRANSACTIONS = 116,
 	/* A transaction has more than 65,536 bytes. */
-	NW_TEXT_LONG_TRANSACTION = 17,
+	NW_TEXT_LONG_TRANSACTION = 117,
 	/* The body has more than 1,048,576 bytes. */
-	NW_TEXT_LONG_BODY = 18,
+	NW_TEXT_LONG_BODY = 118,
 	/* The certificate has more than 100 votes. */
-	NW_TEXT_MANY_VOTES = 19,
+	NW_TEXT_MANY_VOTES = 119,
 	/* The signers do not ascend strictly. */
-	NW_TEXT_VOTE_ORDER = 20,
+	NW_TEXT_VOTE_ORDER = 120,
 	/* The block's author is not a member. */
-	NW_BLOCK_AUTHOR = 30,
+	NW_BLOCK_AUTHOR = 130,
 	/* A parent's author is not a member. */
-	NW_BLOCK_PARENT_AUTHOR = 31,
+	NW_BLOCK_PARENT_AUTHOR = 131,
 	/* A block of round 0 has parents. */
-	NW_BLOCK_GENESIS_PARENTS = 32,
+	NW_BLOCK_GENESIS_PARENTS = 132,
 	/* The parents' authors do not reach a quorum. */
-	NW_BLOCK_FEW_PARENTS = 33,
+	NW_BLOCK_FEW_PARENTS = 133,
 	/* The block's signature is not its author's. */
-	NW_BLOCK_SIGNATURE = 34,
+	NW_BLOCK_SIGNATURE = 134,
 	/* The certificate's author is not a member. */
-	NW_CERT_AUTHOR = 40,
+	NW_CERT_AUTHOR = 140,
 	/* A signer is not a member. */
-	NW_CERT_SIGNER = 41,
+	NW_CERT_SIGNER = 141,
 	/* The signers do not reach a quorum. */
-	NW_CERT_FEW_VOTES = 42,
+	NW_CERT_FEW_VOTES = 142,
 	/* The signature of signer is not that member's. All signatures before it are correct. */
-	NW_CERT_SIGNATURE = 43,
+	NW_CERT_SIGNATURE = 143,
 };
 
 /* The kinds of replies. */
 enum {
 	/* Write: the block is now stored, and it is the first of its round and author. Vote for it once all its
 	   parents are stored and certified (nw_book_look). A block of the garbage round needs no parents. */
-	NW_STORED_VOTE = 1,
+	NW_STORED_VOTE = 201,
 	/* Write: the block is now stored, without a vote: another block of its round and author came first, but this
 	   one is certified. */
-	NW_STORED = 2,
+	NW_STORED = 202,
 	/* Write: the same block is already stored. */
-	NW_HELD = 3,
+	NW_HELD = 203,
 	/* Write: another block is stored under the digest. */
-	NW_CLASH = 4,
+	NW_CLASH = 204,
 	/* Write: not stored, because another block of this round and author came first. digest is the digest of that
 	   block. Drop the block, and fetch it if its own digest is certified. */
-	NW_EQUIVOCATES = 5,
+	NW_EQUIVOCATES = 205,
 	/* Certificate: it is now stored. */
-	NW_CERTIFIED = 6,
+	NW_CERTIFIED = 206,
 	/* Certificate: the digest is already certified for the same round and author. */
-	NW_ALREADY = 7,
+	NW_ALREADY = 207,
 	/* Certificate: another digest is certified for the round and author. digest is that digest. */
-	NW_CONFLICT = 8,
+	NW_CONFLICT = 208,
 	/* Write or certificate: the round is below the garbage round. number is the garbage round. */
-	NW_COLLECTED = 9,
+	NW_COLLECTED = 209,
 	/* Write or certificate: the round is at or above the garbage round plus the window. Drop it, and fetch it
 	   after a collection. */
-	NW_TOO_FAR = 10,
+	NW_TOO_FAR = 210,
 	/* Write or certificate: a stored block or certificate of this digest has another round or author. */
-	NW_MISFIT = 11,
+	NW_MISFIT = 211,
 	/* Write or certificate: the book has reached its limit on blocks or on certificates. Drop it, and fetch it
 	   after a collection. */
-	NW_FULL = 12,
+	NW_FULL = 212,
 	/* Read or call for a certificate: it was found. */
-	NW_FOUND = 13,
-	/* Read, causal read or call for a certificate: no block or certificate of this digest is stored. */
-	NW_UNKNOWN = 14,
+	NW_FOUND = 213,
+	/* Read, causal read, call for a certificate or for the missing parents of a block: no block or certificate
+	   of this digest is stored. */
+	NW_UNKNOWN = 214,
 	/* Causal read: the digest is not certified. */
-	NW_UNCERTIFIED = 15,
+	NW_UNCERTIFIED = 215,
 	/* Causal read: an ancestor is missing or not certified. */
-	NW_INCOMPLETE = 16,
+	NW_INCOMPLETE = 216,
 	/* Causal read: the answer is a ticket, whose list can be walked. */
-	NW_READY = 17,
+	NW_READY = 217,
 	/* Collection: the garbage round was raised, and number blocks were dropped. */
-	NW_RAISED = 18,
+	NW_RAISED = 218,
 	/* Collection: the garbage round was already as high. number is the garbage round. */
-	NW_NOT_HIGHER = 19,
+	NW_NOT_HIGHER = 219,
 	/* Call for missing parents: number of them are listed. */
-	NW_MISSING = 20,
+	NW_MISSING = 220,
 	/* Call for the status. */
-	NW_STATUS = 21,
+	NW_STATUS = 221,
 };
 
 /* The kinds of calls. */
 enum {
 	/* A write of the block of digest. */
-	NW_CALL_WRITE = 1,
+	NW_CALL_WRITE = 301,
 	/* A certificate handed in for digest. */
-	NW_CALL_CERTIFY = 2,
+	NW_CALL_CERTIFY = 302,
 	/* A call for the certificate of digest. */
-	NW_CALL_CERTIFICATE = 3,
+	NW_CALL_CERTIFICATE = 303,
 	/* A read of digest. */
-	NW_CALL_READ = 4,
+	NW_CALL_READ = 304,
 	/* A causal read of digest. */
-	NW_CALL_CAUSAL = 5,
+	NW_CALL_CAUSAL = 305,
 	/* A collection of the rounds below number. */
-	NW_CALL_COLLECT = 6,
+	NW_CALL_COLLECT = 306,
 	/* A call for the first number missing parents. */
-	NW_CALL_MISSING = 7,
+	NW_CALL_MISSING = 307,
 	/* A call for the status. */
-	NW_CALL_STATUS = 8,
+	NW_CALL_STATUS = 308,
+	/* A call for the missing parents of the block of digest. */
+	NW_CALL_MISSING_OF = 309,
 };
 
 /* A committee. */
@@ -287,7 +338,8 @@ typedef struct {
 
 /* What a book has in a slot, that is, for a round and an author: the garbage round, the digest of the slot's
    first block and the certified digest. A digest that the slot lacks is 0, and its flag is not set. stands
-   is set if the block of the certified digest is stored. */
+   is set if the block of the certified digest is stored, and complete if also all its ancestors above the
+   garbage round have their parents. */
 typedef struct {
 	uint64_t floor;
 	nw_digest first;
@@ -295,7 +347,14 @@ typedef struct {
 	bool has_first;
 	bool has_certified;
 	bool stands;
+	bool complete;
 } nw_look;
+
+/* What a book has in the slot of this author. */
+typedef struct {
+	uint16_t author;
+	nw_look look;
+} nw_author_look;
 
 /* The counts of a book: its garbage round, and how many blocks, certificates, complete blocks and missing
    parents (wanted) it has. */
@@ -318,20 +377,20 @@ typedef struct {
 
 /* Makes a committee of 1 to 100 members. A member's number is its index in the array. Returns
    NW_BAD_COMMITTEE if there are too few or too many members, a weight is out of range, or a key is repeated. */
-int32_t nw_committee_new(const nw_member *members, size_t members_len, nw_committee *out);
+NW_USE int32_t nw_committee_new(const nw_member *members, size_t members_len, nw_committee *out);
 
 /* Opens a second handle of the committee, which another thread can use. Both handles share the members. */
-int32_t nw_committee_share(nw_committee *committee, nw_committee *out);
+NW_USE int32_t nw_committee_share(nw_committee *committee, nw_committee *out);
 
 /* Writes the number of members. */
-int32_t nw_committee_size(nw_committee *committee, size_t *out);
+NW_USE int32_t nw_committee_size(nw_committee *committee, size_t *out);
 
 /* Writes the key and the weight of the member with this number. Returns NW_ABSENT if there is no such
    member. */
-int32_t nw_committee_member(nw_committee *committee, uint16_t number, nw_member *out);
+NW_USE int32_t nw_committee_member(nw_committee *committee, uint16_t number, nw_member *out);
 
 /* Writes the quorum: the least weight that is more than two thirds of the total weight. */
-int32_t nw_committee_quorum(nw_committee *committee, uint32_t *out);
+NW_USE int32_t nw_committee_quorum(nw_committee *committee, uint32_t *out);
 
 /* Writes the SHA-256 digest of the bytes. */
 void nw_digest_of(const uint8_t *bytes, size_t bytes_len, nw_digest *out);
@@ -341,45 +400,45 @@ void nw_text_of_block(const nw_digest *digest, nw_block_text *out);
 
 /* Writes the text that a member signs to vote for the block of this digest, round and author. Returns
    NW_BAD_ROUND if the round is not below 2^48. */
-int32_t nw_text_of_vote(const nw_subject *subject, nw_vote_text *out);
+NW_USE int32_t nw_text_of_vote(const nw_subject *subject, nw_vote_text *out);
 
 /* Writes the message of the signer's vote for the block of this digest, round and author: 107 bytes. Writes
    this size to needed. Returns NW_SMALL if the buffer is smaller, and NW_BAD_ROUND if the round is not below
    2^48. It does not check the signature. */
-int32_t nw_vote_message(const nw_subject *subject, uint16_t signer, const nw_signature *signature, uint8_t *buffer, size_t buffer_len, size_t *needed);
+NW_USE int32_t nw_vote_message(const nw_subject *subject, uint16_t signer, const nw_signature *signature, uint8_t *buffer, size_t buffer_len, size_t *needed);
 
 /* Makes a block of this author and round. transactions has the bytes of all transactions, one after another,
    and lengths has the size of each. Parents must ascend strictly by author. A block has at most 100 parents,
    1,024 transactions of at most 65,536 bytes each, and a body of 1,048,576 bytes. Returns NW_BAD_ROUND if
    the round is not below 2^48. Returns NW_OVER_LIMIT if the parents do not ascend, a limit is exceeded, or
    the sizes do not add up to the number of bytes. It checks nothing against a committee. */
-int32_t nw_block_new(uint16_t author, uint64_t round, const nw_parent *parents, size_t parents_len, const uint8_t *transactions, size_t transactions_len, const uint32_t *lengths, size_t lengths_len, nw_block *out);
+NW_USE int32_t nw_block_new(uint16_t author, uint64_t round, const nw_parent *parents, size_t parents_len, const uint8_t *transactions, size_t transactions_len, const uint32_t *lengths, size_t lengths_len, nw_block *out);
 
 /* Writes the digest, round and author of the block. It hashes nothing: every block handle keeps its digest. */
-int32_t nw_block_subject(nw_block *block, nw_subject *out);
+NW_USE int32_t nw_block_subject(nw_block *block, nw_subject *out);
 
 /* Writes how many parents and how many transactions the block has. */
-int32_t nw_block_counts(nw_block *block, size_t *parents, size_t *transactions);
+NW_USE int32_t nw_block_counts(nw_block *block, size_t *parents, size_t *transactions);
 
 /* Writes the parent at the index, counted from 0. Parents ascend by author. Returns NW_ABSENT if the block
    has no such parent. */
-int32_t nw_block_parent(nw_block *block, size_t index, nw_parent *out);
+NW_USE int32_t nw_block_parent(nw_block *block, size_t index, nw_parent *out);
 
 /* Writes the encoded body of the block to the buffer. The block's digest is SHA-256 of these bytes. Writes
    their size to needed. Returns NW_SMALL if the buffer is smaller, and NW_OVER_LIMIT if the block breaks a
    limit of the format. */
-int32_t nw_block_body(nw_block *block, uint8_t *buffer, size_t buffer_len, size_t *needed);
+NW_USE int32_t nw_block_body(nw_block *block, uint8_t *buffer, size_t buffer_len, size_t *needed);
 
 /* Writes the message of the block with this signature, which can be sent to other members. Writes its size
    to needed. Returns NW_SMALL if the buffer is smaller, and NW_OVER_LIMIT if the block breaks a limit of the
    format. It does not check the signature. */
-int32_t nw_block_message(nw_block *block, const nw_signature *signature, uint8_t *buffer, size_t buffer_len, size_t *needed);
+NW_USE int32_t nw_block_message(nw_block *block, const nw_signature *signature, uint8_t *buffer, size_t buffer_len, size_t *needed);
 
 /* Copies all transactions of the block to the buffer, one after another, and their sizes to lengths, in the
    form that nw_block_new takes. Writes the size of all together to needed. Returns NW_SMALL if the buffer is
    smaller than that, or if lengths has fewer places than the block has transactions (nw_block_counts).
    Returns NW_OVER_LIMIT if the block breaks a limit of the format; no checked block does. */
-int32_t nw_block_transactions(nw_block *block, uint8_t *buffer, size_t buffer_len, uint32_t *lengths, size_t lengths_len, size_t *needed);
+NW_USE int32_t nw_block_transactions(nw_block *block, uint8_t *buffer, size_t buffer_len, uint32_t *lengths, size_t lengths_len, size_t *needed);
 
 /* Writes what the front of the text says: the kind of message, its round and author, the digest of a
    certificate or vote, and the signer of a vote. A block's digest is not in its text, and is written as 0.
@@ -387,146 +446,264 @@ int32_t nw_block_transactions(nw_block *block, uint8_t *buffer, size_t buffer_le
    text may still be no message. If nw_check accepts the text, the checked message has the same fields.
    Returns NW_ABSENT if the first byte is not that of a message, the version of a block is not 1, or the text
    ends before these fields do. */
-int32_t nw_peek(const uint8_t *text, size_t text_len, nw_message *out);
+NW_USE int32_t nw_peek(const uint8_t *text, size_t text_len, nw_message *out);
 
 /* Decodes the text and checks its message under the committee. It also returns NW_DONE for a text that is
    not a message, and for a block or certificate that breaks a rule. nw_checked_kind says what the text is. */
-int32_t nw_check(nw_committee *committee, const uint8_t *text, size_t text_len, nw_checked *out);
+NW_USE int32_t nw_check(nw_committee *committee, const uint8_t *text, size_t text_len, nw_checked *out);
 
 /* Writes what the checked text is: a block, a certificate, a vote, or the first rule that it breaks. */
-int32_t nw_checked_kind(nw_checked *checked, nw_message *out);
+NW_USE int32_t nw_checked_kind(nw_checked *checked, nw_message *out);
 
 /* Opens a handle of the checked block. Returns NW_OTHER_KIND if the text is not a valid block. */
-int32_t nw_checked_block(nw_checked *checked, nw_block *out);
+NW_USE int32_t nw_checked_block(nw_checked *checked, nw_block *out);
 
 /* Writes the message of the checked certificate or vote, which can be sent to other members. Writes its size
    to needed. Returns NW_SMALL if the buffer is smaller, and NW_OTHER_KIND if the text is neither a valid
    certificate nor a vote. */
-int32_t nw_checked_message(nw_checked *checked, uint8_t *buffer, size_t buffer_len, size_t *needed);
+NW_USE int32_t nw_checked_message(nw_checked *checked, uint8_t *buffer, size_t buffer_len, size_t *needed);
+
+/* Writes the number of the signer at the index, counted from 0, of the checked certificate. Signers ascend.
+   Returns NW_ABSENT if the certificate has no such signer, and NW_OTHER_KIND if the text is not a valid
+   certificate. */
+NW_USE int32_t nw_checked_signer(nw_checked *checked, size_t index, uint16_t *out);
 
 /* Starts to gather votes for the block of this subject. Returns NW_BAD_ROUND if the round is not below 2^48,
    and NW_NO_MEMBER if the author is not a member. */
-int32_t nw_gather_new(nw_committee *committee, const nw_subject *subject, nw_gather *out);
+NW_USE int32_t nw_gather_new(nw_committee *committee, const nw_subject *subject, nw_gather *out);
 
 /* Checks the signature of the vote and counts the vote. Writes to quorum whether the counted votes reach the
    quorum. Refuses a vote with NW_OTHER_BLOCK, NW_REPEATED, NW_NO_MEMBER or NW_BAD_SIGNATURE, the first that
    applies, and then changes nothing. Returns NW_OTHER_KIND if the checked text is not a vote. */
-int32_t nw_gather_add(nw_gather *gather, nw_checked *vote, bool *quorum);
+NW_USE int32_t nw_gather_add(nw_gather *gather, nw_checked *vote, bool *quorum);
 
 /* Makes the certificate of the counted votes and opens a handle of it, as a checked text. Returns
    NW_FEW_VOTES if the votes do not reach the quorum. More votes can be added afterwards. */
-int32_t nw_gather_certificate(nw_gather *gather, nw_checked *out);
+NW_USE int32_t nw_gather_certificate(nw_gather *gather, nw_checked *out);
 
 /* Makes an empty book under the committee and the limits. Returns NW_BAD_LIMITS if a limit is out of range. */
-int32_t nw_book_new(nw_committee *committee, const nw_limits *limits, nw_book *out);
+NW_USE int32_t nw_book_new(nw_committee *committee, const nw_limits *limits, nw_book *out);
 
 /* Writes how many events the history has. */
-int32_t nw_book_events(nw_book *book, size_t *out);
+NW_USE int32_t nw_book_events(nw_book *book, size_t *out);
+
+/* Writes the number of the session's next call. Returns NW_OUT_OF_TURN if the session's number is not below
+   the limit on sessions. */
+NW_USE int32_t nw_book_next(nw_book *book, uint16_t session, uint32_t *out);
+
+/* Writes the limits of the book. */
+NW_USE int32_t nw_book_limits(nw_book *book, nw_limits *out);
+
+/* Opens a handle of the committee of the book. */
+NW_USE int32_t nw_book_committee(nw_book *book, nw_committee *out);
 
 /* Rebuilds the list of complete blocks that tickets share, without collected blocks. Later tickets share the
    new list, and earlier tickets keep theirs. It changes nothing that a call can observe. */
-int32_t nw_book_compact(nw_book *book);
+NW_USE int32_t nw_book_compact(nw_book *book);
 
 /* Empties the history. The book keeps its blocks, certificates, votes and garbage round, so no round and
    author gets a second vote. The next call of each session has number 1 again. Answers and tickets do not
    change. It copies the tables, and shares the blocks and certificates, so its time depends only on how many
    are stored. */
-int32_t nw_book_restart(nw_book *book);
+NW_USE int32_t nw_book_restart(nw_book *book);
 
 /* Writes what the book has in the slot of this round and author. This is not a call: it adds no event, and
    no session numbers it. A parent of a block of the next round, with this author and a digest, is stored and
-   certified exactly if the digest is the certified one and stands is set. Returns NW_BAD_ROUND if the round
-   is not below 2^48. */
-int32_t nw_book_look(nw_book *book, uint64_t round, uint16_t author, nw_look *out);
+   certified exactly when the digest is the certified one and stands is set. Returns NW_BAD_ROUND if the
+   round is not below 2^48. */
+NW_USE int32_t nw_book_look(nw_book *book, uint64_t round, uint16_t author, nw_look *out);
+
+/* Writes what the book has in each slot of this round that has a first or a certified digest, ascending by
+   author. Writes the number of these slots to needed; it is at most the number of members. Returns NW_SMALL
+   if the array is smaller, and NW_BAD_ROUND if the round is not below 2^48. This is not a call: it adds no
+   event, and no session numbers it. */
+NW_USE int32_t nw_book_look_round(nw_book *book, uint64_t round, nw_author_look *looks, size_t looks_len, size_t *needed);
 
 /* Writes the checked block, or certifies the digest of the checked certificate. number must be that of the
    session's next call. The handle of the checked text stays open, and the text may be handed to other books.
    Returns NW_OTHER_KIND if the text is neither a valid block nor a valid certificate. */
-int32_t nw_book_hand_in(nw_book *book, uint16_t session, uint32_t number, nw_checked *checked, nw_answer *answer);
+NW_USE int32_t nw_book_hand_in(nw_book *book, uint16_t session, uint32_t number, nw_checked *checked, nw_answer *answer);
 
 /* Asks for the certificate of the digest. number must be that of the session's next call. */
-int32_t nw_book_certificate(nw_book *book, uint16_t session, uint32_t number, const nw_digest *digest, nw_answer *answer);
+NW_USE int32_t nw_book_certificate(nw_book *book, uint16_t session, uint32_t number, const nw_digest *digest, nw_answer *answer);
 
 /* Asks for the block of the digest. number must be that of the session's next call. */
-int32_t nw_book_read(nw_book *book, uint16_t session, uint32_t number, const nw_digest *digest, nw_answer *answer);
+NW_USE int32_t nw_book_read(nw_book *book, uint16_t session, uint32_t number, const nw_digest *digest, nw_answer *answer);
 
 /* Raises the garbage round to this round and drops everything of lower rounds. number must be that of the
    session's next call. Returns NW_BAD_ROUND if the round is not below 2^48. */
-int32_t nw_book_collect(nw_book *book, uint16_t session, uint32_t number, uint64_t round, nw_answer *answer);
+NW_USE int32_t nw_book_collect(nw_book *book, uint16_t session, uint32_t number, uint64_t round, nw_answer *answer);
 
 /* Asks for the first most missing parents, or for all if there are fewer. They ascend by round, author and
    digest. number must be that of the session's next call. */
-int32_t nw_book_missing(nw_book *book, uint16_t session, uint32_t number, uint16_t most, nw_answer *answer);
+NW_USE int32_t nw_book_missing(nw_book *book, uint16_t session, uint32_t number, uint16_t most, nw_answer *answer);
+
+/* Asks for the missing parents of the block of the digest: those that it refers to, and that are not stored
+   or not certified. They ascend by author and digest. A block that is not above the garbage round has none.
+   number must be that of the session's next call. */
+NW_USE int32_t nw_book_missing_of(nw_book *book, uint16_t session, uint32_t number, const nw_digest *digest, nw_answer *answer);
 
 /* Asks for the counts of the book. number must be that of the session's next call. */
-int32_t nw_book_status(nw_book *book, uint16_t session, uint32_t number, nw_answer *answer);
+NW_USE int32_t nw_book_status(nw_book *book, uint16_t session, uint32_t number, nw_answer *answer);
 
 /* Opens a causal read of the digest. number must be that of the session's next call. The answer is a ticket
    if the digest is complete: the block and its ancestors, down to the garbage round, are stored and
    certified. Otherwise the reply of the answer says why there is no ticket. */
-int32_t nw_book_open(nw_book *book, uint16_t session, uint32_t number, const nw_digest *digest, nw_answer *answer);
+NW_USE int32_t nw_book_open(nw_book *book, uint16_t session, uint32_t number, const nw_digest *digest, nw_answer *answer);
 
 /* Makes room for an answer. Make it before the call, so that a call that was taken never runs out of memory
    for its answer. The room can be used again: a new answer replaces the old one. A refused call leaves the
    old one in place. */
-int32_t nw_answer_new(nw_answer *out);
+NW_USE int32_t nw_answer_new(nw_answer *out);
 
 /* Opens a handle of the block that a read found. Returns NW_ABSENT if the read found none, and NW_OTHER_KIND
    if the answer is not to a read. */
-int32_t nw_answer_block(nw_answer *answer, nw_block *out);
+NW_USE int32_t nw_answer_block(nw_answer *answer, nw_block *out);
 
 /* Writes the message of the certificate that a call for a certificate found. Writes its size to needed.
    Returns NW_SMALL if the buffer is smaller, NW_ABSENT if the call found no certificate, and NW_OTHER_KIND
    if the answer is to another call. */
-int32_t nw_answer_message(nw_answer *answer, uint8_t *buffer, size_t buffer_len, size_t *needed);
+NW_USE int32_t nw_answer_message(nw_answer *answer, uint8_t *buffer, size_t buffer_len, size_t *needed);
 
-/* Writes one of the parents that a call for missing parents listed. index counts from 0. Returns NW_ABSENT
-   if the list has no parent at that index, and NW_OTHER_KIND if the answer is to another call. */
-int32_t nw_answer_missing(nw_answer *answer, size_t index, nw_subject *out);
+/* Writes one of the parents that a call for missing parents listed, of all blocks or of one. index counts
+   from 0. Returns NW_ABSENT if the list has no parent at that index, and NW_OTHER_KIND if the answer is to
+   another call or lists nothing because the block is not stored. */
+NW_USE int32_t nw_answer_missing(nw_answer *answer, size_t index, nw_subject *out);
 
 /* Writes the counts of a call for the status. Returns NW_OTHER_KIND if the answer is to another call. */
-int32_t nw_answer_status(nw_answer *answer, nw_status *out);
+NW_USE int32_t nw_answer_status(nw_answer *answer, nw_status *out);
 
 /* Writes the reply of the answer. The reply of a ticket is NW_READY. */
-int32_t nw_answer_reply(nw_answer *answer, nw_tagged *out);
+NW_USE int32_t nw_answer_reply(nw_answer *answer, nw_tagged *out);
 
 /* Writes the number of events in the history of the answer or ticket. The last event is its own call. */
-int32_t nw_answer_events(nw_answer *answer, size_t *out);
+NW_USE int32_t nw_answer_events(nw_answer *answer, size_t *out);
 
 /* Writes the event at the index, counted from 0, of the history of the answer or ticket. Returns NW_ABSENT
    if there is no such event. */
-int32_t nw_answer_event(nw_answer *answer, size_t index, nw_event *out);
+NW_USE int32_t nw_answer_event(nw_answer *answer, size_t index, nw_event *out);
 
-/* Writes whether the history of answer begins the history of other. It does if both have the same committee,
-   limits and base, and the first events of other are the events of answer. The time grows with the number of
-   these events. Both handles may be answers or tickets. */
-int32_t nw_answer_begins(nw_answer *answer, nw_answer *other, bool *out);
+/* Writes whether the history of answer is a prefix of the history of other. It is if both have the same
+   committee, limits and base, and the first events of other are the events of answer. The time grows with
+   the number of these events. Both handles may be answers or tickets. */
+NW_USE int32_t nw_answer_is_prefix(nw_answer *answer, nw_answer *other, bool *out);
 
 /* Writes the digest that the ticket is for, and the garbage round at the call that gave the ticket. */
-int32_t nw_ticket_scope(nw_answer *ticket, nw_digest *digest, uint64_t *floor);
+NW_USE int32_t nw_ticket_scope(nw_answer *ticket, nw_digest *digest, uint64_t *floor);
 
 /* Compares the lists of both tickets, and writes whether they are equal. The tickets may come from two
    books. If the lists differ, two different blocks have the same digest. Returns NW_NOT_COMPARABLE if the
    tickets have different digests or garbage rounds. */
-int32_t nw_ticket_agree(nw_answer *ticket, nw_answer *other, bool *out);
+NW_USE int32_t nw_ticket_agree(nw_answer *ticket, nw_answer *other, bool *out);
 
 /* Walks the ticket and opens the list of its block and all ancestors from the garbage round on. The list is
    as of the call that gave the ticket, and ascends by round and author. A ticket can be walked any number of
    times, at any time, without a lock. */
-int32_t nw_ticket_walk(nw_answer *ticket, nw_list *out);
+NW_USE int32_t nw_ticket_walk(nw_answer *ticket, nw_list *out);
 
 /* Writes how many blocks the list has. */
-int32_t nw_list_len(nw_list *list, size_t *out);
+NW_USE int32_t nw_list_len(nw_list *list, size_t *out);
 
 /* Opens a handle of the block at the index, counted from 0. Returns NW_ABSENT if the list has no such block. */
-int32_t nw_list_block(nw_list *list, size_t index, nw_block *out);
+NW_USE int32_t nw_list_block(nw_list *list, size_t index, nw_block *out);
 
 /* Closes the handle and frees everything that no other handle shares. A closed handle stays closed. */
 void nw_free(void *handle);
 
-/* Returns 2, the number of this interface. The number is in the name too, and changes with each change of an
-   export or a struct. So a program that calls this function links only with a library of the same interface. */
-int32_t nw_interface_2(void);
+/* Returns the version of the library: 10,000 times the first number, 100 times the second, and the third.
+   NW_VERSION_NUMBER is the version of the header. */
+int32_t nw_version(void);
+
+/* Returns NW_ABI, the number of this interface. The number is in the name too, and changes with each change
+   of an export, a struct or a code. So a program that calls this function links only with a library of the
+   same interface. */
+int32_t nw_interface_4(void);
+
+/* Closes the handle, and frees everything that no other handle shares. Does nothing for NULL or a closed handle. */
+static inline void nw_committee_free(nw_committee *handle)
+{
+	if (handle)
+		nw_free(handle);
+}
+static inline void nw_checked_free(nw_checked *handle)
+{
+	if (handle)
+		nw_free(handle);
+}
+static inline void nw_gather_free(nw_gather *handle)
+{
+	if (handle)
+		nw_free(handle);
+}
+static inline void nw_book_free(nw_book *handle)
+{
+	if (handle)
+		nw_free(handle);
+}
+static inline void nw_answer_free(nw_answer *handle)
+{
+	if (handle)
+		nw_free(handle);
+}
+static inline void nw_list_free(nw_list *handle)
+{
+	if (handle)
+		nw_free(handle);
+}
+static inline void nw_block_free(nw_block *handle)
+{
+	if (handle)
+		nw_free(handle);
+}
+
+/* Returns what the code of a function says, or NULL for any other number. The text is constant. */
+static inline const char *nw_code_text(int32_t code)
+{
+	switch (code) {
+	case NW_DONE:
+		return "Success";
+	case NW_NO_MEMORY:
+		return "Out of memory";
+	case NW_CLOSED:
+		return "A handle that must be open is closed";
+	case NW_OPEN:
+		return "A handle that must be closed is open";
+	case NW_OTHER_KIND:
+		return "A handle holds a value of another kind than the function takes";
+	case NW_BAD_COMMITTEE:
+		return "The members do not form a committee";
+	case NW_BAD_LIMITS:
+		return "A limit is outside its range";
+	case NW_OUT_OF_TURN:
+		return "The call's number is not the session's next one, or the session's number is not below the limit on sessions";
+	case NW_OTHER_COMMITTEE:
+		return "The block or certificate was checked under another committee than the book's";
+	case NW_HISTORY_FULL:
+		return "The history has reached its limit on events";
+	case NW_BAD_ROUND:
+		return "A round is not below 2^48";
+	case NW_SMALL:
+		return "The buffer is too small";
+	case NW_ABSENT:
+		return "There is nothing at the index, or there is no such value";
+	case NW_OVER_LIMIT:
+		return "The block or certificate breaks a limit of the format, or its parents or signers do not ascend strictly";
+	case NW_NO_MEMBER:
+		return "The author or signer is not a member of the committee";
+	case NW_OTHER_BLOCK:
+		return "The vote is for another digest, round or author";
+	case NW_REPEATED:
+		return "A vote of the same signer was already counted";
+	case NW_BAD_SIGNATURE:
+		return "The signature is not the signer's";
+	case NW_FEW_VOTES:
+		return "The counted votes do not reach the quorum";
+	case NW_NOT_COMPARABLE:
+		return "The two tickets have different digests or garbage rounds, so their lists cannot be compared";
+	default:
+		return NULL;
+	}
+}
 
 #ifdef __cplusplus
 }

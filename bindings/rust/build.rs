@@ -8,18 +8,21 @@ use std::fs;
 use std::path::{Path, PathBuf};
 use std::process;
 
-/// The folder of the shipped library in this package.
-const SHIPPED: &str = "prebuilt/x86_64-linux";
-/// The targets of the shipped library. It serves both, because it calls only the `mem*` functions
-/// of libc.
-const TARGETS: [&str; 2] = ["x86_64-unknown-linux-gnu", "x86_64-unknown-linux-musl"];
+/// The targets of the shipped libraries, and the folder of each in this package. One library serves
+/// two targets, because it calls only the `mem*` functions of libc.
+const SHIPPED: [(&str, &str); 4] = [
+    ("x86_64-unknown-linux-gnu", "prebuilt/x86_64-linux"),
+    ("x86_64-unknown-linux-musl", "prebuilt/x86_64-linux"),
+    ("aarch64-unknown-linux-gnu", "prebuilt/aarch64-linux"),
+    ("aarch64-unknown-linux-musl", "prebuilt/aarch64-linux"),
+];
 /// The names that a library may have in the folder `NW_LIB_DIR`: as a proof leaves it, and as the
 /// package ships it.
 const NAMES: [&str; 2] = ["libnw_c.a", "libnw.a"];
 /// How to get another library.
 const BUILD_ONE: &str = "Or set NW_LIB_DIR to the absolute path of a folder with libnw_c.a for \
-     your target: in a clone of the repository, `rt lib` in crates/nw_c leaves it in \
-     crates/nw_c/out, if the toolchain builds for your target.";
+     your target: in a clone of the repository, `.ci/library` leaves one in crates/nw_c/out for \
+     x86-64, and one in crates/nw_c/out/aarch64.";
 
 /// A library, and what the crate says of it.
 struct Library {
@@ -73,24 +76,22 @@ fn chosen(folder: &Path) -> Result<Library, String> {
 /// The library that the package ships, or what to do to get one.
 fn shipped() -> Result<Library, String> {
     let target = env::var("TARGET").unwrap_or_default();
-    if !TARGETS.contains(&target.as_str()) {
-        let [gnu, musl] = TARGETS;
+    let Some((_, folder)) = SHIPPED.iter().find(|(name, _)| *name == target) else {
+        let names = SHIPPED.map(|(name, _)| name).join(", ");
         return Err(format!(
-            "narwhal-store ships a library for {gnu} and {musl}, and not for {target}. Build for \
-             one of these. {BUILD_ONE}"
+            "narwhal-store ships libraries for {names}, and not for {target}. Build for one of \
+             these. {BUILD_ONE}"
         ));
-    }
+    };
     let package = PathBuf::from(env::var_os("CARGO_MANIFEST_DIR").unwrap_or_default());
-    let (path, record) = (
-        package.join(SHIPPED).join("libnw.a"),
-        package.join(SHIPPED).join("libnw.record"),
-    );
+    let folder = package.join(folder);
+    let (path, record) = (folder.join("libnw.a"), folder.join("libnw.record"));
     println!("cargo::rerun-if-changed={}", record.display());
     let missing = || {
         format!(
             "{} has no libnw.a, or no libnw.record with its hash. Get the package narwhal-store \
              again, with this folder. {BUILD_ONE}",
-            package.join(SHIPPED).display()
+            folder.display()
         )
     };
     let record = fs::read_to_string(record).map_err(|_| missing())?;

@@ -15,7 +15,7 @@ mod flow;
 mod network;
 
 use flow::Flow;
-use narwhal_store::{Causal, CertifyReply, Checked, CheckedBlock, CheckedCertificate, CheckedVote};
+use narwhal_store::{CertifyReply, Checked, CheckedBlock, CheckedCertificate, CheckedVote};
 use narwhal_store::{Digest, Gather, Limits, Message, Peek, Session, Store, Subject, Ticket};
 use narwhal_store::{WriteReply, check_all, text_of_vote, vote_message};
 use network::{MEMBERS, Network, Outcome, Packet};
@@ -74,11 +74,10 @@ fn run_validator(network: &Network, me: u16, inbox: Receiver<Packet>) -> Outcome
         since: Instant::now(),
         gathers: HashMap::new(),
     };
-    let session = store.session()?;
     thread::scope(|scope| {
         let decider = scope.spawn(move || {
             let collected = |round| network.put(me, Packet::Collected(round));
-            let decided = decide_all(&session, &heard, collected);
+            let decided = decide_all(&store, &heard, collected);
             network.put(me, Packet::Done);
             decided
         });
@@ -91,8 +90,8 @@ struct Intake<'a> {
     network: &'a Network,
     me: u16,
     session: Session,
-    /// Tells the decider about each certificate and each block.
-    news: Sender<Option<Subject>>,
+    /// Tells the decider that a block or a certificate came.
+    news: Sender<()>,
     /// The messages of its own blocks that are not sent yet.
     own: VecDeque<Vec<u8>>,
     flow: Flow,
@@ -177,7 +176,7 @@ impl Intake<'_> {
     /// Writes a block. A refused block is dropped: if it gets a certificate, it is fetched.
     fn take_block(&mut self, block: &CheckedBlock) -> Outcome<()> {
         let reply = self.session.write(block)?.into_reply();
-        let _ = self.news.send(None);
+        let _ = self.news.send(());
         match reply {
             WriteReply::Stored { vote } => {
                 let due = self.flow.stored(block, vote);
@@ -208,9 +207,9 @@ impl Intake<'_> {
         if *self.session.certify(certificate)?.reply() != CertifyReply::Certified {
             return Ok(());
         }
-        let _ = self.news.send(Some(subject));
+        let _ = self.news.send(());
         let due = self.flow.certified(&subject);
-        if self.flow.absent().any(|absent| absent == subject) {
+        if !self.flow.stands(&subject) {
             self.network.fetch(self.me, &subject);
         }
         self.vote(&due)
@@ -233,26 +232,15 @@ impl Intake<'_> {
     }
 }
 
-/// Decides one leader after another, and delivers the new blocks of its causal list.
-fn decide_all(
-    session: &Session,
-    heard: &Receiver<Option<Subject>>,
-    collected: impl Fn(u64),
-) -> Outcome<Decided> {
-    let (mut order, mut leaders, mut next) = (Vec::new(), HashMap::new(), 2);
+/// Decides one leader after another, and delivers the new blocks of its causal list. It asks for the
+/// list only once a look says that the leader's block is complete.
+fn decide_all(store: &Store, heard: &Receiver<()>, collected: impl Fn(u64)) -> Outcome<Decided> {
+    let session = store.session()?;
+    let (mut order, mut next) = (Vec::new(), 2);
     loop {
-        let certified = heard.recv_timeout(PATIENCE)?;
-        let is_leader =
-            |subject: &Subject| subject.round / 2 % u64::from(MEMBERS) == subject.author.into();
-        if let Some(subject) =
-            certified.filter(|subject| subject.round % 2 == 0 && is_leader(subject))
-        {
-            leaders.insert(subject.round, subject.digest);
-        }
-        while let Some(digest) = leaders.get(&next) {
-            let Causal::Ready(ticket) = session.causal(digest)? else {
-                break;
-            };
+        heard.recv_timeout(PATIENCE)?;
+        while let Some(digest) = complete_leader(store, next) {
+            let ticket = session.causal(&digest)?.into_ticket()?;
             for block in ticket.walk()? {
                 if !order.contains(&(block.round(), block.author())) {
                     order.push((block.round(), block.author()));
@@ -266,4 +254,11 @@ fn decide_all(
             next += 2;
         }
     }
+}
+
+/// The digest of the leader's block of this round, if it is complete.
+fn complete_leader(store: &Store, round: u64) -> Option<Digest> {
+    let leader = round / 2 % u64::from(MEMBERS);
+    let look = store.look(round, leader as u16);
+    look.certified.filter(|_| look.complete)
 }

@@ -259,7 +259,7 @@ impl BlockError {
 mod tests {
     use super::{Block, Source};
     use crate::Signature;
-    use crate::refusals::{closed, closed_room, refuses};
+    use crate::no_memory::{closed, closed_room, refuses};
     use std::sync::{Arc, Mutex};
     use std::thread;
 

@@ -1,17 +1,33 @@
 //! Checked messages.
 
 use crate::block::{Source, opened};
+use crate::code::Code;
 use crate::ffi::{self, Handle};
 use crate::raw::RawMessage;
 use crate::{Block, Subject};
-use std::cell::RefCell;
 use std::fmt;
+use std::sync::{Arc, Mutex, MutexGuard, PoisonError};
+
+/// A handle that clones of a checked message share, in several threads.
+#[derive(Clone)]
+pub(crate) struct SharedHandle(Arc<Mutex<Handle>>);
+
+impl SharedHandle {
+    pub(crate) fn new(handle: Handle) -> SharedHandle {
+        SharedHandle(Arc::new(Mutex::new(handle)))
+    }
+
+    /// The handle, for one call.
+    pub(crate) fn lock(&self) -> MutexGuard<'_, Handle> {
+        // No call leaves a handle half changed, so a panic of another thread does no harm.
+        self.0.lock().unwrap_or_else(PoisonError::into_inner)
+    }
+}
 
 /// A message that passed [`Message::check`](crate::Message::check).
 ///
-/// The type is `Send`, so a checked message can be moved to the thread that writes it. It is not
-/// `Sync`.
-#[derive(Debug)]
+/// A clone shares the message, and costs one atomic increment. The type is `Send` and `Sync`.
+#[derive(Clone, Debug)]
 pub enum Checked {
     /// A block that is well formed and signed by its author.
     Block(CheckedBlock),
@@ -25,8 +41,9 @@ pub enum Checked {
 ///
 /// [`Session::write`](crate::Session::write) takes it. It can be written to several stores, and
 /// again to the same store.
+#[derive(Clone)]
 pub struct CheckedBlock {
-    pub(crate) handle: RefCell<Handle>,
+    pub(crate) handle: SharedHandle,
     pub(crate) subject: Subject,
     /// The bytes of its body.
     pub(crate) size: u64,
@@ -42,7 +59,7 @@ impl CheckedBlock {
     /// Returns the block.
     #[must_use]
     pub fn block(&self) -> Block {
-        let handle = opened(|out| ffi::nw_checked_block(&mut self.handle.borrow_mut(), out));
+        let handle = opened(|out| ffi::nw_checked_block(&mut self.handle.lock(), out));
         Block::at(Source::Own(handle))
     }
 }
@@ -60,24 +77,22 @@ impl fmt::Debug for CheckedBlock {
 ///
 /// [`Session::certify`](crate::Session::certify) takes it. It can be handed to several stores, and
 /// again to the same store.
+#[derive(Clone)]
 pub struct CheckedCertificate {
-    pub(crate) handle: RefCell<Handle>,
+    pub(crate) handle: SharedHandle,
     pub(crate) subject: Subject,
     /// The bytes of its message.
     pub(crate) size: u64,
 }
-
-/// The bytes of a certificate of 100 votes.
-const LARGEST: usize = 43 + 66 * 100;
 
 impl CheckedCertificate {
     /// The certificate of a handle.
     pub(crate) fn of(mut handle: Handle) -> CheckedCertificate {
         let mut raw = RawMessage::EMPTY;
         ffi::nw_checked_kind(&mut handle, &mut raw).or_abort();
-        let size = ffi::checked_message(&mut handle).map_or(LARGEST, |message| message.len());
+        let size = ffi::checked_message_size(&mut handle);
         CheckedCertificate {
-            handle: RefCell::new(handle),
+            handle: SharedHandle::new(handle),
             subject: raw.subject,
             size: size as u64,
         }
@@ -87,6 +102,18 @@ impl CheckedCertificate {
     #[must_use]
     pub fn subject(&self) -> Subject {
         self.subject
+    }
+
+    /// Returns the numbers of the members whose votes the certificate has. They ascend.
+    #[must_use]
+    pub fn signers(&self) -> Vec<u16> {
+        let mut handle = self.handle.lock();
+        let signer_at = |index| {
+            let mut signer = 0;
+            let code = ffi::nw_checked_signer(&mut handle, index, &mut signer);
+            (code == Code::DONE).then_some(signer)
+        };
+        (0..).map_while(signer_at).collect()
     }
 
     /// Returns the encoded certificate, to be sent to other validators.
@@ -110,8 +137,9 @@ impl fmt::Debug for CheckedCertificate {
 /// [`Gather::add`] checks both.
 ///
 /// [`Gather::add`]: crate::Gather::add
+#[derive(Clone)]
 pub struct CheckedVote {
-    pub(crate) handle: RefCell<Handle>,
+    pub(crate) handle: SharedHandle,
     pub(crate) subject: Subject,
     pub(crate) signer: u16,
 }
@@ -145,7 +173,7 @@ impl fmt::Debug for CheckedVote {
     }
 }
 
-fn message_of(handle: &RefCell<Handle>) -> Vec<u8> {
-    let message = ffi::checked_message(&mut handle.borrow_mut());
+fn message_of(handle: &SharedHandle) -> Vec<u8> {
+    let message = ffi::checked_message(&mut handle.lock());
     message.unwrap_or_else(|code| code.abort())
 }

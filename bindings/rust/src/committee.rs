@@ -1,9 +1,9 @@
 //! Committees.
 
+use crate::PublicKey;
 use crate::code::Code;
 use crate::error::error_texts;
 use crate::ffi::{self, Handle};
-use crate::{NoMemory, PublicKey};
 use std::fmt;
 use std::sync::{Arc, Mutex, PoisonError};
 
@@ -157,17 +157,11 @@ impl CommitteeError {
     }
 }
 
-impl From<NoMemory> for CommitteeError {
-    fn from(NoMemory: NoMemory) -> CommitteeError {
-        CommitteeError::NoMemory
-    }
-}
-
 #[cfg(test)]
 mod tests {
     use super::{Committee, Inner};
     use crate::PublicKey;
-    use crate::refusals::{closed, refuses};
+    use crate::no_memory::{closed, refuses};
     use std::thread;
 
     #[test]

@@ -1,6 +1,7 @@
 //! Errors that several modules share.
 
 use crate::code::Code;
+use crate::{AgreeError, BlockError, CheckError, CommitteeError, GatherError};
 use std::error::Error;
 use std::fmt;
 
@@ -108,8 +109,23 @@ impl StepError {
     }
 }
 
-impl From<NoMemory> for StepError {
-    fn from(NoMemory: NoMemory) -> StepError {
-        StepError::NoMemory
-    }
+/// Implements `From<NoMemory>` for errors with a variant of this name.
+macro_rules! from_no_memory {
+    ($($name:ident),+) => {
+        $(impl From<NoMemory> for $name {
+            fn from(NoMemory: NoMemory) -> $name {
+                $name::NoMemory
+            }
+        })+
+    };
 }
+
+from_no_memory!(
+    AgreeError,
+    BlockError,
+    CheckError,
+    CommitteeError,
+    GatherError,
+    OpenError,
+    StepError
+);

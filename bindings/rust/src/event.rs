@@ -34,6 +34,8 @@ pub enum Call {
     Collect(u64),
     /// [`Session::missing`](crate::Session::missing) for at most this many.
     Missing(u16),
+    /// [`Session::missing_of`](crate::Session::missing_of) this digest.
+    MissingOf(Digest),
     /// [`Session::status`](crate::Session::status).
     Status,
 }
@@ -121,6 +123,7 @@ impl Call {
             call::COLLECT => Call::Collect(raw.number),
             call::MISSING => Call::Missing(raw.number as u16),
             call::STATUS => Call::Status,
+            call::MISSING_OF => Call::MissingOf(raw.digest),
             other => unexpected_kind(other),
         }
     }
@@ -185,8 +188,9 @@ mod tests {
             (call::COLLECT, Call::Collect(7)),
             (call::MISSING, Call::Missing(7)),
             (call::STATUS, Call::Status),
+            (call::MISSING_OF, Call::MissingOf(DIGEST)),
         ];
-        for (place, (kind, call)) in (1..).zip(calls) {
+        for (place, (kind, call)) in (301..).zip(calls) {
             assert_eq!((kind, Call::of(&raw(kind))), (place, call));
         }
     }
@@ -219,7 +223,7 @@ mod tests {
             (reply::MISSING, Reply::Missing { listed: 7 }),
             (reply::STATUS, Reply::Status),
         ];
-        for (place, (kind, reply)) in (1..).zip(replies) {
+        for (place, (kind, reply)) in (201..).zip(replies) {
             assert_eq!((kind, Reply::of(&raw(kind))), (place, reply));
         }
     }
@@ -228,16 +232,16 @@ mod tests {
     #[test]
     fn each_call_answers_what_its_event_tells() {
         let told = |kind| format!("{:?}", Reply::of(&raw(kind)));
-        for kind in [1, 2, 3, 4, 5, 9, 10, 11, 12] {
+        for kind in [201, 202, 203, 204, 205, 209, 210, 211, 212] {
             assert_eq!(format!("{:?}", WriteReply::of(&raw(kind))), told(kind));
         }
-        for kind in [6, 7, 8, 9, 10, 11, 12] {
+        for kind in [206, 207, 208, 209, 210, 211, 212] {
             assert_eq!(format!("{:?}", CertifyReply::of(&raw(kind))), told(kind));
         }
-        for kind in [18, 19] {
+        for kind in [218, 219] {
             assert_eq!(format!("{:?}", CollectReply::of(&raw(kind))), told(kind));
         }
-        for kind in [14, 15, 16] {
+        for kind in [214, 215, 216] {
             assert_eq!(format!("{:?}", CausalFault::of(&raw(kind))), told(kind));
         }
     }

@@ -1,6 +1,5 @@
 //! The faults of messages.
 
-use crate::NoMemory;
 use crate::error::error_texts;
 use crate::raw::{RawMessage, message, unexpected_kind};
 use std::error::Error;
@@ -142,12 +141,6 @@ impl Error for CheckError {
             CheckError::Certificate(fault) => Some(fault),
             CheckError::NoMemory => None,
         }
-    }
-}
-
-impl From<NoMemory> for CheckError {
-    fn from(NoMemory: NoMemory) -> CheckError {
-        CheckError::NoMemory
     }
 }
 

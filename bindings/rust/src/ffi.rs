@@ -6,7 +6,7 @@
 mod allocator;
 
 use crate::code::Code;
-use crate::raw::{RawEvent, RawLook, RawMessage, RawParent, RawTagged};
+use crate::raw::{RawAuthorLook, RawEvent, RawLook, RawMessage, RawParent, RawTagged};
 use crate::{Digest, Limits, Member, Signature, Status, Subject};
 #[cfg(target_os = "linux")]
 use std::arch::global_asm;
@@ -94,11 +94,11 @@ impl Drop for Spare {
 /// Ties the crate to the interface of the library that it is made for. The number in the export's
 /// name changes with each change of an export or a struct, so another library does not link.
 #[used]
-static INTERFACE: extern "C" fn() -> i32 = nw_interface_2;
+static INTERFACE: extern "C" fn() -> i32 = nw_interface_4;
 
 // Without this, a shared object links with another library, and does not load.
 #[cfg(target_os = "linux")]
-global_asm!(".hidden nw_interface_2");
+global_asm!(".hidden nw_interface_4");
 
 /// A handle, lent to a call.
 type At<'a> = &'a mut Handle;
@@ -126,6 +126,7 @@ exports! {
     nw_block_parent(block: At, index: usize, out: &mut RawParent);
     nw_checked_kind(checked: At, out: &mut RawMessage);
     nw_checked_block(checked: At, out: At);
+    nw_checked_signer(checked: At, index: usize, out: &mut u16);
 
     nw_gather_new(committee: At, subject: &Subject, out: At);
     nw_gather_add(gather: At, vote: At, quorum: &mut bool);
@@ -142,6 +143,7 @@ exports! {
     nw_book_open(book: At, session: u16, number: u32, digest: &Digest, answer: At);
     nw_book_collect(book: At, session: u16, number: u32, round: u64, answer: At);
     nw_book_missing(book: At, session: u16, number: u32, most: u16, answer: At);
+    nw_book_missing_of(book: At, session: u16, number: u32, digest: &Digest, answer: At);
     nw_book_status(book: At, session: u16, number: u32, answer: At);
 
     nw_answer_new(out: At);
@@ -151,7 +153,7 @@ exports! {
     nw_answer_missing(answer: At, index: usize, out: &mut Subject);
     nw_answer_events(answer: At, out: &mut usize);
     nw_answer_event(answer: At, index: usize, out: &mut RawEvent);
-    nw_answer_begins(answer: At, other: At, out: &mut bool);
+    nw_answer_is_prefix(answer: At, other: At, out: &mut bool);
 
     nw_ticket_scope(ticket: At, digest: &mut Digest, floor: &mut u64);
     nw_ticket_walk(ticket: At, out: At);
@@ -165,7 +167,7 @@ exports! {
 unsafe extern "C" {
     pub(crate) safe fn nw_text_of_block(digest: &Digest, out: &mut [u8; 36]);
     safe fn nw_free(handle: &mut Handle);
-    safe fn nw_interface_2() -> i32;
+    safe fn nw_interface_4() -> i32;
     fn nw_committee_new(members: *const Member, members_len: usize, out: &mut Handle) -> Code;
     fn nw_digest_of(bytes: *const u8, bytes_len: usize, out: &mut Digest);
     fn nw_peek(text: *const u8, text_len: usize, out: &mut RawMessage) -> Code;
@@ -181,6 +183,13 @@ unsafe extern "C" {
         lengths: *const u32,
         lengths_len: usize,
         out: &mut Handle,
+    ) -> Code;
+    fn nw_book_look_round(
+        book: &mut Handle,
+        round: u64,
+        looks: *mut RawAuthorLook,
+        looks_len: usize,
+        needed: &mut usize,
     ) -> Code;
     fn nw_block_transactions(
         block: &mut Handle,
@@ -246,6 +255,16 @@ fn filled(
     Ok(bytes)
 }
 
+/// The size of the message of a checked certificate or vote. Nothing is encoded.
+pub(crate) fn checked_message_size(checked: &mut Handle) -> usize {
+    let mut needed = 0;
+    // SAFETY: a buffer of length 0 may be null.
+    match unsafe { nw_checked_message(checked, ptr::null_mut(), 0, &mut needed) } {
+        Code::SMALL => needed,
+        other => other.unexpected(),
+    }
+}
+
 /// All transactions of a block, one after another. `lengths` has a place for the length of each.
 pub(crate) fn block_transactions(block: &mut Handle, lengths: &mut [u32]) -> Result<Vec<u8>, Code> {
     let (places, count) = (lengths.as_mut_ptr(), lengths.len());
@@ -259,6 +278,20 @@ pub(crate) fn block_transactions(block: &mut Handle, lengths: &mut [u32]) -> Res
         Code::SMALL => filled(needed, call),
         refused => Err(refused),
     }
+}
+
+/// What a book has in each slot of a round. `looks` has a place for each member.
+pub(crate) fn book_look_round(
+    book: &mut Handle,
+    round: u64,
+    looks: &mut Vec<RawAuthorLook>,
+) -> Code {
+    let mut needed = 0;
+    // SAFETY: the pointer and the length are those of one buffer, which may be written to.
+    let code =
+        unsafe { nw_book_look_round(book, round, looks.as_mut_ptr(), looks.len(), &mut needed) };
+    looks.truncate(needed);
+    code
 }
 
 /// Makes a committee.

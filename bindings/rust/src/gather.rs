@@ -79,7 +79,7 @@ impl Gather {
     /// - [`GatherError::NoMemory`] if the library could not allocate memory.
     pub fn add(&mut self, vote: &CheckedVote) -> Result<bool, GatherError> {
         let mut quorum = false;
-        let code = ffi::nw_gather_add(&mut self.handle, &mut vote.handle.borrow_mut(), &mut quorum);
+        let code = ffi::nw_gather_add(&mut self.handle, &mut vote.handle.lock(), &mut quorum);
         code.done().map_err(GatherError::of)?;
         Ok(quorum)
     }

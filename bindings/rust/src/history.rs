@@ -33,8 +33,8 @@ use std::ptr;
 /// assert_eq!(calls, [Call::Read(digest), Call::Collect(4)]);
 /// let last = Event { session: 0, number: 2, call: calls[1], reply: Reply::Raised { dropped: 0 } };
 /// assert_eq!(second.history().event(1), Some(last));
-/// assert!(first.history().begins(second.history()));
-/// assert!(!second.history().begins(first.history()));
+/// assert!(first.history().is_prefix_of(second.history()));
+/// assert!(!second.history().is_prefix_of(first.history()));
 /// # Ok::<(), Box<dyn std::error::Error>>(())
 /// ```
 pub struct History {
@@ -83,22 +83,22 @@ impl History {
         }
     }
 
-    /// Returns whether the events of the other history begin with those of this one, and both began
-    /// from the same state.
+    /// Returns whether this history is a prefix of the other: both began from the same state, and the
+    /// first events of the other are those of this one.
     ///
-    /// Of any two answers of a store, the history of one begins that of the other, unless the store
-    /// was restarted between them.
+    /// Of any two answers of a store, the history of one is a prefix of that of the other, unless the
+    /// store was restarted between them.
     ///
     /// This takes time in proportion to the events, and to the state that the history started from.
     #[must_use]
-    pub fn begins(&self, other: &History) -> bool {
+    pub fn is_prefix_of(&self, other: &History) -> bool {
         if ptr::eq(self, other) {
             return true;
         }
         let (mut this, mut other) = (self.room.borrow_mut(), other.room.borrow_mut());
-        let mut begins = false;
-        ffi::nw_answer_begins(&mut this, &mut other, &mut begins).or_abort();
-        begins
+        let mut is_prefix = false;
+        ffi::nw_answer_is_prefix(&mut this, &mut other, &mut is_prefix).or_abort();
+        is_prefix
     }
 }
 

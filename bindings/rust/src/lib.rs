@@ -99,11 +99,11 @@ mod intake;
 mod limits;
 mod look;
 mod message;
+#[cfg(test)]
+mod no_memory;
 mod parts;
 mod peek;
 mod raw;
-#[cfg(test)]
-mod refusals;
 mod reply;
 mod room;
 mod session;
@@ -158,6 +158,7 @@ const _: () = {
     send::<Block>();
     sync::<Block>();
     send::<Checked>();
+    sync::<Checked>();
     send::<Gather>();
     send::<Answer<WriteReply>>();
     send::<Causal>();

@@ -15,6 +15,10 @@ pub struct Look {
     pub certified: Option<Digest>,
     /// Whether the block of the certified digest is stored.
     pub stands: bool,
+    /// Whether the certified digest is complete: its block is stored, and each of its ancestors
+    /// above the garbage round has its parents stored and certified. A causal read of it gives a
+    /// ticket.
+    pub complete: bool,
 }
 
 impl Look {
@@ -24,6 +28,7 @@ impl Look {
             first: raw.has_first.then_some(raw.first),
             certified: raw.has_certified.then_some(raw.certified),
             stands: raw.stands,
+            complete: raw.complete,
         }
     }
 
@@ -34,6 +39,7 @@ impl Look {
             first: None,
             certified: None,
             stands: false,
+            complete: false,
         }
     }
 

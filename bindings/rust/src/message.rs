@@ -1,10 +1,10 @@
 //! Messages and their check.
 
+use crate::checked::SharedHandle;
 use crate::code::Code;
 use crate::ffi::{self, Handle};
 use crate::raw::{RawMessage, message};
 use crate::{CheckError, Checked, CheckedBlock, CheckedCertificate, CheckedVote, Committee};
-use std::cell::RefCell;
 
 /// The messages that validators send one another: signed blocks, certificates and votes.
 ///
@@ -66,7 +66,7 @@ pub(crate) fn check_with(committee: &mut Handle, message: &[u8]) -> Result<Check
     let mut handle = ffi::check(committee, message).map_err(Code::no_memory)?;
     let mut raw = RawMessage::EMPTY;
     ffi::nw_checked_kind(&mut handle, &mut raw).or_abort();
-    let (handle, subject, length) = (RefCell::new(handle), raw.subject, message.len() as u64);
+    let (handle, subject, length) = (SharedHandle::new(handle), raw.subject, message.len() as u64);
     match raw.kind {
         message::BLOCK => Ok(Checked::Block(CheckedBlock {
             handle,

@@ -57,7 +57,7 @@ impl Message {
     /// [`Message::check`] accepts the same bytes, the checked message has the fields that this
     /// returns. The proofs of the library cover this.
     ///
-    /// Returns `None` exactly if the first byte is not that of a message, the version of a block is
+    /// Returns `None` exactly when the first byte is not that of a message, the version of a block is
     /// not 1, or the bytes end before these fields do. `Message::check` refuses such bytes, under
     /// every committee.
     ///
@@ -100,7 +100,7 @@ impl Message {
 
 #[cfg(test)]
 mod tests {
-    use crate::refusals::data;
+    use crate::no_memory::data;
     use crate::{
         Block, Checked, Committee, Digest, Message, Peek, Signature, Subject, vote_message,
     };

@@ -93,6 +93,7 @@ pub(crate) struct RawLook {
     pub(crate) has_first: bool,
     pub(crate) has_certified: bool,
     pub(crate) stands: bool,
+    pub(crate) complete: bool,
 }
 
 impl RawLook {
@@ -104,6 +105,23 @@ impl RawLook {
         has_first: false,
         has_certified: false,
         stands: false,
+        complete: false,
+    };
+}
+
+/// What a book has in the slot of this author.
+#[derive(Clone, Copy, Debug)]
+#[repr(C)]
+pub(crate) struct RawAuthorLook {
+    pub(crate) author: u16,
+    pub(crate) look: RawLook,
+}
+
+impl RawAuthorLook {
+    /// A value for the library to write into.
+    pub(crate) const EMPTY: RawAuthorLook = RawAuthorLook {
+        author: 0,
+        look: RawLook::EMPTY,
     };
 }
 
@@ -115,6 +133,7 @@ const _: () = {
     assert!(size_of::<RawParent>() == 34 && align_of::<RawParent>() == 2);
     assert!(size_of::<RawTagged>() == 48 && size_of::<RawEvent>() == 104);
     assert!(size_of::<RawMessage>() == 56 && size_of::<RawLook>() == 80);
+    assert!(size_of::<RawAuthorLook>() == 88);
 };
 
 /// Panics, because `nw.h` has no such kind here.
@@ -125,64 +144,65 @@ pub(crate) fn unexpected_kind(kind: i32) -> ! {
 
 /// Kinds of replies.
 pub(crate) mod reply {
-    pub(crate) const STORED_VOTE: i32 = 1;
-    pub(crate) const STORED: i32 = 2;
-    pub(crate) const HELD: i32 = 3;
-    pub(crate) const CLASH: i32 = 4;
-    pub(crate) const EQUIVOCATES: i32 = 5;
-    pub(crate) const CERTIFIED: i32 = 6;
-    pub(crate) const ALREADY: i32 = 7;
-    pub(crate) const CONFLICT: i32 = 8;
-    pub(crate) const COLLECTED: i32 = 9;
-    pub(crate) const TOO_FAR: i32 = 10;
-    pub(crate) const MISFIT: i32 = 11;
-    pub(crate) const FULL: i32 = 12;
-    pub(crate) const FOUND: i32 = 13;
-    pub(crate) const UNKNOWN: i32 = 14;
-    pub(crate) const UNCERTIFIED: i32 = 15;
-    pub(crate) const INCOMPLETE: i32 = 16;
-    pub(crate) const READY: i32 = 17;
-    pub(crate) const RAISED: i32 = 18;
-    pub(crate) const NOT_HIGHER: i32 = 19;
-    pub(crate) const MISSING: i32 = 20;
-    pub(crate) const STATUS: i32 = 21;
+    pub(crate) const STORED_VOTE: i32 = 201;
+    pub(crate) const STORED: i32 = 202;
+    pub(crate) const HELD: i32 = 203;
+    pub(crate) const CLASH: i32 = 204;
+    pub(crate) const EQUIVOCATES: i32 = 205;
+    pub(crate) const CERTIFIED: i32 = 206;
+    pub(crate) const ALREADY: i32 = 207;
+    pub(crate) const CONFLICT: i32 = 208;
+    pub(crate) const COLLECTED: i32 = 209;
+    pub(crate) const TOO_FAR: i32 = 210;
+    pub(crate) const MISFIT: i32 = 211;
+    pub(crate) const FULL: i32 = 212;
+    pub(crate) const FOUND: i32 = 213;
+    pub(crate) const UNKNOWN: i32 = 214;
+    pub(crate) const UNCERTIFIED: i32 = 215;
+    pub(crate) const INCOMPLETE: i32 = 216;
+    pub(crate) const READY: i32 = 217;
+    pub(crate) const RAISED: i32 = 218;
+    pub(crate) const NOT_HIGHER: i32 = 219;
+    pub(crate) const MISSING: i32 = 220;
+    pub(crate) const STATUS: i32 = 221;
 }
 
 /// Kinds of calls.
 pub(crate) mod call {
-    pub(crate) const WRITE: i32 = 1;
-    pub(crate) const CERTIFY: i32 = 2;
-    pub(crate) const CERTIFICATE: i32 = 3;
-    pub(crate) const READ: i32 = 4;
-    pub(crate) const CAUSAL: i32 = 5;
-    pub(crate) const COLLECT: i32 = 6;
-    pub(crate) const MISSING: i32 = 7;
-    pub(crate) const STATUS: i32 = 8;
+    pub(crate) const WRITE: i32 = 301;
+    pub(crate) const CERTIFY: i32 = 302;
+    pub(crate) const CERTIFICATE: i32 = 303;
+    pub(crate) const READ: i32 = 304;
+    pub(crate) const CAUSAL: i32 = 305;
+    pub(crate) const COLLECT: i32 = 306;
+    pub(crate) const MISSING: i32 = 307;
+    pub(crate) const STATUS: i32 = 308;
+    pub(crate) const MISSING_OF: i32 = 309;
 }
 
 /// Kinds of checked texts.
 pub(crate) mod message {
-    pub(crate) const BLOCK: i32 = 1;
-    pub(crate) const CERTIFICATE: i32 = 2;
-    pub(crate) const VOTE: i32 = 3;
-    pub(crate) const TEXT_SHORT: i32 = 10;
-    pub(crate) const TEXT_TRAILING: i32 = 11;
-    pub(crate) const TEXT_TAG: i32 = 12;
-    pub(crate) const TEXT_VERSION: i32 = 13;
-    pub(crate) const TEXT_MANY_PARENTS: i32 = 14;
-    pub(crate) const TEXT_PARENT_ORDER: i32 = 15;
-    pub(crate) const TEXT_MANY_TRANSACTIONS: i32 = 16;
-    pub(crate) const TEXT_LONG_TRANSACTION: i32 = 17;
-    pub(crate) const TEXT_LONG_BODY: i32 = 18;
-    pub(crate) const TEXT_MANY_VOTES: i32 = 19;
-    pub(crate) const TEXT_VOTE_ORDER: i32 = 20;
-    pub(crate) const BLOCK_AUTHOR: i32 = 30;
-    pub(crate) const BLOCK_PARENT_AUTHOR: i32 = 31;
-    pub(crate) const BLOCK_GENESIS_PARENTS: i32 = 32;
-    pub(crate) const BLOCK_FEW_PARENTS: i32 = 33;
-    pub(crate) const BLOCK_SIGNATURE: i32 = 34;
-    pub(crate) const CERT_AUTHOR: i32 = 40;
-    pub(crate) const CERT_SIGNER: i32 = 41;
-    pub(crate) const CERT_FEW_VOTES: i32 = 42;
-    pub(crate) const CERT_SIGNATURE: i32 = 43;
+    pub(crate) const BLOCK: i32 = 101;
+    pub(crate) const CERTIFICATE: i32 = 102;
+    pub(crate) const VOTE: i32 = 103;
+    pub(crate) const TEXT_SHORT: i32 = 110;
+    pub(crate) const TEXT_TRAILING: i32 = 111;
+    pub(crate) const TEXT_TAG: i32 = 112;
+    pub(crate) const TEXT_VERSION: i32 = 113;
+    pub(crate) const TEXT_MANY_PARENTS: i32 = 114;
+    pub(crate) const TEXT_PARENT_ORDER: i32 = 115;
+    pub(crate) const TEXT_MANY_TRANSACTIONS: i32 = 116;
+    pub(crate) const TEXT_LONG_TRANSACTION: i32 = 117;
+    pub(crate) const TEXT_LONG_BODY: i32 = 118;
+    pub(crate) const TEXT_MANY_VOTES: i32 = 119;
+    pub(crate) const TEXT_VOTE_ORDER: i32 = 120;
+    pub(crate) const BLOCK_AUTHOR: i32 = 130;
+    pub(crate) const BLOCK_PARENT_AUTHOR: i32 = 131;
+    pub(crate) const BLOCK_GENESIS_PARENTS: i32 = 132;
+    pub(crate) const BLOCK_FEW_PARENTS: i32 = 133;
+    pub(crate) const BLOCK_SIGNATURE: i32 = 134;
+    pub(crate) const CERT_AUTHOR: i32 = 140;
+    pub(crate) const CERT_SIGNER: i32 = 141;
+    pub(crate) const CERT_FEW_VOTES: i32 = 142;
+    pub(crate) const CERT_SIGNATURE: i32 = 143;
 }

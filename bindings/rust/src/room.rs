@@ -78,6 +78,8 @@ pub(crate) enum Content {
     Certificate(u64),
     /// A list of at most this many missing parents.
     Parents(u16),
+    /// A list of missing parents of one block.
+    ParentsOfOne,
 }
 
 /// Whether the event of an answer with this reply has the block or the certificate.
@@ -95,6 +97,8 @@ impl Content {
     const HANDED_IN: u64 = 150;
     /// The bytes of a listed parent.
     const PARENT: u64 = 48;
+    /// The most parents of a block: one of each member of the largest committee.
+    const PARENTS_OF_ONE: u64 = 100;
 
     /// The most bytes that the event can take.
     #[inline]
@@ -104,6 +108,7 @@ impl Content {
             Content::Block(bytes) | Content::Certificate(bytes) => {
                 Content::EVENT + Content::HANDED_IN + bytes
             }
+            Content::ParentsOfOne => Content::EVENT + Content::PARENT * Content::PARENTS_OF_ONE,
             Content::Parents(most) => Content::EVENT + Content::PARENT * u64::from(most),
         }
     }
@@ -116,7 +121,9 @@ impl Content {
             Content::Block(_) | Content::Certificate(_) if !keeps(tagged(answer).kind) => {
                 Content::EVENT
             }
-            Content::Parents(_) => Content::EVENT + Content::PARENT * tagged(answer).number,
+            Content::Parents(_) | Content::ParentsOfOne => {
+                Content::EVENT + Content::PARENT * tagged(answer).number
+            }
             _ => self.most(),
         }
     }

@@ -87,7 +87,7 @@ impl Session {
     /// ```
     pub fn write(&self, block: &CheckedBlock) -> Result<Answer<WriteReply>, StepError> {
         let content = Content::Block(block.size);
-        let answer = self.hand_in(content, &mut block.handle.borrow_mut())?;
+        let answer = self.hand_in(content, &mut block.handle.lock())?;
         Ok(Answer::new(answer, |answer, _| {
             WriteReply::of(&tagged(answer))
         }))
@@ -107,7 +107,7 @@ impl Session {
         certificate: &CheckedCertificate,
     ) -> Result<Answer<CertifyReply>, StepError> {
         let content = Content::Certificate(certificate.size);
-        let answer = self.hand_in(content, &mut certificate.handle.borrow_mut())?;
+        let answer = self.hand_in(content, &mut certificate.handle.lock())?;
         Ok(Answer::new(answer, |answer, _| {
             CertifyReply::of(&tagged(answer))
         }))
@@ -219,6 +219,37 @@ impl Session {
         Ok(Answer::new(answer, |answer, _| subjects_of(answer)))
     }
 
+    /// Lists the missing parents of the block of a digest: those that are not stored or not
+    /// certified, ascending by author and digest. The reply is `None` if the block is not stored.
+    ///
+    /// The list is empty if all parents are stored and certified, or if the block is not above the
+    /// garbage round: then [vote](Session::write) for the block if its write answered
+    /// `Stored { vote: true }`. The signers of the certificate of a block have its parents.
+    ///
+    /// # Errors
+    ///
+    /// Those that every call can have.
+    ///
+    /// ```
+    /// # mod data { include!(concat!(env!("CARGO_MANIFEST_DIR"), "/examples/data/mod.rs")); }
+    /// # use narwhal_store::{Checked, Committee, Limits, Message, Store};
+    /// # let committee = Committee::equal(&data::keys())?;
+    /// # let session = Store::new(&committee, Limits::default())?.session()?;
+    /// # let messages = data::values("message");
+    /// # let Checked::Block(block) = Message::check(&committee, &messages[0])? else { panic!() };
+    /// let digest = block.subject().digest;
+    /// assert_eq!(session.missing_of(&digest)?.reply(), &None);
+    /// session.write(&block)?;
+    /// assert_eq!(session.missing_of(&digest)?.reply(), &Some(vec![]));
+    /// # Ok::<(), Box<dyn std::error::Error>>(())
+    /// ```
+    pub fn missing_of(&self, digest: &Digest) -> Result<Answer<Option<Vec<Subject>>>, StepError> {
+        let answer = self.step(Content::ParentsOfOne, |book, session, number, answer| {
+            ffi::nw_book_missing_of(book, session, number, digest, answer)
+        })?;
+        Ok(Answer::new(answer, |answer, _| missing_of(answer)))
+    }
+
     /// Counts the blocks, certificates, complete blocks and missing parents of the store.
     ///
     /// # Errors
@@ -283,6 +314,11 @@ fn subjects_of(answer: &mut Handle) -> Vec<Subject> {
     (0..listed).map(subject).collect()
 }
 
+/// The listed missing parents of a block, if it is stored.
+fn missing_of(answer: &mut Handle) -> Option<Vec<Subject>> {
+    (tagged(answer).kind == reply::MISSING).then(|| subjects_of(answer))
+}
+
 fn status_of(answer: &mut Handle) -> Status {
     let mut status = Status::EMPTY;
     ffi::nw_answer_status(answer, &mut status).or_abort();
@@ -299,14 +335,15 @@ impl fmt::Debug for Session {
 
 #[cfg(test)]
 mod tests {
-    use super::{block_of, certificate_of, status_of, subjects_of};
-    use crate::refusals::{closed, closed_room, refuses};
+    use super::{block_of, certificate_of, missing_of, status_of, subjects_of};
+    use crate::no_memory::{closed, closed_room, refuses};
 
     #[test]
     fn what_cannot_be_read_is_not_empty() {
         refuses(|| certificate_of(&mut closed()));
         refuses(|| block_of(&mut closed_room(), false));
         refuses(|| subjects_of(&mut closed()));
+        refuses(|| missing_of(&mut closed()));
         refuses(|| status_of(&mut closed()));
     }
 }

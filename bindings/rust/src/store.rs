@@ -3,7 +3,7 @@
 use crate::builder::RestartWhen;
 use crate::code::Code;
 use crate::ffi::{self, Handle, Spare};
-use crate::raw::RawLook;
+use crate::raw::{RawAuthorLook, RawLook};
 use crate::room::{Content, Room};
 use crate::{Committee, Limits, Look, NoMemory, OpenError, Session, StepError, StoreBuilder};
 use std::fmt;
@@ -228,6 +228,45 @@ impl Store {
         }
         code.or_abort();
         Look::of(&raw)
+    }
+
+    /// Looks at what the store has for each author of a round.
+    ///
+    /// The result has exactly the authors with a first or a certified digest in the round, ascending,
+    /// each with the [`Look`] that [`Store::look`] returns for it. All looks are of one moment. This
+    /// is no call of a session: it adds no event.
+    ///
+    /// The certified digests that [stand](Look::stands) are the parents of the next own block. The
+    /// digests that are [complete](Look::complete) now and were not at an earlier look became complete
+    /// in between. If a certified digest does not stand, fetch its block. If it stands and is not
+    /// complete, fetch what [`Session::missing_of`] lists for it.
+    ///
+    /// # Errors
+    ///
+    /// [`NoMemory`] if the library could not allocate memory.
+    ///
+    /// ```
+    /// # mod data { include!(concat!(env!("CARGO_MANIFEST_DIR"), "/examples/data/mod.rs")); }
+    /// # use narwhal_store::{Checked, Committee, Limits, Message, Store};
+    /// # let committee = Committee::equal(&data::keys())?;
+    /// # let store = Store::new(&committee, Limits::default())?;
+    /// # let session = store.session()?;
+    /// # let messages = data::values("message");
+    /// # let Checked::Block(block) = Message::check(&committee, &messages[0])? else { panic!() };
+    /// session.write(&block)?;
+    /// let subject = block.subject();
+    /// let looks = store.look_round(subject.round)?;
+    /// assert_eq!(looks, [(subject.author, store.look(subject.round, subject.author))]);
+    /// # Ok::<(), Box<dyn std::error::Error>>(())
+    /// ```
+    pub fn look_round(&self, round: u64) -> Result<Vec<(u16, Look)>, NoMemory> {
+        let mut looks = vec![RawAuthorLook::EMPTY; self.inner.committee.size()];
+        match ffi::book_look_round(&mut self.inner.lock().handle, round, &mut looks) {
+            Code::BAD_ROUND => return Ok(Vec::new()),
+            code => code.or_no_memory()?,
+        }
+        let pair = |raw: &RawAuthorLook| (raw.author, Look::of(&raw.look));
+        Ok(looks.iter().map(pair).collect())
     }
 
     /// Returns the limits that the store was opened with.

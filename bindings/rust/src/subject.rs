@@ -3,10 +3,23 @@
 use crate::code::Code;
 use crate::ffi;
 use crate::{BadRound, Digest, Signature};
+use std::cmp::Ordering;
+use std::fmt;
 
 /// A block's digest, with the block's round and author.
 ///
-/// Each vote is for a subject, and a certificate proves that a quorum voted for one.
+/// Each vote is for a subject, and a certificate proves that a quorum voted for one. Subjects are
+/// ordered by round, author and digest, and print in this order: `3.1.` and the digest.
+///
+/// ```
+/// use narwhal_store::{Digest, Subject};
+///
+/// let of = |round, author| Subject { digest: Digest([7; 32]), round, author };
+/// let mut subjects = [of(2, 0), of(1, 3), of(1, 2)];
+/// subjects.sort();
+/// assert_eq!(subjects, [of(1, 2), of(1, 3), of(2, 0)]);
+/// assert_eq!(of(3, 1).to_string(), format!("3.1.{}", Digest([7; 32])));
+/// ```
 #[derive(Clone, Copy, Debug, PartialEq, Eq, Hash)]
 #[repr(C)]
 pub struct Subject {
@@ -25,6 +38,25 @@ impl Subject {
         round: 0,
         author: 0,
     };
+}
+
+impl Ord for Subject {
+    fn cmp(&self, other: &Subject) -> Ordering {
+        let key = |subject: &Subject| (subject.round, subject.author, subject.digest);
+        key(self).cmp(&key(other))
+    }
+}
+
+impl PartialOrd for Subject {
+    fn partial_cmp(&self, other: &Subject) -> Option<Ordering> {
+        Some(self.cmp(other))
+    }
+}
+
+impl fmt::Display for Subject {
+    fn fmt(&self, f: &mut fmt::Formatter<'_>) -> fmt::Result {
+        write!(f, "{}.{}.{}", self.round, self.author, self.digest)
+    }
 }
 
 /// Returns the 36 bytes that the author of a block signs: `NWBK` and the digest.

@@ -4,7 +4,7 @@ use crate::code::Code;
 use crate::error::error_texts;
 use crate::ffi::{self, Handle};
 use crate::room::Room;
-use crate::{Digest, History, NoMemory, Walk};
+use crate::{Block, Digest, History, NoMemory, Walk};
 use std::fmt;
 use std::ptr;
 
@@ -98,6 +98,53 @@ impl Ticket {
         Ok(Walk::new(list, len))
     }
 
+    /// Lists the blocks of this ticket that the earlier ticket does not list, in the order of
+    /// [`walk`](Ticket::walk).
+    ///
+    /// A validator that delivered the list of one leader delivers these blocks for the next. If the
+    /// earlier ticket's block is an ancestor of this one's, its list is contained in this one,
+    /// except for blocks below this ticket's garbage round.
+    ///
+    /// # Errors
+    ///
+    /// [`NoMemory`] if the library could not allocate memory.
+    ///
+    /// ```
+    /// # mod data { include!(concat!(env!("CARGO_MANIFEST_DIR"), "/examples/data/mod.rs")); }
+    /// # use narwhal_store::{Checked, Committee, Limits, Message, Store};
+    /// # let committee = Committee::equal(&data::keys())?;
+    /// # let session = Store::new(&committee, Limits::default())?.session()?;
+    /// # let mut certified = Vec::new();
+    /// # for message in data::values("message") {
+    /// #     match Message::check(&committee, &message)? {
+    /// #         Checked::Block(block) => drop(session.write(&block)?),
+    /// #         Checked::Certificate(certificate) => {
+    /// #             session.certify(&certificate)?;
+    /// #             certified.push(certificate.subject().digest);
+    /// #         }
+    /// #         Checked::Vote(_) => {}
+    /// #     }
+    /// # }
+    /// // `certified` are the digests of a chain of certified blocks, in order.
+    /// let first = session.causal(&certified[0])?.into_ticket()?;
+    /// let last = session.causal(certified.last().unwrap())?.into_ticket()?;
+    /// let after = last.walk_after(&first)?;
+    /// assert_eq!(after.len(), last.walk()?.len() - first.walk()?.len());
+    /// assert!(last.walk_after(&last)?.is_empty());
+    /// # Ok::<(), Box<dyn std::error::Error>>(())
+    /// ```
+    pub fn walk_after(&self, earlier: &Ticket) -> Result<Vec<Block>, NoMemory> {
+        let place = |block: &Block| (block.round(), block.author());
+        let mut seen = earlier.walk()?.peekable();
+        // Both lists ascend by round and author.
+        let is_new = |block: &Block| {
+            while seen.next_if(|other| place(other) < place(block)).is_some() {}
+            seen.next_if(|other| other.digest() == block.digest())
+                .is_none()
+        };
+        Ok(self.walk()?.filter(is_new).collect())
+    }
+
     /// Returns whether two tickets have equal lists. They must be for the same digest with the same
     /// [`floor`](Ticket::floor), and may come from two stores.
     ///
@@ -158,12 +205,6 @@ error_texts!(AgreeError {
     AgreeError::NotComparable => "the tickets are for two digests or have two garbage rounds",
     AgreeError::NoMemory => "out of memory",
 });
-
-impl From<NoMemory> for AgreeError {
-    fn from(NoMemory: NoMemory) -> AgreeError {
-        AgreeError::NoMemory
-    }
-}
 
 #[cfg(test)]
 mod tests {

@@ -4,10 +4,8 @@
 //! that the proofs give.
 
 use narwhal_store::{ARCHIVE, Digest};
-use std::fs;
 use std::process::Command;
-
-const SHIPPED: &str = concat!(env!("CARGO_MANIFEST_DIR"), "/prebuilt/x86_64-linux/libnw.a");
+use std::{env, fs};
 
 #[test]
 fn the_shipped_archive_has_the_hash_of_its_record() {
@@ -15,10 +13,12 @@ fn the_shipped_archive_has_the_hash_of_its_record() {
         assert!(ARCHIVE.starts_with("NW_LIB_DIR lib"), "{ARCHIVE}");
         return;
     };
-    let archive = fs::read(SHIPPED).expect("the shipped archive");
+    let (package, machine) = (env!("CARGO_MANIFEST_DIR"), env::consts::ARCH);
+    let shipped = format!("{package}/prebuilt/{machine}-linux/libnw.a");
+    let archive = fs::read(&shipped).expect("the shipped archive");
     assert_eq!(Digest::of(&archive).to_string(), hash);
     // The archive computes the digest above, so a program that does not link it computes the digest too.
-    let ran = Command::new("sha256sum").arg(SHIPPED).output();
+    let ran = Command::new("sha256sum").arg(&shipped).output();
     let ran = ran.expect("sha256sum of coreutils");
     let printed = String::from_utf8(ran.stdout).expect("the output is text");
     assert_eq!(printed.split(' ').next(), Some(hash));

@@ -66,8 +66,8 @@ fn every_answer_is_the_models() {
     assert!(count < 200 || missed.is_empty(), "no seed met {missed:?}");
 }
 
-/// The cases that 200 seeds must meet: the rows of the step table, except for two blocks with one digest (`Clash`), and four events.
-const MUST_BE_MET: [&str; 31] = [
+/// The cases that 200 seeds must meet: the rows of the step table, except for two blocks with one digest (`Clash`), and five events.
+const MUST_BE_MET: [&str; 34] = [
     "Write: Collected",
     "Write: TooFar",
     "Write: Held",
@@ -94,11 +94,14 @@ const MUST_BE_MET: [&str; 31] = [
     "Collect: NotHigher",
     "Collect: Raised",
     "Missing: Missing",
+    "MissingOf: Missing",
+    "MissingOf: Unknown",
     "Status: Status",
     "crash and replay",
     "history full",
     "automatic restart",
     "walks that agree",
+    "looks at a round",
 ];
 
 #[test]

@@ -5,3 +5,5 @@ pub mod Agreed
 pub mod Send
 pub mod Runs
 pub mod NotReady
+pub mod Prefixes
+pub mod Answered

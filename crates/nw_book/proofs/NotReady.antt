@@ -17,6 +17,7 @@ not_ready bounds s (calls.Read d) r no_read is e = subst (λ q. IsReply bounds s
 not_ready bounds s (calls.Causal d) r no_read is e = absurd no_read
 not_ready bounds s (calls.Collect round) r no_read is e = subst (λ q. IsReply bounds s (calls.Collect round) q) e is
 not_ready bounds s (calls.Missing most) r no_read is e = subst (λ q. IsReply bounds s (calls.Missing most) q) e is
+not_ready bounds s (calls.MissingOf d) r no_read is e = subst (λ q. IsReply bounds s (calls.MissingOf d) q) e is
 not_ready bounds s calls.Status r no_read is e = subst (λ q. IsReply bounds s calls.Status q) e is
 not_ready bounds s (calls.AskWrite q) r no_read is e = subst (λ q'. IsReply bounds s (calls.AskWrite q) q') e is
 not_ready bounds s (calls.AskCertify q) r no_read is e = subst (λ q'. IsReply bounds s (calls.AskCertify q) q') e is

@@ -21,6 +21,7 @@ call_of (command.Certificate d) = call.Certificate d
 call_of (command.Read d) = call.Read d
 call_of (command.Collect round) = call.Collect round
 call_of (command.Missing most) = call.Missing most
+call_of (command.MissingOf d) = call.MissingOf d
 call_of command.Status = call.Status
 
 -- the call is not a causal read

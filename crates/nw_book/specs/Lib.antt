@@ -3,3 +3,7 @@ pub mod Ticket
 pub mod Command
 pub mod Answer
 pub mod Run
+pub mod Journal
+pub mod Answered
+pub mod Laws
+pub mod Settled

@@ -1,7 +1,7 @@
 //! Books: a history, and the tables with the state after it.
 ghost use Rattle.std.specs.Prelude.{◌≡◌, ◌↔◌, [], None, IfOk, IfErr, OnOk, OnErr};
 ghost use Rattle.std.specs.Result.{IsErrOf};
-ghost use Rattle.nw_model.specs.Look.{IsLook, TellsSatisfied};
+ghost use Rattle.nw_model.specs.Look.{AreLooks, IsLook, TellsSatisfied};
 ghost use Rattle.nw_model.specs.declared.call.Call.TheVariants as Call;
 ghost use Rattle.nw_history.specs.Limits.{AreInRange};
 ghost use Rattle.nw_history.specs.Story.{IsLegalStory, first_origin, state_of, story_of};
@@ -95,6 +95,16 @@ impl<S: Scheme> Book<S> {
         ensures satisfied { TellsSatisfied (state_of self.now) (round, author) result }
     {
         self.tables.look(round, author)
+    }
+
+    /// What the state after the history has in each slot of this round that has a first or a certified digest: the authors, ascending, with
+    /// the looks. This is no call: it adds no event.
+    ///
+    /// `NoMemory`: an allocation failed.
+    pub fn look_round(&self, alloc: Global, round: Round) -> Result<Vec<(u16, Look)>, NoMemory>
+        ensures { IfOk result (λ looks. AreLooks (state_of self.now) round looks.items) }
+    {
+        self.tables.look_round(alloc, round)
     }
 
     /// Takes the step of the session's call with this number, adds its event to the history, and returns the answer. The calls of each

@@ -27,6 +27,8 @@ pub enum Command<'a, S: Scheme> {
     Collect(Round),
     /// Read the first wanted parents by round, author and digest: this many, or all if there are fewer.
     Missing(u16),
+    /// Read the missing parents of the block under the digest, by round, author and digest.
+    MissingOf(Digest),
     /// Read the garbage round, and the numbers of blocks, certificates, complete blocks and wanted parents.
     Status,
 }
@@ -50,6 +52,7 @@ impl<S: Scheme> Command<'_, S> {
             Command::Read(digest) => Ok(Call::Read(*digest)),
             Command::Collect(round) => Ok(Call::Collect(*round)),
             Command::Missing(most) => Ok(Call::Missing(*most)),
+            Command::MissingOf(digest) => Ok(Call::MissingOf(*digest)),
             Command::Status => Ok(Call::Status),
         }
     }
@@ -61,7 +64,7 @@ impl<S: Scheme> Command<'_, S> {
         match self {
             Command::Write(checked) => Some(checked.committee().get()),
             Command::Certify(checked) => Some(checked.committee().get()),
-            Command::Certificate(_) | Command::Read(_) => None,
+            Command::Certificate(_) | Command::Read(_) | Command::MissingOf(_) => None,
             Command::Collect(_) | Command::Missing(_) | Command::Status => None,
         }
     }

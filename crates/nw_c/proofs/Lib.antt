@@ -1,3 +1,4 @@
+pub mod Looks
 pub mod AsBox
 pub mod Send
 pub mod Cut

@@ -1,5 +1,5 @@
 -- The replies that answers have.
-use Rattle.std.specs.Prelude.{◌≡◌, ℕ, List, Option, Some, None, slice_get}
+use Rattle.std.specs.Prelude.{◌≡◌, ◌⊎◌, ℕ, List, Option, Some, None, slice_get}
 use Rattle.nw_codec.specs.Fits.{CertificateFits}
 use Rattle.nw_codec.specs.Spelled.{Spells}
 use Rattle.nw_codec.specs.declared.block.Block.{Block}
@@ -35,9 +35,10 @@ abbrev pub IsSubjectOf : Option Wanted → CSubject → Type 0
 IsSubjectOf (Some w) s = s ≡ subject_of w.digest w.round w.author
 IsSubjectOf None s = ⊥
 
--- the reply lists missing parents, and the one at the index has this subject
+-- the reply lists missing parents, of all blocks or of one, and the one at the index has this subject
 abbrev pub IsListedIn : Reply → ℕ → CSubject → Type 0
 IsListedIn (reply.Missing wanted) index s = IsSubjectOf (slice_get wanted index) s
+IsListedIn (reply.MissingOf (Some missing)) index s = IsSubjectOf (slice_get missing index) s
 IsListedIn other index s = ⊥
 
 -- it is the answer to a call for missing parents, and the listed one at the index has this subject
@@ -57,6 +58,7 @@ EncodesStatus other s = ⊥
 -- the reply lists missing parents, and none at the index
 abbrev pub ListsNoneAt : Reply → ℕ → Type 0
 ListsNoneAt (reply.Missing wanted) index = slice_get wanted index ≡ None
+ListsNoneAt (reply.MissingOf (Some missing)) index = slice_get missing index ≡ None
 ListsNoneAt other index = ⊥
 
 -- it is the answer to a call for missing parents, and lists none at the index
@@ -78,7 +80,7 @@ abbrev pub AnswersCertificate : Content → Type 0
 AnswersCertificate answer = (found : Option Certificate) × HasReply answer (reply.Certificate found)
 
 abbrev pub AnswersMissing : Content → Type 0
-AnswersMissing answer = (wanted : List Wanted) × HasReply answer (reply.Missing wanted)
+AnswersMissing answer = (wanted : List Wanted) × (HasReply answer (reply.Missing wanted) ⊎ HasReply answer (reply.MissingOf (Some wanted)))
 
 abbrev pub AnswersStatus : Content → Type 0
 AnswersStatus answer = (counts : Counts) × HasReply answer (reply.Status counts)

@@ -8,12 +8,12 @@ use Rattle.nw_model.specs.declared.call.Call.TheVariants as call
 use Rattle.nw_model.specs.declared.reply.CausalReply.{CausalReply}
 use Rattle.nw_model.specs.declared.reply.Reply.TheVariants as reply
 use Rattle.nw_history.specs.Limits.{AreInRange}
-use Rattle.nw_model.specs.Look.{IsLook, TellsSatisfied}
+use Rattle.nw_model.specs.Look.{AreLooks, IsLook, TellsSatisfied}
 use Rattle.nw_model.specs.declared.look.Look.{Look}
 use Rattle.nw_history.specs.Story.{first_origin, reopened, state_of, story_of}
 use Rattle.nw_history.specs.declared.limits.Limits.{Limits}
 use Rattle.nw_book.specs.Answer.{Takes}
-use Rattle.nw_book.specs.Turn.{IsRefusal}
+use Rattle.nw_book.specs.Turn.{IsInTurn, IsRefusal, next_number}
 use Rattle.nw_book.specs.declared.error.NoStep.{NoStep}
 use Rattle.nw_c.specs.declared.books.CLimits.{CLimits}
 use Rattle.nw_c.specs.declared.content.Content.{Content}
@@ -32,6 +32,26 @@ IsEmptyBook committee limits other = ⊥
 abbrev pub HasEvents : Content → ℕ → Type 0
 HasEvents (kind.Book b) n = n ≡ length b.value.events
 HasEvents other n = ⊥
+
+-- it is a book in which the session's next call has this number
+abbrev pub IsNextIn : Content → ℕ → ℕ → Type 0
+IsNextIn (kind.Book b) session number = IsInTurn b.value session number
+IsNextIn other session number = ⊥
+
+-- it is a book in which no call of the session is in turn: the session's number is not below the limit on sessions
+abbrev pub HasNoTurn : Content → ℕ → Type 0
+HasNoTurn (kind.Book b) session = IsInTurn b.value session (next_number b.value session) → ⊥
+HasNoTurn other session = ⊥
+
+-- it is a book with these limits
+abbrev pub HasLimits : Content → CLimits → Type 0
+HasLimits (kind.Book b) l = b.value.limits ≡ limits_in l
+HasLimits other l = ⊥
+
+-- it is a book and its committee
+abbrev pub IsUnder : Content → Content → Type 0
+IsUnder (kind.Book b) (kind.Committee members) = b.value.committee ≡ members
+IsUnder one other = ⊥
 
 -- the book takes this call as the session's call of this number, and the answer is the step's
 abbrev pub IsTaken : Meaning → ℕ → ℕ → Call → Content → Content → Content → Type 0
@@ -56,6 +76,11 @@ IsRefusedBy other session number under why = ⊥
 abbrev pub HasLook : Content → ℕ → ℕ → Look → Type 0
 HasLook (kind.Book b) round author look = IsLook (state_of b.value) (round, author) look × TellsSatisfied (state_of b.value) (round, author) look
 HasLook other round author look = ⊥
+
+-- these are the looks at the round of the book
+abbrev pub HasLooks : Content → ℕ → List (ℕ × Look) → Type 0
+HasLooks (kind.Book b) round looks = AreLooks (state_of b.value) round looks
+HasLooks other round looks = ⊥
 
 -- the new book has the same state, and an empty history that starts from it
 abbrev pub IsRestarted : Content → Content → Type 0

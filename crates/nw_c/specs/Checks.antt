@@ -1,7 +1,7 @@
 -- Checked texts.
-use Rattle.std.specs.Prelude.{◌≡◌, ℕ, List}
+use Rattle.std.specs.Prelude.{◌≡◌, ℕ, List, Some, None, slice_get}
 use Rattle.nw_sig.specs.Signed.{Meaning}
-use Rattle.nw_codec.specs.Fits.{CertificateFits}
+use Rattle.nw_codec.specs.Fits.{CertificateFits, signers}
 use Rattle.nw_codec.specs.Spelled.{Spells}
 use Rattle.nw_codec.specs.declared.message.Message.TheVariants as messages
 use Rattle.nw_check.specs.Message.{IsChecked}
@@ -36,3 +36,13 @@ IsSpelledBy other text = ⊥
 abbrev pub IsCertificateOverLimit : Content → Type 0
 IsCertificateOverLimit (kind.Checked (checked.Cert c)) = CertificateFits c.certificate → ⊥
 IsCertificateOverLimit other = ⊥
+
+-- it is a checked certificate whose signer at the index has this number
+abbrev pub HasSignerAt : Content → ℕ → ℕ → Type 0
+HasSignerAt (kind.Checked (checked.Cert c)) index signer = slice_get (signers c.certificate.votes) index ≡ Some signer
+HasSignerAt other index signer = ⊥
+
+-- it is a checked certificate without a signer at the index
+abbrev pub HasNoSignerAt : Content → ℕ → Type 0
+HasNoSignerAt (kind.Checked (checked.Cert c)) index = slice_get c.certificate.votes index ≡ None
+HasNoSignerAt other index = ⊥

@@ -9,7 +9,7 @@ use Rattle.nw_c.specs.Plain.{digest_in}
 use Rattle.nw_c.specs.Replies.{EncodesReplyTo}
 use Rattle.nw_c.specs.declared.plain.CTagged.{CTagged}
 use Rattle.nw_c.specs.declared.events.CEvent.{CEvent}
-use Rattle.nw_c.specs.declared.events.TheConstants.{CALL_WRITE, CALL_CERTIFY, CALL_CERTIFICATE, CALL_READ, CALL_CAUSAL, CALL_COLLECT, CALL_MISSING, CALL_STATUS}
+use Rattle.nw_c.specs.declared.events.TheConstants.{CALL_WRITE, CALL_CERTIFY, CALL_CERTIFICATE, CALL_READ, CALL_CAUSAL, CALL_COLLECT, CALL_MISSING, CALL_MISSING_OF, CALL_STATUS}
 use Rattle.nw_c.specs.declared.content.Content.{Content}
 use Rattle.nw_c.specs.declared.content.Content.TheVariants as kind
 
@@ -23,6 +23,7 @@ EncodesCall (call.Read d) t = (t.kind ≡ CALL_READ) × (digest_in t.digest ≡ 
 EncodesCall (call.Causal d) t = (t.kind ≡ CALL_CAUSAL) × (digest_in t.digest ≡ d)
 EncodesCall (call.Collect round) t = (t.kind ≡ CALL_COLLECT) × (t.number ≡ round)
 EncodesCall (call.Missing most) t = (t.kind ≡ CALL_MISSING) × (t.number ≡ most)
+EncodesCall (call.MissingOf d) t = (t.kind ≡ CALL_MISSING_OF) × (digest_in t.digest ≡ d)
 EncodesCall call.Status t = t.kind ≡ CALL_STATUS
 EncodesCall (call.AskWrite q) t = (t.kind ≡ CALL_WRITE) × (digest_in t.digest ≡ q.digest)
 EncodesCall (call.AskCertify q) t = (t.kind ≡ CALL_CERTIFY) × (digest_in t.digest ≡ q.digest)
@@ -52,7 +53,7 @@ abbrev pub HasEventAt : Option Story → ℕ → CEvent → Type 0
 HasEventAt (Some s) index t = EncodesSomeEvent (slice_get s.events index) t
 HasEventAt None index t = ⊥
 
--- there are two histories, and b says whether the first begins the second
+-- there are two histories, and b says whether the first is a prefix of the second
 abbrev pub ComparesHistories : Option Story → Option Story → Bool → Type 0
 ComparesHistories (Some one) (Some other) b = IsTrue b ↔ IsPrefixOf one other
 ComparesHistories one other b = ⊥

@@ -16,3 +16,4 @@ pub mod Replies
 pub mod Events
 pub mod Answers
 pub mod Tickets
+pub mod Interface

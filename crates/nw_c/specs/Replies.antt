@@ -42,6 +42,8 @@ EncodesReplyTo (reply.List blocks) t = t.kind ≡ READY
 EncodesReplyTo (reply.Collect (collect.NotHigher g)) t = (t.kind ≡ NOT_HIGHER) × (t.number ≡ g)
 EncodesReplyTo (reply.Collect (collect.Raised dropped)) t = (t.kind ≡ RAISED) × (t.number ≡ dropped)
 EncodesReplyTo (reply.Missing wanted) t = (t.kind ≡ MISSING) × (t.number ≡ length wanted)
+EncodesReplyTo (reply.MissingOf None) t = t.kind ≡ UNKNOWN
+EncodesReplyTo (reply.MissingOf (Some missing)) t = (t.kind ≡ MISSING) × (t.number ≡ length missing)
 EncodesReplyTo (reply.Status counts) t = t.kind ≡ STATUS
 
 -- t is the reply of the answer; the reply of a ticket is Ready

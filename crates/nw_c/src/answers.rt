@@ -10,7 +10,7 @@ use crate::content::Content;
 use crate::handle::{AnswerHandle, BlockHandle, put};
 use crate::hashed::HashedBlock;
 use crate::plain::CSubject;
-use crate::texts::{certificate_text, hand_out_encoded};
+use crate::texts::hand_out_certificate;
 use nw_model::Reply;
 use std::alloc::Global;
 
@@ -100,8 +100,7 @@ pub extern "C" fn nw_answer_message(
     match answer.lend() {
         Content::Answer(done) => match done.reply() {
             Reply::Certificate(Some(certificate)) => {
-                let text = certificate_text(alloc, certificate.get());
-                hand_out_encoded(text, buffer, needed)
+                hand_out_certificate(alloc, certificate.get(), buffer, needed)
             }
             Reply::Certificate(None) => ABSENT,
             _ => OTHER_KIND,
@@ -110,8 +109,9 @@ pub extern "C" fn nw_answer_message(
     }
 }
 
-/// Writes one of the parents that a call for missing parents listed. `index` counts from 0. Returns `NW_ABSENT` if the list has no parent
-/// at that index, and `NW_OTHER_KIND` if the answer is to another call.
+/// Writes one of the parents that a call for missing parents listed, of all blocks or of one. `index` counts from 0. Returns `NW_ABSENT` if
+/// the list has no parent at that index, and `NW_OTHER_KIND` if the answer is to another call or lists nothing because the block is not
+/// stored.
 #[unsafe(no_mangle)]
 pub extern "C" fn nw_answer_missing(
     answer: &mut AnswerHandle,
@@ -129,7 +129,10 @@ pub extern "C" fn nw_answer_missing(
     }
     match answer.lend() {
         Content::Answer(done) => match done.reply() {
-            Reply::Missing(wanted) => match wanted.as_slice().get(index) {
+            Reply::Missing(missing) | Reply::MissingOf(Some(missing)) => match missing
+                .as_slice()
+                .get(index)
+            {
                 Some(wanted) => {
                     *out = CSubject::of(wanted.digest, wanted.round, wanted.author);
                     DONE

@@ -4,10 +4,10 @@ ghost use Rattle.nw_ed25519.specs.Accepts.{accepts};
 ghost use Rattle.nw_book.specs.Command.{call_of, committee_of};
 ghost use Rattle.nw_book.specs.declared.error.NoStep.{NoStep as Refusal};
 ghost use Rattle.nw_history.specs.Limits.{AreInRange};
-ghost use Rattle.nw_c.specs.Books.{HasEvents, IsEmptyBook, IsRefusedBy, IsRestarted, IsTaken, limits_in};
+ghost use Rattle.nw_c.specs.Books.{HasEvents, HasLimits, HasNoTurn, IsEmptyBook, IsNextIn, IsRefusedBy, IsRestarted, IsTaken, IsUnder, limits_in};
 ghost use Rattle.nw_c.specs.Codes.{step_code};
 ghost use Rattle.nw_c.specs.Kinds.{IsUnchanged, HoldsBook, HoldsCommittee, HoldsRoom};
-ghost use Rattle.nw_c.specs.declared.codes.TheConstants.{BAD_LIMITS, BAD_ROUND, CLOSED, OPEN, OTHER_KIND};
+ghost use Rattle.nw_c.specs.declared.codes.TheConstants.{BAD_LIMITS, BAD_ROUND, CLOSED, OPEN, OTHER_KIND, OUT_OF_TURN};
 
 use crate::codes::{BAD_LIMITS, CLOSED, DONE, NO_MEMORY, OPEN, OTHER_KIND, code_of_step};
 use crate::content::Content;
@@ -116,6 +116,86 @@ pub(crate) fn is_room(content: &Content) -> bool
         content,
         Content::Room | Content::Answer(_) | Content::Ticket(_)
     )
+}
+
+/// Writes the number of the session's next call. Returns `NW_OUT_OF_TURN` if the session's number is not below the limit on sessions.
+#[unsafe(no_mangle)]
+pub extern "C" fn nw_book_next(book: &mut BookHandle, session: u16, out: &mut u32) -> i32
+    ensures next { result ≡ pos 0 → IsNextIn book.old.value session out.new }
+    ensures out_of_turn { result ≡ OUT_OF_TURN → HasNoTurn book.old.value session }
+    ensures same { IsUnchanged book.old book.new }
+    ensures closed { result ≡ CLOSED → book.old.held ≡ true → ⊥ }
+    ensures other_kind { result ≡ OTHER_KIND → HoldsBook book.old.value → ⊥ }
+{
+    if !book.is_open() {
+        return CLOSED;
+    }
+    match book.lend() {
+        Content::Book(held) => match held.next_number(session) {
+            Ok(number) => {
+                *out = number;
+                DONE
+            }
+            Err(why) => code_of_step(why),
+        },
+        _ => OTHER_KIND,
+    }
+}
+
+/// Writes the limits of the book.
+#[unsafe(no_mangle)]
+pub extern "C" fn nw_book_limits(book: &mut BookHandle, out: &mut CLimits) -> i32
+    ensures limits { result ≡ pos 0 → HasLimits book.old.value out.new }
+    ensures same { IsUnchanged book.old book.new }
+    ensures closed { result ≡ CLOSED → book.old.held ≡ true → ⊥ }
+    ensures other_kind { result ≡ OTHER_KIND → HoldsBook book.old.value → ⊥ }
+{
+    if !book.is_open() {
+        return CLOSED;
+    }
+    match book.lend() {
+        Content::Book(held) => {
+            let limits = held.history().limits();
+            *out = CLimits {
+                blocks: limits.blocks,
+                events: limits.events,
+                window: limits.window,
+                sessions: limits.sessions,
+            };
+            DONE
+        }
+        _ => OTHER_KIND,
+    }
+}
+
+/// Opens a handle of the committee of the book.
+#[unsafe(no_mangle)]
+pub extern "C" fn nw_book_committee(
+    alloc: Global,
+    book: &mut BookHandle,
+    out: &mut CommitteeHandle,
+) -> i32
+    ensures committee { result ≡ pos 0 → IsUnder book.old.value out.new.value }
+    ensures same { IsUnchanged book.old book.new }
+    ensures unchanged { (result ≡ pos 0 → ⊥) → IsUnchanged out.old out.new }
+    ensures opened { result ≡ pos 0 → out.new.held ≡ true }
+    ensures occupied { result ≡ OPEN → out.old.held ≡ true }
+    ensures closed { result ≡ CLOSED → book.old.held ≡ true → ⊥ }
+    ensures other_kind { result ≡ OTHER_KIND → HoldsBook book.old.value → ⊥ }
+{
+    if !book.is_open() {
+        return CLOSED;
+    }
+    if out.is_open() {
+        return OPEN;
+    }
+    match book.lend() {
+        Content::Book(held) => match held.history().committee().try_clone() {
+            Ok(committee) => put(alloc, out, Content::Committee(committee)),
+            Err(_) => NO_MEMORY,
+        },
+        _ => OTHER_KIND,
+    }
 }
 
 /// Takes the step of the command and replaces the content of `answer` with the answer. Returns the code of a refusal.

@@ -1,17 +1,18 @@
 //! Decoding and checking texts.
-ghost use Rattle.std.specs.Prelude.{◌≡◌, ◌⊎◌, ◌<◌, pos, take, true, length};
+ghost use Rattle.std.specs.Prelude.{◌≡◌, ◌⊎◌, ◌<◌, pos, take, true, length, slice_get, IfSome, IsNone, Some, None};
+ghost use Rattle.nw_codec.specs.Fits.{signers};
 ghost use Rattle.nw_ed25519.specs.Accepts.{accepts};
-ghost use Rattle.nw_c.specs.Checks.{IsBlockOf, IsCheckOf, IsCertificateOverLimit, IsSpelledBy, EncodesMessageOf};
+ghost use Rattle.nw_c.specs.Checks.{HasNoSignerAt, HasSignerAt, IsBlockOf, IsCheckOf, IsCertificateOverLimit, IsSpelledBy, EncodesMessageOf};
 ghost use Rattle.nw_c.specs.Kinds.{IsUnchanged, HoldsChecked, HoldsCheckedBlock, HoldsCheckedCert, HoldsCommittee, HoldsVote};
-ghost use Rattle.nw_c.specs.declared.codes.TheConstants.{CLOSED, OPEN, OTHER_KIND, OVER_LIMIT, SMALL};
+ghost use Rattle.nw_c.specs.declared.codes.TheConstants.{ABSENT, CLOSED, OPEN, OTHER_KIND, OVER_LIMIT, SMALL};
 
-use crate::codes::{CLOSED, DONE, NO_MEMORY, OPEN, OTHER_KIND};
+use crate::codes::{ABSENT, CLOSED, DONE, NO_MEMORY, OPEN, OTHER_KIND};
 use crate::content::Content;
 use crate::handle::{BlockHandle, CheckedHandle, CommitteeHandle, put};
 use crate::hashed::HashedBlock;
 use crate::messages::{CMessage, message_of};
-use crate::texts::{certificate_text, hand_out_encoded};
-use nw_check::{Checked, check_message};
+use crate::texts::{hand_out_certificate, hand_out_encoded};
+use nw_check::{Checked, CheckedCert, check_message};
 use nw_codec::{Message, encode_message};
 use nw_ed25519::Ed25519;
 use std::alloc::Global;
@@ -123,13 +124,50 @@ pub extern "C" fn nw_checked_message(
     }
     match checked.lend() {
         Content::Checked(Checked::Cert(checked)) => {
-            let text = certificate_text(alloc, checked.certificate().get());
-            hand_out_encoded(text, buffer, needed)
+            hand_out_certificate(alloc, checked.certificate().get(), buffer, needed)
         }
         Content::Checked(Checked::Vote(vote)) => {
             let text = encode_message(alloc, &Message::Vote(*vote));
             hand_out_encoded(text, buffer, needed)
         }
+        _ => OTHER_KIND,
+    }
+}
+
+/// The number of the certificate's signer at the index.
+fn signer_at(certificate: &CheckedCert<Ed25519>, index: usize) -> Option<u16>
+    ensures found { IfSome result
+        (λ signer. slice_get (signers certificate.now.certificate.votes) index ≡ Some signer) }
+    ensures none { IsNone result → slice_get certificate.now.certificate.votes index ≡ None }
+{
+    let votes = certificate.certificate().get().votes.as_slice();
+    match votes.get(index) {
+        Some(seal) => Some(seal.signer),
+        None => None,
+    }
+}
+
+/// Writes the number of the signer at the index, counted from 0, of the checked certificate. Signers ascend. Returns `NW_ABSENT` if the
+/// certificate has no such signer, and `NW_OTHER_KIND` if the text is not a valid certificate.
+#[unsafe(no_mangle)]
+pub extern "C" fn nw_checked_signer(checked: &mut CheckedHandle, index: usize, out: &mut u16) -> i32
+    ensures signer { result ≡ pos 0 → HasSignerAt checked.old.value index out.new }
+    ensures same { IsUnchanged checked.old checked.new }
+    ensures closed { result ≡ CLOSED → checked.old.held ≡ true → ⊥ }
+    ensures other_kind { result ≡ OTHER_KIND → HoldsCheckedCert checked.old.value → ⊥ }
+    ensures absent { result ≡ ABSENT → HasNoSignerAt checked.old.value index }
+{
+    if !checked.is_open() {
+        return CLOSED;
+    }
+    match checked.lend() {
+        Content::Checked(Checked::Cert(certificate)) => match signer_at(certificate, index) {
+            Some(signer) => {
+                *out = signer;
+                DONE
+            }
+            None => ABSENT,
+        },
         _ => OTHER_KIND,
     }
 }

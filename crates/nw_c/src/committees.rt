@@ -8,7 +8,7 @@ ghost use Rattle.nw_c.specs.declared.codes.TheConstants.{ABSENT, BAD_COMMITTEE, 
 use crate::codes::{ABSENT, BAD_COMMITTEE, CLOSED, DONE, NO_MEMORY, OPEN, OTHER_KIND};
 use crate::content::Content;
 use crate::handle::{CommitteeHandle, put};
-use nw_committee::{Committee, Key, Member};
+use nw_committee::{Committee, Key, MAX_MEMBERS, Member};
 use nw_digest::{NoMemory, Shared};
 use std::alloc::Global;
 
@@ -42,6 +42,9 @@ fn committee_of(alloc: Global, listed: &[CMember]) -> Result<Shared<Committee>, 
     ensures bad_committee { IfErr result
         (λ why. why ≡ BAD_COMMITTEE → IsValid (map member_in listed.now) → ⊥) }
 {
+    if listed.len() > MAX_MEMBERS {
+        return Err(BAD_COMMITTEE);
+    }
     let Ok(members) = members_of(alloc, listed) else {
         return Err(NO_MEMORY);
     };

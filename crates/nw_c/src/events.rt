@@ -15,21 +15,23 @@ use nw_history::Front;
 use nw_model::{Call, Event};
 
 /// A write of the block of `digest`.
-pub(crate) const CALL_WRITE: i32 = 1;
+pub(crate) const CALL_WRITE: i32 = 301;
 /// A certificate handed in for `digest`.
-pub(crate) const CALL_CERTIFY: i32 = 2;
+pub(crate) const CALL_CERTIFY: i32 = 302;
 /// A call for the certificate of `digest`.
-pub(crate) const CALL_CERTIFICATE: i32 = 3;
+pub(crate) const CALL_CERTIFICATE: i32 = 303;
 /// A read of `digest`.
-pub(crate) const CALL_READ: i32 = 4;
+pub(crate) const CALL_READ: i32 = 304;
 /// A causal read of `digest`.
-pub(crate) const CALL_CAUSAL: i32 = 5;
+pub(crate) const CALL_CAUSAL: i32 = 305;
 /// A collection of the rounds below `number`.
-pub(crate) const CALL_COLLECT: i32 = 6;
+pub(crate) const CALL_COLLECT: i32 = 306;
 /// A call for the first `number` missing parents.
-pub(crate) const CALL_MISSING: i32 = 7;
+pub(crate) const CALL_MISSING: i32 = 307;
 /// A call for the status.
-pub(crate) const CALL_STATUS: i32 = 8;
+pub(crate) const CALL_STATUS: i32 = 308;
+/// A call for the missing parents of the block of `digest`.
+pub(crate) const CALL_MISSING_OF: i32 = 309;
 
 /// An event of a history: the session, the number of the session's call, counted from 1, the call, and its reply.
 #[repr(C)]
@@ -53,6 +55,7 @@ fn call_told(call: &Call) -> CTagged
         Call::Causal(digest) => named(CALL_CAUSAL, digest),
         Call::Collect(round) => numbered(CALL_COLLECT, round.get()),
         Call::Missing(most) => numbered(CALL_MISSING, u64::from(*most)),
+        Call::MissingOf(digest) => named(CALL_MISSING_OF, digest),
         Call::Status => plain(CALL_STATUS),
         Call::AskWrite(subject) => named(CALL_WRITE, &subject.digest),
         Call::AskCertify(subject) => named(CALL_CERTIFY, &subject.digest),
@@ -126,16 +129,16 @@ pub extern "C" fn nw_answer_event(answer: &mut AnswerHandle, index: usize, out: 
     }
 }
 
-/// Writes whether the history of `answer` begins the history of `other`. It does if both have the same committee, limits and base, and the
+/// Writes whether the history of `answer` is a prefix of the history of `other`. It is if both have the same committee, limits and base, and the
 /// first events of `other` are the events of `answer`. The time grows with the number of these events. Both handles may be answers or
 /// tickets.
 #[unsafe(no_mangle)]
-pub extern "C" fn nw_answer_begins(
+pub extern "C" fn nw_answer_is_prefix(
     answer: &mut AnswerHandle,
     other: &mut AnswerHandle,
     out: &mut bool,
 ) -> i32
-    ensures begins { result ≡ pos 0 → ComparesHistories (front_in answer.old.value) (front_in other.old.value) out.new }
+    ensures prefix { result ≡ pos 0 → ComparesHistories (front_in answer.old.value) (front_in other.old.value) out.new }
     ensures same { IsUnchanged answer.old answer.new }
     ensures other { IsUnchanged other.old other.new }
     ensures closed { result ≡ CLOSED → answer.old.held ≡ true → other.old.held ≡ true → ⊥ }

@@ -8,51 +8,51 @@ use nw_codec::DecodeError;
 use nw_ed25519::Ed25519;
 
 /// A block. A checked one is valid.
-pub(crate) const BLOCK: i32 = 1;
+pub(crate) const BLOCK: i32 = 101;
 /// A certificate. A checked one is valid.
-pub(crate) const CERTIFICATE: i32 = 2;
+pub(crate) const CERTIFICATE: i32 = 102;
 /// A vote. Its signature is not checked until it is added to the gathered votes.
-pub(crate) const VOTE: i32 = 3;
+pub(crate) const VOTE: i32 = 103;
 /// The text ends too early.
-pub(crate) const TEXT_SHORT: i32 = 10;
+pub(crate) const TEXT_SHORT: i32 = 110;
 /// Bytes follow the message.
-pub(crate) const TEXT_TRAILING: i32 = 11;
+pub(crate) const TEXT_TRAILING: i32 = 111;
 /// The first byte is not that of a message.
-pub(crate) const TEXT_TAG: i32 = 12;
+pub(crate) const TEXT_TAG: i32 = 112;
 /// The version of the block is not 1.
-pub(crate) const TEXT_VERSION: i32 = 13;
+pub(crate) const TEXT_VERSION: i32 = 113;
 /// The block has more than 100 parents.
-pub(crate) const TEXT_MANY_PARENTS: i32 = 14;
+pub(crate) const TEXT_MANY_PARENTS: i32 = 114;
 /// The parents' authors do not ascend strictly.
-pub(crate) const TEXT_PARENT_ORDER: i32 = 15;
+pub(crate) const TEXT_PARENT_ORDER: i32 = 115;
 /// The block has more than 1,024 transactions.
-pub(crate) const TEXT_MANY_TRANSACTIONS: i32 = 16;
+pub(crate) const TEXT_MANY_TRANSACTIONS: i32 = 116;
 /// A transaction has more than 65,536 bytes.
-pub(crate) const TEXT_LONG_TRANSACTION: i32 = 17;
+pub(crate) const TEXT_LONG_TRANSACTION: i32 = 117;
 /// The body has more than 1,048,576 bytes.
-pub(crate) const TEXT_LONG_BODY: i32 = 18;
+pub(crate) const TEXT_LONG_BODY: i32 = 118;
 /// The certificate has more than 100 votes.
-pub(crate) const TEXT_MANY_VOTES: i32 = 19;
+pub(crate) const TEXT_MANY_VOTES: i32 = 119;
 /// The signers do not ascend strictly.
-pub(crate) const TEXT_VOTE_ORDER: i32 = 20;
+pub(crate) const TEXT_VOTE_ORDER: i32 = 120;
 /// The block's author is not a member.
-pub(crate) const BLOCK_AUTHOR: i32 = 30;
+pub(crate) const BLOCK_AUTHOR: i32 = 130;
 /// A parent's author is not a member.
-pub(crate) const BLOCK_PARENT_AUTHOR: i32 = 31;
+pub(crate) const BLOCK_PARENT_AUTHOR: i32 = 131;
 /// A block of round 0 has parents.
-pub(crate) const BLOCK_GENESIS_PARENTS: i32 = 32;
+pub(crate) const BLOCK_GENESIS_PARENTS: i32 = 132;
 /// The parents' authors do not reach a quorum.
-pub(crate) const BLOCK_FEW_PARENTS: i32 = 33;
+pub(crate) const BLOCK_FEW_PARENTS: i32 = 133;
 /// The block's signature is not its author's.
-pub(crate) const BLOCK_SIGNATURE: i32 = 34;
+pub(crate) const BLOCK_SIGNATURE: i32 = 134;
 /// The certificate's author is not a member.
-pub(crate) const CERT_AUTHOR: i32 = 40;
+pub(crate) const CERT_AUTHOR: i32 = 140;
 /// A signer is not a member.
-pub(crate) const CERT_SIGNER: i32 = 41;
+pub(crate) const CERT_SIGNER: i32 = 141;
 /// The signers do not reach a quorum.
-pub(crate) const CERT_FEW_VOTES: i32 = 42;
+pub(crate) const CERT_FEW_VOTES: i32 = 142;
 /// The signature of `signer` is not that member's. All signatures before it are correct.
-pub(crate) const CERT_SIGNATURE: i32 = 43;
+pub(crate) const CERT_SIGNATURE: i32 = 143;
 
 /// What a checked text is, or what the front of a text says: its kind, the subject of a block, certificate or vote, and the signer of a vote
 /// or of a wrong signature. Fields that the kind does not use are 0.

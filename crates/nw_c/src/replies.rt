@@ -13,48 +13,48 @@ use nw_model::{CausalReply, CertifyReply, CollectReply, Reply, WriteReply};
 
 /// Write: the block is now stored, and it is the first of its round and author. Vote for it once all its parents are
 /// stored and certified (`nw_book_look`). A block of the garbage round needs no parents.
-pub(crate) const STORED_VOTE: i32 = 1;
+pub(crate) const STORED_VOTE: i32 = 201;
 /// Write: the block is now stored, without a vote: another block of its round and author came first, but this one is certified.
-pub(crate) const STORED: i32 = 2;
+pub(crate) const STORED: i32 = 202;
 /// Write: the same block is already stored.
-pub(crate) const HELD: i32 = 3;
+pub(crate) const HELD: i32 = 203;
 /// Write: another block is stored under the digest.
-pub(crate) const CLASH: i32 = 4;
+pub(crate) const CLASH: i32 = 204;
 /// Write: not stored, because another block of this round and author came first. `digest` is the digest of that block. Drop the
 /// block, and fetch it if its own digest is certified.
-pub(crate) const EQUIVOCATES: i32 = 5;
+pub(crate) const EQUIVOCATES: i32 = 205;
 /// Certificate: it is now stored.
-pub(crate) const CERTIFIED: i32 = 6;
+pub(crate) const CERTIFIED: i32 = 206;
 /// Certificate: the digest is already certified for the same round and author.
-pub(crate) const ALREADY: i32 = 7;
+pub(crate) const ALREADY: i32 = 207;
 /// Certificate: another digest is certified for the round and author. `digest` is that digest.
-pub(crate) const CONFLICT: i32 = 8;
+pub(crate) const CONFLICT: i32 = 208;
 /// Write or certificate: the round is below the garbage round. `number` is the garbage round.
-pub(crate) const COLLECTED: i32 = 9;
+pub(crate) const COLLECTED: i32 = 209;
 /// Write or certificate: the round is at or above the garbage round plus the window. Drop it, and fetch it after a collection.
-pub(crate) const TOO_FAR: i32 = 10;
+pub(crate) const TOO_FAR: i32 = 210;
 /// Write or certificate: a stored block or certificate of this digest has another round or author.
-pub(crate) const MISFIT: i32 = 11;
+pub(crate) const MISFIT: i32 = 211;
 /// Write or certificate: the book has reached its limit on blocks or on certificates. Drop it, and fetch it after a collection.
-pub(crate) const FULL: i32 = 12;
+pub(crate) const FULL: i32 = 212;
 /// Read or call for a certificate: it was found.
-pub(crate) const FOUND: i32 = 13;
-/// Read, causal read or call for a certificate: no block or certificate of this digest is stored.
-pub(crate) const UNKNOWN: i32 = 14;
+pub(crate) const FOUND: i32 = 213;
+/// Read, causal read, call for a certificate or for the missing parents of a block: no block or certificate of this digest is stored.
+pub(crate) const UNKNOWN: i32 = 214;
 /// Causal read: the digest is not certified.
-pub(crate) const UNCERTIFIED: i32 = 15;
+pub(crate) const UNCERTIFIED: i32 = 215;
 /// Causal read: an ancestor is missing or not certified.
-pub(crate) const INCOMPLETE: i32 = 16;
+pub(crate) const INCOMPLETE: i32 = 216;
 /// Causal read: the answer is a ticket, whose list can be walked.
-pub(crate) const READY: i32 = 17;
+pub(crate) const READY: i32 = 217;
 /// Collection: the garbage round was raised, and `number` blocks were dropped.
-pub(crate) const RAISED: i32 = 18;
+pub(crate) const RAISED: i32 = 218;
 /// Collection: the garbage round was already as high. `number` is the garbage round.
-pub(crate) const NOT_HIGHER: i32 = 19;
+pub(crate) const NOT_HIGHER: i32 = 219;
 /// Call for missing parents: `number` of them are listed.
-pub(crate) const MISSING: i32 = 20;
+pub(crate) const MISSING: i32 = 220;
 /// Call for the status.
-pub(crate) const STATUS: i32 = 21;
+pub(crate) const STATUS: i32 = 221;
 
 /// The reply to a write as C sees it.
 fn write_told(reply: WriteReply) -> CTagged
@@ -96,14 +96,16 @@ pub(crate) fn reply_told(reply: &Reply) -> CTagged
         Reply::Write(reply) => write_told(*reply),
         Reply::Certify(reply) => certify_told(*reply),
         Reply::Certificate(Some(_)) | Reply::Read(Some(_)) => plain(FOUND),
-        Reply::Certificate(None) | Reply::Read(None) => plain(UNKNOWN),
+        Reply::Certificate(None) | Reply::Read(None) | Reply::MissingOf(None) => plain(UNKNOWN),
         Reply::Causal(CausalReply::Unknown) => plain(UNKNOWN),
         Reply::Causal(CausalReply::Uncertified) => plain(UNCERTIFIED),
         Reply::Causal(CausalReply::Incomplete) => plain(INCOMPLETE),
         Reply::Ready | Reply::List(_) => plain(READY),
         Reply::Collect(CollectReply::NotHigher(round)) => numbered(NOT_HIGHER, round.get()),
         Reply::Collect(CollectReply::Raised { dropped }) => numbered(RAISED, *dropped),
-        Reply::Missing(wanted) => numbered(MISSING, wanted.as_slice().len() as u64),
+        Reply::Missing(missing) | Reply::MissingOf(Some(missing)) => {
+            numbered(MISSING, missing.as_slice().len() as u64)
+        }
         Reply::Status(_) => plain(STATUS),
     }
 }

@@ -47,11 +47,38 @@ pub(crate) fn hand_out_encoded(
     }
 }
 
-/// The encoded message of the certificate.
-pub(crate) fn certificate_text(
+/// The size of a certificate's message without its votes: the tag, the subject and the number of votes.
+const BEFORE_THE_VOTES: usize = 43;
+/// The size of a vote in a certificate's message.
+const VOTE_BYTES: usize = 66;
+
+/// Does the same for the message of the certificate. A caller that asks for the size encodes nothing.
+pub(crate) fn hand_out_certificate(
     alloc: Global,
     certificate: &Certificate,
-) -> Result<Vec<u8>, EncodeError>
+    buffer: &mut [u8],
+    needed: &mut usize,
+) -> i32
+    ensures copied { result ≡ pos 0 → Spells (take needed.new buffer.new) (Message.Certificate certificate.now) }
+    ensures unchanged { (result ≡ pos 0 → ⊥) → buffer.new ≡ buffer.old }
+    ensures small { result ≡ SMALL → length buffer.old < needed.new }
+    ensures over_limit { result ≡ OVER_LIMIT → CertificateFits certificate.now → ⊥ }
+    ensures other_codes { (result ≡ CLOSED → ⊥) × (result ≡ OTHER_KIND → ⊥) × (result ≡ ABSENT → ⊥)
+        × (result ≡ BAD_ROUND → ⊥) }
+{
+    if certificate.fits() {
+        let size = BEFORE_THE_VOTES + VOTE_BYTES * certificate.votes.as_slice().len();
+        *needed = size;
+        if size > buffer.len() {
+            return SMALL;
+        }
+    }
+    let text = certificate_text(alloc, certificate);
+    hand_out_encoded(text, buffer, needed)
+}
+
+/// The encoded message of the certificate.
+fn certificate_text(alloc: Global, certificate: &Certificate) -> Result<Vec<u8>, EncodeError>
     ensures spells { IfOk result (λ v. Spells v.items (Message.Certificate certificate.now)) }
     ensures over_limit { IsErrOf result EncodeError.OverLimit → CertificateFits certificate.now → ⊥ }
 {

@@ -1,4 +1,4 @@
--- The walks of a digest in two views are equal exactly if no two blocks collide at its ancestors.
+-- The walks of a digest in two views are equal exactly when no two blocks collide at its ancestors.
 use Rattle.std.proofs.Common.{◌≡◌, ◌⊎◌, ◌+◌, ◌<◌, ◌≤◌, List, [], ◌∷◌, Some, map, refl, ap, sym, ◌∙◌, subst, arith, inl, inr}
 use Rattle.std.specs.Prelude.{Contains}
 use Rattle.std.specs.FinMap.{FinMap, get}

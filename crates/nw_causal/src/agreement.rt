@@ -26,7 +26,7 @@ pub enum Agreement {
 
 /// Compares the walks of the digest in two views with the same floor.
 ///
-/// Returns `Same` exactly if the walks are equal lists. Otherwise it returns two different blocks under one digest, which need not
+/// Returns `Same` exactly when the walks are equal lists. Otherwise it returns two different blocks under one digest, which need not
 /// be the given one. Neither block is below the floor. It finds the ancestors in the first view, and looks up each in the other.
 ///
 /// `NoMemory`: an allocation failed.

@@ -56,7 +56,7 @@ module _ (accepts : Meaning) (members : List Member) (c : Certificate) where
   valid-keeps_rules (cert_fault.Signature signer) v h = not_all_sealed signer h.2 v.sealed
   valid-keeps_rules cert_fault.NoMemory v h = h
 
-  -- a certificate is valid exactly if no rule was found broken
+  -- a certificate is valid exactly when no rule was found broken
   pub none-valid : (r : Option CertFault) (none : Bool) → MatchOption r (IsValid accepts members c) (BreaksCertRule accepts members c) → is_some r ≡ not none → (none ≡ true → IsValid accepts members c) × (IsValid accepts members c → none ≡ true)
   none-valid None true h e = (λ t. h, λ v. refl)
   none-valid None false h e = absurd cc

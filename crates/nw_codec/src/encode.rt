@@ -99,7 +99,7 @@ pub fn block_digest(block: &Block) -> Digest
     }
 }
 
-/// The encoding of the block's body. Fails with `OverLimit` exactly if the block does not fit (`Block::fits`), and with
+/// The encoding of the block's body. Fails with `OverLimit` exactly when the block does not fit (`Block::fits`), and with
 /// `NoMemory` if the allocation fails.
 pub fn encode_body(alloc: Global, block: &Block) -> Result<Vec<u8>, EncodeError>
     ensures text { IfOk result (λ v. v.items ≡ body block.now) }
@@ -114,7 +114,7 @@ pub fn encode_body(alloc: Global, block: &Block) -> Result<Vec<u8>, EncodeError>
     Ok(bytes)
 }
 
-/// The text of a block's message, with this block and signature. Fails with `OverLimit` exactly if the block does not fit
+/// The text of a block's message, with this block and signature. Fails with `OverLimit` exactly when the block does not fit
 /// (`Block::fits`), and with `NoMemory` if the allocation fails.
 pub fn encode_block(
     alloc: Global,
@@ -134,7 +134,7 @@ pub fn encode_block(
     Ok(text)
 }
 
-/// The text of the message. Fails with `OverLimit` exactly if its block or certificate does not fit (`Block::fits`,
+/// The text of the message. Fails with `OverLimit` exactly when its block or certificate does not fit (`Block::fits`,
 /// `Certificate::fits`), and with `NoMemory` if the allocation fails. A vote always fits.
 pub fn encode_message(alloc: Global, message: &Message) -> Result<Vec<u8>, EncodeError>
     ensures spells { IfOk result (λ v. Spells v.items message.now) }

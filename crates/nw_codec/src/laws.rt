@@ -27,7 +27,7 @@ pub fn grammar_or_fault()
         → IsFirstFault text e → d ≡ e }
 {}
 
-/// `Trailing` is the first fault exactly if bytes follow the text of a message.
+/// `Trailing` is the first fault exactly when bytes follow the text of a message.
 pub fn trailing_follows_a_message()
     ensures { (text : List ℕ) → AreBytes text → (IsFirstFault text Trailing ↔ HasTrailingBytes text) }
 {}

@@ -24,7 +24,7 @@ pub enum Peek {
 /// What the front of the text says. It reads at most the first 43 bytes, hashes nothing and makes no allocation.
 ///
 /// If the text encodes a message, these are the message's kind and fields. Any other text may also have such a front, so the
-/// rest of the text and all signatures are still to be checked. Returns `None` exactly if the first byte is no tag of a message,
+/// rest of the text and all signatures are still to be checked. Returns `None` exactly when the first byte is no tag of a message,
 /// the version of a block is not 1, or the text ends before these fields do.
 pub fn peek_message(text: &[u8]) -> Option<Peek>
     ensures known { (m : Message) → Spells text.now m → result ≡ Some (peek_of m) }

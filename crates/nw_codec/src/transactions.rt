@@ -44,7 +44,7 @@ impl Transactions {
         }
     }
 
-    /// Adds the transaction at the end. Fails with `OverLimit` exactly if it has more than 65,536 bytes, and with `NoMemory`
+    /// Adds the transaction at the end. Fails with `OverLimit` exactly when it has more than 65,536 bytes, and with `NoMemory`
     /// if an allocation fails. An error leaves the transactions unchanged.
     pub fn push(&mut self, transaction: &[u8]) -> Result<(), EncodeError>
         ensures pushed { OnOk result (self.new ≡ self.old ++ transaction.now ∷ []) }

@@ -25,7 +25,7 @@ contains-take xs n k (i, lt, at) =
 pub contains-more : (xs : List Key) (i : ℕ) (k : Key) → i < length xs → Contains (take (i + 1) xs) k → Contains (take i xs) k ⊎ (get_or xs i k ≡ k)
 contains-more xs i k h among = Contains-push_cases (take i xs) (get_or xs i k) k (rw (take_more xs i k h) at among)
 
--- two keys are the same exactly if their bytes compare as equal
+-- two keys are the same exactly when their bytes compare as equal
 pub same_key : (a b : Key) → pointwise nat_eq a.0 b.0 ≡ true → a ≡ b
 same_key a b h = let key : List ℕ → Key = λ bytes. record { 0 = bytes } in ap key ((bytes_decides a.0 b.0).0 h)
 

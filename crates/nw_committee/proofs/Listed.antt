@@ -97,7 +97,7 @@ kept false true true there x rest n e r h = r
 kept false true false there x rest n e r h = r ∙ h refl
 kept false false before there x rest n e r h = r
 
--- a number is in the filtered list exactly if it is in both lists
+-- a number is in the filtered list exactly when it is in both lists
 pub is_listed-filter : (one other : List ℕ) (n : ℕ) → is_listed (filter (is_listed other) one) n ≡ (is_listed one n && is_listed other n)
 is_listed-filter [] other n = refl
 is_listed-filter (x ∷ one) other n =

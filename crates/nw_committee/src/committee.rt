@@ -13,7 +13,7 @@ use std::alloc::{AllocError, Global};
 use std::marker::Model;
 
 /// The largest number of members.
-const MAX_MEMBERS: usize = 100;
+pub const MAX_MEMBERS: usize = 100;
 /// The largest weight of a member.
 const MAX_WEIGHT: u32 = 1_000_000;
 

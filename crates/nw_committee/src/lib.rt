@@ -10,7 +10,7 @@ mod error;
 mod laws;
 mod member;
 
-pub use committee::Committee;
+pub use committee::{Committee, MAX_MEMBERS};
 pub use error::CommitteeFault;
 pub use laws::{equal_members_have_the_classic_quorum, quorums_intersect};
 pub use member::{Key, Member};

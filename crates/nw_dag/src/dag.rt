@@ -4,19 +4,20 @@ ghost use Rattle.std.specs.FinMap as map;
 ghost use Rattle.nw_model.specs.State.{opening};
 ghost use Rattle.nw_model.specs.Paths.{IsComplete};
 ghost use Rattle.nw_model.specs.Sound.{IsSound};
-ghost use Rattle.nw_model.specs.Look.{IsLook, TellsSatisfied};
-ghost use Rattle.nw_model.specs.Missing.{AreFirstWanted, AreCounts};
+ghost use Rattle.nw_model.specs.Missing.{AreCounts};
 
 mod calls;
 mod causal;
+mod look;
+mod missing;
 mod taking;
 
 use crate::completions::is_ready;
 use crate::waits::Waits;
 use nw_codec::{Block, Certificate};
-use nw_digest::{Digest, NoMemory, Round, Sequence, Shared};
+use nw_digest::{Digest, NoMemory, Shared};
 use nw_generation::Generations;
-use nw_model::{Counts, Look, Wanted};
+use nw_model::Counts;
 use nw_plain::Plain;
 use nw_state::StateTables;
 use std::alloc::Global;
@@ -78,14 +79,6 @@ impl Dag {
         is_ready(&self.held, &self.waits.missing, *digest)
     }
 
-    /// What the state has in the slot of this round and author. Allocates nothing.
-    pub fn look(&self, round: Round, author: u16) -> Look
-        ensures look { IsLook self.now.state (round, author) result }
-        ensures satisfied { TellsSatisfied self.now.state (round, author) result }
-    {
-        self.held.look(round, author)
-    }
-
     /// A plain store with the same state and the same bounds, which shares the blocks and certificates. The cost grows with the number of
     /// blocks and certificates, and with nothing else.
     ///
@@ -111,14 +104,6 @@ impl Dag {
             .certificate(digest)
             .map(Shared::try_clone)
             .transpose()
-    }
-
-    /// The first `most` wanted parents, or all if there are fewer, strictly ascending by round, author and digest. `NoMemory` if
-    /// allocation fails.
-    pub fn missing(&self, alloc: Global, most: u16) -> Result<Sequence<Wanted>, NoMemory>
-        ensures { IfOk result (AreFirstWanted self.now.state most) }
-    {
-        Ok(Sequence::new(self.waits.missing.first_unmet(alloc, most)?))
     }
 
     /// The garbage round, and how many blocks, certificates, complete blocks and wanted parents there are. Allocates nothing, and

@@ -153,7 +153,7 @@ impl Waits {
 }
 
 /// The parent that the reference names, in this round.
-fn named_by(reference: &Ref, round: Round) -> Wanted
+pub(crate) fn named_by(reference: &Ref, round: Round) -> Wanted
     ensures { IsNamedBy (round + 1) reference.now result }
 {
     Wanted {

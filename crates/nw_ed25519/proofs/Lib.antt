@@ -1,7 +1,6 @@
-mod Bits
-mod Digits
-mod Multiples
-mod Powers
-mod Products
+mod CombSums
+mod Combs
+mod DigitSums
+mod Expected
 mod Remainders
 mod Verdicts

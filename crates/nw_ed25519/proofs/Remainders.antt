@@ -1,10 +1,11 @@
 -- Remainders of a long division, one byte at a time.
-use Rattle.std.proofs.Common.{◌≡◌, ℕ, suc, ◌+◌, ◌-◌, ◌*◌, ◌%◌, ◌^◌, ◌<◌, List, sym, ◌∙◌, ap, arith, lit<, drop, length, get_or, drop-cons}
+use Rattle.std.proofs.Common.{◌≡◌, ℕ, suc, ◌+◌, ◌-◌, ◌*◌, ◌%◌, ◌^◌, ◌<◌, List, ◌++◌, true, nat_lt, rules, sym, ◌∙◌, ap, arith, lit<, drop, length, get_or, drop-cons}
 use Rattle.std.proofs.Math.Nat.{mod-eq_of_lt, mod-add-mod, add-mul-mod_self_right, add-mod_right, mod-lt}
 use Rattle.std.proofs.lemmas.Nat.{mul-mod_second}
 use Rattle.std.proofs.lemmas.List.{drop_all}
-use Rattle.nw_ed25519.specs.Bytes.{number_from_bytes}
-use Rattle.nw_ed25519.specs.Accepts.{order}
+use Rattle.nw_curve.specs.Bytes.{number_from_bytes}
+use Rattle.sha2.specs.Sha512.{sha512}
+use Rattle.nw_ed25519.specs.Accepts.{order, challenge}
 
 -- the order is above 2^252
 pub order_large : 2 ^ 252 < order
@@ -40,3 +41,20 @@ next_remainder bytes d rest r h size er e =
 -- a remainder is below the order
 pub remainder_below : (n r : ℕ) → r ≡ n % order → r < order
 remainder_below n r e = rw e (mod-lt n (omega (arith, order_large)))
+
+-- a number below the order has 253 bits
+pub bits_below : (n o : ℕ) → o ≡ order → nat_lt n o ≡ true → n < 2 ^ 253
+unfolding order
+bits_below n o e h =
+    let below : n < o = search rules in
+    omega (arith, e)
+
+order_small : order < 2 ^ 253
+unfolding order
+order_small = lit< tt
+
+pub challenge_bits : (r key text : List ℕ) → challenge r key text < 2 ^ 253
+unfolding challenge
+challenge_bits r key text =
+    let below = mod-lt (number_from_bytes (sha512 (r ++ (key ++ text)))) {m = order} (omega (arith, order_large)) in
+    omega (arith, below, order_small)

@@ -1,12 +1,16 @@
 -- The results of a verification.
-use Rattle.std.proofs.Common.{◌≡◌, ℕ, Bool, true, false, List, Some, refl, take}
+use Rattle.std.proofs.Common.{◌≡◌, ℕ, Bool, true, false, List, Option, Some, None, refl, take, rules}
 use Rattle.std.specs.Prelude.{nat_lt, slice_range}
-use Rattle.nw_ed25519.specs.Bytes.{number_from_bytes}
+use Rattle.nw_curve.specs.Bytes.{number_from_bytes}
 use Rattle.nw_codec.specs.Same.{same_bytes}
 use Rattle.nw_codec.specs.declared.certificate.Signature.{Signature}
 use Rattle.nw_committee.specs.declared.member.Key.{Key}
-use Rattle.nw_ed25519.specs.Coding.{decoded}
-use Rattle.nw_ed25519.specs.declared.curve.point.Point.{Point}
+use Rattle.nw_curve.specs.Coding.{decoded}
+use Rattle.nw_curve.specs.declared.curve.point.Point.{Point}
+use Rattle.nw_curve.specs.Curve.{negated}
+use Rattle.nw_ed25519.specs.Comb.{rows}
+use Rattle.nw_ed25519.specs.Prepared.{key_rows, entries_of, bits_of}
+use Rattle.nw_ed25519.specs.declared.comb.Comb.{Comb}
 use Rattle.nw_ed25519.specs.Accepts.{order, challenge, expected, accepts}
 
 -- s is not below the order: the signature is not accepted
@@ -24,3 +28,22 @@ unfolding accepts
 compared key text signature s o k point bytes answer es eo h d ek eb ea =
     let l = rw (es, eo) at h in
     rw (ea, eb, ek, es, l, d) refl
+
+-- the key is no point
+pub not_a_point : (key : Key) (text : List ℕ) (signature : Signature) → decoded key.0 ≡ None → false ≡ accepts key text signature
+unfolding accepts
+not_a_point key text signature d = rw d (search rules)
+
+-- a prepared key without a comb is no point
+pub no_comb : (o : Option Point) (comb : Option Comb) → entries_of comb ≡ key_rows o → comb ≡ None → o ≡ None
+no_comb None comb e h = refl
+no_comb (Some p) comb e h = let k = rw h at e in cc
+
+-- a comb of a prepared key is that of the key's point
+pub comb_of_point : (o : Option Point) (comb : Option Comb) (c : Comb) → entries_of comb ≡ key_rows o → comb ≡ Some c → (p : Point) × ((o ≡ Some p) × (c.entries.items ≡ rows 16 16 (negated p)))
+comb_of_point None comb c e h = let k = rw h at e in absurd (cc)
+comb_of_point (Some p) comb c e h = let k = rw h at e in (p, (refl, (cc)))
+
+-- the bits of a digit of such a comb
+pub comb_bits : (comb : Option Comb) (c : Comb) → bits_of comb ≡ 4 → comb ≡ Some c → c.bits ≡ 4
+comb_bits comb c e h = rw h at e

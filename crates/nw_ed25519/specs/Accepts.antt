@@ -1,13 +1,13 @@
 -- The signatures that Ed25519 accepts (RFC 8032, 5.1.7, without the cofactor).
 use Rattle.std.specs.Prelude.{ℕ, ◌+◌, ◌%◌, ◌^◌, ◌&&◌, Bool, false, Option, Some, None, List, ◌++◌, take, slice_range, nat_lt}
 use Rattle.sha2.specs.Sha512.{sha512}
-use Rattle.nw_ed25519.specs.Bytes.{number_from_bytes}
+use Rattle.nw_curve.specs.Bytes.{number_from_bytes}
 use Rattle.nw_codec.specs.Same.{same_bytes}
 use Rattle.nw_codec.specs.declared.certificate.Signature.{Signature}
 use Rattle.nw_committee.specs.declared.member.Key.{Key}
-use Rattle.nw_ed25519.specs.Coding.{decoded, encoded}
-use Rattle.nw_ed25519.specs.Curve.{base, added, negated, multiple}
-use Rattle.nw_ed25519.specs.declared.curve.point.Point.{Point}
+use Rattle.nw_curve.specs.Coding.{decoded, encoded}
+use Rattle.nw_curve.specs.Curve.{base, added, negated, multiple}
+use Rattle.nw_curve.specs.declared.curve.point.Point.{Point}
 
 -- L, the order of the base point
 unfoldable pub order : ℕ

@@ -1,7 +1,4 @@
 pub mod Accepts
-pub mod Bytes
-pub mod Coding
-pub mod Completed
-pub mod Curve
-pub mod Field
-pub mod Weights
+pub mod Comb
+pub mod Digits
+pub mod Prepared

@@ -1,9 +1,9 @@
 //! Numbers modulo the order of the base point.
 ghost use Rattle.std.specs.Prelude.{◌≡◌, ◌+◌, ◌*◌, ◌%◌, ◌<◌, ◌^◌};
-ghost use Rattle.nw_ed25519.specs.Bytes.{number_from_bytes};
+ghost use Rattle.nw_curve.specs.Bytes.{number_from_bytes};
 ghost use Rattle.nw_ed25519.specs.Accepts.{order};
 
-use crate::field::Whole;
+use nw_curve::Whole;
 
 /// The order of the base point: the L of RFC 8032, section 5.1.
 #[tactic(auto, unfolding(crate::specs::Accepts::order))]

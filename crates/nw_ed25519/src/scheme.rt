@@ -1,12 +1,12 @@
 //! The signature scheme.
 ghost use Rattle.std.specs.Prelude.{◌≡◌, ◌<◌, length, take};
-ghost use Rattle.nw_ed25519.specs.Accepts.{accepts, challenge, expected};
+ghost use Rattle.nw_ed25519.specs.Accepts.{accepts, challenge};
 
-use crate::curve::Point;
-use crate::field::Whole;
 use crate::order::{modulo_order, the_order};
+use crate::sum::expected;
 use nw_codec::Signature;
 use nw_committee::Key;
+use nw_curve::{Point, Whole};
 use nw_sig::Scheme;
 use sha2::{Digest, Sha512};
 
@@ -26,14 +26,14 @@ impl Scheme for Ed25519 {
         }
         match Point::decoded(&key.0) {
             None => false,
-            Some(point) => r == expected(&s, &challenge(r, key, text), &point).as_slice(),
+            Some(point) => r == expected(&s, &challenge(r, key, text), point).as_slice(),
         }
     }
 }
 
 /// SHA-512 of R, the key and the text, as a number modulo the order.
 #[tactic(auto, unfolding(crate::specs::Accepts::challenge))]
-fn challenge(r: &[u8], key: &Key, text: &[u8]) -> Whole
+pub fn challenge(r: &[u8], key: &Key, text: &[u8]) -> Whole
     ensures { result ≡ challenge r.now key.now.0 text.now }
 {
     let mut hasher = Sha512::new();
@@ -41,15 +41,4 @@ fn challenge(r: &[u8], key: &Key, text: &[u8]) -> Whole
     hasher.update(&key.0);
     hasher.update(text);
     modulo_order(&hasher.finalize())
-}
-
-/// The encoding of [s]B - [k]A, for the base point B and the key's point A. A signature is accepted if its R is this.
-#[tactic(auto, unfolding(crate::specs::Accepts::expected))]
-fn expected(s: &Whole, k: &Whole, point: &Point) -> [u8; 32]
-    ensures { result ≡ expected s.now k.now point.now }
-{
-    let base = Point::base();
-    base.multiple(s)
-        .added(&point.multiple(k).negated())
-        .encoded()
 }

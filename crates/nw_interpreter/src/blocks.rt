@@ -1,9 +1,9 @@
 //! The named blocks and their messages.
 
+use crate::bindings::Bindings;
 use crate::fault::LineFault;
-use crate::interpreter::Interpreter;
 use crate::members::block_message;
-use crate::print::Answer;
+use crate::words::{named, refused};
 use nw_check::{Checked, check_message};
 use nw_codec::{Block, EncodeError, Transactions, encode_body};
 use nw_digest::Digest;
@@ -11,11 +11,10 @@ use nw_script::{BlockLine, Name};
 use nw_sig::DemoScheme;
 use std::alloc::Global;
 
-impl<'a> Interpreter<'a> {
-    /// Binds the name of the line to its block. The name stays free if the block is over a limit. `Bad` if the name is bound or the name
+impl<'a> Bindings<'a> {
+    /// Binds the name of the line to its block, and returns the line that says so. The name stays free if the block is over a limit. `Bad` if the name is bound or the name
     /// of a parent is not. `NoMemory` if an allocation fails.
-    #[inline(never)]
-    pub fn block(&mut self, alloc: Global, line: &BlockLine<'a>) -> Result<Answer<'a>, LineFault> {
+    pub fn block(&mut self, alloc: Global, line: &BlockLine<'a>) -> Result<String, LineFault> {
         let name = line.name;
         if self.names.has(name) {
             return Err(LineFault::Bad);
@@ -23,11 +22,11 @@ impl<'a> Interpreter<'a> {
         let block = self.block_of(alloc, line)?;
         if !block.fits() {
             drop(block);
-            return Ok(Answer::over_limit(name));
+            return refused(alloc, name, "over limit");
         }
         let body = block.body_size();
         self.names.bind(name, block)?;
-        Ok(Answer::Block { name, body })
+        Ok(format!(in alloc; "block {name} {body}")?)
     }
 
     fn block_of(&self, alloc: Global, line: &BlockLine<'a>) -> Result<Block, LineFault> {
@@ -39,16 +38,14 @@ impl<'a> Interpreter<'a> {
         })
     }
 
-    /// The answer with the body of the block in hex. `Bad` if the name is not bound, `NoMemory` if an allocation fails.
-    #[inline(never)]
-    pub fn body_in_hex(&self, alloc: Global, name: Name<'a>) -> Result<Answer<'a>, LineFault> {
+    /// The line with the body of the block in hex. `Bad` if the name is not bound, `NoMemory` if an allocation fails.
+    pub fn body_in_hex(&self, alloc: Global, name: Name<'a>) -> Result<String, LineFault> {
         let text = encode_body(alloc, &self.named_block(name)?.block)?;
         in_hex(alloc, name, text.as_slice())
     }
 
-    /// The answer with the digest of the block in hex. `Bad` if the name is not bound, `NoMemory` if an allocation fails.
-    #[inline(never)]
-    pub fn digest_in_hex(&self, alloc: Global, name: Name<'a>) -> Result<Answer<'a>, LineFault> {
+    /// The line with the digest of the block in hex. `Bad` if the name is not bound, `NoMemory` if an allocation fails.
+    pub fn digest_in_hex(&self, alloc: Global, name: Name<'a>) -> Result<String, LineFault> {
         let Digest(bytes) = self.digest_of(name)?;
         in_hex(alloc, name, bytes.as_slice())
     }
@@ -68,9 +65,9 @@ impl<'a> Interpreter<'a> {
     }
 }
 
-fn in_hex<'a>(alloc: Global, name: Name<'a>, bytes: &[u8]) -> Result<Answer<'a>, LineFault> {
+fn in_hex(alloc: Global, name: Name<'_>, bytes: &[u8]) -> Result<String, LineFault> {
     let hex = hex::encode(alloc, bytes)?;
-    Ok(Answer::Hex { name, hex })
+    named(alloc, name, hex.as_str())
 }
 
 // The words as transactions of a block. A word has at most 64 bytes, so each is within the limit.

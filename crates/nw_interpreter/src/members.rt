@@ -8,14 +8,11 @@ use crate::fault::LineFault;
 use nw_codec::{
     Block, Certificate, EncodeError, Message, Seal, Signature, Vote, encode_block, encode_message,
 };
-use nw_committee::{Committee, Key, Member};
+use nw_committee::{Committee, Key, MAX_MEMBERS, Member};
 use nw_digest::{Digest, Sequence};
 use nw_script::CommitteeLine;
 use nw_sig::{DemoSigner, Signer, text_of_block, text_of_vote};
 use std::alloc::Global;
-
-// The largest committee.
-const MAX_MEMBERS: u32 = 100;
 
 /// The committee of the line. `Bad` if there is no such committee, `NoMemory` if an allocation fails.
 pub fn committee(alloc: Global, line: &CommitteeLine) -> Result<Committee, LineFault>
@@ -46,7 +43,7 @@ fn keys(alloc: Global, count: u32) -> Result<Vec<Key>, LineFault>
     ensures { IfOk result (λ keys. length keys.items ≡ min count 101) }
 {
     let mut keys = Vec::new(alloc);
-    for number in 0..count.min(MAX_MEMBERS + 1) {
+    for number in 0..count.min(MAX_MEMBERS as u32 + 1) {
         keys.push(key(number as u16))?;
     }
     Ok(keys)

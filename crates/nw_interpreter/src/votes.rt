@@ -1,17 +1,17 @@
 //! Votes and certificates for named blocks.
 
+use crate::bindings::Bindings;
 use crate::fault::{LineFault, within_limits};
-use crate::interpreter::Interpreter;
 use crate::members::{certificate, vote};
 use crate::names::NamedBlock;
-use crate::print::Answer;
+use crate::words::{named, refused};
 use nw_check::{Checked, Counted, Gather, GatherFault, StartFault, check_message, valid};
 use nw_codec::{Message, encode_message};
 use nw_script::Name;
 use nw_sig::DemoScheme;
 use std::alloc::Global;
 
-impl<'a> Interpreter<'a> {
+impl<'a> Bindings<'a> {
     /// Encodes the message of a certificate for the block, with the signers' votes in the given order, and returns the result of its check.
     /// `None` if the certificate is over a limit or its votes are out of order. `Bad` if the name is not bound, `NoMemory` if an allocation
     /// fails.
@@ -34,91 +34,83 @@ impl<'a> Interpreter<'a> {
         name: Name<'a>,
         signers: &[u16],
     ) -> Result<Option<Vec<u8>>, LineFault> {
-        let named = self.named_block(name)?;
+        let block = self.named_block(name)?;
         let message = Message::Certificate(certificate(
             alloc,
             signers,
-            named.digest,
-            &named.block,
+            block.digest,
+            &block.block,
         )?);
         let text = encode_message(alloc, &message);
         drop(message);
         within_limits(text)
     }
 
-    /// The answer that says whether a certificate for the block, with the signers' votes in the given order, is valid. `Bad` if the name
-    /// is not bound, `NoMemory` if an allocation fails.
-    #[inline(never)]
+    /// The line that says whether a certificate for the block, with the signers' votes in the given order, is valid. `Bad` if the name is
+    /// not bound, `NoMemory` if an allocation fails.
     pub fn valid(
         &self,
         alloc: Global,
         name: Name<'a>,
         signers: &[u16],
-    ) -> Result<Answer<'a>, LineFault> {
-        let named = self.named_block(name)?;
-        let certificate = certificate(alloc, signers, named.digest, &named.block)?;
-        let is_valid = valid::<DemoScheme>(self.committee.get(), named.digest, &certificate);
+    ) -> Result<String, LineFault> {
+        let block = self.named_block(name)?;
+        let certificate = certificate(alloc, signers, block.digest, &block.block)?;
+        let is_valid = valid::<DemoScheme>(self.committee.get(), block.digest, &certificate);
         drop(certificate);
-        let words = if is_valid { " valid yes" } else { " valid no" };
-        Ok(Answer::Named { name, words })
+        named(alloc, name, if is_valid { "valid yes" } else { "valid no" })
     }
 
-    /// Gathers the signers' votes for the block in the given order. Returns the answer with the result of each. `Bad` if the name is not
+    /// Gathers the signers' votes for the block in the given order. Returns the line with the result of each. `Bad` if the name is not
     /// bound, `NoMemory` if an allocation fails.
-    #[inline(never)]
     pub fn gather(
         &self,
         alloc: Global,
         name: Name<'a>,
         signers: &[u16],
-    ) -> Result<Answer<'a>, LineFault> {
-        let named = self.named_block(name)?;
-        let block = &named.block;
+    ) -> Result<String, LineFault> {
+        let block = self.named_block(name)?;
         match Gather::new(
             alloc,
             &self.committee,
-            named.digest,
-            block.round,
-            block.author,
+            block.digest,
+            block.block.round,
+            block.block.author,
         ) {
             Ok(mut gather) => {
-                let votes = gather_all(alloc, &mut gather, signers, named);
+                let line = gather_all(alloc, &mut gather, signers, name, block);
                 drop(gather);
-                Ok(Answer::Gathered {
-                    name,
-                    votes: votes?,
-                })
+                line
             }
-            Err(StartFault::Author) => Ok(Answer::Named {
-                name,
-                words: " refused author",
-            }),
+            Err(StartFault::Author) => refused(alloc, name, "author"),
             Err(StartFault::NoMemory) => Err(LineFault::NoMemory),
         }
     }
 }
 
-// The result of each signer's vote, in words.
+// The line with the name and the result of each signer's vote.
 fn gather_all(
     alloc: Global,
     gather: &mut Gather<DemoScheme>,
     signers: &[u16],
-    named: &NamedBlock,
-) -> Result<Vec<&'static str>, LineFault> {
-    let mut votes = Vec::with_capacity(alloc, signers.len())?;
+    name: Name<'_>,
+    block: &NamedBlock,
+) -> Result<String, LineFault> {
+    let mut line = format!(in alloc; "{name}")?;
     for signer in signers {
-        votes.push(gather_one(gather, *signer, named)?)?;
+        line.push(' ')?;
+        line.push_str(gather_one(gather, *signer, block)?)?;
     }
-    Ok(votes)
+    Ok(line)
 }
 
 // The result of the signer's vote, in words. The votes of a script are always for the gathered block.
 fn gather_one(
     gather: &mut Gather<DemoScheme>,
     signer: u16,
-    named: &NamedBlock,
+    block: &NamedBlock,
 ) -> Result<&'static str, LineFault> {
-    match gather.add(&vote(signer, named.digest, &named.block)) {
+    match gather.add(&vote(signer, block.digest, &block.block)) {
         Ok(Counted::Counted) => Ok("counted"),
         Ok(Counted::Quorum) => Ok("quorum"),
         Err(GatherFault::Repeated) => Ok("repeated"),

@@ -24,7 +24,7 @@ type NodeThread = JoinHandle<Result<NodeReport, End>>;
 /// Runs a load of `nodes` nodes over `rounds` rounds, and returns the nodes' reports in order. Each node has a store and two threads.
 ///
 /// If several faults apply, it returns the first in the order of `LoadFault`. `BadNodes` and `BadRounds` are tested before anything
-/// is allocated. It waits for all threads that it started. It does not free the settled stores: the end of the process frees them.
+/// is allocated. It waits for all threads that it started.
 pub fn load<G: Gate + Sync, R: Threads + Wait + Sync>(
     rt: &R,
     alloc: Global,

@@ -20,7 +20,6 @@ mod program;
 mod report;
 mod size;
 mod store;
-mod table;
 
 pub use fault::LoadFault;
 pub use launch::load;

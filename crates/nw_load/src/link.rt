@@ -4,7 +4,6 @@ use crate::message::{text_of_block, text_of_certificate};
 use crate::network::LinkChannels;
 use crate::node::LoadContext;
 use crate::store::LinkCalls;
-use crate::table::Table;
 use nw_check::{
     Checked, CheckedBlock, CheckedCert, Counted, FinishFault, Gather, GatherFault, StartFault,
     check_message,
@@ -30,8 +29,6 @@ pub(crate) struct Link<'a, L: Home, G: Gate> {
     store: LinkCalls<'a, L>,
     channels: LinkChannels<'a>,
     gate: &'a G,
-    /// The blocks that the node's store holds, and those that are certified.
-    table: Table,
     /// The votes for the node's last block, until they reach the quorum.
     gather: Option<Gather<DemoScheme>>,
     /// The number of blocks that the node made.
@@ -59,7 +56,6 @@ impl<'a, L: Home, G: Gate> Link<'a, L, G> {
             store,
             channels,
             gate: context.gate,
-            table: Table::new(context.alloc),
             gather: None,
             made: 0,
             written: 0,
@@ -70,7 +66,6 @@ impl<'a, L: Home, G: Gate> Link<'a, L, G> {
     /// Makes the block of each round, and handles the messages of other nodes. It returns when the node's store has all blocks of
     /// all nodes written and certified.
     pub(crate) fn run<R: Wait>(&mut self, rt: &R) -> Result<(), End> {
-        self.table.add_rounds(self.alloc, self.rounds, self.nodes)?;
         let none = Vec::new(self.alloc);
         self.make(rt, none)?;
         for _ in 0..u64::MAX {
@@ -105,10 +100,10 @@ impl<'a, L: Home, G: Gate> Link<'a, L, G> {
         if self.made >= self.rounds {
             return Ok(());
         }
-        let Some(before) = u64::from(self.made).checked_sub(1) else {
+        let Some(round) = Round::new(u64::from(self.made)).and_then(Round::before) else {
             return Ok(());
         };
-        match self.table.parents(self.alloc, before, self.nodes)? {
+        match self.store.parents(rt, self.alloc, round, self.nodes)? {
             Some(parents) => self.make(rt, parents),
             None => Ok(()),
         }
@@ -156,14 +151,11 @@ impl<'a, L: Home, G: Gate> Link<'a, L, G> {
         pass_start(self.gate, Point::WriteStart { node, number })?;
         let vote = self.store.write(rt, self.alloc, checked)?;
         self.gate.reach(Point::WriteDone { node, number });
-        let digest = checked.digest();
-        let block = checked.block().get();
-        self.table
-            .record_held(block.round.get(), block.author, digest);
         if !vote {
             return Ok(());
         }
-        let text = vote_message(self.alloc, self.node, digest, block)?;
+        let block = checked.block().get();
+        let text = vote_message(self.alloc, self.node, checked.digest(), block)?;
         self.channels.send(rt, block.author, text)
     }
 
@@ -204,10 +196,6 @@ impl<'a, L: Home, G: Gate> Link<'a, L, G> {
     ) -> Result<(), End> {
         self.store.certify(rt, self.alloc, certificate)?;
         self.certified = self.certified.saturating_add(1);
-        let digest = certificate.digest();
-        let certificate = certificate.certificate().get();
-        self.table
-            .record_certified(certificate.round.get(), certificate.author, digest);
         Ok(())
     }
 

@@ -19,7 +19,6 @@ use nw_store::{
 };
 use std::alloc::Global;
 use std::marker::Brand;
-use std::mem::forget;
 use std::sync::Wait;
 use std::thread;
 use std::thread::{JoinHandle, Scope, Threads};
@@ -295,7 +294,7 @@ fn run_client_on<'a, L: Home, R: Wait, G: Gate>(
     walked
 }
 
-/// Settles the store with both sessions and returns the report. It does not free the settled store: the end of the process does.
+/// Settles the store with both sessions and returns the report.
 fn settle_node<L: Home>(
     node: u16,
     store: Store<DemoScheme, L>,
@@ -305,7 +304,7 @@ fn settle_node<L: Home>(
     match settle(store, sessions) {
         Ok(settled) => {
             let events = settled.history().len();
-            forget(settled);
+            drop(settled);
             Ok(NodeReport { events, last })
         }
         Err(refused) => {

@@ -1,7 +1,8 @@
 //! The calls of a node's threads. Each thread has a type with the calls that it may make.
 use crate::fault::End;
 use nw_check::{CheckedBlock, CheckedCert};
-use nw_digest::Digest;
+use nw_codec::Ref;
+use nw_digest::{Digest, Round};
 use nw_model::{Reply, WriteReply};
 use nw_sig::DemoScheme;
 use nw_store::{Home, NoStep, Session, Store, Ticket};
@@ -35,6 +36,25 @@ impl<'a, L: Home> LinkCalls<'a, L> {
             }
             Err(refusal) => Err(end_of_refusal(self.node, refusal)),
         }
+    }
+
+    /// References to the round's blocks of all `nodes` authors, ascending by author, or `None` if one is not stored and certified.
+    pub(crate) fn parents<R: Wait>(
+        &self,
+        rt: &R,
+        alloc: Global,
+        round: Round,
+        nodes: u16,
+    ) -> Result<Option<Vec<Ref>>, End> {
+        let mut parents = Vec::with_capacity(alloc, usize::from(nodes))?;
+        for author in 0..nodes {
+            let look = self.store.look(rt, round, author);
+            match look.certified {
+                Some(digest) if look.stands => parents.push(Ref { author, digest })?,
+                _ => return Ok(None),
+            }
+        }
+        Ok(Some(parents))
     }
 
     /// Certifies the digest of the certificate.

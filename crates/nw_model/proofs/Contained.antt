@@ -100,7 +100,7 @@ decided_standing s d = elim (decided_some (get s.blocks d)) [
 ]
 
 -- whether the reference is satisfied
-decided_satisfied : (s : State) (round : ℕ) (r : Ref) → Decided (IsSatisfied s round r)
+pub decided_satisfied : (s : State) (round : ℕ) (r : Ref) → Decided (IsSatisfied s round r)
 decided_satisfied s round r = elim (decided_standing s r.digest) [
   | inl stands ↦ elim (decided_number stands.0.author r.author) [
     | inl author ↦ elim (decided_number (stands.0.round + 1) round) [

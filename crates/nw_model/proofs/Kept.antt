@@ -1,6 +1,6 @@
 -- The invariant of a store with an index (IsSoundWithIndex), step by step.
 use Rattle.std.proofs.Common.{◌≡◌, ℕ, ◌≤◌, Bool, true, false, not, List, [], ◌∷◌, Option, Some, None, cond, is_some, refl, ap, sym, ◌∙◌, subst, arith, inl, inr, ◌⊎◌}
-use Rattle.std.specs.Prelude.{Result, Ok, Err, OnOk, OnErr, ◌==◌, ◌&&◌, ◌||◌, find}
+use Rattle.std.specs.Prelude.{◌↔◌, Result, Ok, Err, OnOk, OnErr, ◌==◌, ◌&&◌, ◌||◌, find}
 use Rattle.std.specs.List.{list_any}
 use Rattle.std.specs.declared.cmp.Ordering.{Ordering}
 use Rattle.std.specs.declared.cmp.Ordering.TheVariants.{Less, Equal, Greater}
@@ -138,6 +138,17 @@ none_certified s slot none e x at here =
     let passes : is_certified_for s slot e ≡ true = certified_passes (get s.certificates e) x slot at here in
     let held : list_any (eq_by_cmp digest_cmp e) (keys s.certificates) ≡ true = sym (contains_key-keys s.certificates e) ∙ ap is_some at in
     find_misses digest_cmp (is_certified_for s slot) e (keys s.certificates) same_digest held passes none
+
+-- the certified digest of a slot is the one with a certificate for it
+pub certified_is : (s : State) → IsSound s → (slot : Slot) (d : Digest) → (certified_digest s slot ≡ Some d) ↔ ((c : Certificate) × (get s.certificates d ≡ Some c) × (certificate_slot c ≡ slot))
+certified_is s sound slot d = (there d, λ (c, at, here). by c at here (certified_digest s slot) refl)
+  where
+    there : (e : Digest) → certified_digest s slot ≡ Some e → (c : Certificate) × (get s.certificates e ≡ Some c) × (certificate_slot c ≡ slot)
+    there e is = test_of (get s.certificates e) slot (find_passes (is_certified_for s slot) (keys s.certificates) e is)
+
+    by : (c : Certificate) → get s.certificates d ≡ Some c → certificate_slot c ≡ slot → (found : Option Digest) → certified_digest s slot ≡ found → found ≡ Some d
+    by c at here None none = absurd (none_certified s slot none d c at here)
+    by c at here (Some e) is = let (x, at_e, here_e) = there e is in ap Some (sound.one_certificate e d x c at_e at (here_e ∙ sym here))
 
 pub sound_with_certificate : (s : State) (c : Certificate) → IsSound s → certified_digest s (certificate_slot c) ≡ None → has_other_slot block_slot (get s.blocks c.digest) (certificate_slot c) ≡ false → s.floor ≤ c.round → IsSound (with_certificate s c)
 sound_with_certificate s c sound first fits above = record {

@@ -10,6 +10,8 @@ pub mod Replayed
 pub mod Beginnings
 pub mod Views
 pub mod Contained
+pub mod NoneMissing
+pub mod Looks
 pub mod Finding
 pub mod Ancestors
 pub mod Walked

@@ -6,7 +6,7 @@ use Rattle.std.specs.declared.cmp.Ordering.{Ordering}
 use Rattle.std.specs.FinMap.{get}
 use Rattle.nw_model.proofs.WantedOrder.{wanted_total}
 use Rattle.nw_model.specs.declared.wanted.Wanted.{Wanted}
-use Rattle.nw_model.specs.Missing.{IsWanted, ListsExactly, HasCount, AreFirstWanted, AreCounts}
+use Rattle.nw_model.specs.Missing.{IsWanted, Wants, ListsExactly, HasCount, AreFirstWanted, AreMissingOf, AreCounts, wanted_cmp}
 use Rattle.nw_model.specs.declared.reply.Counts.{Counts}
 use Rattle.nw_digest.specs.declared.digest.Digest.{Digest}
 use Rattle.nw_codec.specs.declared.block.Block.{Block}
@@ -21,6 +21,7 @@ use Rattle.nw_model.specs.declared.reply.CausalReply.TheVariants as causal
 use Rattle.nw_model.specs.declared.reply.Reply.{Reply}
 use Rattle.nw_model.specs.declared.reply.Reply.TheVariants as reply
 use Rattle.nw_model.proofs.Maps.{digests_total}
+use Rattle.nw_model.proofs.Complete.{one_block}
 use Rattle.nw_model.proofs.Listed.{same_lists, same_in_order}
 
 -- equal replies are the same reply
@@ -140,6 +141,24 @@ same_missing bounds s most one other is was =
     let first : here.0 ≡ there.0 = here.1.2 ∙ ap (take most) all ∙ sym there.1.2 in
     here.2 ∙ ap reply.Missing first ∙ sym there.2
 
+-- and so are the missing parents of a block
+one_missing_of : (s : State) (d : Digest) (one other : Option (List Wanted)) → AreMissingOf s d one → AreMissingOf s d other → one ≡ other
+one_missing_of s d None None is was = refl
+one_missing_of s d None (Some there) is (c, at, exact) = absurd (none_some (get s.blocks d) is (some_is (get s.blocks d) c at))
+one_missing_of s d (Some here) None (b, at, exact) was = absurd (none_some (get s.blocks d) was (some_is (get s.blocks d) b at))
+one_missing_of s d (Some here) (Some there) (b, at, one) (c, at_too, other) =
+    ap Some (one_list wanted_total (Wants s b) here there one (subst (λ (x : Block). ListsExactly wanted_cmp (Wants s x) there) (one_block c b at_too at) other))
+
+to_missing_of : (bounds : Bounds) (s : State) (d : Digest) (r : Reply) → IsReply bounds s (call.MissingOf d) r → (missing : Option (List Wanted)) × AreMissingOf s d missing × (r ≡ reply.MissingOf missing)
+to_missing_of bounds s d (reply.MissingOf missing) is = (missing, is, refl)
+to_missing_of bounds s d other is = absurd is
+
+same_missing_of : (bounds : Bounds) (s : State) (d : Digest) (one other : Reply) → IsReply bounds s (call.MissingOf d) one → IsReply bounds s (call.MissingOf d) other → one ≡ other
+same_missing_of bounds s d one other is was =
+    let here = to_missing_of bounds s d one is in
+    let there = to_missing_of bounds s d other was in
+    here.2 ∙ ap reply.MissingOf (one_missing_of s d here.0 there.0 here.1 there.1) ∙ sym there.2
+
 to_status : (bounds : Bounds) (s : State) (r : Reply) → IsReply bounds s call.Status r → (counts : Counts) × AreCounts s counts × (r ≡ reply.Status counts)
 to_status bounds s (reply.Status counts) is = (counts, is, refl)
 to_status bounds s other is = absurd is
@@ -168,6 +187,7 @@ one_reply bounds s (call.Read d) one other is was = equal_replies one other (to_
 one_reply bounds s (call.Causal d) one other is was = to_causal s d one other is was
 one_reply bounds s (call.Collect round) one other is was = equal_replies one other (to_collect bounds s round one is ∙ sym (to_collect bounds s round other was))
 one_reply bounds s (call.Missing most) one other is was = equal_replies one other (same_missing bounds s most one other is was)
+one_reply bounds s (call.MissingOf d) one other is was = equal_replies one other (same_missing_of bounds s d one other is was)
 one_reply bounds s call.Status one other is was = equal_replies one other (same_status bounds s one other is was)
 one_reply bounds s (call.AskWrite q) one other is was = equal_replies one other (to_ask_write bounds s q one is ∙ sym (to_ask_write bounds s q other was))
 one_reply bounds s (call.AskCertify q) one other is was = equal_replies one other (to_ask_certify bounds s q one is ∙ sym (to_ask_certify bounds s q other was))

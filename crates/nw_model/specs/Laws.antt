@@ -1,5 +1,5 @@
 -- The laws that the definitions satisfy.
-use Rattle.std.specs.Prelude.{◌≡◌, ◌≢◌, ◌==◌, ◌↔◌, ◌⊎◌, ℕ, ◌≤◌, ◌<◌, true, nat_le, List, ◌++◌, Some, All, Contains, IsSome, filter, map, slice_get}
+use Rattle.std.specs.Prelude.{◌≡◌, ◌≢◌, ◌==◌, ◌↔◌, ◌⊎◌, ℕ, ◌≤◌, ◌<◌, true, nat_le, List, [], ◌++◌, Some, All, Contains, IsSome, filter, map, slice_get}
 use Rattle.nw_digest.specs.declared.digest.Digest.{Digest}
 use Rattle.nw_codec.specs.declared.block.Block.{Block}
 use Rattle.nw_committee.specs.Committee.{ReachesQuorum}
@@ -8,7 +8,8 @@ use Rattle.std.specs.FinMap.{get}
 use Rattle.nw_digest.specs.Order.{Slot}
 use Rattle.nw_model.specs.State.{State, block_slot}
 use Rattle.nw_model.specs.Checks.{digest_of}
-use Rattle.nw_model.specs.Paths.{IsAncestor, IsComplete, IsCausalList}
+use Rattle.nw_model.specs.Paths.{IsAncestor, IsComplete, IsCausalList, IsSatisfied}
+use Rattle.nw_model.specs.Missing.{AreMissingOf}
 use Rattle.nw_model.specs.View.{Frozen, IsAncestorIn, Shows}
 use Rattle.nw_model.specs.Sound.{IsSound, HasNoBlocksBelowFloor}
 use Rattle.nw_model.specs.History.{Terms, IsLegal, replay}
@@ -58,6 +59,11 @@ abbrev pub FirstsOfABaseGetNoVote : Type 0
 FirstsOfABaseGetNoVote =
     (accepts : Meaning) (terms : Terms) (base : State) (es : List Event) → IsLegal accepts terms base es
     → (slot : Slot) → IsSome (get base.firsts slot) → (i : ℕ) (e : Event) → slice_get es i ≡ Some e → IsVotingEvent slot e → ⊥
+
+-- a held block has no missing parents exactly if all its references are satisfied, or it is not above the garbage round
+abbrev pub BlocksWithTheirParentsMissNone : Type 0
+BlocksWithTheirParentsMissNone =
+    (s : State) (d : Digest) (b : Block) → get s.blocks d ≡ Some b → AreMissingOf s d (Some []) ↔ (s.floor < b.round → All (IsSatisfied s b.round) b.parents)
 
 -- s and t are states of one legal history, and s is not later than t
 pub record IsLaterState (accepts : Meaning) (terms : Terms) (s t : State) : Type 0 where

@@ -1,5 +1,5 @@
--- Wanted parents, and the counts of a state.
-use Rattle.std.specs.Prelude.{◌≡◌, ◌↔◌, ℕ, ◌+◌, ◌<◌, List, Some, Contains, length, take}
+-- Wanted parents, the missing parents of a block, and the counts of a state.
+use Rattle.std.specs.Prelude.{◌≡◌, ◌↔◌, ℕ, ◌+◌, ◌<◌, List, Option, Some, None, Contains, length, take}
 use Rattle.std.specs.List.Sorted.{IsStrictlySortedBy}
 use Rattle.std.specs.FinMap.{get, len}
 use Rattle.std.specs.declared.cmp.Ordering.{Ordering}
@@ -43,6 +43,11 @@ HasCount {A} cmp P n = (xs : List A) × ListsExactly cmp P xs × (length xs ≡ 
 -- the list has the first `most` wanted parents by round, author and digest, or all of them if there are fewer
 abbrev pub AreFirstWanted : State → ℕ → List Wanted → Type 0
 AreFirstWanted s most first = (all : List Wanted) × ListsExactly wanted_cmp (IsWanted s) all × (first ≡ take most all)
+
+-- the missing parents of the block under d: exactly those that it wants, in order. None if no block is held under d
+abbrev pub AreMissingOf : State → Digest → Option (List Wanted) → Type 0
+AreMissingOf s d None = get s.blocks d ≡ None
+AreMissingOf s d (Some missing) = (b : Block) × (get s.blocks d ≡ Some b) × ListsExactly wanted_cmp (Wants s b) missing
 
 -- the counts are those of the state
 pub record AreCounts (s : State) (counts : Counts) : Type 0 where

@@ -12,7 +12,7 @@ use Rattle.nw_codec.specs.declared.subject.Subject.{Subject}
 use Rattle.nw_codec.specs.Subject.{block_subject, certificate_subject}
 use Rattle.nw_model.specs.State.{State, block_slot, certificate_slot, subject_slot, coded_state}
 use Rattle.nw_model.specs.Paths.{IsComplete, IsCausalList}
-use Rattle.nw_model.specs.Missing.{AreFirstWanted, AreCounts}
+use Rattle.nw_model.specs.Missing.{AreFirstWanted, AreMissingOf, AreCounts}
 use Rattle.nw_model.specs.declared.call.Call.{Call}
 use Rattle.nw_model.specs.declared.call.Call.TheVariants as call
 use Rattle.nw_model.specs.declared.reply.WriteReply.{WriteReply}
@@ -216,6 +216,7 @@ IsReply bounds s (call.Read d) (reply.Read r) = r ≡ get s.blocks d
 IsReply bounds s (call.Causal d) r = IsCausalReply s d r
 IsReply bounds s (call.Collect round) (reply.Collect r) = r ≡ collect_reply s round
 IsReply bounds s (call.Missing most) (reply.Missing first) = AreFirstWanted s most first
+IsReply bounds s (call.MissingOf d) (reply.MissingOf missing) = AreMissingOf s d missing
 IsReply bounds s call.Status (reply.Status counts) = AreCounts s counts
 IsReply bounds s (call.AskWrite q) (reply.Write r) = r ≡ asked_write_reply bounds s q
 IsReply bounds s (call.AskCertify q) (reply.Certify r) = r ≡ asked_certify_reply bounds s q

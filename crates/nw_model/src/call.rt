@@ -23,6 +23,8 @@ pub enum Call {
     Collect(Round),
     /// List the wanted parents in their order, at most this many.
     Missing(u16),
+    /// List the missing parents of the block that is held under the digest: those that its unsatisfied references name.
+    MissingOf(Digest),
     /// Count what is kept and what is wanted.
     Status,
     /// Tell what a write of a block with this subject would get. `Held` if any block is held under the digest.
@@ -44,6 +46,7 @@ impl Call {
             Call::Causal(digest) => Call::Causal(*digest),
             Call::Collect(round) => Call::Collect(*round),
             Call::Missing(most) => Call::Missing(*most),
+            Call::MissingOf(digest) => Call::MissingOf(*digest),
             Call::Status => Call::Status,
             Call::AskWrite(subject) => Call::AskWrite(*subject),
             Call::AskCertify(subject) => Call::AskCertify(*subject),
@@ -82,6 +85,7 @@ impl Call {
             (Call::Causal(digest), Call::Causal(of)) => is_same_digest(digest, of),
             (Call::Collect(round), Call::Collect(of)) => round == of,
             (Call::Missing(most), Call::Missing(of)) => most == of,
+            (Call::MissingOf(digest), Call::MissingOf(of)) => is_same_digest(digest, of),
             (Call::Status, Call::Status) => true,
             (Call::AskWrite(subject), Call::AskWrite(of)) => subject == of,
             (Call::AskCertify(subject), Call::AskCertify(of)) => subject == of,

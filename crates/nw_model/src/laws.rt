@@ -7,6 +7,7 @@ ghost use Rattle.nw_model.specs.Laws.{
   LegalHistoriesVoteOnce,
   ViewsShowTheAncestors,
   FirstsOfABaseGetNoVote,
+  BlocksWithTheirParentsMissNone,
   CausalListsStay,
   CausalListsReachQuorums,
   ReadsAgree,
@@ -57,6 +58,12 @@ pub fn legal_histories_vote_once()
 /// If a slot has a first digest in the base of a legal history, it gets no vote in that history.
 pub fn firsts_of_a_base_get_no_vote()
     ensures { FirstsOfABaseGetNoVote }
+{}
+
+/// The reply to `MissingOf` for a held block is an empty list exactly if all references of the block are satisfied, or the block is not
+/// above the garbage round.
+pub fn blocks_with_their_parents_miss_none()
+    ensures { BlocksWithTheirParentsMissNone }
 {}
 
 /// A complete block stays complete in a legal history until the garbage round is above its round. Until then its causal list loses

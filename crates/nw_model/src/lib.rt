@@ -15,10 +15,11 @@ mod wanted;
 pub use call::Call;
 pub use event::Event;
 pub use laws::{
-    beginnings_of_legal_histories_are_legal, causal_lists_contain_those_of_their_blocks,
-    causal_lists_reach_quorums, causal_lists_stay, complete_digests_have_one_causal_list,
-    firsts_of_a_base_get_no_vote, legal_histories_leave_sound_states, legal_histories_vote_once,
-    reads_agree, recorded_calls_take_the_same_step, step_is_a_function, views_show_the_ancestors,
+    beginnings_of_legal_histories_are_legal, blocks_with_their_parents_miss_none,
+    causal_lists_contain_those_of_their_blocks, causal_lists_reach_quorums, causal_lists_stay,
+    complete_digests_have_one_causal_list, firsts_of_a_base_get_no_vote,
+    legal_histories_leave_sound_states, legal_histories_vote_once, reads_agree,
+    recorded_calls_take_the_same_step, step_is_a_function, views_show_the_ancestors,
 };
 pub use look::Look;
 pub use reply::{CausalReply, CertifyReply, CollectReply, Counts, Reply, WriteReply};

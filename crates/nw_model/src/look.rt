@@ -13,4 +13,6 @@ pub struct Look {
     pub certified: Option<Digest>,
     /// Whether the block of the certified digest is held.
     pub stands: bool,
+    /// Whether the certified digest is complete.
+    pub complete: bool,
 }

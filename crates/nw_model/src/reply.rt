@@ -108,6 +108,9 @@ pub enum Reply {
     Collect(CollectReply),
     /// To a call for missing parents: the first wanted parents, strictly ascending by round, author and digest.
     Missing(Sequence<Wanted>),
+    /// To a call for the missing parents of a block: these, strictly ascending by round, author and digest. `None` if no block is held
+    /// under the digest.
+    MissingOf(Option<Sequence<Wanted>>),
     /// To a call for the status.
     Status(Counts),
 }
@@ -131,6 +134,8 @@ impl Reply {
             Reply::List(blocks) => Reply::List(clone_all(alloc, blocks)?),
             Reply::Collect(reply) => Reply::Collect(*reply),
             Reply::Missing(wanted) => Reply::Missing(copy_all(alloc, wanted)?),
+            Reply::MissingOf(None) => Reply::MissingOf(None),
+            Reply::MissingOf(Some(missing)) => Reply::MissingOf(Some(copy_all(alloc, missing)?)),
             Reply::Status(counts) => Reply::Status(*counts),
         })
     }

@@ -121,6 +121,16 @@ lacks_one s round r before is lacks old x = (
     name : Wanted
     name = record { round = before; author = r.author; digest = r.digest }
 
+-- the parents that the block wants are all that is found, if nothing was found before
+pub only_wanted : (s : State) (b : Block) (missing : List Wanted) → IsUnionWith (Wants s b) [] missing → IsStrictlySortedBy wanted_cmp missing → ListsExactly wanted_cmp (Wants s b) missing
+only_wanted s b missing adds sorted = record {
+  exactly = λ w. (
+    λ among. elim ((adds w).0 among) [ inl here ↦ absurd (contains_none w here) | inr wants ↦ wants ],
+    λ wants. (adds w).1 (inr wants),
+  );
+  ascending = sorted;
+}
+
 -- ---- the held blocks
 
 -- some held blocks are left, and exactly the parents that the others want are found

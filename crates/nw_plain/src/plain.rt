@@ -138,6 +138,7 @@ impl Plain {
             Call::Causal(digest) => self.causal_reply(*digest),
             Call::Collect(round) => Ok(Reply::Collect(self.collect_reply(*round))),
             Call::Missing(most) => Ok(Reply::Missing(self.first_wanted(*most)?)),
+            Call::MissingOf(digest) => Ok(Reply::MissingOf(self.missing_of(digest)?)),
             Call::Status => Ok(Reply::Status(self.counts()?)),
             Call::AskWrite(subject) => Ok(Reply::Write(self.asked_write_reply(subject))),
             Call::AskCertify(subject) => Ok(Reply::Certify(self.asked_certify_reply(subject))),

@@ -5,7 +5,6 @@ use nw_digest::NoMemory;
 use nw_interpreter::LineFault;
 use nw_store::SettleFault;
 use std::alloc::{AllocError, AllocFailed};
-use std::io;
 use thiserror::Error;
 
 /// Why a script was not played to its end. The answers printed before the fault remain.
@@ -70,13 +69,5 @@ impl PlayFault {
             SettleFault::Unfinished { .. } => PlayFault::BadLine { line },
             SettleFault::Differs { session, .. } => PlayFault::Differs { session },
         }
-    }
-}
-
-/// The outcome of writing, with `Write` for any error of the writer.
-pub(crate) fn write_outcome(outcome: io::Result<()>) -> Result<(), PlayFault> {
-    match outcome {
-        Ok(()) => Ok(()),
-        Err(_) => Err(PlayFault::Write),
     }
 }

@@ -5,7 +5,7 @@ ghost use Rattle.nw_store.specs.Lock.{parts_of_a_ledger};
 
 use crate::books::Start;
 use nw_check::Checked;
-use nw_interpreter::{Answer, Interpreter, LineFault};
+use nw_interpreter::{Bindings, LineFault, hash, refused};
 use nw_script::{Name, Request};
 use nw_sig::DemoScheme;
 use nw_store::{Command, Done, Home, NoStep, Opening, Session, Store};
@@ -51,46 +51,49 @@ impl<L: Home> Player<L> {
         }
     }
 
-    /// Plays the request and returns its answer. `Bad` if it can't be played, `NoMemory` if an allocation fails.
-    // A call clears the locals of the function and of all functions inlined into it. So functions with large locals are not inlined.
+    /// Plays the request and returns the line of its answer. `Bad` if it can't be played, `NoMemory` if an allocation fails.
     pub fn answer<'a, R: Wait>(
         &mut self,
         rt: &R,
         alloc: Global,
-        interpreter: &mut Interpreter<'a>,
+        bindings: &mut Bindings<'a>,
         request: &Request<'a>,
-    ) -> Result<Answer<'a>, LineFault> {
+    ) -> Result<String, LineFault> {
         self.may_set_limits = false;
         match request {
-            Request::Block(line) => interpreter.block(alloc, line),
-            Request::Body(name) => interpreter.body_in_hex(alloc, *name),
-            Request::Digest(name) => interpreter.digest_in_hex(alloc, *name),
-            Request::Hash(word) => Interpreter::hash(alloc, word),
-            Request::Valid { name, signers } => interpreter.valid(alloc, *name, signers),
-            Request::Gather { name, signers } => interpreter.gather(alloc, *name, signers),
-            Request::Walk(ticket) => interpreter.walk(alloc, *ticket),
-            Request::Write { name, signer } => self.write(rt, alloc, interpreter, *name, *signer),
+            Request::Block(line) => bindings.block(alloc, line),
+            Request::Body(name) => bindings.body_in_hex(alloc, *name),
+            Request::Digest(name) => bindings.digest_in_hex(alloc, *name),
+            Request::Hash(word) => hash(alloc, word),
+            Request::Valid { name, signers } => bindings.valid(alloc, *name, signers),
+            Request::Gather { name, signers } => bindings.gather(alloc, *name, signers),
+            Request::Walk(ticket) => bindings.walk(alloc, *ticket),
+            Request::Write { name, signer } => self.write(rt, alloc, bindings, *name, *signer),
             Request::Certify { name, signers } => {
-                self.certify(rt, alloc, interpreter, *name, signers)
+                self.certify(rt, alloc, bindings, *name, signers)
             }
             Request::Certificate(name) => {
-                let command = Command::Certificate(interpreter.digest_of(*name)?);
-                self.call(rt, alloc, interpreter, Some(*name), &command)
+                let command = Command::Certificate(bindings.digest_of(*name)?);
+                self.call(rt, alloc, bindings, Some(*name), &command)
             }
             Request::Read(name) => {
-                let command = Command::Read(interpreter.digest_of(*name)?);
-                self.call(rt, alloc, interpreter, Some(*name), &command)
+                let command = Command::Read(bindings.digest_of(*name)?);
+                self.call(rt, alloc, bindings, Some(*name), &command)
             }
             Request::Collect(round) => {
-                self.call(rt, alloc, interpreter, None, &Command::Collect(*round))
+                self.call(rt, alloc, bindings, None, &Command::Collect(*round))
             }
             Request::Missing(most) => {
-                self.call(rt, alloc, interpreter, None, &Command::Missing(*most))
+                self.call(rt, alloc, bindings, None, &Command::Missing(*most))
             }
-            Request::Status => self.call(rt, alloc, interpreter, None, &Command::Status),
-            Request::Causal(name) => self.open(rt, alloc, interpreter, *name, *name, false),
+            Request::MissingOf(name) => {
+                let command = Command::MissingOf(bindings.digest_of(*name)?);
+                self.call(rt, alloc, bindings, Some(*name), &command)
+            }
+            Request::Status => self.call(rt, alloc, bindings, None, &Command::Status),
+            Request::Causal(name) => self.open(rt, alloc, bindings, *name, *name, false),
             Request::Open { ticket, name } => {
-                self.open(rt, alloc, interpreter, *ticket, *name, true)
+                self.open(rt, alloc, bindings, *ticket, *name, true)
             }
             Request::Session(id) => self.select_session(rt, alloc, *id),
             Request::Compact => self.compact(rt, alloc),
@@ -98,32 +101,30 @@ impl<L: Home> Player<L> {
     }
 
     // Writes the named block after its message is encoded, decoded and checked. The given member signs it, or its author if none is given.
-    #[inline(never)]
     fn write<'a, R: Wait>(
         &mut self,
         rt: &R,
         alloc: Global,
-        interpreter: &Interpreter<'a>,
+        bindings: &Bindings<'a>,
         name: Name<'a>,
         signer: Option<u16>,
-    ) -> Result<Answer<'a>, LineFault> {
-        let checked = interpreter.checked_block(alloc, name, signer)?;
-        self.hand_in(rt, alloc, interpreter, name, checked)
+    ) -> Result<String, LineFault> {
+        let checked = bindings.checked_block(alloc, name, signer)?;
+        self.hand_in(rt, alloc, bindings, name, checked)
     }
 
     // Certifies the named block, with the votes in the order of `signers`, after the message is encoded, decoded and checked.
-    #[inline(never)]
     fn certify<'a, R: Wait>(
         &mut self,
         rt: &R,
         alloc: Global,
-        interpreter: &Interpreter<'a>,
+        bindings: &Bindings<'a>,
         name: Name<'a>,
         signers: &[u16],
-    ) -> Result<Answer<'a>, LineFault> {
-        match interpreter.checked_certificate(alloc, name, signers)? {
-            Some(checked) => self.hand_in(rt, alloc, interpreter, name, checked),
-            None => Ok(Answer::over_limit(name)),
+    ) -> Result<String, LineFault> {
+        match bindings.checked_certificate(alloc, name, signers)? {
+            Some(checked) => self.hand_in(rt, alloc, bindings, name, checked),
+            None => refused(alloc, name, "over limit"),
         }
     }
 
@@ -132,20 +133,20 @@ impl<L: Home> Player<L> {
         &mut self,
         rt: &R,
         alloc: Global,
-        interpreter: &Interpreter<'a>,
+        bindings: &Bindings<'a>,
         name: Name<'a>,
         checked: Checked<DemoScheme>,
-    ) -> Result<Answer<'a>, LineFault> {
+    ) -> Result<String, LineFault> {
         match checked {
             Checked::Block(block) => {
-                self.call(rt, alloc, interpreter, Some(name), &Command::Write(&block))
+                self.call(rt, alloc, bindings, Some(name), &Command::Write(&block))
             }
             Checked::Cert(certificate) => {
                 let command = Command::Certify(&certificate);
-                self.call(rt, alloc, interpreter, Some(name), &command)
+                self.call(rt, alloc, bindings, Some(name), &command)
             }
-            Checked::BadBlock(fault) => Ok(Answer::BadBlock { name, fault }),
-            Checked::BadCert(fault) => Ok(Answer::BadCert { name, fault }),
+            Checked::BadBlock(fault) => refused(alloc, name, fault),
+            Checked::BadCert(fault) => refused(alloc, name, fault),
             Checked::Vote(_) | Checked::BadText(_) => Err(LineFault::Bad),
         }
     }
@@ -155,14 +156,14 @@ impl<L: Home> Player<L> {
         &mut self,
         rt: &R,
         alloc: Global,
-        interpreter: &Interpreter<'a>,
+        bindings: &Bindings<'a>,
         name: Option<Name<'a>>,
         command: &Command<DemoScheme>,
-    ) -> Result<Answer<'a>, LineFault> {
+    ) -> Result<String, LineFault> {
         let session = self.sessions.get_mut(self.current).ok_or(LineFault::Bad)?;
         match self.store.call(rt, alloc, session, command) {
-            Ok(done) => answer_of(alloc, interpreter, name, done),
-            Err(refusal) => answer_to_refusal(refusal),
+            Ok(done) => line_of(alloc, bindings, name, done),
+            Err(refusal) => line_of_refusal(alloc, refusal),
         }
     }
 
@@ -172,27 +173,27 @@ impl<L: Home> Player<L> {
         &mut self,
         rt: &R,
         alloc: Global,
-        interpreter: &mut Interpreter<'a>,
+        bindings: &mut Bindings<'a>,
         printed_as: Name<'a>,
         name: Name<'a>,
         is_kept: bool,
-    ) -> Result<Answer<'a>, LineFault> {
-        if is_kept && interpreter.has_ticket(printed_as) {
+    ) -> Result<String, LineFault> {
+        if is_kept && bindings.has_ticket(printed_as) {
             return Err(LineFault::Bad);
         }
-        let digest = interpreter.digest_of(name)?;
+        let digest = bindings.digest_of(name)?;
         let session = self.sessions.get_mut(self.current).ok_or(LineFault::Bad)?;
         match self.store.open_causal(rt, alloc, session, digest) {
-            Ok(Ok(ticket)) => interpreter.answer_to_ticket(alloc, printed_as, ticket, is_kept),
-            Ok(Err(done)) => answer_of(alloc, interpreter, Some(printed_as), done),
-            Err(refusal) => answer_to_refusal(refusal),
+            Ok(Ok(ticket)) => bindings.take_ticket(alloc, printed_as, ticket, is_kept),
+            Ok(Err(done)) => line_of(alloc, bindings, Some(printed_as), done),
+            Err(refusal) => line_of_refusal(alloc, refusal),
         }
     }
 
     // Compacts the store.
-    fn compact<'a, R: Wait>(&self, rt: &R, alloc: Global) -> Result<Answer<'a>, LineFault> {
+    fn compact<'a, R: Wait>(&self, rt: &R, alloc: Global) -> Result<String, LineFault> {
         self.store.compact(rt, alloc)?;
-        Ok(Answer::Words("compacted"))
+        Ok(format!(in alloc; "compacted")?)
     }
 
     // Makes this session the current one. If its id is the next unused one, this makes a new session, unless the store has reached its
@@ -202,19 +203,16 @@ impl<L: Home> Player<L> {
         rt: &R,
         alloc: Global,
         id: u16,
-    ) -> Result<Answer<'a>, LineFault> {
+    ) -> Result<String, LineFault> {
         let place = usize::from(id);
         if place > self.sessions.len() {
             return Err(LineFault::Bad);
         }
         if place == self.sessions.len() && !self.add_session(rt, alloc)? {
-            return Ok(Answer::Words("refused too many"));
+            return Ok(format!(in alloc; "refused too many")?);
         }
         self.current = place;
-        Ok(Answer::Count {
-            words: "session ",
-            number: u64::from(id),
-        })
+        Ok(format!(in alloc; "session {id}")?)
     }
 
     /// Adds a session, and returns whether the store made one. The first one added is current at the start.
@@ -230,23 +228,23 @@ impl<L: Home> Player<L> {
     }
 }
 
-// The answer with the reply of the call.
-fn answer_of<'a>(
+// The line for the reply of the call.
+fn line_of<'a>(
     alloc: Global,
-    interpreter: &Interpreter<'a>,
+    bindings: &Bindings<'a>,
     name: Option<Name<'a>>,
     done: Done<DemoScheme>,
-) -> Result<Answer<'a>, LineFault> {
-    let answer = interpreter.answer_to(alloc, name, done.reply());
+) -> Result<String, LineFault> {
+    let line = bindings.line_of(alloc, name, done.reply());
     drop(done);
-    answer
+    line
 }
 
 // A full history is an answer, and any other refusal ends the play. `OutOfTurn` never comes: each session's id is below the limit, and each
 // call has its session's next number. `OtherCommittee` never comes: every block and certificate was checked under the store's committee.
-fn answer_to_refusal<'a>(refusal: NoStep) -> Result<Answer<'a>, LineFault> {
+fn line_of_refusal(alloc: Global, refusal: NoStep) -> Result<String, LineFault> {
     match refusal {
-        NoStep::HistoryFull => Ok(Answer::Words("refused history full")),
+        NoStep::HistoryFull => Ok(format!(in alloc; "refused history full")?),
         NoStep::NoMemory => Err(LineFault::NoMemory),
         NoStep::OutOfTurn | NoStep::OtherCommittee => Err(LineFault::Bad),
     }

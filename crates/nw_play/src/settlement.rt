@@ -2,22 +2,21 @@
 use crate::books::Start;
 use crate::fault::PlayFault;
 use crate::lines::Lines;
-use crate::output::Output;
+use crate::output::print;
 use crate::player::Player;
-use nw_interpreter::Answer;
 use nw_script::Line;
 use nw_sig::DemoScheme;
 use nw_store::{Home, Settled, settle};
 use std::alloc::Global;
+use std::fmt::Write as _;
 use std::io::Write;
-use std::mem::forget;
 
 /// Settles the store with all its sessions and prints the counts. Returns the start of the reopened store if the next line is `reopen`.
-pub fn settle_store<L: Home, W: Write + Drop>(
+pub fn settle_store<L: Home, W: Write>(
     alloc: Global,
     player: Player<L>,
     lines: &mut Lines<'_>,
-    out: &mut Output<W>,
+    out: &mut W,
 ) -> Result<Option<Start>, PlayFault> {
     match settle(player.store, player.sessions) {
         Ok(settled) => finish(alloc, settled, lines, out),
@@ -30,16 +29,16 @@ pub fn settle_store<L: Home, W: Write + Drop>(
 }
 
 // Prints the counts of the settlement. Returns the start of the reopened store if the next line is `reopen`.
-fn finish<L: Home, W: Write + Drop>(
+fn finish<L: Home, W: Write>(
     alloc: Global,
     settled: Settled<DemoScheme, L>,
     lines: &mut Lines<'_>,
-    out: &mut Output<W>,
+    out: &mut W,
 ) -> Result<Option<Start>, PlayFault> {
     match is_reopened(alloc, &settled, lines, out) {
         Ok(true) => reopen(alloc, settled, out),
         Ok(false) => {
-            forget(settled);
+            drop(settled);
             Ok(None)
         }
         Err(fault) => {
@@ -50,13 +49,13 @@ fn finish<L: Home, W: Write + Drop>(
 }
 
 // Prints the counts of the settlement, and returns whether the next line reopens the store. Any other line is bad.
-fn is_reopened<L: Home, W: Write + Drop>(
+fn is_reopened<L: Home, W: Write>(
     alloc: Global,
     settled: &Settled<DemoScheme, L>,
     lines: &mut Lines<'_>,
-    out: &mut Output<W>,
+    out: &mut W,
 ) -> Result<bool, PlayFault> {
-    out.print(&tally(alloc, settled)?)?;
+    print(out, tally(alloc, settled)?.as_str())?;
     match lines.next_line(alloc)? {
         None => Ok(false),
         Some(Line::Reopen) => Ok(true),
@@ -65,10 +64,10 @@ fn is_reopened<L: Home, W: Write + Drop>(
 }
 
 // Reopens the settled store. Returns the start of the next store.
-fn reopen<L: Home, W: Write + Drop>(
+fn reopen<L: Home, W: Write>(
     alloc: Global,
     settled: Settled<DemoScheme, L>,
-    out: &mut Output<W>,
+    out: &mut W,
 ) -> Result<Option<Start>, PlayFault> {
     match settled.reopen(alloc) {
         Ok(book) => print_reopened(Start::without_limits_line(book), out),
@@ -80,11 +79,8 @@ fn reopen<L: Home, W: Write + Drop>(
 }
 
 // Prints the line of the reopened store, and returns its start.
-fn print_reopened<W: Write + Drop>(
-    start: Start,
-    out: &mut Output<W>,
-) -> Result<Option<Start>, PlayFault> {
-    match out.print(&Answer::Words("reopened")) {
+fn print_reopened<W: Write>(start: Start, out: &mut W) -> Result<Option<Start>, PlayFault> {
+    match print(out, "reopened") {
         Ok(()) => Ok(Some(start)),
         Err(fault) => {
             drop(start);
@@ -93,20 +89,16 @@ fn print_reopened<W: Write + Drop>(
     }
 }
 
-// The number of events of the history, followed by the number of calls of each session.
-fn tally<'a, L: Home>(
-    alloc: Global,
-    settled: &Settled<DemoScheme, L>,
-) -> Result<Answer<'a>, PlayFault> {
-    let mut counts = Vec::new(alloc);
-    counts.push(settled.history().len())?;
+// The line of the settlement: the number of events of the history, followed by the number of calls of each session.
+fn tally<L: Home>(alloc: Global, settled: &Settled<DemoScheme, L>) -> Result<String, PlayFault> {
+    let mut line = format!(in alloc; "settled {}", settled.history().len())?;
     for session in 0..=u16::MAX {
         match calls_of(settled, session) {
-            Some(calls) => counts.push(calls)?,
+            Some(calls) => write!(line, " {calls}")?,
             None => break,
         }
     }
-    Ok(Answer::Settled(counts))
+    Ok(line)
 }
 
 // The number of calls of the session, or `None` if no session has this id.

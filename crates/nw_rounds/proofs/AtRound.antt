@@ -1,12 +1,12 @@
 -- Which digests belong to a range of rounds.
-use Rattle.std.proofs.Common.{◌≡◌, ◌∙◌, ◌⊎◌, inl, inr, ℕ, ◌+◌, ◌<◌, ◌≤◌, Bool, true, false, cond, not, ◌&&◌, ◌||◌, ◌++◌, List, [], ◌∷◌, map, Bor, Option, Some, None, Result, Ok, Err, zero, suc, refl, sym, ap, subst, arith}
+use Rattle.std.proofs.Common.{◌≡◌, ◌∙◌, ◌⊎◌, inl, inr, ℕ, ◌+◌, ◌<◌, ◌≤◌, Bool, true, false, cond, not, ◌&&◌, ◌||◌, ◌++◌, List, [], ◌∷◌, map, Bor, Option, Some, None, IsSome, Result, Ok, Err, zero, suc, refl, sym, ap, subst, arith}
 use Rattle.std.specs.Prelude.{All, filter, Contains, IfOk, nat_le, slice_get}
 use Rattle.std.specs.Bool.{MatchBool}
 use Rattle.std.specs.declared.cmp.Ordering.{Ordering}
 use Rattle.std.specs.declared.cmp.Ordering.TheVariants.{Less, Equal, Greater}
 use Rattle.std.specs.declared.ops.Bound.TheVariants.{Included, Excluded}
 use Rattle.std.specs.Ordering.{nat_cmp, is_gt, is_le, eq_by_cmp, ordering_then}
-use Rattle.std.specs.Cmp.{eq_by_cmp_equiv, nat_cmp_is}
+use Rattle.std.specs.Cmp.{IsTotalOrder, eq_by_cmp_equiv, nat_cmp_is}
 use Rattle.std.specs.List.{IsDistinct, list_any}
 use Rattle.std.specs.List.Sorted.{IsStrictlySortedBy}
 use Rattle.std.specs.Map.{lookup, keys_of, values_of}
@@ -17,6 +17,8 @@ use Rattle.std.specs.Map.Iter.{deref_pair}
 use Rattle.std.proofs.lemmas.Bool.{le-leb, lt-leb, ltb-true, ltb-false}
 use Rattle.std.proofs.lemmas.List.Elements.{All-head, All-tail, All-weaker}
 use Rattle.std.proofs.lemmas.List.Folds.{list_any-append}
+use Rattle.std.proofs.lemmas.Cmp.{nat_cmp_total}
+use Rattle.std.proofs.lemmas.Map.Lookups.{exact_unsigned}
 use Rattle.std.proofs.lemmas.Map.Entries.{lookup-filter-keys}
 use Rattle.std.proofs.lemmas.Map.Keys.{IsDistinct-from_sorted}
 use Rattle.std.proofs.lemmas.Map.Made.{Contains-from_values_of, Contains-values_of, IsDistinct-keys_filter}
@@ -27,7 +29,7 @@ use Rattle.nw_digest.specs.declared.digest.Digest.{Digest}
 use Rattle.nw_rounds.specs.declared.kind.DigestKind.{DigestKind}
 use Rattle.nw_rounds.specs.declared.kind.DigestKind.TheVariants.{First, Certified}
 use Rattle.nw_digest.specs.Order.{digest_cmp, Slot}
-use Rattle.nw_rounds.specs.Slots.{AreDigestsAt, AreDigestsBetween, IsDigestAt, Tables, HasAllDigests}
+use Rattle.nw_rounds.specs.Slots.{AreAuthorsAt, AreDigestsBetween, HasAllDigests, HasDigest, IsDigestAt, Tables}
 use Rattle.nw_rounds.specs.Places.{ArePlacesBetween, BeginsBelow, Place, place_cmp, kind_cmp, map_of, tables_of}
 use Rattle.nw_rounds.proofs.SlotLemmas.{digests_apart, digests_total, places_apart, places_total}
 use Rattle.nw_rounds.proofs.OfKind.{get_in, equal_from_is_eq}
@@ -104,6 +106,26 @@ all_listed es round d (author, is) = elim is [ inl first ↦ by First first | in
         Contains-values_of es ((round, author), t) d
         (Contains-from_lookup (λ x y e. places_apart x y (equal_from_is_eq (place_cmp x y) e)) ((round, author), t) d es (sym (at_kind es (round, author) t) ∙ found))
 
+is_there : {X : Type 0} (found : Option X) (x : X) → found ≡ Some x → IsSome found
+is_there found x e = subst IsSome (sym e) refl
+
+which : {X : Type 0} (found : Option X) → IsSome found → (x : X) × (found ≡ Some x)
+which None h = absurd cc
+which (Some x) h = (x, refl)
+
+contains_first : {X : Type 0} (x : X) (xs : List X) → Contains (x ∷ xs) x
+contains_first x xs = (0, omega arith, refl)
+
+contains_later : {X : Type 0} (y : X) (xs : List X) (x : X) → Contains xs x → Contains (y ∷ xs) x
+contains_later y xs x (k, lt, at) = (suc k, omega arith, at)
+
+contains_cases : {X : Type 0} (y : X) (xs : List X) (x : X) → Contains (y ∷ xs) x → (y ≡ x) ⊎ Contains xs x
+contains_cases y xs x (zero, lt, at) = inl at
+contains_cases y xs x (suc k, lt, at) = inr (k, omega arith, at)
+
+contains_none : {X : Type 0} (x : X) → Contains [] x → ⊥
+contains_none x (k, lt, at) = omega arith
+
 -- rs has the entries from the first place of `from` up to the first place of `to`
 module _ (es rs : List (Place × Digest)) (from to : ℕ) (sorted : IsStrictlySortedBy place_cmp (keys_of es))
     (part : rs ≡ filter (λ e. range_contains place_cmp (Included ((from, 0), First)) (Excluded ((to, 0), First)) e.0) es) where
@@ -164,27 +186,72 @@ module _ (t : Tables) (from to : ℕ) (rs : List (Place × Digest)) (are : ArePl
       one : (a b : Digest) → eq_by_cmp digest_cmp a b ≡ true → a ≡ b
       one a b e = digests_apart a b (equal_from_is_eq (digest_cmp a b) e)
 
--- the digests of round n are those of the rounds n..n + 1
-pub at_one : (t : Tables) (round : ℕ) (ks : List Digest) → AreDigestsBetween t round (round + 1) ks → AreDigestsAt t round ks
-at_one t round ks are = record {
-  exactly = λ d. (
-    (λ has. let (r, low, high, here) = (are.exactly d).0 has in let same : r ≡ round = omega (arith, low, high) in subst (λ n. IsDigestAt t n d) same here),
-    (λ here. (are.exactly d).1 (round, omega arith, omega arith, here)),
-  );
-  ascending = are.ascending;
-}
+-- ---- the authors of a round
+
+-- the authors of the places
+abbrev pub authors_of : List (Place × Digest) → List ℕ
+authors_of rs = map (λ e. e.0.0.1) rs
+
+-- an author of the places has a place
+at_author : (rs : List (Place × Digest)) (author : ℕ) → Contains (authors_of rs) author → (p : Place) × (d : Digest) × Contains rs (p, d) × (p.0.1 ≡ author)
+at_author [] author has = absurd (contains_none author has)
+at_author (e ∷ rs) author has = elim (contains_cases e.0.0.1 (authors_of rs) author has) [
+  | inl here ↦ (e.0, e.1, contains_first e rs, here)
+  | inr later ↦ let (p, d, among, is) = at_author rs author later in (p, d, contains_later e rs (p, d) among, is)
+]
+
+of_author : (rs : List (Place × Digest)) (p : Place) (d : Digest) → Contains rs (p, d) → Contains (authors_of rs) p.0.1
+of_author [] p d has = absurd (contains_none {X = Place × Digest} (p, d) has)
+of_author (e ∷ rs) p d has = elim (contains_cases e rs (p, d) has) [
+  | inl here ↦ subst (λ a. Contains (authors_of (e ∷ rs)) a) (ap (λ (x : Place × Digest). x.0.0.1) here) (contains_first e.0.0.1 (authors_of rs))
+  | inr later ↦ contains_later e.0.0.1 (authors_of rs) p.0.1 (of_author rs p d later)
+]
+
+module _ (t : Tables) (round : ℕ) (rs : List (Place × Digest)) (are : ArePlacesBetween t round (round + 1) rs) where
+  -- the author of a place has a digest in the round
+  of_round : (author : ℕ) → Contains (authors_of rs) author → HasDigest t (round, author)
+  of_round author has =
+      let (p, d, among, is) = at_author rs author has in
+      let (low, high, found) = (are.exactly p d).0 among in
+      let here : p.0.0 ≡ round = omega (arith, low, high) in
+      let slot : ◌≡◌ {A = Slot} p.0 (round, author) = λ i. (here i, is i) in
+      by p.1 d (subst (λ (s : Slot). get (map_of t p.1) s ≡ Some d) slot found)
+    where
+      by : (kind : DigestKind) (d : Digest) → get (map_of t kind) (round, author) ≡ Some d → HasDigest t (round, author)
+      by First d found = inl (is_there (get t.firsts (round, author)) d found)
+      by Certified d found = inr (is_there (get t.certified (round, author)) d found)
+
+  -- an author with a digest in the round has a place
+  in_round : (author : ℕ) → HasDigest t (round, author) → Contains (authors_of rs) author
+  in_round author has = elim has [
+    | inl first ↦ let (d, is) = which (get t.firsts (round, author)) first in of_author rs ((round, author), First) d ((are.exactly ((round, author), First) d).1 (omega arith, omega arith, is))
+    | inr certified ↦ let (d, is) = which (get t.certified (round, author)) certified in of_author rs ((round, author), Certified) d ((are.exactly ((round, author), Certified) d).1 (omega arith, omega arith, is))
+  ]
+
+  -- a set with the authors of these places has exactly the authors of the round
+  pub are_authors : (ks : List ℕ) → ((a : ℕ) → list_any (eq_by_cmp nat_cmp a) ks ≡ list_any (eq_by_cmp nat_cmp a) (authors_of rs)) → IsStrictlySortedBy nat_cmp ks → AreAuthorsAt t round ks
+  are_authors ks same ascending = record {
+    exactly = λ a. (
+      (λ has. of_round a (Contains-from_any one a (authors_of rs) (sym (same a) ∙ list_any-from_Contains (eq_by_cmp_equiv nat_cmp_total) a ks has))),
+      (λ is. Contains-from_any one a ks (same a ∙ list_any-from_Contains (eq_by_cmp_equiv nat_cmp_total) a (authors_of rs) (in_round a is))),
+    );
+    ascending = ascending;
+  }
+    where
+      one : (a b : ℕ) → eq_by_cmp nat_cmp a b ≡ true → a ≡ b
+      one a b e = exact_unsigned a b (equal_from_is_eq (nat_cmp a b) e)
 
 pub if_ok : {T E : Type 0} (r : Result T E) {P Q : T → Type 0} → ((x : T) → P x → Q x) → IfOk r P → IfOk r Q
 if_ok (Ok x) f p = f x p
 if_ok (Err e) f p = p
 
--- a set and a list still have the same digests after each gets one more
-pub one_more : (ks ns ys : List Digest) (y : Digest) → ((q : Digest) → list_any (is_at (digest_cmp q)) ns ≡ cond (is_at (digest_cmp y) q) true (list_any (is_at (digest_cmp q)) ks))
-    → ((d : Digest) → list_any (eq_by_cmp digest_cmp d) ks ≡ list_any (eq_by_cmp digest_cmp d) ys) → (d : Digest) → list_any (eq_by_cmp digest_cmp d) ns ≡ list_any (eq_by_cmp digest_cmp d) (ys ++ y ∷ [])
-one_more ks ns ys y put same d =
-    put d ∙ ap (λ b. cond b true (list_any (eq_by_cmp digest_cmp d) ks)) ((eq_by_cmp_equiv digests_total).symm y d)
-    ∙ ap (cond (eq_by_cmp digest_cmp d y) true) (same d) ∙ swapped (eq_by_cmp digest_cmp d y) (list_any (eq_by_cmp digest_cmp d) ys)
-    ∙ sym (list_any-append (eq_by_cmp digest_cmp d) ys (y ∷ []))
+-- a set and a list still have the same keys after each gets one more
+pub one_more : {K : Type 0} {R : K → K → Ordering} (o : IsTotalOrder R) (ks ns ys : List K) (y : K) → ((q : K) → list_any (is_at (R q)) ns ≡ cond (is_at (R y) q) true (list_any (is_at (R q)) ks))
+    → ((x : K) → list_any (eq_by_cmp R x) ks ≡ list_any (eq_by_cmp R x) ys) → (x : K) → list_any (eq_by_cmp R x) ns ≡ list_any (eq_by_cmp R x) (ys ++ y ∷ [])
+one_more {R = R} o ks ns ys y put same x =
+    put x ∙ ap (λ b. cond b true (list_any (eq_by_cmp R x) ks)) ((eq_by_cmp_equiv o).symm y x)
+    ∙ ap (cond (eq_by_cmp R x y) true) (same x) ∙ swapped (eq_by_cmp R x y) (list_any (eq_by_cmp R x) ys)
+    ∙ sym (list_any-append (eq_by_cmp R x) ys (y ∷ []))
   where
     swapped : (a b : Bool) → cond a true b ≡ (b || (a || false))
     swapped true true = refl
@@ -196,6 +263,15 @@ one_more ks ns ys y put same d =
 pub values_more : (es : List (Bor Place × Bor Digest)) (e : Bor Place × Bor Digest) → map (λ x. x.1.now) (es ++ e ∷ []) ≡ map (λ x. x.1.now) es ++ e.1.now ∷ []
 values_more [] e = refl
 values_more (x ∷ es) e = ap (λ rest. x.1.now ∷ rest) (values_more es e)
+
+-- the authors that a loop over entries has read
+pub authors_more : (es : List (Bor Place × Bor Digest)) (e : Bor Place × Bor Digest) → map (λ x. x.0.now.0.1) (es ++ e ∷ []) ≡ map (λ x. x.0.now.0.1) es ++ e.0.now.0.1 ∷ []
+authors_more [] e = refl
+authors_more (x ∷ es) e = ap (λ rest. x.0.now.0.1 ∷ rest) (authors_more es e)
+
+pub authors_read : (es : List (Bor Place × Bor Digest)) → map (λ x. x.0.now.0.1) es ≡ authors_of (map deref_pair es)
+authors_read [] = refl
+authors_read (x ∷ es) = ap (λ rest. x.0.now.0.1 ∷ rest) (authors_read es)
 
 pub values_read : (es : List (Bor Place × Bor Digest)) → map (λ x. x.1.now) es ≡ values_of (map deref_pair es)
 values_read [] = refl

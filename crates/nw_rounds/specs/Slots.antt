@@ -1,10 +1,11 @@
 -- Two maps from slots to digests.
-use Rattle.std.specs.Prelude.{◌≡◌, ◌↔◌, ◌⊎◌, ℕ, ◌<◌, ◌≤◌, List, Some, Contains, refl}
+use Rattle.std.specs.Prelude.{◌≡◌, ◌↔◌, ◌⊎◌, ℕ, ◌<◌, ◌≤◌, List, Some, IsSome, Contains, refl}
 use Rattle.std.specs.Coded.{Coded, code_by, coded×, coded_ℕ, coded_list}
 use Rattle.std.specs.List.Sorted.{IsStrictlySortedBy}
+use Rattle.std.specs.Ordering.{nat_cmp}
 use Rattle.std.specs.FinMap as map
 use Rattle.std.specs.FinMap.{FinMap, empty, get}
-use Rattle.nw_digest.specs.Order.{digest_cmp, slot_cmp}
+use Rattle.nw_digest.specs.Order.{digest_cmp, Slot, slot_cmp}
 use Rattle.nw_digest.specs.declared.digest.Digest.{Digest}
 
 -- the first and the certified digests, by slot
@@ -22,12 +23,16 @@ no_digests = record { firsts = empty; certified = empty }
 abbrev pub IsDigestAt : Tables → ℕ → Digest → Type 0
 IsDigestAt t round d = (author : ℕ) × ((get t.firsts (round, author) ≡ Some d) ⊎ (get t.certified (round, author) ≡ Some d))
 
--- the list of the digests of the round, first and certified
-pub record AreDigestsAt (t : Tables) (round : ℕ) (digests : List Digest) : Type 0 where
-  -- a digest is listed exactly if it is one of these
-  pub exactly : (d : Digest) → Contains digests d ↔ IsDigestAt t round d
+-- the slot has a first or a certified digest
+abbrev pub HasDigest : Tables → Slot → Type 0
+HasDigest t slot = IsSome (get t.firsts slot) ⊎ IsSome (get t.certified slot)
+
+-- the list of the authors with a first or a certified digest in the round
+pub record AreAuthorsAt (t : Tables) (round : ℕ) (authors : List ℕ) : Type 0 where
+  -- an author is listed exactly if it has one
+  pub exactly : (author : ℕ) → Contains authors author ↔ HasDigest t (round, author)
   -- ascending, each once
-  pub ascending : IsStrictlySortedBy digest_cmp digests
+  pub ascending : IsStrictlySortedBy nat_cmp authors
 
 -- the list of the digests of the rounds from..to
 pub record AreDigestsBetween (t : Tables) (from to : ℕ) (digests : List Digest) : Type 0 where

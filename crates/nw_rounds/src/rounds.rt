@@ -4,7 +4,7 @@ ghost use Rattle.std.specs.Prelude.{All, IfOk, OnOk, OnErr, IsNone, nat_le, leng
 ghost use Rattle.std.specs.Bool.{MatchBool};
 ghost use Rattle.std.specs.BTreeMap.{keys, values};
 ghost use Rattle.std.specs.FinMap as map;
-ghost use Rattle.nw_rounds.specs.Slots.{AreDigestsAt, AreDigestsBetween, HasAllDigests, no_digests};
+ghost use Rattle.nw_rounds.specs.Slots.{AreAuthorsAt, AreDigestsBetween, HasAllDigests, no_digests};
 ghost use Rattle.nw_rounds.specs.Places.{ArePlacesBetween, BeginsBelow, tables_of};
 
 use crate::kind::DigestKind;
@@ -107,11 +107,11 @@ impl<A: Allocator> Rounds<A> {
         Ok(())
     }
 
-    /// All digests of the round, first and certified, ascending and each once. `NoMemory` if an allocation fails.
-    pub fn digests(&self, alloc: Global, round: Round) -> Result<Vec<Digest>, NoMemory>
-        ensures { IfOk result (λ list. AreDigestsAt self.now round list.items) }
+    /// The authors with a first or a certified digest in the round, ascending. `NoMemory` if an allocation fails.
+    pub fn authors(&self, alloc: Global, round: Round) -> Result<Vec<u16>, NoMemory>
+        ensures { IfOk result (λ list. AreAuthorsAt self.now round list.items) }
     {
-        let found = digests_at(alloc, &self.digests, round.get())?;
+        let found = authors_at(alloc, &self.digests, round.get())?;
         Ok(found.into_iter().collect(alloc)?)
     }
 
@@ -163,16 +163,20 @@ fn listed<A: Allocator>(
     Ok(digests.values().copied().collect(alloc)?)
 }
 
-/// All digests of the round. `NoMemory` if an allocation fails.
-fn digests_at<A: Allocator>(
+/// The authors with a digest in the round. `NoMemory` if an allocation fails.
+fn authors_at<A: Allocator>(
     alloc: Global,
     digests: &BTreeMap<Place, Digest, A>,
     round: u64,
-) -> Result<BTreeSet<Digest>, NoMemory>
+) -> Result<BTreeSet<u16>, NoMemory>
     requires { round < 2 ^ 48 }
-    ensures { IfOk result (λ found. AreDigestsAt (tables_of digests.now.entries) round found.keys) }
+    ensures { IfOk result (λ found. AreAuthorsAt (tables_of digests.now.entries) round found.keys) }
 {
-    digests_between(alloc, digests, round, round + 1)
+    let mut found = BTreeSet::new(alloc);
+    for (place, _digest) in places_between(digests, round, round + 1) {
+        found.insert(place.0.1)?;
+    }
+    Ok(found)
 }
 
 /// All digests of the rounds `from..to`. `NoMemory` if an allocation fails.

@@ -88,6 +88,8 @@ pub enum Request<'a> {
     Collect(Round),
     /// `missing <most>`
     Missing(u16),
+    /// `missing-of <name>`
+    MissingOf(Name<'a>),
     /// `status`
     Status,
     /// `compact`
@@ -151,6 +153,7 @@ fn read_request<'a>(
         b"open" => open(words)?,
         b"collect" => Request::Collect(words.round()?),
         b"missing" => Request::Missing(words.number_u16()?),
+        b"missing-of" => Request::MissingOf(words.name()?),
         b"status" => Request::Status,
         b"compact" => Request::Compact,
         b"session" => Request::Session(words.number_u16()?),

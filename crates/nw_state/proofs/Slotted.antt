@@ -1,20 +1,19 @@
--- The slots of a store tell which digests stand.
-use Rattle.std.proofs.Common.{◌≡◌, ℕ, ◌+◌, false, List, Option, Some, None, IsSome, refl, sym, ap, ◌∙◌, subst, arith}
+-- The slots of a store tell which digests stand, and which authors have digests.
+use Rattle.std.proofs.Common.{◌≡◌, ◌↔◌, ◌⊎◌, ℕ, List, Option, Some, None, IsSome, refl, sym, ap, ◌∙◌, subst}
+use Rattle.std.specs.Prelude.{Contains}
+use Rattle.std.specs.Ordering.{nat_cmp}
 use Rattle.std.specs.Bool.{Decides}
-use Rattle.std.specs.Option.{option_eq, option_map_or}
+use Rattle.std.specs.Option.{option_eq}
 use Rattle.std.specs.FinMap.{get}
 use Rattle.nw_digest.specs.declared.digest.Digest.{Digest}
 use Rattle.nw_codec.specs.declared.block.Block.{Block}
-use Rattle.nw_codec.specs.declared.block.Ref.{Ref}
 use Rattle.nw_codec.specs.declared.certificate.Certificate.{Certificate}
 use Rattle.nw_model.specs.declared.wanted.Wanted.{Wanted}
-use Rattle.nw_rounds.specs.Slots.{Tables}
+use Rattle.nw_rounds.specs.Slots.{AreAuthorsAt, Tables}
 use Rattle.nw_digest.specs.Order.{Slot}
 use Rattle.nw_model.specs.State.{State, block_slot}
-use Rattle.nw_model.specs.declared.look.Look.{Look}
-use Rattle.nw_model.specs.Look.{IsLook, TellsSatisfied}
-use Rattle.nw_model.specs.Paths.{IsSatisfied}
-use Rattle.nw_model.specs.Step.{is_held}
+use Rattle.nw_model.specs.Look.{HasDigest}
+use Rattle.nw_model.specs.Missing.{ListsExactly}
 use Rattle.nw_model.proofs.Kept.{index_answers}
 use Rattle.nw_model.proofs.Sames.{same_digest, same_digest_decides}
 use Rattle.nw_state.specs.StateTables.{AreStateTables, state_of}
@@ -59,35 +58,12 @@ module _ (blocks : List (Digest × Block)) (certificates : List (Digest × Certi
   pub met_held : IsMet s w → IsSome (get s.blocks w.digest)
   met_held (b, (there, some), author, round) = is_there (get s.blocks w.digest) b there
 
-module _ (blocks : List (Digest × Block)) (certificates : List (Digest × Certificate)) (slots : Tables) (floor : ℕ) (held : AreStateTables blocks certificates slots floor) (round author : ℕ) where
-  abbrev t : State
-  t = state_of blocks certificates slots floor
-
-  abbrev parent_of : Ref → Wanted
-  parent_of r = record { round = round; author = author; digest = r.digest }
-
-  -- a reference of the next round is satisfied exactly if its parent is met
-  met_of : (r : Ref) → r.author ≡ author → IsSatisfied t (round + 1) r → IsMet t (parent_of r)
-  met_of r same (b, there, by, next) = let at : b.round ≡ round = omega arith in (b, there, by ∙ same, at)
-
-  satisfied_of : (r : Ref) → r.author ≡ author → IsMet t (parent_of r) → IsSatisfied t (round + 1) r
-  satisfied_of r same (b, there, by, at) = let next : b.round + 1 ≡ round + 1 = omega arith in (b, there, by ∙ sym same, next)
-
-  -- a look tells which references are satisfied
-  pub tells : (look : Look) → IsLook t (round, author) look → TellsSatisfied t (round, author) look
-  tells look is r same = (
-    (λ satisfied.
-        let met_there = met_of r same satisfied in
-        let named = named_at (met_certified blocks certificates slots floor held (parent_of r) met_there) in
-        (named, held_at named ∙ met_held blocks certificates slots floor held (parent_of r) met_there)),
-    (λ (named, stands).
-        satisfied_of r same (met blocks certificates slots floor held (parent_of r)
-        (index_answers t slots.certified (round, author) held.kept.indexed ∙ sym is.certified ∙ named)
-        (sym (held_at named) ∙ stands))),
-  )
-    where
-      named_at : get slots.certified (round, author) ≡ Some r.digest → look.certified ≡ Some r.digest
-      named_at certified = is.certified ∙ sym (index_answers t slots.certified (round, author) held.kept.indexed) ∙ certified
-
-      held_at : look.certified ≡ Some r.digest → look.stands ≡ is_held t r.digest
-      held_at named = is.stands ∙ ap (λ found. option_map_or (is_held t) found false) named
+-- the authors with digests in a round are those of the state
+pub listed_authors : (blocks : List (Digest × Block)) (certificates : List (Digest × Certificate)) (slots : Tables) (floor : ℕ) (held : AreStateTables blocks certificates slots floor) (round : ℕ) (authors : List ℕ) → AreAuthorsAt slots round authors
+    → ListsExactly nat_cmp (λ author. HasDigest (state_of blocks certificates slots floor) (round, author)) authors
+listed_authors blocks certificates slots floor held round authors are = record {
+  exactly = λ author.
+      let certified = index_answers (state_of blocks certificates slots floor) slots.certified (round, author) held.kept.indexed in
+      subst (λ found. Contains authors author ↔ (IsSome (get slots.firsts (round, author)) ⊎ IsSome found)) certified (are.exactly author);
+  ascending = are.ascending;
+}

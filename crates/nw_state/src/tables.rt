@@ -1,12 +1,15 @@
 //! The blocks, certificates and slots of one state.
 ghost use Rattle.std.specs.Prelude.{◌≡◌, ◌↔◌, ◌≤◌};
-ghost use Rattle.std.specs.Prelude.{OnOk, OnErr, IfSome, IsSome, IsNone, Some, None, IsTrue, false, not};
+ghost use Rattle.std.specs.Prelude.{IfOk, OnOk, OnErr, IfSome, IsSome, IsNone, Some, None, IsTrue, false, not};
 ghost use Rattle.std.specs.Prelude.{is_some};
 ghost use Rattle.std.specs.Option.{option_copied, option_map};
+ghost use Rattle.std.specs.Ordering.{nat_cmp};
 ghost use Rattle.std.specs.FinMap as map;
 ghost use Rattle.nw_digest.specs.declared.digest.Digest.{Digest};
 ghost use Rattle.nw_model.specs.State.{opening, block_slot, certificate_slot};
 ghost use Rattle.nw_model.specs.Sound.{IsSound};
+ghost use Rattle.nw_model.specs.Look.{HasDigest};
+ghost use Rattle.nw_model.specs.Missing.{ListsExactly};
 ghost use Rattle.nw_state.specs.Standing.{Stands, IsMet, name_of};
 ghost use Rattle.nw_model.specs.Step.{certified_digest, has_other_slot, other_first, with_block};
 ghost use Rattle.nw_model.specs.Step.{with_certificate};
@@ -14,7 +17,6 @@ ghost use Rattle.nw_model.specs.Step.{with_certificate};
 mod collection;
 mod copies;
 mod dropping;
-mod look;
 mod replies;
 
 use nw_codec::{Block, Certificate};
@@ -107,17 +109,26 @@ impl StateTables {
     }
 
     /// The first digest of the round and author, if there is one.
-    fn first(&self, round: Round, author: u16) -> Option<Digest>
+    pub fn first(&self, round: Round, author: u16) -> Option<Digest>
         ensures { result ≡ map.get self.now.state.firsts (round, author) }
     {
         self.slots.first(round, author)
     }
 
     /// The certified digest of the round and author, if there is one.
-    fn certified(&self, round: Round, author: u16) -> Option<Digest>
-        ensures { result ≡ certified_digest self.now.state (round, author) }
+    pub fn certified(&self, round: Round, author: u16) -> Option<Digest>
+        ensures value { result ≡ certified_digest self.now.state (round, author) }
+        ensures sound { IsSound self.now.state }
     {
         self.slots.certified(round, author)
+    }
+
+    /// The authors with a first or a certified digest in the round, ascending. `NoMemory` if allocation fails.
+    pub fn authors(&self, alloc: Global, round: Round) -> Result<Vec<u16>, NoMemory>
+        ensures { IfOk result
+            (λ authors. ListsExactly nat_cmp (λ author. HasDigest self.now.state (round, author)) authors.items) }
+    {
+        self.slots.authors(alloc, round)
     }
 
     /// How many blocks are held.

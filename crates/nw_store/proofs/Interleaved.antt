@@ -11,9 +11,9 @@ use Rattle.nw_model.specs.declared.event.Event.{Event}
 use Rattle.nw_model.specs.History.{events_of, AreNumbered}
 use Rattle.nw_history.specs.Story.{Story}
 use Rattle.nw_book.specs.Answer.{DoneView}
-use Rattle.nw_store.specs.Journal.{Guarded, Journal, ArePrefixesOf, AreAnswers}
-use Rattle.nw_store.specs.Settled.{events_in, AreInOrder, AreSettled, AreAllComparable}
-use Rattle.nw_store.proofs.Begun.{comparable}
+use Rattle.nw_book.specs.Journal.{Guarded, Journal, ArePrefixesOf, AreAnswers}
+use Rattle.nw_book.specs.Settled.{events_in, AreInOrder, AreSettled, AreAllComparable}
+use Rattle.nw_book.proofs.Prefixes.{comparable}
 
 -- the events of each front are a prefix of these events
 abbrev AreBegunBy : List Event → List DoneView → Type 0

@@ -10,8 +10,8 @@ use Rattle.nw_history.specs.Limits.{AreInRange}
 use Rattle.nw_history.specs.Story.{Story, Origin, IsLegalStory, with_event}
 use Rattle.nw_history.specs.Prefix.{IsPrefixOf}
 use Rattle.nw_book.specs.Answer.{DoneView}
-use Rattle.nw_store.specs.Journal.{Journal, AreAmong, AnswersCall, AreAnswers, origin_of}
-use Rattle.nw_store.specs.Lock.{IsLockInvariant, IsSession}
+use Rattle.nw_book.specs.Journal.{Journal, AnswersCall, AreAnswers, origin_of}
+use Rattle.nw_store.specs.Lock.{AreAmong, IsLockInvariant, IsSession}
 use Rattle.nw_store.proofs.Begun.{among_longer, log_more, answers_last}
 
 pub kept_more : (accepts : Meaning) (h next front : Story) (made total more spare idle : ℕ) (log longer : List Story) (e : Event)

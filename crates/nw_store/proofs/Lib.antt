@@ -1,7 +1,7 @@
 pub mod Begun
 pub mod Crossing
 pub mod Kept
-pub mod Answered
+pub mod Explained
 pub mod Interleaved
 pub mod Lent
 pub mod Ordered

@@ -1,5 +1,3 @@
 pub mod Journal
 pub mod Lock
-pub mod Answered
-pub mod Laws
-pub mod Settled
+pub mod Fault

@@ -1,14 +1,20 @@
 -- Invariants of a store's lock and of its sessions.
 use Rattle.std.specs.Prelude.{◌≡◌, ℕ, ◌+◌, ◌<◌, ◌≤◌, List, length, All}
+use Rattle.std.specs.List.{Contains}
 use Rattle.nw_sig.specs.Signed.{Meaning}
 use Rattle.nw_history.specs.Limits.{AreInRange, most_sessions}
 use Rattle.nw_history.specs.Story.{Story, IsLegalStory}
 use Rattle.nw_history.specs.Prefix.{IsPrefixOf}
-use Rattle.nw_store.specs.Journal.{Guarded, Journal, AreAmong, AreAnswers}
+use Rattle.nw_book.specs.Answer.{DoneView}
+use Rattle.nw_book.specs.Journal.{Guarded, Journal, AreAnswers}
 
 -- the number of parts of a store's ledger: one for each possible session, and one more
 abbrev pub parts_of_a_ledger : ℕ
 parts_of_a_ledger = most_sessions + 1
+
+-- the front of each answer is one of these fronts
+abbrev pub AreAmong : List Story → List DoneView → Type 0
+AreAmong fronts answers = All (λ a. Contains fronts a.front) answers
 
 -- the invariant of the lock: `total` is what the ledger counts, `spare` the number of its spare parts, `idle` what these count, and
 -- `log` the fronts that the store handed out

@@ -6,8 +6,8 @@ ghost use Rattle.nw_history.specs.Story.{IsLegalStory};
 ghost use Rattle.nw_book.specs.Answer.{IsTicketFor, front_of, reply_of};
 ghost use Rattle.nw_book.specs.Command.{IsNoCausalRead, call_of, committee_of};
 ghost use Rattle.nw_book.specs.Turn.{HasRoom, IsInTurn, IsRefusal, MayStep};
-ghost use Rattle.nw_store.specs.Journal.{next_number, origin_of};
-ghost use Rattle.nw_store.specs.Answered.{IsAnswered};
+ghost use Rattle.nw_book.specs.Journal.{next_number, origin_of};
+ghost use Rattle.nw_book.specs.Answered.{IsAnswered};
 
 use crate::session::Session;
 use crate::{Home, Locked};

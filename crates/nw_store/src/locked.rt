@@ -5,8 +5,8 @@ ghost use mathlib.Core.List.{IsPrefix};
 ghost use Rattle.nw_history.specs.Limits.{AreInRange, most_events, most_sessions};
 ghost use Rattle.nw_model.specs.Look.{IsLook};
 ghost use Rattle.nw_history.specs.Story.{IsLegalStory, reopened, state_of};
-ghost use Rattle.nw_store.specs.Journal.{ArePrefixesOf, AreComparable, AreAnswers, origin_of};
-ghost use Rattle.nw_store.specs.Answered.{IsSeen};
+ghost use Rattle.nw_book.specs.Journal.{ArePrefixesOf, AreComparable, AreAnswers, origin_of};
+ghost use Rattle.nw_book.specs.Answered.{IsSeen};
 ghost use Rattle.nw_store.specs.Lock.{parts_of_a_ledger};
 
 use crate::opening::Opening;
@@ -84,7 +84,7 @@ impl<S: Scheme, L: Home> Model for Locked<S, L> {
     ghost use Rattle.std.specs.Prelude.{◌≡◌};
     ghost use Rattle.std.specs.Coded.{codes};
     ghost use Rattle.nw_model.specs.State.{coded_state};
-    ghost use Rattle.nw_store.specs.Journal.{Guarded, origin_of};
+    ghost use Rattle.nw_book.specs.Journal.{Guarded, origin_of};
     ghost use Rattle.nw_store.specs.Lock.{IsLockInvariant, parts_of_a_ledger};
 
     ghost Value = { Guarded };

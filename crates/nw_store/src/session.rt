@@ -24,7 +24,7 @@ pub struct Session<S: Scheme, L: Home> {
 impl<S: Scheme, L: Home> Model for Session<S, L> {
     ghost use Rattle.std.specs.Coded.{codes};
     ghost use Rattle.nw_model.specs.State.{coded_state};
-    ghost use Rattle.nw_store.specs.Journal.{Journal};
+    ghost use Rattle.nw_book.specs.Journal.{Journal};
     ghost use Rattle.nw_store.specs.Lock.{IsSession};
 
     ghost Value = { Journal };

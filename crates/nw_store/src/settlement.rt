@@ -5,9 +5,10 @@ ghost use Rattle.std.specs.Prelude.{All, Some, length, slice_get, sum_by};
 ghost use Rattle.std.specs.List.Sorted.{IsPermutation, IsNonDecreasingBy};
 ghost use Rattle.nw_history.specs.Story.{IsLegalStory, reopened};
 ghost use Rattle.nw_history.specs.Limits.{most_sessions};
-ghost use Rattle.nw_store.specs.Journal.{Journal, ArePrefixesOf, AreAnswers, origin_of};
-ghost use Rattle.nw_store.specs.Settled.{AreAllSessions, AreAllComparable, AreSettled, IsFault};
-ghost use Rattle.nw_store.specs.Settled.{IsFirstStray, IsStray, ids_of};
+ghost use Rattle.nw_book.specs.Journal.{Journal, ArePrefixesOf, AreAnswers, origin_of};
+ghost use Rattle.nw_book.specs.Settled.{AreAllSessions, AreAllComparable, AreSettled};
+ghost use Rattle.nw_store.specs.Fault.{IsFault, IsFirstStray, IsStray};
+ghost use Rattle.nw_book.specs.Settled.{ids_of};
 
 use crate::locked::check_journal_locked;
 use crate::{Home, Locked, Session, SettleFault, Store};
@@ -30,7 +31,7 @@ pub struct Settled<S: Scheme, L: Home> {
 impl<S: Scheme, L: Home> Model for Settled<S, L> {
     ghost use Rattle.std.specs.Coded.{codes};
     ghost use Rattle.nw_model.specs.State.{coded_state};
-    ghost use Rattle.nw_store.specs.Settled.{Settlement, AreAllSessions, AreSettled};
+    ghost use Rattle.nw_book.specs.Settled.{Settlement, AreAllSessions, AreSettled};
 
     ghost Value = { Settlement };
 

@@ -20,9 +20,9 @@ ghost use Rattle.nw_book.specs.Answer.{IsTicketFor, front_of, reply_of};
 ghost use Rattle.nw_book.specs.Command.{call_of, committee_of};
 ghost use Rattle.nw_book.specs.Turn.{MatchesCommittee};
 ghost use Rattle.nw_model.specs.declared.call.Call.TheVariants as Call;
-ghost use Rattle.nw_store.specs.Journal.{KnowsAll, origin_of};
+ghost use Rattle.nw_book.specs.Journal.{KnowsAll, origin_of};
 ghost use Rattle.nw_store.specs.Lock.{parts_of_a_ledger};
-ghost use Rattle.nw_store.specs.Answered.{IsExplained, IsSeen, TakesNoStep};
+ghost use Rattle.nw_book.specs.Answered.{IsExplained, IsSeen, TakesNoStep};
 
 use crate::calls::{call_locked, open_locked};
 use crate::locked::{compact_locked, look_locked, session_locked};
@@ -246,6 +246,24 @@ impl<S: Scheme, L: Home> Store<S, L> {
         ensures unchanged { OnErr result (session.new ≡ session.old) }
     {
         self.call(rt, alloc, session, &Command::Missing(most))
+    }
+
+    /// Reads the missing parents of the block under the digest, by round, author and digest: a call of the session. The list is empty if all
+    /// parents are stored and certified, or if the block is not above the garbage round.
+    pub fn missing_of<R: Wait>(
+        &self,
+        rt: &R,
+        alloc: Global,
+        session: &mut Session<S, L>,
+        digest: Digest,
+    ) -> Result<Done<S>, NoStep>
+        ensures answered { IfOk result
+            (λ done. IsExplained S.accepts L.origin session.old session.new
+            (Call.MissingOf digest) done.event.reply done.front) }
+        ensures no_step { IfErr result (TakesNoStep S.accepts L.origin session.old None) }
+        ensures unchanged { OnErr result (session.new ≡ session.old) }
+    {
+        self.call(rt, alloc, session, &Command::MissingOf(digest))
     }
 
     /// Reads the garbage round and the numbers of blocks, certificates, complete blocks and wanted parents: a call of the session.

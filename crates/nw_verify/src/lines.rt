@@ -1,6 +1,7 @@
 //! Reads the input line by line, and answers each line.
 use crate::fault::VerifyFault;
 use crate::signed::{MAX_LINE, SignedMessage};
+use crate::verifier::Verifier;
 use std::alloc::Global;
 use std::io::{BufWriter, ErrorKind, Read, Write};
 
@@ -32,6 +33,7 @@ fn answer_all<R: Read, W: Write>(
     let mut part = Part {
         line: Vec::new(alloc),
         number: 1,
+        verifier: Verifier::new(alloc)?,
     };
     let mut chunk = [0u8; 4096];
     for _ in 0..u64::MAX {
@@ -48,11 +50,12 @@ fn answer_all<R: Read, W: Write>(
     part.finish(alloc, out)
 }
 
-/// The part of a line that was read so far, and the line's number, from 1.
+/// The part of a line that was read so far, the line's number, from 1, and the verifier.
 #[derive(Debug, Drop)]
 struct Part {
     line: Vec<u8>,
     number: u64,
+    verifier: Verifier,
 }
 
 impl Part {
@@ -80,7 +83,7 @@ impl Part {
         let Some(signed) = SignedMessage::parse(alloc, self.line.as_slice())? else {
             return Err(VerifyFault::BadLine { line: self.number });
         };
-        let answer = if signed.is_valid() {
+        let answer = if self.verifier.is_valid(alloc, &signed)? {
             b"yes\n".as_slice()
         } else {
             b"no\n".as_slice()

@@ -9,6 +9,7 @@
 mod fault;
 mod lines;
 mod signed;
+mod verifier;
 
 use lines::answer_lines;
 use std::process::ExitCode;

@@ -6,7 +6,7 @@ use crate::fault::VerifyFault;
 use hex::{FromHex, FromHexError};
 use nw_codec::Signature;
 use nw_committee::Key;
-use nw_ed25519::Ed25519;
+use nw_ed25519::{Ed25519, PreparedBase, PreparedKey};
 use nw_sig::Scheme;
 use std::alloc::Global;
 
@@ -57,11 +57,20 @@ impl SignedMessage {
         }))
     }
 
-    /// Whether Ed25519 accepts the signature.
-    pub fn is_valid(&self) -> bool
+    /// The key.
+    pub fn key(&self) -> Key {
+        self.key
+    }
+
+    /// Whether Ed25519 accepts the signature. Uses the prepared key if it is the message's key.
+    pub fn is_valid(&self, base: &PreparedBase, prepared: Option<&PreparedKey>) -> bool
         ensures { result ≡ accepts self.now.key self.now.message.items self.now.signature }
     {
-        Ed25519::verify(&self.key, self.message.as_slice(), &self.signature)
+        let message = self.message.as_slice();
+        match prepared {
+            Some(key) if *key.key() == self.key => key.verify(base, message, &self.signature),
+            _ => Ed25519::verify(&self.key, message, &self.signature),
+        }
     }
 }
 

@@ -13,19 +13,19 @@ macro_rules! retry {
     };
 }
 
-/// After an allocation of this size, the library that `.ci/refusals` loads makes all allocations fail. Without the library, it has no
+/// After an allocation of this size, the library that `.ci/failed-allocations` loads makes all allocations fail. Without the library, it has no
 /// effect.
-const REFUSE_ALL: usize = 1_000_003;
+const FAIL_ALL: usize = 1_000_003;
 
 /// After an allocation of this size, allocations succeed again.
-const REFUSE_NONE: usize = 1_000_033;
+const FAIL_NONE: usize = 1_000_033;
 
-/// Makes all allocations fail from now on, if the library of `.ci/refusals` is loaded.
+/// Makes all allocations fail from now on, if the library of `.ci/failed-allocations` is loaded.
 pub fn fail_allocations(alloc: Global) {
-    drop(Vec::<u8>::with_capacity(alloc, REFUSE_ALL));
+    drop(Vec::<u8>::with_capacity(alloc, FAIL_ALL));
 }
 
 /// Makes allocations succeed again.
 pub fn allow_allocations(alloc: Global) {
-    drop(Vec::<u8>::with_capacity(alloc, REFUSE_NONE));
+    drop(Vec::<u8>::with_capacity(alloc, FAIL_NONE));
 }

@@ -5,7 +5,7 @@ mod standard;
 use hex::{FromHex, FromHexError};
 use nw_codec::Signature;
 use nw_committee::Key;
-use nw_ed25519::Ed25519;
+use nw_ed25519::{Ed25519, PreparedBase, PreparedKey};
 use nw_sig::Scheme;
 use std::alloc::Global;
 
@@ -18,12 +18,16 @@ struct Case {
     accepted: bool,
 }
 
-/// Whether `verify` gives the result of the case.
+/// Whether the key gives the result of the case, prepared and not.
 fn is_right(alloc: Global, case: &Case) -> Result<bool, FromHexError> {
     let key = Key(<[u8; 32] as FromHex>::from_hex(case.key)?);
     let message = hex::decode(alloc, case.message)?;
     let mut bytes = [0; 64];
     hex::decode_to_slice(case.r, &mut bytes[..32])?;
     hex::decode_to_slice(case.s, &mut bytes[32..])?;
-    Ok(Ed25519::verify(&key, message.as_slice(), &Signature(bytes)) == case.accepted)
+    let signature = Signature(bytes);
+    let base = PreparedBase::new(alloc)?;
+    let prepared = PreparedKey::of(alloc, key)?.verify(&base, message.as_slice(), &signature);
+    let accepted = Ed25519::verify(&key, message.as_slice(), &signature);
+    Ok(accepted == case.accepted && prepared == case.accepted)
 }

@@ -152,7 +152,7 @@ fn interrupted_reads_are_repeated_and_counted(rt: HostRuntime) {
     }
 }
 
-// The answers take more than one piece of the player's text (8,192 bytes).
+// The answers take more than the 8,192 bytes that the player's writer keeps.
 #[test]
 fn many_answers_are_printed_once_and_in_order(rt: HostRuntime) -> Result<(), Fail> {
     let alloc = rt.alloc();

@@ -63,6 +63,11 @@ impl Flow {
         is_new && (look.garbage_round..end).contains(&peek.round())
     }
 
+    /// Whether the block of a certified subject is stored.
+    pub fn stands(&self, subject: &Subject) -> bool {
+        self.store.look(subject.round, subject.author).stands
+    }
+
     /// The certified digests without a stored block: fetch these blocks from the signers.
     pub fn absent(&self) -> impl Iterator<Item = Subject> {
         self.absent.values().copied()
@@ -124,7 +129,7 @@ impl Flow {
 
     /// Notes a certificate that answered `Certified`. Returns the subjects to vote for now.
     pub fn certified(&mut self, subject: &Subject) -> Vec<Subject> {
-        if !self.store.look(subject.round, subject.author).stands {
+        if !self.stands(subject) {
             self.absent.insert(key_of(subject), *subject);
             self.waiting.remove(&key_of(subject)); // another block of the round and author
         }

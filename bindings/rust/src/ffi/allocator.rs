@@ -17,7 +17,7 @@ impl Allocated {
     /// 0, and the library of the store gets a pointer that is not null.
     fn by(allocate: impl FnOnce(usize) -> *mut c_void, n: usize, align: usize) -> Allocated {
         #[cfg(test)]
-        let allocate = crate::refusals::refusing(allocate);
+        let allocate = crate::no_memory::failing(allocate);
         let at = allocate(if n == 0 { align } else { n });
         let is_there = !at.is_null();
         let at = if is_there { at } else { ptr::dangling_mut() };
@@ -40,7 +40,7 @@ pub extern "C" fn rattle_alloc(n: usize, align: usize) -> Allocated {
     // SAFETY: malloc takes any size, and aligns to 16.
     let allocated = Allocated::by(|size| unsafe { malloc(size) }, n, align);
     #[cfg(test)]
-    crate::refusals::note_allocated(allocated.is_there);
+    crate::no_memory::note_allocated(allocated.is_there);
     allocated
 }
 
@@ -63,7 +63,7 @@ pub unsafe extern "C" fn rattle_realloc(
 #[unsafe(no_mangle)]
 pub unsafe extern "C" fn rattle_dealloc(at: *mut c_void) {
     #[cfg(test)]
-    crate::refusals::note_freed();
+    crate::no_memory::note_freed();
     // SAFETY: `at` is from malloc or realloc, and is not used afterwards.
     unsafe { free(at) }
 }

@@ -73,7 +73,7 @@ fn refused_blocks_of_100_kb_stay_within_the_bound() {
     // The history has their digests, rounds and authors.
     assert_eq!(flooded.store.history_bytes(), 3_000 * 150);
     // The other tests of this file hold at most a history.
-    assert!(resident() - before < 2 * Store::HISTORY_BYTES);
+    assert!(resident().saturating_sub(before) < 2 * Store::HISTORY_BYTES);
 }
 
 /// One valid block of 102 bytes, replayed without end. It is stored, or below the garbage round, or above the window.

@@ -34,7 +34,17 @@ pub enum Call {
     Causal(Digest),
     Collect(u64),
     Missing(u16),
+    MissingOf(Digest),
     Status,
+}
+
+/// What a state has in a slot.
+#[derive(Clone, Copy, Debug, Default, PartialEq)]
+pub struct Look {
+    pub first: Option<Digest>,
+    pub certified: Option<Digest>,
+    pub stands: bool,
+    pub complete: bool,
 }
 
 #[derive(Clone, Debug, PartialEq)]
@@ -65,6 +75,7 @@ pub enum Reply {
     },
     NotHigher(u64),
     Missing(Vec<(Slot, Digest)>),
+    MissingOf(Option<Vec<(Slot, Digest)>>),
     Status(Counts),
 }
 
@@ -118,6 +129,11 @@ impl Model {
             Call::Missing(most) => {
                 Reply::Missing(self.wanted().into_iter().take(usize::from(*most)).collect())
             }
+            Call::MissingOf(digest) => Reply::MissingOf(
+                self.blocks
+                    .get(digest)
+                    .map(|block| self.wanted_by(block).into_iter().collect()),
+            ),
             Call::Status => Reply::Status(Counts {
                 garbage_round: self.floor,
                 blocks: self.blocks.len() as u64,
@@ -253,20 +269,36 @@ impl Model {
         complete
     }
 
-    /// The wanted parents: those named by the references of blocks above the garbage round that are not satisfied.
+    /// The wanted parents: those that some block wants.
     fn wanted(&self) -> BTreeSet<(Slot, Digest)> {
-        let mut wanted = BTreeSet::new();
-        for block in self
-            .blocks
-            .values()
-            .filter(|block| block.slot.0 > self.floor)
-        {
-            let open = block
-                .parents
-                .iter()
-                .filter(|parent| !self.is_satisfied(block, parent));
-            wanted.extend(open.map(|(author, digest)| ((block.slot.0 - 1, *author), *digest)));
+        let blocks = self.blocks.values();
+        blocks.flat_map(|block| self.wanted_by(block)).collect()
+    }
+
+    /// The parents that a block wants: if it is above the garbage round, those named by its references that are not satisfied.
+    fn wanted_by(&self, block: &Block) -> BTreeSet<(Slot, Digest)> {
+        let is_open = |parent: &&(u16, Digest)| {
+            block.slot.0 > self.floor && !self.is_satisfied(block, parent)
+        };
+        let open = block.parents.iter().filter(is_open);
+        open.map(|(author, digest)| ((block.slot.0 - 1, *author), *digest))
+            .collect()
+    }
+
+    /// What the state has in each slot of the round with a first or a certified digest, by author.
+    pub fn look_round(&self, round: u64) -> BTreeMap<u16, Look> {
+        let mut looks: BTreeMap<u16, Look> = BTreeMap::new();
+        let complete = self.complete();
+        for ((_, author), first) in self.firsts.range((round, 0)..=(round, u16::MAX)) {
+            looks.entry(*author).or_default().first = Some(*first);
         }
-        wanted
+        let kept = self.certificates.values();
+        for kept in kept.filter(|kept| kept.slot.0 == round) {
+            let look = looks.entry(kept.slot.1).or_default();
+            look.certified = Some(kept.digest);
+            look.stands = self.blocks.contains_key(&kept.digest);
+            look.complete = complete.contains(&kept.digest);
+        }
+        looks
     }
 }

@@ -2,7 +2,7 @@
 
 use super::corpus::certificate_of;
 use super::node::RawTagged;
-use crate::model::{Block, Call, Certificate, Counts, Reply};
+use crate::model::{Block, Call, Certificate, Counts, Reply, Slot};
 use narwhal_store::{
     Answer, Causal, CausalFault, Checked, Digest, Event, History, Session, StepError, Ticket,
 };
@@ -88,12 +88,10 @@ pub fn ask_store(
             CollectReply::NotHigher { garbage_round } => Reply::NotHigher(garbage_round),
         }),
         (Call::Missing(most), _) => Heard::of(session.missing(*most)?, |subjects| {
-            Reply::Missing(
-                subjects
-                    .iter()
-                    .map(|subject| ((subject.round, subject.author), subject.digest.0))
-                    .collect(),
-            )
+            Reply::Missing(subjects_of(subjects))
+        }),
+        (Call::MissingOf(digest), _) => Heard::of(session.missing_of(&Digest(*digest))?, |found| {
+            Reply::MissingOf(found.as_deref().map(subjects_of))
         }),
         (Call::Status, _) => Heard::of(session.status()?, |status| {
             let Status {
@@ -113,6 +111,13 @@ pub fn ask_store(
         }),
         (Call::Write(_) | Call::Certify(_), _) => panic!("the message is not that of the call"),
     })
+}
+
+fn subjects_of(subjects: &[Subject]) -> Vec<(Slot, [u8; 32])> {
+    subjects
+        .iter()
+        .map(|subject| ((subject.round, subject.author), subject.digest.0))
+        .collect()
 }
 
 fn to_write(reply: &WriteReply) -> Reply {
@@ -174,6 +179,7 @@ pub fn event_of(told: &RawTagged) -> Event {
         Call::Causal(digest) => ToldCall::Causal(Digest(*digest)),
         Call::Collect(round) => ToldCall::Collect(*round),
         Call::Missing(most) => ToldCall::Missing(*most),
+        Call::MissingOf(digest) => ToldCall::MissingOf(Digest(*digest)),
         Call::Status => ToldCall::Status,
     };
     Event {
@@ -218,7 +224,9 @@ fn to_told(reply: &Reply) -> ToldReply {
         Reply::Misfit => ToldReply::Misfit,
         Reply::Full => ToldReply::Full,
         Reply::Certificate(Some(_)) | Reply::Block(Some(_)) => ToldReply::Found,
-        Reply::Certificate(None) | Reply::Block(None) | Reply::Unknown => ToldReply::Unknown,
+        Reply::Certificate(None) | Reply::Block(None) | Reply::MissingOf(None) | Reply::Unknown => {
+            ToldReply::Unknown
+        }
         Reply::Uncertified => ToldReply::Uncertified,
         Reply::Incomplete => ToldReply::Incomplete,
         Reply::List(_) | Reply::Ready => ToldReply::Ready,
@@ -226,7 +234,7 @@ fn to_told(reply: &Reply) -> ToldReply {
         Reply::NotHigher(garbage_round) => ToldReply::NotHigher {
             garbage_round: *garbage_round,
         },
-        Reply::Missing(subjects) => ToldReply::Missing {
+        Reply::Missing(subjects) | Reply::MissingOf(Some(subjects)) => ToldReply::Missing {
             listed: subjects.len() as u64,
         },
         Reply::Status(_) => ToldReply::Status,

@@ -219,10 +219,12 @@ impl<'a> World<'a> {
         let digest = self.some_digest(node, index);
         match self.draw.below(100) {
             0..10 => drop(self.ask(node, Call::Read(digest))),
-            10..20 => drop(self.ask(node, Call::Certificate(digest))),
+            10..15 => drop(self.ask(node, Call::Certificate(digest))),
+            15..20 => drop(self.ask(node, Call::MissingOf(digest))),
             20..45 => self.read_causally(time, node, digest),
             45..60 => self.walk_some(node),
-            60..66 => drop(self.ask(node, Call::Status)),
+            60..63 => drop(self.ask(node, Call::Status)),
+            63..66 => self.look_round(node),
             66..74 => self.fetch_missing(time, node),
             74..84 => self.collect(node),
             84..87 => self.nodes[node].restart(),
@@ -249,6 +251,13 @@ impl<'a> World<'a> {
         if let Reply::Incomplete = self.ask(node, Call::Causal(digest)) {
             self.fetch_missing(time, node);
         }
+    }
+
+    /// Looks at a round near the newest one.
+    fn look_round(&mut self, node: usize) {
+        let newest = self.nodes[node].newest;
+        let round = (newest + 2).saturating_sub(self.draw.below(6));
+        self.nodes[node].look_round(round);
     }
 
     /// Lists missing parents, and sends some of them.

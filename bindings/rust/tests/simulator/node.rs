@@ -3,7 +3,7 @@
 use super::answers::{Explained, ask_store, event_of, row_of};
 use super::corpus::{Case, Delivery, committee};
 use super::{Draw, Plan};
-use crate::model::{Block, Call, Digest, Model, Reply, Slot};
+use crate::model::{Block, Call, Digest, Look, Model, Reply, Slot};
 use narwhal_store::{
     Checked, Committee, Event, Limits, OpenError, Session, StepError, Store, Ticket,
 };
@@ -106,6 +106,25 @@ impl<'a> Node<'a> {
             self.sessions.len() <= self.plan.limits.sessions as usize,
             "too many sessions"
         );
+    }
+
+    /// Looks at a round, and at each of its slots. The looks must be the model's.
+    pub fn look_round(&self, round: u64) {
+        let looks = self.store.look_round(round).expect("memory");
+        let expected = self.model.look_round(round);
+        assert_eq!(looks.len(), expected.len(), "the authors of a round");
+        for ((author, look), (expected_author, expected)) in looks.iter().zip(&expected) {
+            let found = Look {
+                first: look.first.map(|digest| digest.0),
+                certified: look.certified.map(|digest| digest.0),
+                stands: look.stands,
+                complete: look.complete,
+            };
+            assert_eq!((author, &found), (expected_author, expected), "a look");
+            assert_eq!(look.garbage_round, self.model.floor(), "a garbage round");
+            assert_eq!(*look, self.store.look(round, *author), "a look at a slot");
+        }
+        self.plan.seen.count("looks at a round".into());
     }
 
     /// Makes a call. If it changed the state, it is logged, and then the vote is sent.
@@ -363,11 +382,14 @@ impl<'a> Node<'a> {
             {
                 let earlier = earlier.history();
                 assert!(
-                    earlier.begins(history),
+                    earlier.is_prefix_of(history),
                     "the first {} events differ",
                     earlier.len()
                 );
-                assert!(!history.begins(earlier), "a history begins a shorter one");
+                assert!(
+                    !history.is_prefix_of(earlier),
+                    "a history begins a shorter one"
+                );
             }
             if self.earlier.len() == 8 {
                 self.earlier.swap_remove(draw.index(8));
@@ -410,6 +432,7 @@ fn most_bytes_of(call: &Call) -> u64 {
         Call::Write(block) => 300 + block.body.len() as u64,
         Call::Certify(certificate) => 300 + certificate.message.len() as u64,
         Call::Missing(most) => 150 + 48 * u64::from(*most),
+        Call::MissingOf(_) => 150 + 48 * 100,
         _ => 150,
     }
 }
@@ -418,7 +441,7 @@ fn most_bytes_of(call: &Call) -> u64 {
 fn bytes_of(call: &Call, reply: &Reply) -> u64 {
     match reply {
         Reply::Stored { .. } | Reply::Clash | Reply::Certified => most_bytes_of(call),
-        Reply::Missing(listed) => 150 + 48 * listed.len() as u64,
+        Reply::Missing(listed) | Reply::MissingOf(Some(listed)) => 150 + 48 * listed.len() as u64,
         _ => 150,
     }
 }

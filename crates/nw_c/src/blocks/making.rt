@@ -9,7 +9,9 @@ use crate::codes::{BAD_ROUND, NO_MEMORY, OPEN, OVER_LIMIT};
 use crate::content::Content;
 use crate::handle::{BlockHandle, put};
 use crate::hashed::HashedBlock;
-use nw_codec::{Block, EncodeError, Ref, Transactions, block_digest};
+use nw_codec::{
+    Block, EncodeError, MAX_PARENTS, MAX_TRANSACTIONS, Ref, Transactions, block_digest,
+};
 use nw_digest::{Digest, NoMemory, Round, Sequence, Shared};
 use std::alloc::Global;
 
@@ -82,6 +84,9 @@ pub extern "C" fn nw_block_new(
     let Some(round) = Round::new(round) else {
         return BAD_ROUND;
     };
+    if parents.len() > MAX_PARENTS || lengths.len() > MAX_TRANSACTIONS {
+        return OVER_LIMIT;
+    }
     let transactions = match transactions_of(alloc, transactions, lengths) {
         Ok(transactions) => transactions,
         Err(why) => return why,

@@ -137,6 +137,33 @@ pub extern "C" fn nw_book_missing(
     take(alloc, book, answer, session, number, &command)
 }
 
+/// Asks for the missing parents of the block of the digest: those that it refers to, and that are not stored or not certified. They ascend by
+/// author and digest. A block that is not above the garbage round has none. `number` must be that of the session's next call.
+#[unsafe(no_mangle)]
+pub extern "C" fn nw_book_missing_of(
+    alloc: Global,
+    book: &mut BookHandle,
+    session: u16,
+    number: u32,
+    digest: &CDigest,
+    answer: &mut AnswerHandle,
+) -> i32
+    ensures taken { result ≡ pos 0 → IsTaken accepts session number (Call.MissingOf (digest_in digest.now))
+        book.old.value book.new.value answer.new.value }
+    ensures refused { (why : Refusal) → result ≡ step_code why
+        → IsRefusedBy book.old.value session number None why }
+    ensures unchanged { (result ≡ pos 0 → ⊥) → IsUnchanged book.old book.new }
+    ensures answer { (result ≡ pos 0 → ⊥) → IsUnchanged answer.old answer.new }
+    ensures stays { book.new.held ≡ book.old.held }
+    ensures answer_stays { answer.new.held ≡ answer.old.held }
+    ensures closed { result ≡ CLOSED → book.old.held ≡ true → answer.old.held ≡ true → ⊥ }
+    ensures other_kind { result ≡ OTHER_KIND → HoldsBook book.old.value → HoldsRoom answer.old.value → ⊥ }
+{
+    let _lent: Lent<'_> = (None, None);
+    let command = Command::MissingOf(digest.get());
+    take(alloc, book, answer, session, number, &command)
+}
+
 /// Asks for the counts of the book. `number` must be that of the session's next call.
 #[unsafe(no_mangle)]
 pub extern "C" fn nw_book_status(

@@ -52,6 +52,7 @@ impl Dag {
             Call::Causal(digest) => Ok(self.causal_reply(digest)),
             Call::Collect(round) => Ok(Reply::Collect(self.held.collect_reply(*round))),
             Call::Missing(most) => Ok(Reply::Missing(self.missing(alloc, *most)?)),
+            Call::MissingOf(digest) => Ok(Reply::MissingOf(self.missing_of(alloc, digest)?)),
             Call::Status => Ok(Reply::Status(self.status())),
             Call::AskWrite(subject) => Ok(Reply::Write(self.held.asked_write_reply(subject))),
             Call::AskCertify(subject) => Ok(Reply::Certify(self.held.asked_certify_reply(subject))),

@@ -1,13 +1,13 @@
-//! Wanted parents, and the counts of a store.
+//! Wanted parents, the missing parents of a block, and the counts of a store.
 ghost use Rattle.std.specs.Prelude.{◌≡◌, ◌↔◌, ◌<◌, ◌+◌, IfOk, OnOk, IsTrue, take};
 ghost use Rattle.std.specs.List.Sorted.{IsStrictlySortedBy};
 ghost use Rattle.nw_model.specs.Paths.{IsSatisfied};
-ghost use Rattle.nw_model.specs.Missing.{AreCounts, ListsExactly, AreFirstWanted, IsWanted, Wants, wanted_cmp};
+ghost use Rattle.nw_model.specs.Missing.{AreCounts, ListsExactly, AreFirstWanted, AreMissingOf, IsWanted, Wants, wanted_cmp};
 ghost use Rattle.nw_plain.specs.Added.{IsUnionWith, NamesMissing};
 
 use super::Plain;
 use nw_codec::{Block, Ref};
-use nw_digest::{NoMemory, Round, Sequence};
+use nw_digest::{Digest, NoMemory, Round, Sequence};
 use nw_model::{Counts, Wanted};
 use std::alloc::{AllocError, Global};
 use std::collections::BTreeSet;
@@ -20,6 +20,26 @@ impl Plain {
         let wanted = self.wanted()?;
         let first = first_keys(self.alloc, &wanted, usize::from(most))?;
         Ok(Sequence::new(first))
+    }
+
+    /// The missing parents of the block that is held under the digest, or `None` if no block is held.
+    pub(super) fn missing_of(&self, digest: &Digest) -> Result<Option<Sequence<Wanted>>, NoMemory>
+        ensures { IfOk result (AreMissingOf self.now.state digest.now) }
+    {
+        match self.block(digest) {
+            None => Ok(None),
+            Some(block) => Ok(Some(Sequence::new(self.wanted_by(block)?))),
+        }
+    }
+
+    /// The parents that the block wants.
+    fn wanted_by(&self, block: &Block) -> Result<Vec<Wanted>, NoMemory>
+        ensures { IfOk result
+            (λ wanted. ListsExactly wanted_cmp (Wants self.now.state block.now) wanted.items) }
+    {
+        let mut wanted = BTreeSet::new(self.alloc);
+        self.add_wanted(&mut wanted, block)?;
+        Ok(wanted.into_iter().collect(self.alloc)?)
     }
 
     /// The garbage round, and how many blocks, certificates, complete blocks and wanted parents there are.

@@ -4,7 +4,7 @@ use std::alloc::{AllocError, Global};
 use std::test::Fail;
 
 // Lines of each kind, with the smallest and the largest numbers that they take, and a description of each parsed line.
-const LINES: [(&str, &str); 31] = [
+const LINES: [(&str, &str); 32] = [
     ("", "skipped"),
     ("# a comment", "skipped"),
     ("committee v1 4", "4 equal members"),
@@ -35,6 +35,7 @@ const LINES: [(&str, &str); 31] = [
     ("walk t", "walk t"),
     ("collect 281474976710655", "collect 281474976710655"),
     ("missing 65535", "missing 65535"),
+    ("missing-of a", "missing of a"),
     ("status", "status"),
     ("compact", "compact"),
     ("session 65535", "session 65535"),
@@ -123,6 +124,7 @@ fn describe_request(alloc: Global, request: &Request<'_>) -> Result<String, Allo
         Request::Walk(ticket) => format!(in alloc; "walk {}", ticket.as_str()),
         Request::Collect(round) => format!(in alloc; "collect {}", round.get()),
         Request::Missing(most) => format!(in alloc; "missing {most}"),
+        Request::MissingOf(name) => format!(in alloc; "missing of {}", name.as_str()),
         Request::Status => format!(in alloc; "status"),
         Request::Compact => format!(in alloc; "compact"),
         Request::Session(id) => format!(in alloc; "session {id}"),

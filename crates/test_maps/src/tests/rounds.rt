@@ -32,7 +32,7 @@ fn put_certified(
 /// Digests by round, author, and whether they are certified or first digests.
 type Slots = BTreeMap<(u64, u16, bool), Digest>;
 
-/// Whether the table lists the map's digests of the round, ascending and each once.
+/// Whether the table lists the map's authors of the round, ascending and each once.
 fn are_listed(
     alloc: Global,
     rounds: &Rounds<Global>,
@@ -40,13 +40,13 @@ fn are_listed(
     round: Round,
 ) -> Result<bool, NoMemory> {
     let mut found = BTreeSet::new(alloc);
-    for (slot, digest) in slots {
+    for (slot, _digest) in slots {
         if slot.0 == round.get() {
-            found.insert(*digest)?;
+            found.insert(slot.1)?;
         }
     }
-    let expected: Vec<Digest> = found.into_iter().collect(alloc)?;
-    Ok(rounds.digests(alloc, round)?.as_slice() == expected.as_slice())
+    let expected: Vec<u16> = found.into_iter().collect(alloc)?;
+    Ok(rounds.authors(alloc, round)?.as_slice() == expected.as_slice())
 }
 
 /// Takes the step that the word selects, on one of 64 slots with one of 8 digests. Returns whether the answers are equal.

@@ -2,7 +2,7 @@
 //! a stray id, which no program gets.
 use nw_check::CertFault;
 use nw_digest::Shared;
-use nw_interpreter::{Answer, Interpreter, committee};
+use nw_interpreter::{Bindings, LineFault, committee, refused};
 use nw_model::{CertifyReply, Reply, WriteReply};
 use nw_play::PlayFault;
 use nw_script::{CommitteeLine, Name};
@@ -11,54 +11,33 @@ use std::test::Fail;
 
 /// Replies to a write and to a certificate of the block `a`, and the line that a script prints for each.
 const WRITTEN: [(WriteReply, &str); 2] = [
-    (WriteReply::Clash, "a clash\n"),
-    (WriteReply::Misfit, "a misfit\n"),
+    (WriteReply::Clash, "a clash"),
+    (WriteReply::Misfit, "a misfit"),
 ];
 
-const CERTIFIED: [(CertifyReply, &str); 1] = [(CertifyReply::Misfit, "a misfit\n")];
+const CERTIFIED: [(CertifyReply, &str); 1] = [(CertifyReply::Misfit, "a misfit")];
 
 /// Faults of the certificate of the block `a`, and the line that a script prints for each.
 const REFUSED: [(CertFault, &str); 2] = [
-    (
-        CertFault::Signature { signer: 0 },
-        "a refused signature 0\n",
-    ),
+    (CertFault::Signature { signer: 0 }, "a refused signature 0"),
     (
         CertFault::Signature { signer: 65_535 },
-        "a refused signature 65535\n",
+        "a refused signature 65535",
     ),
 ];
 
-/// The line that the answer prints.
-fn line_of(alloc: Global, answer: &Answer<'_>) -> Result<Vec<u8>, Fail> {
-    let mut line = Vec::new(alloc);
-    match answer.append_to(&mut line) {
-        Ok(()) => Ok(line),
-        Err(_) => Err(Fail::from("an allocation failed")),
+/// The line, which is there unless an allocation failed.
+fn printed(line: Result<String, LineFault>) -> Result<String, Fail> {
+    match line {
+        Ok(line) => Ok(line),
+        Err(_) => Err(Fail::from("a line is printed")),
     }
 }
 
-/// The line for the reply to a call on the named block.
-fn line_for(
-    alloc: Global,
-    interpreter: &Interpreter<'static>,
-    name: Name<'static>,
-    reply: &Reply,
-) -> Result<Vec<u8>, Fail> {
-    match interpreter.answer_to(alloc, Some(name), reply) {
-        Ok(answer) => {
-            let line = line_of(alloc, &answer);
-            drop(answer);
-            line
-        }
-        Err(_) => Err(Fail::from("a reply has its words")),
-    }
-}
-
-/// An interpreter with one member and no names.
-fn interpreter_of_one_member(alloc: Global) -> Result<Interpreter<'static>, Fail> {
+/// Bindings with one member and no names.
+fn bindings_of_one_member(alloc: Global) -> Result<Bindings<'static>, Fail> {
     match committee(alloc, &CommitteeLine::Equal { members: 1 }) {
-        Ok(one) => Ok(Interpreter::new(alloc, Shared::new(alloc, one)?)),
+        Ok(one) => Ok(Bindings::new(alloc, Shared::new(alloc, one)?)),
         Err(_) => Err(Fail::from("there is a committee of one")),
     }
 }
@@ -67,18 +46,18 @@ fn interpreter_of_one_member(alloc: Global) -> Result<Interpreter<'static>, Fail
 fn replies_that_no_script_gets_have_their_words(rt: HostRuntime) -> Result<(), Fail> {
     let alloc = rt.alloc();
     let name = Name::new("a").ok_or("a letter is a name")?;
-    let interpreter = interpreter_of_one_member(alloc)?;
+    let bindings = bindings_of_one_member(alloc)?;
     for (reply, prints) in WRITTEN {
-        let line = line_for(alloc, &interpreter, name, &Reply::Write(reply))?;
-        assert_eq!(rt; line.as_slice(), prints.as_bytes());
+        let line = printed(bindings.line_of(alloc, Some(name), &Reply::Write(reply)))?;
+        assert_eq!(rt; line.as_str(), prints);
     }
     for (reply, prints) in CERTIFIED {
-        let line = line_for(alloc, &interpreter, name, &Reply::Certify(reply))?;
-        assert_eq!(rt; line.as_slice(), prints.as_bytes());
+        let line = printed(bindings.line_of(alloc, Some(name), &Reply::Certify(reply)))?;
+        assert_eq!(rt; line.as_str(), prints);
     }
     for (fault, prints) in REFUSED {
-        let line = line_of(alloc, &Answer::BadCert { name, fault })?;
-        assert_eq!(rt; line.as_slice(), prints.as_bytes());
+        let line = printed(refused(alloc, name, fault))?;
+        assert_eq!(rt; line.as_str(), prints);
     }
     Ok(())
 }

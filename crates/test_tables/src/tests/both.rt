@@ -82,6 +82,7 @@ fn is_same(one: &Reply, other: &Reply) -> bool {
         (Reply::Ready, Reply::Ready) => true,
         (Reply::Collect(one), Reply::Collect(other)) => one == other,
         (Reply::Missing(one), Reply::Missing(other)) => one == other,
+        (Reply::MissingOf(one), Reply::MissingOf(other)) => one == other,
         (Reply::Status(one), Reply::Status(other)) => one == other,
         _ => false,
     }

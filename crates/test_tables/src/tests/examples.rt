@@ -23,6 +23,7 @@ enum ExampleCall {
     Causal(Name),
     Collect(u64),
     Missing(u16),
+    MissingOf(Name),
     Status,
 }
 
@@ -91,6 +92,7 @@ fn call_of(alloc: Global, call: &ExampleCall) -> Result<Call, NoMemory> {
         ExampleCall::Causal(name) => Ok(Call::Causal(digest_of(*name))),
         ExampleCall::Collect(number) => Ok(Call::Collect(round(*number)?)),
         ExampleCall::Missing(most) => Ok(Call::Missing(*most)),
+        ExampleCall::MissingOf(name) => Ok(Call::MissingOf(digest_of(*name))),
         ExampleCall::Status => Ok(Call::Status),
     }
 }
@@ -142,7 +144,8 @@ fn is_expected(reply: &Reply, expected: &Expected) -> bool {
             (kept.get().round.get(), kept.get().author) == *slot
         }
         (Reply::List(blocks), Expected::List(slots)) => have_slots(blocks.as_slice(), slots),
-        (Reply::Missing(found), Expected::Wanted(wanted)) => are_wanted(found.as_slice(), wanted),
+        (Reply::Missing(found) | Reply::MissingOf(Some(found)), Expected::Wanted(wanted)) =>
+            are_wanted(found.as_slice(), wanted),
         (Reply::Status(counts), Expected::Counts(numbers)) => {
             [
                 counts.floor.get(),

@@ -2,8 +2,8 @@
 use super::both::Both;
 use super::words::{REPLIES, words};
 use super::*;
-use nw_model::Call;
-use nw_plain::Base;
+use nw_model::{Call, Look, Reply};
+use nw_plain::{Base, Plain};
 use rand_core::utils::NextWord;
 use rand_pcg::Pcg32;
 use std::collections::BTreeSet;
@@ -86,7 +86,8 @@ fn next_call(alloc: Global, random: &mut Pcg32, floor: Round) -> Result<Call, No
         25..47 => Call::Certify(drawn_certificate(alloc, name, more)?),
         47..50 => Call::Certificate(digest_of(name)),
         50..53 => Call::Read(digest_of(name)),
-        53..58 => Call::Causal(digest_of(name)),
+        53..57 => Call::Causal(digest_of(name)),
+        57 => Call::MissingOf(digest_of(name)),
         58..60 => Call::Missing((more % 16) as u16),
         60..62 => Call::AskWrite(block(alloc, name, more)?.get().subject(digest_of(name))),
         62 => Call::AskCertify(drawn_certificate(alloc, name, more)?.get().subject()),
@@ -112,27 +113,42 @@ fn make_next_call(
     }
 }
 
-/// Whether a copy of the tables has the state of the plain store, and looks at slots say what this state has. The plain store goes on as
-/// another copy.
+/// Whether a copy of the tables has the state of the plain store, and looks say what this state has. The plain store goes on as another copy.
 fn is_copied(alloc: Global, both: &mut Both) -> Result<bool, NoMemory> {
     let copy = both.dag.copy(alloc)?;
     let expected = Base::of(mem::replace(&mut both.plain, copy));
     let copied = Base::of(both.dag.copy(alloc)?);
-    Ok(expected.is_same(&copied) && are_seen(&both.dag, &expected))
+    Ok(expected.is_same(&copied) && are_seen(alloc, both, &expected)?)
 }
 
-/// Whether looks at the slots of the first rounds from the garbage round on say what the base has.
-fn are_seen(dag: &Dag, base: &Base) -> bool {
-    for place in 0..64u16 {
-        let number = base.floor().get().saturating_add(u64::from(place / 8));
-        let Some(round) = Round::new(number) else {
-            return false;
-        };
-        if !is_seen(dag, base, round, place % 8) {
-            return false;
+/// Whether looks at the first rounds from the garbage round on say what the base has.
+fn are_seen(alloc: Global, both: &mut Both, base: &Base) -> Result<bool, NoMemory> {
+    for number in 0..8 {
+        let round = round(base.floor().get() + number)?;
+        let looks = looks_in(alloc, both, base, round)?;
+        if both.dag.look_round(alloc, round)?.as_slice() != looks.as_slice() {
+            return Ok(false);
         }
     }
-    true
+    Ok(true)
+}
+
+/// The authors with digests in the round, and what the base has for them. An author is left out if a look at its slot says something else.
+fn looks_in(
+    alloc: Global,
+    both: &mut Both,
+    base: &Base,
+    round: Round,
+) -> Result<Vec<(u16, Look)>, NoMemory> {
+    let mut looks = Vec::new(alloc);
+    for author in 0..8 {
+        let look = look_of(&mut both.plain, base, round, author)?;
+        let has_digest = look.first.is_some() || look.certified.is_some();
+        if has_digest && both.dag.look(round, author) == look {
+            looks.push((author, look))?;
+        }
+    }
+    Ok(looks)
 }
 
 /// The digest that the base has certified for the slot, if there is one. It is a digest of the author's blocks in this round, or of the
@@ -149,17 +165,23 @@ fn certified_in(base: &Base, round: Round, author: u16) -> Option<Digest> {
     None
 }
 
-/// Whether a look at the slot says what the base has.
-fn is_seen(dag: &Dag, base: &Base, round: Round, author: u16) -> bool {
-    let look = dag.look(round, author);
+/// What the base has in the slot. The plain store has the same state, and says whether the certified digest is complete.
+fn look_of(plain: &mut Plain, base: &Base, round: Round, author: u16) -> Result<Look, NoMemory> {
     let certified = certified_in(base, round, author);
-    let stands = match &certified {
-        None => false,
-        Some(digest) => base.block(digest).is_some(),
+    let (stands, complete) = match certified {
+        None => (false, false),
+        Some(digest) => (
+            base.block(&digest).is_some(),
+            matches!(plain.call(&Call::Causal(digest))?, Reply::List(_)),
+        ),
     };
-    (look.certified, look.stands) == (certified, stands)
-        && look.floor == base.floor()
-        && look.first == base.first(round, author)
+    Ok(Look {
+        floor: base.floor(),
+        first: base.first(round, author),
+        certified,
+        stands,
+        complete,
+    })
 }
 
 /// Makes random calls. After every 512 calls it compacts the tables and compares a copy of them with the plain store. Returns the number of kinds of replies, or `None` if the stores differ.

@@ -2,7 +2,7 @@
 use nw_model::{CausalReply, CertifyReply, CollectReply, Reply, WriteReply};
 
 /// The number of kinds of replies that have a name here.
-pub(super) const REPLIES: usize = 28;
+pub(super) const REPLIES: usize = 30;
 
 pub(super) fn words(reply: &Reply) -> &'static str {
     match reply {
@@ -17,6 +17,8 @@ pub(super) fn words(reply: &Reply) -> &'static str {
         Reply::Collect(CollectReply::NotHigher(_)) => "not higher",
         Reply::Collect(CollectReply::Raised { .. }) => "raised",
         Reply::Missing(_) => "missing",
+        Reply::MissingOf(None) => "missing of no block",
+        Reply::MissingOf(Some(_)) => "missing of a block",
         Reply::Status(_) => "status",
     }
 }

@@ -6,13 +6,14 @@ use Rattle.std.specs.Ordering.{eq_by_cmp}
 use Rattle.std.proofs.lemmas.Map.Iter.{iter_end}
 use Rattle.nw_digest.specs.Order.{digest_cmp}
 use Rattle.nw_rounds.specs.Places.{tables_of}
+use Rattle.nw_rounds.proofs.SlotLemmas.{digests_total}
 use Rattle.nw_rounds.proofs.AtRound.{are_digests, one_more, values_read, values_more}
 use Rattle.nw_rounds.proofs.rounds.digests_between.Goals as goal
 
 pub loop-place-preserved : goal.loop-place-preserved
 loop-place-preserved g c = (
   c.in_ok-insert.ensures.ordered,
-  λ d. one_more c.loop-place.found.keys c.insert.new.self.keys (map (λ e. e.1.now) c.loop-place.yielded) c.in-Some.digest.now (λ q. c.in_ok-insert.ensures.updates.0 q) c.loop-place.invariant.1 d
+  λ d. one_more digests_total c.loop-place.found.keys c.insert.new.self.keys (map (λ e. e.1.now) c.loop-place.yielded) c.in-Some.digest.now (λ q. c.in_ok-insert.ensures.updates.0 q) c.loop-place.invariant.1 d
       ∙ ap (list_any (eq_by_cmp digest_cmp d)) (sym (values_more c.loop-place.yielded _)),
 )
 

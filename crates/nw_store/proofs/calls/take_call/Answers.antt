@@ -4,11 +4,11 @@ use Rattle.nw_model.specs.declared.event.Event.{Event}
 use Rattle.nw_history.specs.Story.{with_event}
 use Rattle.nw_book.specs.Turn.{event}
 use Rattle.nw_book.specs.Answer.{DoneView}
-use Rattle.nw_store.specs.Journal.{Guarded, Journal, next_number}
-use Rattle.nw_store.specs.Answered.{IsAnswered}
+use Rattle.nw_book.specs.Journal.{Guarded, Journal, next_number}
+use Rattle.nw_book.specs.Answered.{IsAnswered}
 use Rattle.nw_store.proofs.Begun.{begun_claimed, begun_known, claimed_logged}
 use Rattle.nw_store.proofs.Kept.{kept_more, starts_so, session_more, answer_is, logged_last}
-use Rattle.nw_store.proofs.Answered.{answered}
+use Rattle.nw_book.proofs.Answered.{answered}
 use Rattle.nw_store.proofs.calls.take_call.Goals as goal
 
 pub invariant_of-locked-2 : goal.invariant_of-locked-2

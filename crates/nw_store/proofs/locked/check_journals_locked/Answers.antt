@@ -1,6 +1,6 @@
 use Rattle.std.proofs.Common.{subst}
-use Rattle.nw_store.specs.Journal.{Guarded, ArePrefixesOf}
-use Rattle.nw_store.proofs.Begun.{comparable}
+use Rattle.nw_book.specs.Journal.{Guarded, ArePrefixesOf}
+use Rattle.nw_book.proofs.Prefixes.{comparable}
 use Rattle.nw_store.proofs.locked.check_journals_locked.Goals as goal
 
 pub returns-clause-comparable : goal.returns-clause-comparable

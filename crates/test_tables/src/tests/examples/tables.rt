@@ -34,7 +34,7 @@ const U0: Name = (4, 0, 0);
 
 const Z0: Name = (LAST, 0, 0);
 
-pub(super) const EXAMPLES: [Example; 16] = [
+pub(super) const EXAMPLES: [Example; 17] = [
     replies::EQUIVOCATION,
     replies::ONE_DIGEST,
     replies::FAR,
@@ -44,6 +44,7 @@ pub(super) const EXAMPLES: [Example; 16] = [
     replies::FIRST,
     parents::WAITS,
     parents::MISSING,
+    parents::MISSING_OF,
     parents::ABSENT,
     parents::COLLECTED,
     parents::COMPLETED,

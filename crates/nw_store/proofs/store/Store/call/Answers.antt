@@ -1,6 +1,6 @@
 use Rattle.nw_book.specs.Command.{committee_of}
-use Rattle.nw_store.specs.Journal.{IsHistoryOf}
-use Rattle.nw_store.proofs.Answered.{explained, unanswered}
+use Rattle.nw_book.specs.Journal.{IsHistoryOf}
+use Rattle.nw_store.proofs.Explained.{explained, unanswered}
 use Rattle.nw_store.proofs.store.Store.call.Goals as goal
 
 pub returns-clause-answered : goal.returns-clause-answered

@@ -1,7 +1,7 @@
 use Rattle.std.proofs.Common.{None}
 use Rattle.nw_book.specs.Answer.{front_of, reply_of}
-use Rattle.nw_store.specs.Journal.{IsHistoryOf}
-use Rattle.nw_store.proofs.Answered.{explained, unanswered}
+use Rattle.nw_book.specs.Journal.{IsHistoryOf}
+use Rattle.nw_store.proofs.Explained.{explained, unanswered}
 use Rattle.nw_store.proofs.store.Store.open_causal.Goals as goal
 
 pub returns-clause-answered : goal.returns-clause-answered

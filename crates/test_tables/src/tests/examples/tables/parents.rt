@@ -1,5 +1,7 @@
 //! Examples of missing parents, and of blocks that become complete.
-use super::super::ExampleCall::{Causal, Certify, Collect, Missing, Naming, Status, Write};
+use super::super::ExampleCall::{
+    Causal, Certify, Collect, Missing, MissingOf, Naming, Status, Write,
+};
 use super::super::Expected::{Conflict, Counts, Is, List, Raised, Wanted};
 use super::*;
 
@@ -50,6 +52,31 @@ pub(super) const MISSING: Example = Example {
         (Causal(L0), List(&[(0, 0), (0, 1), (1, 0)])),
         (Collect(1), Raised(2)),
         (Missing(9), Wanted(&[((2, 0), M0)])),
+    ],
+};
+
+pub(super) const MISSING_OF: Example = Example {
+    purpose: "the missing parents of a block ascend by author and digest, and a block of the garbage round has none",
+    room: 16,
+    calls: &[
+        (MissingOf(L0), Is("missing of no block")),
+        (Write(L0, &[K0, K1]), Is("stored vote")),
+        (Write(L1, &[K0X, K2]), Is("stored vote")),
+        (MissingOf(L0), Wanted(&[((0, 0), K0), ((0, 1), K1)])),
+        (MissingOf(L1), Wanted(&[((0, 0), K0X), ((0, 2), K2)])),
+        (Write(K0, &[]), Is("stored vote")),
+        (MissingOf(L0), Wanted(&[((0, 0), K0), ((0, 1), K1)])),
+        (Certify(K0), Is("certified")),
+        (MissingOf(L0), Wanted(&[((0, 1), K1)])),
+        (Certify(K1), Is("certified")),
+        (MissingOf(L0), Wanted(&[((0, 1), K1)])),
+        (Write(K1, &[]), Is("stored vote")),
+        (MissingOf(L0), Wanted(&[])),
+        (MissingOf(K0), Wanted(&[])),
+        (MissingOf(L1), Wanted(&[((0, 0), K0X), ((0, 2), K2)])),
+        (Collect(1), Raised(2)),
+        (MissingOf(L1), Wanted(&[])),
+        (MissingOf(K0), Is("missing of no block")),
     ],
 };
 

@@ -1,0 +1,326 @@
+//! Tests that fail each allocation of the library in turn, and tests that count what is not freed.
+
+use crate::ffi::{Handle, Spare};
+use crate::raw::tagged;
+use crate::room::Room;
+use crate::{
+    AgreeError, Block, BlockError, Causal, CheckError, Checked, CheckedBlock, CheckedCertificate,
+    CheckedVote, Committee, CommitteeError, Digest, Gather, GatherError, History, Limits, Message,
+    NoMemory, OpenError, Session, Status, StepError, Store, Ticket, check_all,
+};
+use std::cell::Cell;
+use std::ffi::c_void;
+use std::fmt::Debug;
+use std::panic::{AssertUnwindSafe, catch_unwind};
+use std::ptr;
+use std::sync::Arc;
+
+#[path = "../examples/data/mod.rs"]
+pub(crate) mod data;
+
+thread_local! {
+    /// The allocation of this thread that fails: 1 is the next one, and 0 is none.
+    static FAILS: Cell<usize> = const { Cell::new(0) };
+    /// The allocations of this thread, without those that it freed.
+    static LIVE: Cell<isize> = const { Cell::new(0) };
+}
+
+/// Counts an allocation, if it succeeded.
+pub(crate) fn note_allocated(is_there: bool) {
+    LIVE.set(LIVE.get() + isize::from(is_there));
+}
+
+/// Counts a freed allocation.
+pub(crate) fn note_freed() {
+    LIVE.set(LIVE.get() - 1);
+}
+
+/// An allocator of which the chosen allocation fails.
+pub(crate) fn failing(
+    allocate: impl FnOnce(usize) -> *mut c_void,
+) -> impl FnOnce(usize) -> *mut c_void {
+    let fails = FAILS.get();
+    FAILS.set(fails.saturating_sub(1));
+    move |size| match fails {
+        1 => ptr::null_mut(),
+        _ => allocate(size),
+    }
+}
+
+/// A store that has some messages, and the messages to come.
+struct World {
+    committee: Committee,
+    store: Store,
+    session: Session,
+    block: CheckedBlock,
+    certificate: CheckedCertificate,
+    /// A complete digest.
+    leader: Digest,
+    tickets: [Ticket; 2],
+    votes: Vec<CheckedVote>,
+}
+
+impl World {
+    /// A store that has all messages except the last block and the last certificate.
+    fn new() -> World {
+        let committee = Committee::equal(&data::keys()).unwrap();
+        let store = Store::new(&committee, Limits::default()).unwrap();
+        let session = store.session().unwrap();
+        let (mut blocks, mut certificates) = (Vec::new(), Vec::new());
+        for checked in check_all(&committee, &data::values("message"), 1) {
+            match checked.unwrap() {
+                Checked::Block(block) => blocks.push(block),
+                Checked::Certificate(certificate) => certificates.push(certificate),
+                Checked::Vote(vote) => panic!("{vote:?}"),
+            }
+        }
+        let (block, certificate) = (blocks.pop().unwrap(), certificates.pop().unwrap());
+        let write = |block| session.write(block).unwrap();
+        blocks.iter().for_each(|block| drop(write(block)));
+        let certify = |certificate| session.certify(certificate).unwrap();
+        certificates.iter().for_each(|one| drop(certify(one)));
+        let leader = certificates.last().unwrap().subject().digest;
+        let ticket = || session.causal(&leader).unwrap().into_ticket().unwrap();
+        let votes = check_all(&committee, &data::values("vote"), 1).into_iter();
+        let vote = |checked| match checked {
+            Ok(Checked::Vote(vote)) => vote,
+            other => panic!("{other:?}"),
+        };
+        World {
+            tickets: [ticket(), ticket()],
+            votes: votes.map(vote).collect(),
+            committee,
+            store,
+            session,
+            block,
+            certificate,
+            leader,
+        }
+    }
+
+    fn status(&self) -> Status {
+        self.session.status().unwrap().into_reply()
+    }
+}
+
+/// Refuses each allocation of the call in turn. A call that fails must leave the store as it was,
+/// and succeed when it is repeated.
+#[track_caller]
+fn fail_each<T: Debug + PartialEq, E: Debug + PartialEq>(
+    no_memory: E,
+    call: impl Fn(&World) -> Result<T, E>,
+) {
+    let wanted = call(&World::new());
+    assert!(wanted.is_ok(), "{wanted:?}");
+    for number in 1.. {
+        let world = World::new();
+        let (before, events) = (world.status(), world.store.events());
+        FAILS.set(number);
+        let outcome = call(&world);
+        if FAILS.replace(0) > 0 {
+            assert_eq!(outcome, wanted);
+            assert!(number > 1, "the call makes no allocation");
+            return;
+        }
+        if let Err(error) = outcome {
+            assert_eq!(error, no_memory);
+            assert_eq!(world.store.events(), events);
+            assert_eq!(world.status(), before);
+            assert_eq!(call(&world), wanted);
+        }
+    }
+}
+
+#[test]
+fn committees_and_stores() {
+    fail_each(CommitteeError::NoMemory, |_| {
+        Committee::equal(&data::keys()).map(|committee| committee.quorum())
+    });
+    fail_each(OpenError::NoMemory, |world| {
+        Store::new(&world.committee, Limits::default()).map(|store| store.events())
+    });
+    fail_each(NoMemory, |world| world.store.restart());
+}
+
+#[test]
+fn checks() {
+    for message in [0, 1] {
+        let message = data::values("message").remove(message);
+        fail_each(CheckError::NoMemory, |world| {
+            let checked = Message::check(&world.committee, &message)?;
+            Ok(format!("{checked:?}"))
+        });
+    }
+    fail_each(BlockError::NoMemory, |_| {
+        Block::new(0, 1, &[(0, Digest([1; 32]))], &["x"]).map(drop)
+    });
+}
+
+#[test]
+fn gathering() {
+    fail_each(GatherError::NoMemory, |world| {
+        let mut gather = Gather::new(&world.committee, &world.votes[0].subject())?;
+        for vote in &world.votes {
+            gather.add(vote)?;
+        }
+        gather
+            .certificate()
+            .map(|certificate| certificate.subject())
+    });
+}
+
+#[test]
+fn writes_and_certificates() {
+    let no_memory = StepError::NoMemory;
+    fail_each(no_memory, |world| {
+        Ok(*world.session.write(&world.block)?.reply())
+    });
+    fail_each(no_memory, |world| {
+        Ok(*world.session.certify(&world.certificate)?.reply())
+    });
+}
+
+#[test]
+fn other_steps() {
+    let no_memory = StepError::NoMemory;
+    fail_each(no_memory, |world| Ok(*world.session.collect(1)?.reply()));
+    fail_each(no_memory, |world| {
+        Ok(world.session.missing(9)?.into_reply())
+    });
+    fail_each(no_memory, |world| {
+        Ok(world.session.missing_of(&world.leader)?.into_reply())
+    });
+    fail_each(no_memory, |world| Ok(*world.session.status()?.reply()));
+}
+
+#[test]
+fn looks() {
+    fail_each(NoMemory, |world| world.store.look_round(0));
+}
+
+#[test]
+fn causal_reads() {
+    fail_each(StepError::NoMemory, |world| {
+        Ok(world.session.causal(&world.leader)?.fault())
+    });
+    fail_each(NoMemory, |world| Ok(world.tickets[0].walk()?.len()));
+    fail_each(AgreeError::NoMemory, |world| {
+        let [one, other] = &world.tickets;
+        one.agrees(other)
+    });
+}
+
+#[test]
+fn all_is_freed_at_the_end() {
+    let before = LIVE.get();
+    for _ in 0..2 {
+        let world = World::new();
+        let [one, other] = &world.tickets;
+        assert!(one.agrees(other).unwrap());
+        // Three answers are dropped, and the store keeps one of them as its spare.
+        drop([(); 3].map(|()| world.session.status().unwrap()));
+        let blocks: Vec<Block> = one.walk().unwrap().collect();
+        assert!(blocks.iter().all(|block| !block.body().is_empty()));
+        let mut gather = Gather::new(&world.committee, &world.votes[0].subject()).unwrap();
+        world
+            .votes
+            .iter()
+            .for_each(|vote| assert!(gather.add(vote).is_ok()));
+        drop(gather.certificate().unwrap().message());
+        world.store.restart().unwrap();
+        assert!(
+            world
+                .session
+                .read(&world.leader)
+                .unwrap()
+                .into_reply()
+                .is_some()
+        );
+        assert!(LIVE.get() > before);
+    }
+    assert_eq!(LIVE.get(), before);
+}
+
+#[test]
+fn a_restart_frees_the_history() {
+    let world = World::new();
+    let live_after = |calls: usize| {
+        (0..calls).for_each(|_| drop(world.session.status().unwrap()));
+        world.store.restart().unwrap();
+        LIVE.get()
+    };
+    let few = live_after(1);
+    assert_eq!(live_after(1000), few);
+}
+
+/// A closed handle, which no part of the library can be read from.
+pub(crate) fn closed() -> Handle {
+    Spare::new().take()
+}
+
+/// The room of an answer that cannot be read.
+pub(crate) fn closed_room() -> Room {
+    let mut room = Room::new(&Arc::new(Spare::new())).unwrap();
+    drop(room.take());
+    room
+}
+
+/// Decodes what cannot be read. That must panic, and not give an empty value.
+#[track_caller]
+pub(crate) fn refuses<T>(decode: impl FnOnce() -> T) {
+    let Err(panic) = catch_unwind(AssertUnwindSafe(|| drop(decode()))) else {
+        panic!("what cannot be read was decoded");
+    };
+    let text = panic.downcast_ref::<String>().unwrap();
+    let begin = "the linked library does not match narwhal-store: it answered code ";
+    assert!(text.starts_with(begin), "{text}");
+}
+
+#[test]
+fn what_cannot_be_read_is_not_empty() {
+    refuses(|| History::new(closed_room()).len());
+    refuses(|| History::new(closed_room()).event(0));
+    refuses(|| History::new(closed_room()).is_prefix_of(&History::new(closed_room())));
+    refuses(|| Ticket::new(closed_room()).digest());
+    refuses(|| Ticket::new(closed_room()).walk());
+    refuses(|| Causal::of(closed_room()));
+    refuses(|| tagged(&mut closed()));
+    refuses(|| CheckedCertificate::of(closed()));
+}
+
+/// Refuses each allocation of a call that is about to restart the history. Returns the outcomes,
+/// with the events after each.
+fn restarting_calls(limits: Limits, bytes: u64) -> Vec<(Option<StepError>, usize)> {
+    let committee = Committee::equal(&data::keys()).unwrap();
+    let mut outcomes = Vec::new();
+    for number in 1.. {
+        let builder = Store::builder(&committee).limits(limits);
+        let store = builder.restart_when(bytes, u32::MAX).open().unwrap();
+        let session = store.session().unwrap();
+        (0..4).for_each(|_| drop(session.status().unwrap()));
+        FAILS.set(number);
+        let outcome = session.status().map(drop).err();
+        let is_last = FAILS.replace(0) > 0;
+        outcomes.push((outcome, store.events()));
+        session.status().unwrap();
+        if is_last {
+            break;
+        }
+    }
+    outcomes
+}
+
+#[test]
+fn automatic_restarts() {
+    // A bound on bytes is advisory: without memory for the restart, the call goes on.
+    let outcomes = restarting_calls(Limits::default(), 600);
+    assert_eq!(outcomes.first(), Some(&(None, 5)));
+    assert_eq!(outcomes.last(), Some(&(None, 1)));
+    let full = Limits {
+        events: 4,
+        ..Limits::default()
+    };
+    let outcomes = restarting_calls(full, u64::MAX);
+    assert_eq!(outcomes.first(), Some(&(Some(StepError::NoMemory), 4)));
+    assert_eq!(outcomes.last(), Some(&(None, 1)));
+}

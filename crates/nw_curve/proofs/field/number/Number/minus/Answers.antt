@@ -1,0 +1,7 @@
+use Rattle.nw_curve.specs.Weights.{value_of}
+use Rattle.nw_curve.proofs.Digits.{minus_is}
+use Rattle.nw_curve.proofs.field.number.Number.minus.Goals as goal
+
+pub returns : goal.returns
+returns c =
+    minus_is (value_of c.minus.result) (value_of c.self.inside.limbs) (value_of c.other.inside.limbs) c.args.self.now c.args.other.now c.minus.ensures c.self.view_is c.other.view_is

@@ -1,0 +1,42 @@
+//! Looks at slots and at rounds.
+ghost use Rattle.std.specs.Prelude.{IfOk};
+ghost use Rattle.nw_model.specs.Look.{AreLooks, IsLook, TellsSatisfied};
+
+use super::Dag;
+use nw_digest::{NoMemory, Round};
+use nw_model::Look;
+use std::alloc::Global;
+
+impl Dag {
+    /// What the state has in the slot of this round and author. Allocates nothing.
+    pub fn look(&self, round: Round, author: u16) -> Look
+        ensures look { IsLook self.now.state (round, author) result }
+        ensures satisfied { TellsSatisfied self.now.state (round, author) result }
+    {
+        let certified = self.held.certified(round, author);
+        let (stands, complete) = match certified {
+            None => (false, false),
+            Some(digest) => (self.held.holds(&digest), self.is_complete(&digest)),
+        };
+        Look {
+            floor: self.held.floor(),
+            first: self.held.first(round, author),
+            certified,
+            stands,
+            complete,
+        }
+    }
+
+    /// The looks at the slots of the round that have a first or a certified digest, each with its author, ascending. `NoMemory` if
+    /// allocation fails.
+    pub fn look_round(&self, alloc: Global, round: Round) -> Result<Vec<(u16, Look)>, NoMemory>
+        ensures { IfOk result (λ looks. AreLooks self.now.state round looks.items) }
+    {
+        let authors = self.held.authors(alloc, round)?;
+        let mut looks = Vec::with_capacity(alloc, authors.len())?;
+        for author in authors.as_slice() {
+            looks.push((*author, self.look(round, *author)))?;
+        }
+        Ok(looks)
+    }
+}

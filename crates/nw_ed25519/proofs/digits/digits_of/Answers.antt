@@ -1,0 +1,30 @@
+use Rattle.std.proofs.Common.{◌≡◌, ◌≢◌, ℕ, ◌-◌, ◌/◌, ◌%◌, ◌<◌, length, arith, get_or-set_other, le_refl}
+use Rattle.std.proofs.Math.ListN.{length-set}
+use Rattle.std.proofs.lemmas.List.{length-replicate}
+use Rattle.nw_ed25519.proofs.DigitSums.{digit_split, zeros, each_digit}
+use Rattle.nw_ed25519.proofs.digits.digits_of.Goals as goal
+
+pub loop-place-init : goal.loop-place-init
+loop-place-init c = record {
+  size = length-replicate {A = ℕ} 253 0;
+  value = omega arith;
+  above = λ i _. zeros 253 i;
+  small = λ i. rw (zeros 253 i) (omega arith);
+  odd = λ i. rw (zeros 253 i) (λ h. absurd (omega arith));
+}
+
+pub loop-place-preserved : goal.loop-place-preserved
+loop-place-preserved c =
+    let place = c.loop-place.place in
+    let digits = c.loop-place.digits in
+    let digit = c.lowest_digit-digit.result in
+    let rest = c.loop-place.rest in
+    let within : place < length digits = omega arith in
+    let half : c.half-rest.result ≡ (rest - digit) / 2 = omega arith in
+    record {
+      size = rw length-set c.loop-place.invariant.size;
+      value = digit_split c.args.number.now place digit rest c.half-rest.result digits c.loop-place.invariant.value within (c.loop-place.invariant.above place (le_refl place)) c.lowest_digit-digit.ensures.rest half;
+      above = λ i h. let other : i ≢ place = omega arith in rw get_or-set_other (c.loop-place.invariant.above i (omega arith));
+      small = each_digit (λ (d : ℕ). d < 16) digits place digit within c.lowest_digit-digit.ensures.small c.loop-place.invariant.small;
+      odd = each_digit (λ (d : ℕ). d ≢ 0 → d % 2 ≡ 1) digits place digit within c.lowest_digit-digit.ensures.odd c.loop-place.invariant.odd;
+    }

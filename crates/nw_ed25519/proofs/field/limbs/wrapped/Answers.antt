@@ -1,8 +1,0 @@
-use Rattle.std.proofs.Common.{arith}
-use Rattle.nw_ed25519.specs.Weights.{value_of}
-use Rattle.nw_ed25519.proofs.Digits.{halves}
-use Rattle.nw_ed25519.proofs.field.limbs.wrapped.Goals as goal
-
-pub returns : goal.returns
-returns c =
-    halves (value_of c.args.low.now) (value_of c.args.high.now) (value_of c.new.result) c.multiply_add-first.result.1.fourth (value_of c.plus_small.result) c.plus_small.ensures (omega arith)

@@ -1,7 +1,0 @@
-use Rattle.nw_ed25519.specs.Weights.{value_of}
-use Rattle.nw_ed25519.proofs.Digits.{plus_is}
-use Rattle.nw_ed25519.proofs.field.number.Number.plus.Goals as goal
-
-pub returns : goal.returns
-returns c =
-    plus_is (value_of c.plus.result) (value_of c.self.inside.limbs) (value_of c.other.inside.limbs) c.args.self.now c.args.other.now c.plus.ensures c.self.view_is c.other.view_is

@@ -1,0 +1,62 @@
+-- Journals, after the history has one more event.
+use Rattle.std.proofs.Common.{◌≡◌, ◌≢◌, ℕ, zero, suc, ◌+◌, ◌<◌, Bool, true, false, cond, List, [], ◌∷◌, ◌++◌, length, map, drop, refl, sym, ap, ◌∙◌, subst, arith, append-nil}
+use Rattle.std.specs.Prelude.{◌==◌, All, filter}
+use Rattle.std.specs.List.{Contains}
+use Rattle.std.proofs.lemmas.Bool.{eq-eqb, ne_eqb}
+use Rattle.std.proofs.lemmas.List.Elements.{All-push, All-weaker}
+use Rattle.nw_model.specs.declared.event.Event.{Event}
+use Rattle.nw_model.specs.History.{events_of}
+use Rattle.nw_history.specs.Story.{Story, with_event}
+use Rattle.nw_history.specs.Prefix.{IsPrefixOf}
+use Rattle.nw_book.specs.Answer.{DoneView}
+use Rattle.nw_book.specs.Journal.{Guarded, Journal, ArePrefixesOf}
+use Rattle.nw_book.specs.Settled.{IsJournalOf, events_in}
+use Rattle.nw_book.proofs.Longer.{events_of_last}
+use Rattle.nw_book.proofs.Prefixes.{prefix_itself, prefix_trans, prefix_next}
+use Rattle.nw_shared_store.specs.Rule.{IsUpToDate, answered, new_journal}
+
+drop_begun : (xs ys : List Event) → drop (length xs) (xs ++ ys) ≡ ys
+drop_begun [] ys = refl
+drop_begun (x ∷ xs) ys = drop_begun xs ys
+
+-- the events of a session that made no call
+none_of : (id : ℕ) (es : List Event) → All (λ (e : Event). e.session < id) es → events_of id es ≡ []
+none_of id [] below = refl
+none_of id (e ∷ es) below =
+    let first : e.session < id = below 0 e (omega arith) in
+    ap (λ (b : Bool). cond b (e ∷ events_of id es) (events_of id es)) (ne_eqb e.session id (λ is. omega arith)) ∙ none_of id es (λ k d lt. below (suc k) d (omega (arith, lt)))
+
+events_in_last : (answers : List DoneView) (a : DoneView) → events_in (answers ++ a ∷ []) ≡ events_in answers ++ a.event ∷ []
+events_in_last [] a = refl
+events_in_last (x ∷ answers) a = ap (λ l. x.event ∷ l) (events_in_last answers a)
+
+-- what `answered` gives after one more event
+pub answered_one : (h : Story) (e : Event) (j : Journal) → answered h (with_event h e) j
+    ≡ record { id = j.id; answers = j.answers ++ record { event = e; front = with_event h e } ∷ []; known = j.known ++ with_event h e ∷ [] }
+answered_one h e j = ap (λ (new : List Event). record { id = j.id; answers = j.answers ++ map (λ (x : Event). record { event = x; front = with_event h e }) new; known = j.known ++ with_event h e ∷ [] }) (drop_begun h.events (e ∷ []))
+
+begun_next : (h : Story) (e : Event) (answers : List DoneView) → ArePrefixesOf h answers → ArePrefixesOf (with_event h e) answers
+begun_next h e answers = All-weaker (λ (a : DoneView). IsPrefixOf a.front h) (λ (a : DoneView). IsPrefixOf a.front (with_event h e)) (λ a p. prefix_trans a.front h (with_event h e) p (prefix_next h (with_event h e) e refl)) answers
+
+-- an event of the journal's own session, which is answered
+pub part_own : (h : Story) (e : Event) (j : Journal) → e.session ≡ j.id → IsJournalOf h j.id j → IsJournalOf (with_event h e) j.id (answered h (with_event h e) j)
+part_own h e j own part =
+    let next = with_event h e in
+    let a : DoneView = record { event = e; front = next } in
+    subst (IsJournalOf next j.id) (sym (answered_one h e j)) (record {
+      id_is = refl;
+      events = events_of_last j.id h.events e ∙ (ap (λ (b : Bool). events_of j.id h.events ++ cond b (e ∷ []) []) (eq-eqb e.session j.id own) ∙ (ap (λ l. l ++ e ∷ []) part.events ∙ sym (events_in_last j.answers a)));
+      begun = All-push (λ (x : DoneView). IsPrefixOf x.front next) j.answers a (begun_next h e j.answers part.begun) (prefix_itself next);
+    })
+
+-- an event of another session
+pub part_other : (h : Story) (e : Event) (j : Journal) → e.session ≢ j.id → IsJournalOf h j.id j → IsJournalOf (with_event h e) j.id j
+part_other h e j apart part = record {
+  id_is = refl;
+  events = events_of_last j.id h.events e ∙ (ap (λ (b : Bool). events_of j.id h.events ++ cond b (e ∷ []) []) (ne_eqb e.session j.id apart) ∙ (append-nil (events_of j.id h.events) ∙ part.events));
+  begun = begun_next h e j.answers part.begun;
+}
+
+-- a session that is made now
+pub part_new : (h : Story) (id : ℕ) (known : List Story) → All (λ (e : Event). e.session < id) h.events → IsJournalOf h id (new_journal id known)
+part_new h id known below = record { id_is = refl; events = none_of id h.events below; begun = λ k a lt. absurd (omega (arith, lt)) }

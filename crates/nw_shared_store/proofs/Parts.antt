@@ -1,0 +1,58 @@
+-- Sessions that are settled, from what each step says.
+use Rattle.std.proofs.Common.{◌≡◌, ℕ, zero, suc, ◌+◌, ◌<◌, ◌≤◌, List, [], ◌∷◌, ◌++◌, Some, length, map, refl, sym, ap, ◌∙◌, subst, arith, length-append}
+use Rattle.std.specs.Prelude.{All, slice_get}
+use Rattle.std.proofs.lemmas.List.Elements.{All-nil, All-cons}
+use mathlib.Core.List.{IsPrefix}
+use Rattle.nw_sig.specs.Signed.{Meaning}
+use Rattle.nw_model.specs.declared.event.Event.{Event}
+use Rattle.nw_history.specs.Story.{Story}
+use Rattle.nw_history.specs.Prefix.{IsPrefixOf}
+use Rattle.nw_book.specs.Journal.{Journal, IsHistoryOf, origin_of}
+use Rattle.nw_book.specs.Settled.{AreSettled, IsJournalOf}
+use Rattle.nw_shared_store.specs.Session.{IsPresent, SessionView, knowing}
+use Rattle.nw_shared_store.specs.Settlement.{AreParts, IsPart}
+
+-- a prefix that is as long is the whole
+prefix_whole : (xs ys : List Event) → IsPrefix xs ys → length xs ≡ length ys → xs ≡ ys
+prefix_whole [] [] p le = refl
+prefix_whole [] (y ∷ ys) p le = absurd (omega arith)
+prefix_whole (x ∷ xs) [] p le = absurd (cc (p.1))
+prefix_whole (x ∷ xs) (y ∷ ys) p le = let rest = prefix_whole xs ys (p.0, cc (p.1)) (omega arith) in cc (p.1, rest)
+
+pub same_story : (s t : Story) → IsPrefixOf s t → length s.events ≡ length t.events → s ≡ t
+same_story s t p same = λ i. record { committee = p.committee i; limits = p.limits i; base = p.base i; events = prefix_whole s.events t.events p.events same i }
+
+pub part : (accepts : Meaning) (id : ℕ) (h now : Story) (made : ℕ) (old new : SessionView) → IsPresent accepts (origin_of old.store.first) old.journal now made
+    → new.journal ≡ knowing old.journal now → new.store ≡ old.store → old.journal.id ≡ id → now ≡ h → IsPart accepts id h new
+part accepts id h now made old new present knows store id_is is = record {
+  of_store = subst (λ (x : Story). IsHistoryOf accepts (origin_of new.store.first) x) is (subst (λ s. IsHistoryOf accepts (origin_of s.first) now) (sym store) present.of_store);
+  journal = subst (λ (j : Journal). IsJournalOf h id j) (sym knows) (subst (λ (x : ℕ × Story). IsJournalOf x.1 x.0 (knowing old.journal now)) (λ i. (id_is i, is i)) (record { id_is = refl; events = present.own.events; begun = present.own.begun }));
+}
+
+-- the part at each place
+at_place : (accepts : Meaning) (n : ℕ) (h : Story) (ss : List SessionView) → AreParts accepts n h ss → (k : ℕ) (j : Journal) → slice_get (map (λ (s : SessionView). s.journal) ss) k ≡ Some j → IsJournalOf h (n + k) j
+at_place accepts n h [] parts k j at = absurd (cc (at))
+at_place accepts n h (s ∷ ss) parts zero j at =
+    let same : s.journal ≡ j = cc (at) in
+    subst (λ (x : ℕ × Journal). IsJournalOf h x.0 x.1) (λ i. (number i, same i)) parts.0.journal
+  where
+    number : n ≡ n + 0
+    number = omega arith
+at_place accepts n h (s ∷ ss) parts (suc k) j at =
+    let number : n + 1 + k ≡ n + suc k = omega arith in
+    subst (λ m. IsJournalOf h m j) number (at_place accepts (n + 1) h ss parts.1 k j at)
+
+journals_length : (ss : List SessionView) → length (map (λ (s : SessionView). s.journal) ss) ≡ length ss
+journals_length [] = refl
+journals_length (s ∷ ss) = let r = journals_length ss in omega (arith, r)
+
+pub settled : (accepts : Meaning) (h : Story) (made : ℕ) (ss : List SessionView) → AreParts accepts 0 h ss → All (λ (e : Event). e.session < made) h.events → made ≡ length ss
+    → AreSettled h (map (λ (s : SessionView). s.journal) ss)
+settled accepts h made ss parts below count = record {
+  each = λ k j at. let zero_plus : 0 + k ≡ k = omega arith in subst (λ m. IsJournalOf h m j) zero_plus (at_place accepts 0 h ss parts k j at);
+  others = subst (λ m. All (λ (e : Event). e.session < m) h.events) (count ∙ sym (journals_length ss)) below;
+}
+
+pub of_stores : (accepts : Meaning) (n : ℕ) (h : Story) (ss : List SessionView) → AreParts accepts n h ss → All (λ (s : SessionView). IsHistoryOf accepts (origin_of s.store.first) h) ss
+of_stores accepts n h [] parts = All-nil (λ (s : SessionView). IsHistoryOf accepts (origin_of s.store.first) h)
+of_stores accepts n h (s ∷ ss) parts = All-cons (λ (x : SessionView). IsHistoryOf accepts (origin_of x.store.first) h) s ss parts.0.of_store (of_stores accepts (n + 1) h ss parts.1)

@@ -1,0 +1,26 @@
+-- The value under the lock, after a step of its book.
+use Rattle.std.proofs.Common.{◌≡◌, ℕ, ◌<◌, ◌≤◌, Result, Ok, Err, sym, subst}
+use Rattle.std.specs.Prelude.{All}
+use Rattle.std.specs.Result.{IfOk, OnErr}
+use Rattle.std.proofs.lemmas.List.Elements.{All-push}
+use Rattle.nw_sig.specs.Signed.{Meaning}
+use Rattle.nw_model.specs.declared.call.Call.{Call}
+use Rattle.nw_model.specs.declared.event.Event.{Event}
+use Rattle.nw_model.specs.declared.reply.Reply.{Reply}
+use Rattle.nw_history.specs.Limits.{AreInRange}
+use Rattle.nw_history.specs.Story.{Story}
+use Rattle.nw_book.specs.Answer.{Takes}
+use Rattle.nw_book.specs.Turn.{event}
+use Rattle.nw_shared_store.specs.Held.{IsHeld}
+
+pub held_after : {A E : Type 0} (accepts : Meaning) (old new : Story) (made id number : ℕ) (call : Call) (reply_of : A → Reply) (front_of : A → Story) (r : Result A E)
+    → IsHeld accepts (record { history = old; made = made }) → id < made → IfOk r (λ a. Takes accepts old new id number call (reply_of a) (front_of a)) → OnErr r (new ≡ old)
+    → IsHeld accepts (record { history = new; made = made })
+held_after accepts old new made id number call reply_of front_of (Ok a) held below takes same = record {
+  in_range = subst (λ (s : Story). AreInRange s.limits) (sym takes.history) held.in_range;
+  legal = takes.legal;
+  few = subst (λ (s : Story). made ≤ s.limits.sessions) (sym takes.history) held.few;
+  below = subst (λ (s : Story). All (λ (x : Event). x.session < made) s.events) (sym takes.history) (All-push (λ (x : Event). x.session < made) old.events (event id number call (reply_of a)) held.below below);
+}
+held_after accepts old new made id number call reply_of front_of (Err e) held below takes same =
+    subst (λ (s : Story). IsHeld accepts (record { history = s; made = made })) (sym same) held

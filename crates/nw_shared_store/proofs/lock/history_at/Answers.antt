@@ -1,0 +1,14 @@
+use Rattle.std.proofs.Common.{ℕ}
+use Rattle.nw_history.specs.Story.{Story}
+use Rattle.nw_book.specs.Journal.{Guarded}
+use Rattle.nw_shared_store.specs.Held.{IsFound}
+use Rattle.nw_shared_store.proofs.Slots.{slot_of, on_same}
+use Rattle.nw_shared_store.proofs.lock.history_at.Goals as goal
+
+pub slot_mut-held-requires : goal.slot_mut-held-requires
+slot_mut-held-requires g c = let t = c.requires.held in (c.requires.lock.same, (t.0, slot_of c.args.pass.now.me t.0 t.1))
+
+pub returns-clause-found : goal.returns-clause-found
+returns-clause-found g c =
+    let t = c.requires.held in
+    on_same c.args.pass.now.me c.slot_mut-held.result.now t.0 c.slot_mut-held.ensures.value t.1 (λ d (found : Story × ℕ). IsFound g.S.Scheme.accepts d found.0 found.1) c.look.result c.look.ensures

@@ -1,0 +1,26 @@
+use Rattle.std.proofs.Common.{◌≡◌, ℕ, List, [], ◌∷◌, subst, sym, ◌<◌, arith, ◌∙◌, ap}
+use Rattle.std.specs.Prelude.{◌==◌}
+use Rattle.std.proofs.lemmas.Bool.{eqb-true}
+use mathlib.Core.Option.{none}
+use prog.Atomic.{either}
+use Rattle.atomic_table.specs.Table.{Allows, Me, step}
+use Rattle.nw_book.specs.Journal.{Guarded}
+use Rattle.nw_shared_store.specs.Rule.{Known, IsOneHistory, Acquires, HasLock, holder_of}
+use Rattle.nw_shared_store.proofs.Steps.{acquires}
+use Rattle.nw_shared_store.proofs.lock.try_take.Goals as goal
+
+pub compare_exchange-requires : goal.compare_exchange-requires
+compare_exchange-requires g c =
+    let lock = c.args.lock.now.shared in
+    let slots = lock.table_id.slots in
+    let me = c.args.pass.now.me in (
+      c.requires.lock.same,
+      subst (λ n. 0 < n) (sym c.requires.lock.words) (omega arith),
+      subst (λ (l : List (ℕ × Guarded)). Allows (IsOneHistory lock.key) slots c.args.pass.now.id (me.0, l) 0 (λ n. either (n == 0) 1 n) (Acquires (step slots 0 0 1 none) (me.0, l))) (sym c.requires.out) (acquires lock.key slots c.args.pass.now.id me.0),
+    )
+
+pub returns-clause-got : goal.returns-clause-got
+returns-clause-got g c = λ got.
+    let told = c.compare_exchange.ensures.2.0 (eqb-true _ _ got) in
+    let v = c.args.pass.now.me.0 in
+    (told.0, told.1 ∙ ap (λ (l : List (ℕ × Guarded)). (holder_of told.0 v, (0, told.0) ∷ l)) c.requires.out, told.2)

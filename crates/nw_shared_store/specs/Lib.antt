@@ -1,0 +1,4 @@
+pub mod Rule
+pub mod Held
+pub mod Session
+pub mod Settlement

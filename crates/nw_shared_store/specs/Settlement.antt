@@ -1,0 +1,30 @@
+-- Settlement of sessions, each with the history of its own store.
+use Rattle.std.specs.Prelude.{◌≡◌, ℕ, ◌+◌, List, [], ◌∷◌}
+use Rattle.nw_sig.specs.Signed.{Meaning}
+use Rattle.nw_history.specs.Story.{Story}
+use Rattle.nw_book.specs.Answer.{DoneView}
+use Rattle.nw_book.specs.Journal.{IsHistoryOf, origin_of}
+use Rattle.nw_book.specs.Settled.{IsJournalOf}
+use Rattle.nw_shared_store.specs.Session.{SessionView, StoreId}
+
+-- what a session keeps when it looks at its store's history
+pub record Kept : Type 0 where
+  -- its store
+  pub store : StoreId
+  -- its number
+  pub id : ℕ
+  -- its answers
+  pub answers : List DoneView
+
+abbrev pub kept : SessionView → Kept
+kept s = record { store = s.store; id = s.journal.id; answers = s.journal.answers }
+
+-- the history is one of the session's store, and has exactly the calls of its journal
+pub record IsPart (accepts : Meaning) (id : ℕ) (history : Story) (s : SessionView) : Type 0 where
+  pub of_store : IsHistoryOf accepts (origin_of s.store.first) history
+  pub journal : IsJournalOf history id s.journal
+
+-- so of the sessions n, n + 1, .. in order
+abbrev pub AreParts : Meaning → ℕ → Story → List SessionView → Type 0
+AreParts accepts n history [] = Unit {0}
+AreParts accepts n history (s ∷ ss) = IsPart accepts n history s × AreParts accepts (n + 1) history ss

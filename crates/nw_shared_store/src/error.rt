@@ -1,0 +1,17 @@
+//! Why a shared store refuses a call.
+use nw_book::NoStep;
+use thiserror::Error;
+
+/// Why a call of a shared store is refused. A refusal changes nothing.
+#[derive(Clone, Copy, Debug, PartialEq, Eq, Error)]
+pub enum Refusal {
+    /// Another thread has the lock. Try again.
+    #[error("the store is busy")]
+    Busy,
+    /// The store has made as many sessions as its limit allows.
+    #[error("too many sessions")]
+    TooMany,
+    /// The call takes no step. It is never out of turn.
+    #[error("{0}")]
+    NoStep(NoStep),
+}

@@ -1,0 +1,34 @@
+//! What a seat knows.
+use nw_book::{Entry, Front};
+use nw_sig::Scheme;
+use std::collections::LinkedList;
+use std::marker::Model;
+
+/// What a seat knows: `G` is the value under the lock, and `J` a journal. No value of this type is ever made.
+pub struct Knowledge<G, J> {
+    /// The value under the lock, if the seat has the lock.
+    holds: Option<G>,
+    /// Whether the seat has a session.
+    acts: bool,
+    /// The journal of its session. If it has none, only the known histories count.
+    journal: J,
+}
+
+/// A journal, as a seat knows it. No value of this type is ever made.
+pub struct Written<S: Scheme> {
+    id: u16,
+    answers: LinkedList<Entry<S>>,
+    known: LinkedList<Front<S>>,
+}
+
+impl<S: Scheme> Model for Written<S> {
+    ghost use Rattle.std.specs.Coded.{codes};
+    ghost use Rattle.nw_model.specs.State.{coded_state};
+    ghost use Rattle.nw_book.specs.Journal.{Journal};
+
+    ghost Value = { Journal };
+
+    ghost coded = { Prim.hlevel (codes, coded_state) };
+
+    ghost view = { λ j. record { id = j.id; answers = j.answers; known = j.known } };
+}

@@ -1,0 +1,82 @@
+//! The rule of the lock's table, and the steps on it.
+use crate::held::Held;
+use crate::knowledge::{Knowledge, Written};
+use atomic_table::{Play, Seat, Table, TableRule};
+use nw_book::Front;
+use nw_sig::Scheme;
+use std::alloc::Global;
+
+/// What a seat knows.
+pub(crate) type Known<S> = Knowledge<Held<S>, Written<S>>;
+
+/// The lock: a table of one word and one slot, which has the value.
+pub(crate) type Lock<S> = Table<Held<S>, Known<S>, Front<S>, OneHistory, Global>;
+
+/// A seat: with it a session, a note or a single call takes its steps.
+pub(crate) type Pass<S> = Seat<Held<S>, Known<S>>;
+
+/// The rule: there is one history, and it fits what each seat knows.
+pub struct OneHistory;
+
+impl<S: Scheme> TableRule<Held<S>, Known<S>, Front<S>> for OneHistory {
+    ghost use Rattle.std.specs.Prelude.{◌∷◌, []};
+    ghost use Rattle.nw_shared_store.specs.Rule.{IsOneHistory, hearer};
+
+    ghost holds = { λ first s. IsOneHistory first s };
+
+    ghost first = { λ first. hearer (first ∷ []) };
+}
+
+/// The step that makes a new seat.
+pub(crate) struct Come;
+
+impl<S: Scheme> Play<Held<S>, Known<S>> for Come {
+    ghost use Rattle.nw_shared_store.specs.Rule.{Comes};
+
+    ghost then = { Comes };
+}
+
+/// The step that takes the lock.
+pub(crate) struct Acquire;
+
+impl<S: Scheme> Play<Held<S>, Known<S>> for Acquire {
+    ghost use Rattle.nw_shared_store.specs.Rule.{Acquires};
+
+    ghost then = { Acquires };
+}
+
+/// The step that gives the lock back, with the value as it was.
+pub(crate) struct Return;
+
+impl<S: Scheme> Play<Held<S>, Known<S>> for Return {
+    ghost use Rattle.nw_shared_store.specs.Rule.{Returns};
+
+    ghost then = { Returns };
+}
+
+/// The step that gives the lock back after a call.
+pub(crate) struct Release;
+
+impl<S: Scheme> Play<Held<S>, Known<S>> for Release {
+    ghost use Rattle.nw_shared_store.specs.Rule.{Releases};
+
+    ghost then = { Releases };
+}
+
+/// The step that gives the lock back after a session was made.
+pub(crate) struct Enrol;
+
+impl<S: Scheme> Play<Held<S>, Known<S>> for Enrol {
+    ghost use Rattle.nw_shared_store.specs.Rule.{Enrols};
+
+    ghost then = { Enrols };
+}
+
+/// The step that gives the lock back after a look at the history.
+pub(crate) struct Look;
+
+impl<S: Scheme> Play<Held<S>, Known<S>> for Look {
+    ghost use Rattle.nw_shared_store.specs.Rule.{Looks};
+
+    ghost then = { Looks };
+}

@@ -1,0 +1,182 @@
+//! Sessions of a shared store.
+ghost use Rattle.std.specs.Prelude.{◌≡◌, None, IsTrue, IsFalse, IfOk, IfErr, OnOk, OnErr};
+ghost use Rattle.nw_model.specs.declared.call.Call.TheVariants as Call;
+ghost use Rattle.nw_book.specs.Answer.{IsTicketFor, front_of, reply_of};
+ghost use Rattle.nw_book.specs.Answered.{IsExplained};
+ghost use Rattle.nw_book.specs.Command.{call_of, committee_of};
+ghost use Rattle.nw_book.specs.Journal.{KnowsAll, origin_of};
+ghost use Rattle.nw_book.specs.Settled.{IsJournalOf};
+ghost use Rattle.nw_book.specs.Turn.{MatchesCommittee};
+ghost use Rattle.nw_shared_store.specs.Session.{HasHeard, IsOfAnother, IsPassing, IsPresent, IsRefused, knowing};
+
+use crate::Refusal;
+use crate::lock::{call_at, end_call, end_look, give_back, history_at, open_at, try_take};
+use crate::rule::{Lock, Pass};
+use nw_book::{Command, Done, Front, NoStep, Ticket};
+use nw_digest::Digest;
+use nw_sig::Scheme;
+use std::alloc::Global;
+use std::marker::Model;
+use std::sync::Arc;
+
+/// One caller's sequence of calls of a shared store. It keeps the store alive, and may be sent to another thread. Contracts see its store and
+/// its journal: its id, its answers, and the histories that it knows of.
+///
+/// A call makes one attempt to take the store's lock, and never waits. On `Busy` nothing changed: call again.
+#[derive(Drop)]
+pub struct SharedSession<S: Scheme> {
+    pub(crate) lock: Arc<Lock<S>, Global>,
+    pub(crate) pass: Pass<S>,
+    pub(crate) id: u16,
+}
+
+impl<S: Scheme> Model for SharedSession<S> {
+    ghost use Rattle.std.specs.Prelude.{◌≡◌};
+    ghost use Rattle.std.specs.Coded.{codes};
+    ghost use Rattle.nw_model.specs.State.{coded_state};
+    ghost use Rattle.nw_shared_store.specs.Session.{IsSessionAt, SessionView};
+
+    ghost Value = { SessionView };
+
+    ghost coded = { Prim.hlevel (codes, coded_state) };
+
+    ghost view = { λ s. record {
+      store = record { lock = s.lock.value.shared.table_id; first = s.lock.value.shared.key };
+      journal = s.pass.me.0.journal;
+    } };
+
+    ghost invariant = { λ s. IsSessionAt (record { lock = s.lock.value.shared.table_id; first = s.lock.value.shared.key })
+        s.id s.pass.table_id s.pass.me };
+}
+
+impl<S: Scheme> SharedSession<S> {
+    /// The session's id. A store numbers its sessions from 0, in the order in which it makes them.
+    pub fn id(&self) -> u16
+        ensures { result ≡ self.now.journal.id }
+    {
+        self.id
+    }
+
+    /// Makes the command's call as the session's next call. The call is never out of turn.
+    ///
+    /// A refused call changes nothing, and can be tried again. The error is the first of these that applies:
+    ///
+    /// 1. `Busy`: another thread has the lock.
+    /// 2. `OtherCommittee`: the block or certificate was checked under another committee.
+    /// 3. `HistoryFull`: the history has reached its limit of events.
+    /// 4. `NoMemory`: an allocation failed.
+    pub fn call(&mut self, alloc: Global, command: &Command<S>) -> Result<Done<S>, Refusal>
+        ensures answered { IfOk result
+            (λ done. IsExplained S.accepts (origin_of self.old.store.first) self.old.journal
+            self.new.journal (call_of command.now) done.event.reply done.front) }
+        ensures own_calls { IfOk result
+            (λ done. IsJournalOf done.front self.old.journal.id self.new.journal) }
+        ensures own_committee { OnOk result
+            (MatchesCommittee self.old.store.first.committee (committee_of command.now)) }
+        ensures refused { IfErr result (IsRefused S.accepts (origin_of self.old.store.first)
+            self.old.journal (committee_of command.now)) }
+        ensures store { self.new.store ≡ self.old.store }
+        ensures unchanged { OnErr result (self.new ≡ self.old) }
+    {
+        if !try_take(&self.lock, &mut self.pass) {
+            return Err(Refusal::Busy);
+        }
+        let done = match call_at(&self.lock, &mut self.pass, alloc, self.id, command) {
+            Ok(done) => done,
+            Err(why) => {
+                give_back(&self.lock, &mut self.pass);
+                return Err(Refusal::NoStep(why));
+            }
+        };
+        end_call(&self.lock, &mut self.pass);
+        Ok(done)
+    }
+
+    /// Opens a causal read of the digest as the session's next call. If the digest is complete, returns a ticket, which is walked later
+    /// without the lock. Otherwise returns an answer that says why there is no list. The call is never out of turn.
+    ///
+    /// A refused call changes nothing, and can be tried again. The error is the first of these that applies:
+    ///
+    /// 1. `Busy`: another thread has the lock.
+    /// 2. `HistoryFull`: the history has reached its limit of events.
+    /// 3. `NoMemory`: an allocation failed.
+    pub fn open_causal(
+        &mut self,
+        alloc: Global,
+        digest: Digest,
+    ) -> Result<Result<Ticket<S>, Done<S>>, Refusal>
+        ensures answered { IfOk result
+            (λ answer. IsExplained S.accepts (origin_of self.old.store.first) self.old.journal
+            self.new.journal (Call.Causal digest) (reply_of answer) (front_of answer)) }
+        ensures own_calls { IfOk result
+            (λ answer. IsJournalOf (front_of answer) self.old.journal.id self.new.journal) }
+        ensures told { IfOk result (IsTicketFor digest) }
+        ensures refused { IfErr result (IsRefused S.accepts (origin_of self.old.store.first)
+            self.old.journal None) }
+        ensures store { self.new.store ≡ self.old.store }
+        ensures unchanged { OnErr result (self.new ≡ self.old) }
+    {
+        if !try_take(&self.lock, &mut self.pass) {
+            return Err(Refusal::Busy);
+        }
+        let answer = match open_at(&self.lock, &mut self.pass, alloc, self.id, digest) {
+            Ok(answer) => answer,
+            Err(why) => {
+                give_back(&self.lock, &mut self.pass);
+                return Err(Refusal::NoStep(why));
+            }
+        };
+        end_call(&self.lock, &mut self.pass);
+        Ok(answer)
+    }
+
+    /// The store's history as it is now, and the number of sessions made so far. Of this session, the history has exactly the calls of its
+    /// journal, in order. The session now knows of this history. This is not a call. It compares and copies no events.
+    ///
+    /// A session that hears this history as a note knows all that this session knows now.
+    ///
+    /// `Busy`: another thread has the lock. `NoMemory`: a reference count is at its limit.
+    pub fn history(&mut self) -> Result<(Front<S>, u16), Refusal>
+        ensures present { IfOk result (λ now. IsPresent S.accepts (origin_of self.old.store.first)
+            self.old.journal now.0 now.1) }
+        ensures knows { IfOk result
+            (λ now. self.new.journal ≡ knowing self.old.journal now.0) }
+        ensures refused { IfErr result IsPassing }
+        ensures store { self.new.store ≡ self.old.store }
+        ensures unchanged { OnErr result (self.new ≡ self.old) }
+    {
+        if !try_take(&self.lock, &mut self.pass) {
+            return Err(Refusal::Busy);
+        }
+        let now = match history_at(&self.lock, &mut self.pass) {
+            Ok(now) => now,
+            Err(_) => {
+                give_back(&self.lock, &mut self.pass);
+                return Err(Refusal::NoStep(NoStep::NoMemory));
+            }
+        };
+        end_look(&self.lock, &mut self.pass);
+        Ok(now)
+    }
+
+    /// Hears the note, which is a history of the same store: returns `true`, and from then on the note is a prefix of the history of every
+    /// answer of this session. Returns `false` if the note is no prefix of the store's history. This is not a call.
+    ///
+    /// It compares the session, number and call of each event of the note, without the lock.
+    ///
+    /// `Busy`: another thread has the lock. `NoMemory`: a reference count is at its limit.
+    pub fn hear(&mut self, note: &Front<S>) -> Result<bool, Refusal>
+        ensures heard { IfOk result (λ yes. IsTrue yes → HasHeard self.new.journal note.now) }
+        ensures other { IfOk result (λ yes. IsFalse yes
+            → IsOfAnother S.accepts (origin_of self.old.store.first) note.now) }
+        ensures knew { KnowsAll self.new.journal.known self.old.journal.known }
+        ensures id { self.new.journal.id ≡ self.old.journal.id }
+        ensures answers { self.new.journal.answers ≡ self.old.journal.answers }
+        ensures refused { IfErr result IsPassing }
+        ensures store { self.new.store ≡ self.old.store }
+        ensures unchanged { OnErr result (self.new ≡ self.old) }
+    {
+        let (history, _) = self.history()?;
+        Ok(note.is_prefix_of(&history))
+    }
+}

@@ -1,0 +1,107 @@
+//! Settlement: the journals of all sessions together are the history.
+ghost use Rattle.std.specs.Prelude.{◌≡◌, ◌+◌, ◌^◌, ◌<◌, IfOk, OnOk, length, map, All};
+ghost use Rattle.nw_book.specs.Journal.{IsHistoryOf, origin_of};
+ghost use Rattle.nw_book.specs.Settled.{AreSettled};
+ghost use Rattle.nw_shared_store.specs.Settlement.{AreParts, IsPart, kept};
+
+use crate::{Refusal, SharedSession};
+use nw_book::Front;
+use nw_sig::Scheme;
+use thiserror::Error;
+
+/// Why sessions do not settle.
+#[derive(Clone, Copy, Debug, PartialEq, Eq, Error)]
+pub enum Unsettled {
+    /// The store of the first session made another number of sessions than were given, or none was given.
+    #[error("{given} sessions were given")]
+    Unfinished {
+        /// The number of sessions that were given.
+        given: usize,
+    },
+    /// The session at this place has another id than its place, or the history of its store is another one.
+    #[error("session {session} is of another store, or has another number")]
+    Differs {
+        /// The place.
+        session: u16,
+    },
+    /// The history of a session's store could not be read.
+    #[error("{0}")]
+    Refused(Refusal),
+}
+
+/// Settles the sessions, which must be all that one store made, in the order of their ids, while none of them makes a call. Returns the
+/// store's history: it is an interleaving of the journals of these sessions, and each front in a journal is a prefix of it.
+///
+/// The sessions can go on. Each reads the history of its own store under the lock, and all these histories are compared. The cost grows with
+/// the number of sessions times the number of events.
+pub fn settle<S: Scheme>(sessions: &mut [SharedSession<S>]) -> Result<Front<S>, Unsettled>
+    ensures settled { IfOk result
+        (λ history. AreSettled history (map (λ s. s.journal) sessions.new)) }
+    ensures of_store { IfOk result (λ history.
+        All (λ s. IsHistoryOf S.accepts (origin_of s.store.first) history) sessions.new) }
+    ensures same { map kept sessions.new ≡ map kept sessions.old }
+{
+    let given = sessions.len();
+    let (history, made) = first_history(sessions)?;
+    if usize::from(made) != given {
+        return Err(Unsettled::Unfinished { given });
+    }
+    compare(sessions, 0, &history)?;
+    Ok(history)
+}
+
+/// The history of the first session's store, and the number of sessions that it made.
+fn first_history<S: Scheme>(sessions: &mut [SharedSession<S>]) -> Result<(Front<S>, u16), Unsettled>
+    ensures below { IfOk result (λ now. All (λ e. e.session < now.1) now.0.events) }
+    ensures same { map kept sessions.new ≡ map kept sessions.old }
+{
+    match sessions.split_first_mut() {
+        None => Err(Unsettled::Unfinished { given: 0 }),
+        Some((first, _others)) => match first.history() {
+            Ok(now) => Ok(now),
+            Err(why) => Err(Unsettled::Refused(why)),
+        },
+    }
+}
+
+/// Compares the history of each session's store with this one. The sessions must have the ids `from`, `from + 1`, ..
+fn compare<S: Scheme>(
+    sessions: &mut [SharedSession<S>],
+    from: u16,
+    history: &Front<S>,
+) -> Result<(), Unsettled>
+    requires { from + length sessions.old < 2 ^ 16 }
+    ensures parts { OnOk result (AreParts S.accepts from history.now sessions.new) }
+    ensures same { map kept sessions.new ≡ map kept sessions.old }
+{
+    match sessions.split_first_mut() {
+        None => Ok(()),
+        Some((first, rest)) => {
+            compare_one(first, from, history)?;
+            compare(rest, from + 1, history)
+        }
+    }
+}
+
+/// Compares the history of the session's store with this one. The session must have this id.
+fn compare_one<S: Scheme>(
+    session: &mut SharedSession<S>,
+    id: u16,
+    history: &Front<S>,
+) -> Result<(), Unsettled>
+    ensures part { OnOk result (IsPart S.accepts id history.now session.new) }
+    ensures same { kept session.new ≡ kept session.old }
+{
+    if session.id() != id {
+        return Err(Unsettled::Differs { session: id });
+    }
+    match session.history() {
+        Err(why) => Err(Unsettled::Refused(why)),
+        Ok((now, _)) => {
+            if now.len() != history.len() || !now.is_prefix_of(history) {
+                return Err(Unsettled::Differs { session: id });
+            }
+            Ok(())
+        }
+    }
+}
