@@ -89,10 +89,11 @@ fn is_missing(
         stands: true,
         complete: false,
     };
-    Ok(
-        matches!(missing, Some(missing) if missing.as_slice() == [wanted].as_slice())
-            && looks.as_slice() == [(0, look)].as_slice(),
-    )
+    let is_only = match &missing {
+        None => false,
+        Some(missing) => missing.as_slice() == [wanted].as_slice(),
+    };
+    Ok(is_only && looks.as_slice() == [(0, look)].as_slice())
 }
 
 /// Whether `wanted` is the first missing parent, and a collection to round 1 then drops one block.
