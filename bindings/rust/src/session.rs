@@ -195,7 +195,7 @@ impl Session {
     ///
     /// [`StepError::BadRound`] if the round is 2^48 or more.
     pub fn collect(&self, round: u64) -> Result<Answer<CollectReply>, StepError> {
-        let answer = self.step(Content::Small, |book, session, number, answer| {
+        let answer = self.step(Content::Collection, |book, session, number, answer| {
             ffi::nw_book_collect(book, session, number, round, answer)
         })?;
         Ok(Answer::new(answer, |answer, _| {
