@@ -181,8 +181,8 @@ impl Intake<'_> {
 
     /// Sends its next blocks, once the parents of each are satisfied.
     fn propose(&mut self) -> Outcome<()> {
-        while let Some(message) = self.own.front() {
-            let Checked::Block(block) = Message::check(&self.network.committee, message)? else {
+        while let Some(message) = self.own.front().cloned() {
+            let Checked::Block(block) = Message::check(&self.network.committee, &message)? else {
                 return Err("a message of the corpus is not a block".into());
             };
             if !self.flow().has_parents(&block.block()) {
@@ -196,14 +196,15 @@ impl Intake<'_> {
                 (5, 2) => self.network.broadcast(2, &data::values("forged")[0]),
                 _ => {}
             }
-            self.network.broadcast(self.me, message);
+            self.take_block(&block)?; // before it sends it, and without a second check
+            self.network.broadcast(self.me, &message);
             self.own.pop_front();
         }
         Ok(())
     }
 
     /// Writes a block. A refused block is dropped: if it gets a certificate, it is fetched.
-    fn take_block(&mut self, block: &CheckedBlock) -> Outcome<()> {
+    fn take_block(&self, block: &CheckedBlock) -> Outcome<()> {
         match self.session.write(block)?.into_reply() {
             WriteReply::Stored { .. } => self.vote(&self.flow().stored(&block.subject())?),
             _ => Ok(()),
@@ -218,13 +219,14 @@ impl Intake<'_> {
         };
         if self.gathers[place].add(vote) == Ok(true) {
             let certificate = self.gathers.swap_remove(place).certificate()?;
+            self.certify(&certificate)?; // its votes were verified
             self.network.broadcast(self.me, &certificate.message());
         }
         Ok(())
     }
 
     /// Hands in a certificate, and fetches its block if another block of its slot came first.
-    fn certify(&mut self, certificate: &CheckedCertificate) -> Outcome<()> {
+    fn certify(&self, certificate: &CheckedCertificate) -> Outcome<()> {
         let subject = certificate.subject();
         if self.session.certify(certificate)?.into_reply() != CertifyReply::Certified {
             return Ok(());
@@ -236,7 +238,7 @@ impl Intake<'_> {
     }
 
     /// The garbage round was raised: its blocks need no parents.
-    fn collected(&mut self, garbage_round: u64) -> Outcome<()> {
+    fn collected(&self, garbage_round: u64) -> Outcome<()> {
         self.vote(&self.flow().collected(garbage_round)?)
     }
 

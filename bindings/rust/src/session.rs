@@ -158,7 +158,7 @@ impl Session {
     /// #     match Message::check(&committee, &message)? {
     /// #         Checked::Block(block) => drop(session.write(&block)?),
     /// #         Checked::Certificate(certificate) => {
-    /// #             session.certify(&certificate)?;
+    /// #             drop(session.certify(&certificate)?);
     /// #             last = certificate.subject().digest;
     /// #         }
     /// #         Checked::Vote(_) => {}
@@ -239,7 +239,7 @@ impl Session {
     /// # let Checked::Block(block) = Message::check(&committee, &messages[0])? else { panic!() };
     /// let digest = block.subject().digest;
     /// assert_eq!(session.missing_of(&digest)?.reply(), &None);
-    /// session.write(&block)?;
+    /// drop(session.write(&block)?);
     /// assert_eq!(session.missing_of(&digest)?.reply(), &Some(vec![]));
     /// # Ok::<(), Box<dyn std::error::Error>>(())
     /// ```

@@ -107,7 +107,7 @@ impl Store {
     ///     .open()?;
     /// let session = store.session()?;
     /// for _ in 0..3 {
-    ///     session.status()?;
+    ///     drop(session.status()?);
     /// }
     /// // The third call found two events, and began a new history.
     /// assert_eq!(store.events(), 1);
@@ -217,7 +217,7 @@ impl Store {
     /// # let session = store.session()?;
     /// # let messages = data::values("message");
     /// # let Checked::Block(block) = Message::check(&committee, &messages[0])? else { panic!() };
-    /// session.write(&block)?;
+    /// drop(session.write(&block)?);
     /// let subject = block.subject();
     /// let look = store.look(subject.round, subject.author);
     /// assert_eq!(look.first, Some(subject.digest));
@@ -260,7 +260,7 @@ impl Store {
     /// # let session = store.session()?;
     /// # let messages = data::values("message");
     /// # let Checked::Block(block) = Message::check(&committee, &messages[0])? else { panic!() };
-    /// session.write(&block)?;
+    /// drop(session.write(&block)?);
     /// let subject = block.subject();
     /// let looks = store.look_round(subject.round)?;
     /// assert_eq!(looks, [(subject.author, store.look(subject.round, subject.author))]);
@@ -315,7 +315,7 @@ impl Store {
     ///         seen = changes;
     ///     }
     /// });
-    /// session.write(&block)?;
+    /// drop(session.write(&block)?);
     /// waiter.join().unwrap();
     /// # Ok::<(), Box<dyn std::error::Error>>(())
     /// ```
@@ -502,13 +502,13 @@ mod tests {
         let store = builder.open().unwrap();
         let session = store.session().unwrap();
         for call in 0..100 {
-            session.read(&Digest([7; 32])).unwrap();
+            drop(session.read(&Digest([7; 32])).unwrap());
             // Six events take 900 bytes.
             assert_eq!(store.events(), call % 6 + 1);
             assert_eq!(store.history_bytes(), 150 * store.events() as u64);
         }
         // An event that may take more than the bound has a history of its own.
-        session.missing(100).unwrap();
+        drop(session.missing(100).unwrap());
         assert_eq!((store.events(), store.history_bytes()), (1, 150));
     }
 
@@ -521,12 +521,12 @@ mod tests {
         let builder = Store::builder(&committee()).limits(limits);
         let store = builder.never_restart().open().unwrap();
         let session = store.session().unwrap();
-        session.status().unwrap();
-        session.status().unwrap();
+        drop(session.status().unwrap());
+        drop(session.status().unwrap());
         let refused = session.status().unwrap_err();
         assert_eq!(refused, StepError::HistoryFull);
         store.restart().unwrap();
-        session.status().unwrap();
+        drop(session.status().unwrap());
     }
 
     #[test]
@@ -540,7 +540,7 @@ mod tests {
             });
             panics.join().unwrap_err();
         });
-        session.status().unwrap();
+        drop(session.status().unwrap());
         assert_eq!(store.events(), 1);
         store.compact().unwrap();
         store.restart().unwrap();
