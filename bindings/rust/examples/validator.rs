@@ -36,7 +36,8 @@ const LAST_LEADER: u64 = 8;
 const TICK: Duration = Duration::from_secs(1);
 /// The most bytes of one peer that a validator checks between two ticks.
 const BUDGET: usize = 64 * 1024;
-/// The most parents that it asks one author for between two ticks, if they may not exist.
+/// The most parents that it asks one author for between two ticks, if they may not exist, and the
+/// most blocks of one author for which it votes again.
 const ASKED: usize = 8;
 /// The decider gives up if its store does not change for this long.
 const PATIENCE: Duration = Duration::from_secs(60);
@@ -169,7 +170,7 @@ impl Intake<'_> {
             return Ok(());
         }
         (self.spent, self.since) = ([0; MEMBERS as usize], Instant::now());
-        self.vote(&self.flow().due()?)?;
+        self.vote(&self.flow().due(ASKED)?)?;
         let mut missing = self.flow().missing()?;
         missing.extend(self.flow().doubtful(ASKED)?);
         let parents = missing.into_iter().map(|(_, parent)| parent);

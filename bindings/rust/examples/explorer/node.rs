@@ -13,8 +13,8 @@ use std::collections::{BTreeMap, BTreeSet};
 const LAG: u64 = 6;
 /// How many rounds the page shows at most.
 const SHOWN: u64 = 20;
-/// The most parents that it asks one author for at a time, if they may not exist.
-const ASKED: usize = 8;
+/// The most parents that it asks one author for at a time, if they may not exist, and the most blocks of one author for which it votes again.
+pub const ASKED: usize = 8;
 /// The most missing parents that the page shows.
 const LISTED: u16 = 64;
 const LIMITS: Limits = Limits {

@@ -2,7 +2,7 @@
 
 use crate::log::Log;
 use crate::network::{MEMBERS, Outcome};
-use crate::node::Node;
+use crate::node::{ASKED, Node};
 use crate::post::{Post, REQUEST};
 use narwhal_store::{Digest, Message, Peek, Subject};
 
@@ -110,7 +110,7 @@ impl Validator {
         }
         self.replayed = self.log.messages.len();
         // The second time that a vote is sent does no harm.
-        self.vote(&node.flow().due()?, post);
+        self.vote(&node.flow().due(ASKED)?, post);
         self.node = Some(node);
         Ok(())
     }
@@ -124,7 +124,7 @@ impl Validator {
             self.asked += 1;
             post.send_to_others(self.me, &[&[REQUEST][..], &digest.0].concat());
         }
-        self.vote(&node.flow().due()?, post);
+        self.vote(&node.flow().due(ASKED)?, post);
         match node.next_block()? {
             _ if self.is_silent => {}
             Some((round, parents)) => self.propose(round, &parents, post)?,

@@ -80,10 +80,16 @@ impl<'a> Flow<'a> {
         self.votes(self.firsts(garbage_round)?)
     }
 
-    /// All subjects whose vote is due, also those whose vote was sent. Send these votes after a
-    /// restart, and again from time to time, because a network may lose them.
-    pub fn due(self) -> Result<Vec<Subject>, StepError> {
-        self.of_all_rounds(|round| self.votes(self.firsts(round)?))
+    /// The subjects whose vote is due, also those whose vote was sent, among each author's `most`
+    /// oldest blocks without a certificate. Send these votes after a restart, and again from time
+    /// to time, because a network may lose them. An author who leaves many blocks without a
+    /// certificate makes no more questions than this.
+    pub fn due(self, most: usize) -> Result<Vec<Subject>, StepError> {
+        let mut left = vec![most; self.store.committee().size()];
+        self.of_all_rounds(|round| {
+            let is_left = |first: &Subject| take_one(&mut left[usize::from(first.author)]);
+            self.votes(self.firsts(round)?.filter(is_left))
+        })
     }
 
     /// The certified digests without a stored block. The signers have these blocks.

@@ -177,6 +177,10 @@ fn invented_parents_do_not_hide_the_missing_parent_of_a_certified_block() {
     assert_eq!(doubtful.len(), 33 * 15 * 67);
     // Only the author of such a block is asked, and for a few parents at a time.
     assert_eq!(drops.flow().doubtful(8).unwrap().len(), 33 * 8);
+    // And only a few of its blocks are looked at again for a vote.
+    let before = drops.store.events();
+    assert!(drops.flow().due(8).unwrap().is_empty());
+    assert!(drops.store.events() - before <= 33 * 8);
 }
 
 /// Blocks of 33 members that invent 100 parents each wait for nothing once their rounds are collected.
@@ -221,7 +225,7 @@ fn a_vote_waits_for_all_parents() {
     assert!(drops.certify(subject).is_empty());
     // It needs no vote then, but the block over it gets one.
     assert_eq!(drops.write(message), [child]);
-    assert_eq!(drops.flow().due().unwrap(), [child]);
+    assert_eq!(drops.flow().due(1).unwrap(), [child]);
     let others = [0, 1, 2].map(|author| (author, child.digest));
     let (message, next) = drops.com.block(2, 2, &others, &[]);
     assert!(drops.write(&message).is_empty());
