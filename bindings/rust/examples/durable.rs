@@ -98,7 +98,6 @@ fn validator(path: &Path, mode: &str) -> Result<()> {
     let store = Store::new(&committee, limits)?;
     let mut validator = Validator {
         session: store.session()?,
-        flow: Flow::new(&store),
         store,
         log,
         is_late: mode == "late-sync",
@@ -118,8 +117,7 @@ fn validator(path: &Path, mode: &str) -> Result<()> {
     order.sort_by_cached_key(late); // So two blocks of one round and author come in any order.
     for (_, message) in order {
         validator.take(message)?;
-        let absent: Vec<Subject> = validator.flow.absent().collect();
-        for subject in absent {
+        for subject in validator.flow().absent()? {
             validator.take(fetched(&messages, &subject)?)?;
         }
     }
@@ -140,16 +138,19 @@ struct Validator {
     committee: Committee,
     store: Store,
     session: Session,
-    flow: Flow,
     log: Log,
     /// Whether it sends before it syncs, which is wrong.
     is_late: bool,
 }
 
 impl Validator {
+    fn flow(&self) -> Flow<'_> {
+        Flow::over(&self.store, &self.session)
+    }
+
     /// Takes a message of the network: peek, drop, check, write, log, sync, send.
     fn take(&mut self, message: &[u8]) -> Result<()> {
-        if !self.flow.wants(message) {
+        if !self.flow().wants(message) {
             return Ok(());
         }
         let voted = self.make(message)?;
@@ -182,22 +183,24 @@ impl Validator {
     fn call(&mut self, record: &[u8]) -> Result<Option<Vec<Subject>>> {
         if let Ok(round) = record.try_into() {
             let round = u64::from_be_bytes(round);
-            let answer = self.session.collect(round)?;
-            let is_raised = matches!(answer.reply(), CollectReply::Raised { .. });
-            return Ok(is_raised.then(|| self.flow.collected(round)));
+            return Ok(match self.session.collect(round)?.into_reply() {
+                CollectReply::Raised { .. } => Some(self.flow().collected(round)?),
+                CollectReply::NotHigher { .. } => None,
+            });
         }
         let Ok(checked) = Message::check(&self.committee, record) else {
             return Ok(None); // The network has bad messages too.
         };
         Ok(match checked {
             Checked::Block(block) => match *self.session.write(&block)?.reply() {
-                WriteReply::Stored { vote } => Some(self.flow.stored(&block, vote)),
+                WriteReply::Stored { .. } => Some(self.flow().stored(&block.subject())?),
                 _ => None,
             },
             Checked::Certificate(certificate) => {
-                let answer = self.session.certify(&certificate)?;
-                let is_new = *answer.reply() == CertifyReply::Certified;
-                is_new.then(|| self.flow.certified(&certificate.subject()))
+                match self.session.certify(&certificate)?.into_reply() {
+                    CertifyReply::Certified => Some(self.flow().certified(&certificate.subject())?),
+                    _ => None,
+                }
             }
             Checked::Vote(_) => None,
         })

@@ -1,12 +1,18 @@
 //! Measures how long the calls of a store take, how much of a validator's time goes into checks, and what more threads gain.
 //!
 //! ```text
-//! cargo run --release --example embedded               committees of 4, 10 and 100 members
+//! cargo run --release --example embedded               committees of 4, 10 and 100 members, and the nodes
+//! cargo run --release --example embedded -- nodes      the nodes only
+//! cargo run --release --example embedded -- 20 30 504  one node: 20 members, 30 rounds, blocks of 504 transactions
 //! cargo run --release --example embedded -- 10 100     10 members, 100 rounds
 //! ```
 //!
 //! It needs python3 with the package `cryptography`: tests/corpus/make.py signs the messages into a temporary file. Each block has 16
 //! transactions of 512 bytes, and each certificate has the fewest votes that reach the quorum.
+//!
+//! The nodes are those of `held/mod.rs`: committees of 4 and 20 members, with blocks of 16 transactions (8 KB) and of 504 (258 KB). Each row has
+//! the blocks and transactions that one core delivers in a second, the memory that the node holds at most, its longest call, and the longest
+//! call in which its history restarted. Times are of the processor.
 //!
 //! One thread checks every message once. Then it plays the messages to new stores for a second or more. It writes, certifies and reads each
 //! block. It reads one block of each round causally, and walks its ticket. The garbage round stays 20 rounds behind.
@@ -17,6 +23,7 @@
 
 #[path = "../tests/corpus/records.rs"]
 mod file;
+mod held;
 
 use narwhal_store::{CheckError, Checked, CheckedBlock, CheckedCertificate, Committee};
 use narwhal_store::{Digest, Limits, Message, Store, TextFault, check_all};
@@ -30,20 +37,46 @@ type Result<T> = std::result::Result<T, Box<dyn Error>>;
 
 /// Members and rounds.
 const LOADS: [[usize; 2]; 3] = [[4, 400], [10, 100], [100, 10]];
+/// Members, rounds, and the transactions of a block.
+const NODES: [[usize; 3]; 4] = [[4, 2_000, 16], [20, 350, 16], [4, 100, 504], [20, 30, 504]];
+/// The transactions of a block of the other loads.
+const TRANSACTIONS: usize = 16;
 const KEPT_ROUNDS: u64 = 20;
 const LONG_ENOUGH: Duration = Duration::from_secs(1);
 
 fn main() -> Result<()> {
-    let words = env::args().skip(1).map(|word| word.parse());
-    match words.collect::<std::result::Result<Vec<usize>, _>>()?[..] {
-        [] => LOADS.into_iter().try_for_each(measure),
-        [members, rounds] => measure([members, rounds]),
-        _ => Err("give no arguments, or members and rounds".into()),
+    let words: Vec<_> = env::args().skip(1).collect();
+    match &words[..] {
+        [] => {
+            LOADS.into_iter().try_for_each(measure)?;
+            nodes()
+        }
+        [word] if word == "nodes" => nodes(),
+        [members, rounds] => measure([members.parse()?, rounds.parse()?]),
+        [members, rounds, count] => node([members.parse()?, rounds.parse()?, count.parse()?]),
+        _ => Err("give no arguments, nodes, or members and rounds".into()),
     }
 }
 
+/// Runs each node in a process of its own, so that none uses the memory that another one freed.
+fn nodes() -> Result<()> {
+    held::print_heads();
+    NODES.into_iter().try_for_each(|load| {
+        let numbers = load.map(|number| number.to_string());
+        let ran = Command::new(env::current_exe()?).args(numbers).status()?;
+        ran.success().then_some(()).ok_or("a node failed".into())
+    })
+}
+
+/// Runs a node of these members, rounds and transactions of a block, and prints its row.
+fn node(load: [usize; 3]) -> Result<()> {
+    let file = messages(load)?;
+    let (committee, messages) = file::honest_messages(&file);
+    held::run(&committee, &messages)
+}
+
 fn measure([members, rounds]: [usize; 2]) -> Result<()> {
-    let file = messages(members, rounds)?;
+    let file = messages([members, rounds, TRANSACTIONS])?;
     let mut load = Load::new(&file)?;
     let blocks = load.blocks.len();
     let body = load.blocks[blocks - 1].block().body().len();
@@ -73,11 +106,11 @@ fn measure([members, rounds]: [usize; 2]) -> Result<()> {
 }
 
 /// The signed messages, made by the script unless an earlier run left them.
-fn messages(members: usize, rounds: usize) -> Result<Vec<u8>> {
-    let file = env::temp_dir().join(format!("narwhal-load-{members}-{rounds}.bin"));
+fn messages(load: [usize; 3]) -> Result<Vec<u8>> {
+    let numbers = load.map(|number| number.to_string());
+    let file = env::temp_dir().join(format!("narwhal-load-{}.bin", numbers.join("-")));
     if !file.exists() {
         let script = Path::new(env!("CARGO_MANIFEST_DIR")).join("tests/corpus/make.py");
-        let numbers = [members, rounds].map(|number| number.to_string());
         let made = Command::new("python3")
             .arg(script)
             .arg("--load")

@@ -110,7 +110,7 @@ fn restarts(members: u16, rounds: u64, lag: u64) -> Result<()> {
         lab.certify(&made)?;
         parents = vec![(0, made[0].digest)];
         if round >= lag {
-            lab.session.collect(round + 1 - lag)?;
+            drop(lab.session.collect(round + 1 - lag)?);
         }
     }
     let status = lab.session.status()?.into_reply();
@@ -131,7 +131,7 @@ fn restarts(members: u16, rounds: u64, lag: u64) -> Result<()> {
     };
     for _ in 0..3 {
         while lab.store.events() < 65_536 {
-            lab.session.write(&twin)?;
+            drop(lab.session.write(&twin)?);
         }
         once(&format!("restart, {what}, 65,536 events"), || {
             Ok(lab.store.restart()?)

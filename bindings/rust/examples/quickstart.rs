@@ -1,7 +1,7 @@
 //! A validator takes signed messages of a committee of four, and reads a block with its ancestors.
 mod data;
 
-use narwhal_store::{Block, Checked, Committee, Digest, Limits, Message, Store, WriteReply};
+use narwhal_store::{CertifyReply, Checked, Committee, Digest, Limits, Message, Store, WriteReply};
 use std::error::Error;
 
 fn main() -> Result<(), Box<dyn Error>> {
@@ -15,15 +15,20 @@ fn main() -> Result<(), Box<dyn Error>> {
         // A check verifies the signatures of blocks and certificates, without the store's lock.
         match Message::check(&committee, &message)? {
             Checked::Block(block) => {
+                let digest = block.subject().digest;
                 let first = WriteReply::Stored { vote: true }; // of its round and author
                 let reply = session.write(&block)?.into_reply();
-                if reply == first && has_parents(&store, &block.block()) {
-                    println!("vote for {}", block.subject().digest); // log, sync, sign `text_of_vote`
+                let missing = session.missing_of(&digest)?.into_reply();
+                // If a parent is missing, the vote waits for it.
+                if reply == first && missing.is_some_and(|parents| parents.is_empty()) {
+                    println!("vote for {digest}"); // log, sync, sign `text_of_vote`
                 }
             }
             Checked::Certificate(certificate) => {
-                session.certify(&certificate)?;
-                newest = certificate.subject().digest;
+                let reply = session.certify(&certificate)?.into_reply();
+                if reply == CertifyReply::Certified {
+                    newest = certificate.subject().digest; // log
+                }
             }
             Checked::Vote(_) => {} // the author of a block gathers its votes with `Gather`
         }
@@ -38,13 +43,4 @@ fn main() -> Result<(), Box<dyn Error>> {
         println!("round {round}, author {author}: {transactions:?}");
     }
     Ok(())
-}
-
-/// Whether all parents are stored and certified, or not needed. If not, the vote waits for them.
-fn has_parents(store: &Store, block: &Block) -> bool {
-    let is_satisfied = |(author, digest): &(u16, Digest)| {
-        let parent = store.look(block.round() - 1, *author);
-        block.round() <= parent.garbage_round || parent.satisfies(digest)
-    };
-    block.parents().iter().all(is_satisfied)
 }

@@ -14,6 +14,7 @@ use std::fmt;
 /// fn shared<T: Sync>() {}
 /// shared::<narwhal_store::Answer<narwhal_store::WriteReply>>();
 /// ```
+#[must_use = "the reply says what a validator does next: whether it logs the call, and whether it votes"]
 pub struct Answer<R> {
     history: History,
     reply: OnceCell<R>,
@@ -79,6 +80,7 @@ impl<R: fmt::Debug> fmt::Debug for Answer<R> {
 /// # Ok::<(), Box<dyn std::error::Error>>(())
 /// ```
 #[derive(Debug)]
+#[must_use = "a causal read changes nothing: its ticket or its fault is all that it gives"]
 pub enum Causal {
     /// The block is complete: the ticket lists it with its certified ancestors.
     Ready(Ticket),

@@ -90,6 +90,24 @@ impl Committee {
         self.inner.quorum
     }
 
+    /// The most members that can be faulty: those of the least weights, which are together less than
+    /// a third of the sum of all.
+    pub(crate) fn most_faulty(&self) -> u64 {
+        let mut weights: Vec<_> = self
+            .inner
+            .members
+            .iter()
+            .map(|of| u64::from(of.weight))
+            .collect();
+        weights.sort_unstable();
+        let most = (weights.iter().sum::<u64>() - 1) / 3;
+        let sums = weights.iter().scan(0, |sum, weight| {
+            *sum += weight;
+            Some(*sum)
+        });
+        sums.take_while(|sum| *sum <= most).count() as u64
+    }
+
     /// Returns the member with this number, or `None` if there is no such member.
     #[must_use]
     pub fn member(&self, author: u16) -> Option<Member> {
@@ -159,7 +177,7 @@ impl CommitteeError {
 
 #[cfg(test)]
 mod tests {
-    use super::{Committee, Inner};
+    use super::{Committee, Inner, Member};
     use crate::PublicKey;
     use crate::no_memory::{closed, refuses};
     use std::thread;
@@ -167,6 +185,21 @@ mod tests {
     #[test]
     fn what_cannot_be_read_is_not_empty() {
         refuses(|| Inner::of(closed()));
+    }
+
+    #[test]
+    fn the_lightest_members_can_be_faulty() {
+        let most = |weights: &[u32]| {
+            let member = |(byte, &weight)| Member {
+                key: PublicKey([byte; 32]),
+                weight,
+            };
+            let members: Vec<_> = (0..).zip(weights).map(member).collect();
+            Committee::new(&members).unwrap().most_faulty()
+        };
+        let faulty = [1, 3, 4, 6, 7, 100].map(|size| most(&vec![1; size]));
+        assert_eq!(faulty, [0, 0, 1, 1, 2, 33]);
+        assert_eq!((most(&[10, 1, 1, 1]), most(&[5, 5, 1])), (3, 1));
     }
 
     #[test]

@@ -68,6 +68,9 @@ impl Gather {
 
     /// Verifies a vote and counts it. Returns whether the votes now reach the quorum.
     ///
+    /// A vote of the validator itself is verified too: a certificate has only verified votes, and the
+    /// library has no other way to make one.
+    ///
     /// # Errors
     ///
     /// A refused vote is not counted. The error is the first that applies:

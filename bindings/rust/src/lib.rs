@@ -36,10 +36,12 @@
 //! for message in &messages {
 //!     match Message::check(&committee, message)? {
 //!         Checked::Block(block) => {
-//!             session.write(&block)?;
+//!             let reply = session.write(&block)?.into_reply();
+//!             println!("{}: {reply:?}", block.subject());
 //!         }
 //!         Checked::Certificate(certificate) => {
-//!             session.certify(&certificate)?;
+//!             let reply = session.certify(&certificate)?.into_reply();
+//!             println!("{}: {reply:?}", certificate.subject());
 //!             last = certificate.subject().digest;
 //!         }
 //!         Checked::Vote(_) => {}

@@ -1,5 +1,7 @@
 //! The limits of a store.
 
+use crate::{Committee, Store};
+
 /// The limits of a store.
 ///
 /// A store never exceeds its limits. A call that would exceed one answers `Full` or `TooFar`. A call
@@ -30,6 +32,56 @@ pub struct Limits {
 }
 
 impl Limits {
+    /// The bytes of the largest body that a check accepts.
+    const MOST_BODY: u64 = 1 << 20;
+    /// The bytes around the body of a stored block, with those of its certificate's entry.
+    const AROUND_BLOCK: u64 = 1_000;
+    /// The bytes of a block's missing parents: it has at most 100.
+    const UNMET_PARENTS: u64 = 42_000;
+
+    /// Returns the defaults with the largest window, up to the default one, with which a store takes
+    /// at most `bytes` of memory, also if as many members are faulty as the committee tolerates.
+    ///
+    /// `body` is the size of the largest body that the validator accepts, in bytes: it must drop
+    /// longer messages before their check. The bound is that of docs/OPERATING.md of the repository
+    /// (*The bound on memory*): for each round of the window, one block and one certificate of each
+    /// member, and one more block of each faulty one. These are in the tables, in the state that the
+    /// history began with, and in the list that causal reads share. [`Store::HISTORY_BYTES`] are
+    /// added. Answers and tickets that the caller holds are not counted, and collected blocks are
+    /// only freed by a [restart](Store::restart) and [`Store::compact`].
+    ///
+    /// [`Limits::default`] knows neither the committee nor the bodies, so it bounds no bytes.
+    ///
+    /// Returns `None` if not even a window of one round fits.
+    ///
+    /// [`Store::HISTORY_BYTES`]: crate::Store::HISTORY_BYTES
+    /// [`Store::restart`]: crate::Store::restart
+    /// [`Store::compact`]: crate::Store::compact
+    ///
+    /// ```
+    /// # use narwhal_store::{Committee, PublicKey};
+    /// use narwhal_store::Limits;
+    ///
+    /// # let keys: Vec<_> = (0..20).map(|byte| PublicKey([byte; 32])).collect();
+    /// let committee = Committee::equal(&keys)?; // 20 members
+    /// let limits = Limits::within(&committee, 260_000, 1_000_000_000).unwrap();
+    /// assert_eq!(limits, Limits { window: 45, ..Limits::default() });
+    /// assert_eq!(Limits::within(&committee, 260_000, 80_000_000), None);
+    /// # Ok::<(), narwhal_store::CommitteeError>(())
+    /// ```
+    #[must_use]
+    pub fn within(committee: &Committee, body: u64, bytes: u64) -> Option<Limits> {
+        let (members, faulty) = (committee.size() as u64, committee.most_faulty());
+        let certificate = 43 + 66 * members;
+        let body = body.min(Limits::MOST_BODY);
+        let blocks = (members + faulty) * (body + Limits::AROUND_BLOCK);
+        let round = 3 * (blocks + members * certificate) + faulty * Limits::UNMET_PARENTS;
+        let window = bytes.saturating_sub(Store::HISTORY_BYTES) / round;
+        let default = Limits::default();
+        let window = window.min(u64::from(default.window)) as u32;
+        (window > 0).then_some(Limits { window, ..default })
+    }
+
     /// The upper end of each limit's range.
     pub const MAX: Limits = Limits {
         blocks: 65_536,

@@ -20,6 +20,11 @@ impl Message {
     /// certificate that passes is valid: its signers are members and reach the quorum, and every
     /// signature verifies. The signature of a vote is not verified here: [`Gather::add`] does that.
     ///
+    /// A validator's own blocks are checked too, because a store takes only what was checked. Write
+    /// the checked block before you send its message, and hand in the certificate that
+    /// [`Gather::certificate`] returns: then no signature is verified twice, and your own store
+    /// drops the copies that the network brings back.
+    ///
     /// Several threads can check messages at once, under one committee. A check takes no lock of a
     /// store.
     ///
@@ -50,6 +55,7 @@ impl Message {
     /// ```
     ///
     /// [`Gather::add`]: crate::Gather::add
+    /// [`Gather::certificate`]: crate::Gather::certificate
     pub fn check(committee: &Committee, message: &[u8]) -> Result<Checked, CheckError> {
         match committee.share() {
             Ok(mut committee) => check_with(&mut committee, message),

@@ -70,8 +70,10 @@ impl Drop for Room {
 /// What the event of a call holds in the history.
 #[derive(Clone, Copy)]
 pub(crate) enum Content {
-    /// Only numbers and digests.
+    /// Only numbers and digests, of a call that changes nothing.
     Small,
+    /// The numbers of a collection.
+    Collection,
     /// A block, and the bytes of its body.
     Block(u64),
     /// A certificate, and the bytes of its message.
@@ -90,6 +92,14 @@ fn keeps(kind: i32) -> bool {
     )
 }
 
+/// Whether a call with this reply changed the store.
+fn changes(kind: i32) -> bool {
+    matches!(
+        kind,
+        reply::STORED_VOTE | reply::STORED | reply::CERTIFIED | reply::RAISED
+    )
+}
+
 impl Content {
     /// The bytes of any event.
     const EVENT: u64 = 150;
@@ -104,12 +114,23 @@ impl Content {
     #[inline]
     pub(crate) fn most(self) -> u64 {
         match self {
-            Content::Small => Content::EVENT,
+            Content::Small | Content::Collection => Content::EVENT,
             Content::Block(bytes) | Content::Certificate(bytes) => {
                 Content::EVENT + Content::HANDED_IN + bytes
             }
             Content::ParentsOfOne => Content::EVENT + Content::PARENT * Content::PARENTS_OF_ONE,
             Content::Parents(most) => Content::EVENT + Content::PARENT * u64::from(most),
+        }
+    }
+
+    /// Whether the answered call changed the store.
+    #[inline]
+    pub(crate) fn is_change(self, answer: &mut Handle) -> bool {
+        match self {
+            Content::Block(_) | Content::Certificate(_) | Content::Collection => {
+                changes(tagged(answer).kind)
+            }
+            Content::Small | Content::Parents(_) | Content::ParentsOfOne => false,
         }
     }
 

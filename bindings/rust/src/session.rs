@@ -158,7 +158,7 @@ impl Session {
     /// #     match Message::check(&committee, &message)? {
     /// #         Checked::Block(block) => drop(session.write(&block)?),
     /// #         Checked::Certificate(certificate) => {
-    /// #             session.certify(&certificate)?;
+    /// #             drop(session.certify(&certificate)?);
     /// #             last = certificate.subject().digest;
     /// #         }
     /// #         Checked::Vote(_) => {}
@@ -195,7 +195,7 @@ impl Session {
     ///
     /// [`StepError::BadRound`] if the round is 2^48 or more.
     pub fn collect(&self, round: u64) -> Result<Answer<CollectReply>, StepError> {
-        let answer = self.step(Content::Small, |book, session, number, answer| {
+        let answer = self.step(Content::Collection, |book, session, number, answer| {
             ffi::nw_book_collect(book, session, number, round, answer)
         })?;
         Ok(Answer::new(answer, |answer, _| {
@@ -239,7 +239,7 @@ impl Session {
     /// # let Checked::Block(block) = Message::check(&committee, &messages[0])? else { panic!() };
     /// let digest = block.subject().digest;
     /// assert_eq!(session.missing_of(&digest)?.reply(), &None);
-    /// session.write(&block)?;
+    /// drop(session.write(&block)?);
     /// assert_eq!(session.missing_of(&digest)?.reply(), &Some(vec![]));
     /// # Ok::<(), Box<dyn std::error::Error>>(())
     /// ```

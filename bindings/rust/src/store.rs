@@ -7,7 +7,8 @@ use crate::raw::{RawAuthorLook, RawLook};
 use crate::room::{Content, Room};
 use crate::{Committee, Limits, Look, NoMemory, OpenError, Session, StepError, StoreBuilder};
 use std::fmt;
-use std::sync::{Arc, Mutex, MutexGuard, PoisonError};
+use std::sync::{Arc, Condvar, Mutex, MutexGuard, PoisonError};
+use std::time::Duration;
 
 /// The block store of one validator, in memory.
 ///
@@ -53,6 +54,8 @@ pub struct Store {
 /// The state that all owners of a store share.
 pub(crate) struct Inner {
     book: Mutex<Book>,
+    /// Wakes the threads that wait for a change.
+    changed: Condvar,
     /// The room of a dropped answer, for the next call.
     spare: Arc<Spare>,
     committee: Committee,
@@ -67,6 +70,10 @@ struct Book {
     next: Vec<u32>,
     /// The bytes that the history's events take.
     bytes: u64,
+    /// How many calls changed the store.
+    changes: u64,
+    /// How many threads wait for a change.
+    waiting: usize,
 }
 
 impl Store {
@@ -100,7 +107,7 @@ impl Store {
     ///     .open()?;
     /// let session = store.session()?;
     /// for _ in 0..3 {
-    ///     session.status()?;
+    ///     drop(session.status()?);
     /// }
     /// // The third call found two events, and began a new history.
     /// assert_eq!(store.events(), 1);
@@ -210,7 +217,7 @@ impl Store {
     /// # let session = store.session()?;
     /// # let messages = data::values("message");
     /// # let Checked::Block(block) = Message::check(&committee, &messages[0])? else { panic!() };
-    /// session.write(&block)?;
+    /// drop(session.write(&block)?);
     /// let subject = block.subject();
     /// let look = store.look(subject.round, subject.author);
     /// assert_eq!(look.first, Some(subject.digest));
@@ -253,7 +260,7 @@ impl Store {
     /// # let session = store.session()?;
     /// # let messages = data::values("message");
     /// # let Checked::Block(block) = Message::check(&committee, &messages[0])? else { panic!() };
-    /// session.write(&block)?;
+    /// drop(session.write(&block)?);
     /// let subject = block.subject();
     /// let looks = store.look_round(subject.round)?;
     /// assert_eq!(looks, [(subject.author, store.look(subject.round, subject.author))]);
@@ -267,6 +274,60 @@ impl Store {
         }
         let pair = |raw: &RawAuthorLook| (raw.author, Look::of(&raw.look));
         Ok(looks.iter().map(pair).collect())
+    }
+
+    /// Returns how many calls have changed the store: writes that answered `Stored`, certificates that
+    /// answered `Certified`, and collections that answered `Raised`.
+    ///
+    /// Other calls, looks, restarts and [`compact`](Store::compact) change nothing. A new store has
+    /// changed 0 times.
+    #[must_use]
+    pub fn changes(&self) -> u64 {
+        self.inner.lock().changes
+    }
+
+    /// Waits until the store has changed more than `seen` times, and returns how often it has
+    /// [changed](Store::changes). The result is at most `seen` if the timeout ends first.
+    ///
+    /// Take `seen` before you look at the store, or from the last wait. Then no change is missed: if
+    /// the store changed in between, the call returns at once. Each change wakes all waiting threads.
+    /// A waiting thread does not hold the store's lock. With `Duration::MAX`, the call waits without
+    /// a limit.
+    ///
+    /// This is no call of a session: it adds no event.
+    ///
+    /// ```
+    /// # mod data { include!(concat!(env!("CARGO_MANIFEST_DIR"), "/examples/data/mod.rs")); }
+    /// # use narwhal_store::{Checked, Committee, Limits, Message, Store};
+    /// # let committee = Committee::equal(&data::keys())?;
+    /// # let store = Store::new(&committee, Limits::default())?;
+    /// # let session = store.session()?;
+    /// # let messages = data::values("message");
+    /// # let Checked::Block(block) = Message::check(&committee, &messages[0])? else { panic!() };
+    /// use std::{thread, time::Duration};
+    ///
+    /// let subject = block.subject();
+    /// let waiter = thread::spawn(move || {
+    ///     let mut seen = store.changes();
+    ///     while store.look(subject.round, subject.author).first.is_none() {
+    ///         let changes = store.wait_for_change(seen, Duration::from_secs(60));
+    ///         assert!(changes > seen, "nothing changed for a minute");
+    ///         seen = changes;
+    ///     }
+    /// });
+    /// drop(session.write(&block)?);
+    /// waiter.join().unwrap();
+    /// # Ok::<(), Box<dyn std::error::Error>>(())
+    /// ```
+    #[must_use]
+    pub fn wait_for_change(&self, seen: u64, timeout: Duration) -> u64 {
+        let mut book = self.inner.lock();
+        book.waiting += 1;
+        let is_old = |book: &mut Book| book.changes <= seen;
+        let waited = self.inner.changed.wait_timeout_while(book, timeout, is_old);
+        let (mut book, _) = waited.unwrap_or_else(PoisonError::into_inner);
+        book.waiting -= 1;
+        book.changes
     }
 
     /// Returns the limits that the store was opened with.
@@ -290,13 +351,15 @@ impl Inner {
         limits: Limits,
         restart: Option<RestartWhen>,
     ) -> Inner {
-        let (next, bytes) = (Vec::new(), 0);
         Inner {
             book: Mutex::new(Book {
                 handle,
-                next,
-                bytes,
+                next: Vec::new(),
+                bytes: 0,
+                changes: 0,
+                waiting: 0,
             }),
+            changed: Condvar::new(),
             spare: Arc::new(Spare::new()),
             committee,
             limits,
@@ -333,8 +396,13 @@ impl Inner {
             true => self.restart(&mut book, room),
             false => Ok(None),
         };
+        let before = book.changes;
         let code = book.step(session, content, room, call);
+        let wakes = book.changes > before && book.waiting > 0;
         drop(book);
+        if wakes {
+            self.changed.notify_all();
+        }
         match (old, code) {
             (Err(NoMemory), Code::HISTORY_FULL) => Err(StepError::NoMemory),
             (_, code) => code.done().map_err(StepError::of),
@@ -365,6 +433,7 @@ impl Book {
         if code == Code::DONE {
             *number += 1;
             self.bytes += content.bytes(room);
+            self.changes += u64::from(content.is_change(room));
         }
         code
     }
@@ -399,6 +468,7 @@ mod tests {
     use crate::room::Content;
     use crate::{Committee, Digest, Limits, PublicKey, StepError, Store};
     use std::thread;
+    use std::time::Duration;
 
     fn committee() -> Committee {
         Committee::equal(&[PublicKey([1; 32])]).unwrap()
@@ -432,13 +502,13 @@ mod tests {
         let store = builder.open().unwrap();
         let session = store.session().unwrap();
         for call in 0..100 {
-            session.read(&Digest([7; 32])).unwrap();
+            drop(session.read(&Digest([7; 32])).unwrap());
             // Six events take 900 bytes.
             assert_eq!(store.events(), call % 6 + 1);
             assert_eq!(store.history_bytes(), 150 * store.events() as u64);
         }
         // An event that may take more than the bound has a history of its own.
-        session.missing(100).unwrap();
+        drop(session.missing(100).unwrap());
         assert_eq!((store.events(), store.history_bytes()), (1, 150));
     }
 
@@ -451,12 +521,12 @@ mod tests {
         let builder = Store::builder(&committee()).limits(limits);
         let store = builder.never_restart().open().unwrap();
         let session = store.session().unwrap();
-        session.status().unwrap();
-        session.status().unwrap();
+        drop(session.status().unwrap());
+        drop(session.status().unwrap());
         let refused = session.status().unwrap_err();
         assert_eq!(refused, StepError::HistoryFull);
         store.restart().unwrap();
-        session.status().unwrap();
+        drop(session.status().unwrap());
     }
 
     #[test]
@@ -470,11 +540,56 @@ mod tests {
             });
             panics.join().unwrap_err();
         });
-        session.status().unwrap();
+        drop(session.status().unwrap());
         assert_eq!(store.events(), 1);
         store.compact().unwrap();
         store.restart().unwrap();
         store.session().unwrap();
+    }
+
+    /// Calls that change nothing wake nobody.
+    #[test]
+    fn only_changes_end_a_wait() {
+        let store = Store::new(&committee(), Limits::default()).unwrap();
+        let session = store.session().unwrap();
+        let short = Duration::from_millis(1);
+        drop(session.status().unwrap());
+        drop(session.collect(0).unwrap());
+        store.restart().unwrap();
+        store.compact().unwrap();
+        assert_eq!((store.changes(), store.wait_for_change(0, short)), (0, 0));
+        drop(session.collect(1).unwrap());
+        assert_eq!(store.wait_for_change(0, Duration::MAX), 1);
+        assert_eq!(store.wait_for_change(1, short), 1);
+        assert_eq!(store.inner.lock().waiting, 0);
+    }
+
+    /// Each thread waits for each of 100 changes, and none is missed.
+    #[test]
+    fn a_change_wakes_all_threads() {
+        let store = Store::new(&committee(), Limits::default()).unwrap();
+        let session = store.session().unwrap();
+        let wait = |seen| {
+            let changes = store.wait_for_change(seen, Duration::from_secs(60));
+            assert!(changes > seen, "change {seen} woke nobody");
+            let look = store.look(0, 0);
+            assert!(look.garbage_round >= changes);
+            changes
+        };
+        thread::scope(|scope| {
+            for _ in 0..4 {
+                scope.spawn(|| {
+                    let mut seen = 0;
+                    while seen < 100 {
+                        seen = wait(seen);
+                    }
+                });
+            }
+            for round in 1..=100 {
+                drop(session.collect(round).unwrap());
+            }
+        });
+        assert_eq!(store.changes(), 100);
     }
 
     /// Another thread can drop an answer between the start of a call and its restart. That answer's

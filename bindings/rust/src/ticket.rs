@@ -75,14 +75,14 @@ impl Ticket {
     /// #     match Message::check(&committee, &message)? {
     /// #         Checked::Block(block) => drop(session.write(&block)?),
     /// #         Checked::Certificate(certificate) => {
-    /// #             session.certify(&certificate)?;
+    /// #             drop(session.certify(&certificate)?);
     /// #             last = certificate.subject().digest;
     /// #         }
     /// #         Checked::Vote(_) => {}
     /// #     }
     /// # }
     /// let ticket = session.causal(&last)?.into_ticket()?;
-    /// session.collect(1)?; // It drops the blocks of round 0, but not from the ticket.
+    /// drop(session.collect(1)?); // It drops the blocks of round 0, but not from the ticket.
     /// let walker = std::thread::spawn(move || ticket.walk());
     /// let blocks: Vec<_> = walker.join().unwrap()?.collect();
     /// assert_eq!(blocks[0].round(), 0);
@@ -119,7 +119,7 @@ impl Ticket {
     /// #     match Message::check(&committee, &message)? {
     /// #         Checked::Block(block) => drop(session.write(&block)?),
     /// #         Checked::Certificate(certificate) => {
-    /// #             session.certify(&certificate)?;
+    /// #             drop(session.certify(&certificate)?);
     /// #             certified.push(certificate.subject().digest);
     /// #         }
     /// #         Checked::Vote(_) => {}

@@ -180,7 +180,7 @@ fn tickets_of_two_blocks_or_floors_are_not_compared() {
     let [low, high, again] = [1, 2, 2].map(|round: usize| ticket(&session, &subjects[round]));
     assert_eq!(high.agrees(&again), Ok(true));
     assert_eq!(high.agrees(&low), Err(AgreeError::NotComparable));
-    session.collect(1).expect("a collection");
+    drop(session.collect(1).expect("a collection"));
     let collected = ticket(&session, &subjects[2]);
     assert_eq!(high.agrees(&collected), Err(AgreeError::NotComparable));
     assert_eq!((high.floor(), collected.floor()), (0, 1));

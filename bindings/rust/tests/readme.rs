@@ -3,7 +3,7 @@
 #[path = "../examples/data/mod.rs"]
 mod data;
 
-use narwhal_store::{Causal, Checked, CheckedBlock, Committee, Gather, Limits, Message};
+use narwhal_store::{Causal, Checked, Committee, Gather, Limits, Message};
 use narwhal_store::{Store, Subject, Transactions, WriteReply, text_of_vote};
 use std::error::Error;
 
@@ -29,7 +29,7 @@ fn the_code_of_the_readme_runs() -> Result<(), Box<dyn Error>> {
     let (last, network) = network(&keys);
     let (leader, garbage_round) = (last.digest, 1);
     let (mut voted, mut sent, mut delivered) = (0, Vec::new(), 0);
-    let mut has_parents = |_: &CheckedBlock| { voted += 1; true };
+    let mut vote = |_: [u8; 44]| voted += 1;
     let mut broadcast = |message: Vec<u8>| sent.push(message);
     let mut deliver = |transactions: Transactions| delivered += transactions.count();
     let mut gather = Gather::new(&Committee::equal(&keys)?, &subject_of_votes(&keys))?;
@@ -44,12 +44,13 @@ fn the_code_of_the_readme_runs() -> Result<(), Box<dyn Error>> {
             Ok(Checked::Block(block)) => {
                 let first = WriteReply::Stored { vote: true }; // of its round and author
                 let reply = session.write(&block)?.into_reply();
-                if reply == first && has_parents(&block) {    // if not, vote when the last of them arrives
-                    let text = text_of_vote(&block.subject())?; // log the block and sync, sign this, send the vote
+                let missing = session.missing_of(&block.subject().digest)?.into_reply();
+                if reply == first && missing == Some(vec![]) { // if not, vote when the last parent arrives
+                    vote(text_of_vote(&block.subject())?);    // log the block, sync, sign the text, send the vote
                 }
             }
             Ok(Checked::Certificate(certificate)) => {
-                session.certify(&certificate)?;
+                let reply = session.certify(&certificate)?.into_reply(); // log `Certified`
             }
             Ok(Checked::Vote(vote)) => {                  // for your own block: `add` verifies the signature
                 if gather.add(&vote) == Ok(true) && !is_sent {
@@ -66,7 +67,7 @@ fn the_code_of_the_readme_runs() -> Result<(), Box<dyn Error>> {
             deliver(block.transactions());
         }
     }
-    session.collect(garbage_round)?;
+    let reply = session.collect(garbage_round)?.into_reply(); // log `Raised`
 
     assert!(voted > 0 && delivered > 0, "{voted} votes, {delivered} transactions");
     assert_eq!(sent.len(), 1, "one certificate");

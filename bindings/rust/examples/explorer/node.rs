@@ -4,8 +4,8 @@ use crate::decide::Decider;
 use crate::flow::Flow;
 use crate::log::digest_of;
 use crate::network::{MEMBERS, Outcome};
-use narwhal_store::{Answer, Block, Causal, CertifyReply, Checked, CheckedBlock};
-use narwhal_store::{CheckedCertificate, CollectReply, Committee, Digest, Gather, Limits, Message};
+use narwhal_store::{Answer, Block, CertifyReply, Checked, CheckedBlock, CheckedCertificate};
+use narwhal_store::{CollectReply, Committee, Digest, Gather, Limits, Look, Message};
 use narwhal_store::{Peek, Session, Status, Store, Subject, WriteReply};
 use std::collections::{BTreeMap, BTreeSet};
 
@@ -13,6 +13,8 @@ use std::collections::{BTreeMap, BTreeSet};
 const LAG: u64 = 6;
 /// How many rounds the page shows at most.
 const SHOWN: u64 = 20;
+/// The most parents that it asks one author for at a time, if they may not exist, and the most blocks of one author for which it votes again.
+pub const ASKED: usize = 8;
 /// The most missing parents that the page shows.
 const LISTED: u16 = 64;
 const LIMITS: Limits = Limits {
@@ -29,6 +31,9 @@ pub fn key_of(subject: &Subject) -> Key {
     (subject.round, subject.author, subject.digest)
 }
 
+/// The authors and digests of parents.
+pub type Parents = Vec<(u16, Digest)>;
+
 /// A block that was written, with the answer to its last write.
 pub type Seen = (Block, Answer<WriteReply>);
 
@@ -36,23 +41,21 @@ pub struct Node {
     me: u16,
     pub store: Store,
     session: Session,
-    /// The session of the page.
+    /// The session of the page and of the flow.
     reader: Session,
-    flow: Flow,
     decider: Decider,
     /// The votes for its last block until it has a certificate, the messages of that block, and the round of its next one.
     pub gather: Option<Gather>,
     pub own: Vec<Vec<u8>>,
     round: u64,
-    /// The blocks that it voted for.
-    pub votes: BTreeMap<(u64, u16), Subject>,
     pub seen: BTreeMap<Key, Seen>,
     /// The signers of the certificates.
     pub signers: BTreeMap<Key, Vec<u16>>,
     /// The walk of the last leader, which is the last digest.
     pub walk: Vec<Digest>,
     pub status: Status,
-    complete: BTreeSet<Key>,
+    /// The certified blocks that are not stored, and the missing parents.
+    absent: Vec<Subject>,
     missing: Vec<Subject>,
 }
 
@@ -62,7 +65,6 @@ impl Node {
         let (session, reader) = (store.session()?, store.session()?);
         Ok(Node {
             me,
-            flow: Flow::new(&store),
             decider: Decider::new(MEMBERS),
             status: reader.status()?.into_reply(),
             store,
@@ -71,13 +73,17 @@ impl Node {
             gather: None,
             own: Vec::new(),
             round: 0,
-            votes: BTreeMap::new(),
             seen: BTreeMap::new(),
             signers: BTreeMap::new(),
             walk: Vec::new(),
-            complete: BTreeSet::new(),
+            absent: Vec::new(),
             missing: Vec::new(),
         })
+    }
+
+    /// The questions to its store.
+    pub fn flow(&self) -> Flow<'_> {
+        Flow::over(&self.store, &self.reader)
     }
 
     /// The highest round of a block or certificate.
@@ -94,9 +100,9 @@ impl Node {
                 .as_ref()
                 .is_some_and(|own| own.subject() == subject),
             Some(Peek::Block { round, author }) => {
-                self.flow.wants(message) || self.is_twin(round, author, message)
+                self.flow().wants(message) || self.is_twin(round, author, message)
             }
-            _ => self.flow.wants(message),
+            _ => self.flow().wants(message),
         }
     }
 
@@ -132,7 +138,7 @@ impl Node {
             (self.own, self.round) = (vec![message.to_vec()], subject.round + 1);
         }
         self.decider.stored(block);
-        Ok(Some(self.flow.stored(block, vote)))
+        Ok(Some(self.flow().stored(&subject)?))
     }
 
     fn certify(&mut self, certificate: &CheckedCertificate) -> Outcome<Option<Vec<Subject>>> {
@@ -152,14 +158,15 @@ impl Node {
         {
             self.own.push(message);
         }
-        Ok(Some(self.flow.certified(&subject)))
+        Ok(Some(self.flow().certified(&subject)?))
     }
 
     /// Raises the garbage round. Returns the subjects to vote for if it was raised.
     pub fn collect(&mut self, round: u64) -> Outcome<Option<Vec<Subject>>> {
-        let answer = self.session.collect(round)?;
-        let is_raised = matches!(answer.reply(), CollectReply::Raised { .. });
-        Ok(is_raised.then(|| self.flow.collected(round)))
+        Ok(match self.session.collect(round)?.into_reply() {
+            CollectReply::Raised { .. } => Some(self.flow().collected(round)?),
+            CollectReply::NotHigher { .. } => None,
+        })
     }
 
     /// Decides all leaders that it can. Returns the garbage round if it was raised, and the subjects to vote for.
@@ -183,27 +190,29 @@ impl Node {
     }
 
     /// The round and the parents of its next block, if a quorum of parents is satisfied.
-    pub fn next_block(&self) -> Option<(u64, Vec<(u16, Digest)>)> {
-        let parents = |round: u64| {
-            let parent = |author| {
-                let look = self.store.look(round.checked_sub(1)?, author);
+    pub fn next_block(&self) -> Outcome<Option<(u64, Parents)>> {
+        let quorum = self.store.committee().quorum() as usize;
+        for round in (self.round.max(1)..self.newest() + 2).rev() {
+            let looks = self.store.look_round(round - 1)?;
+            let parent = |(author, look): (u16, Look)| {
                 let digest = look.certified.filter(|_| look.stands)?;
                 Some((author, digest))
             };
-            (0..MEMBERS).filter_map(parent).collect::<Vec<_>>()
-        };
-        let quorum = self.store.committee().quorum() as usize;
-        let rounds = self.round..self.newest() + 2;
-        let found = |round| Some((round, parents(round))).filter(|(_, all)| all.len() >= quorum);
-        let first = (self.round == 0).then(|| (0, Vec::new()));
-        rounds.rev().find_map(found).or(first)
+            let parents: Parents = looks.into_iter().filter_map(parent).collect();
+            if parents.len() >= quorum {
+                return Ok(Some((round, parents)));
+            }
+        }
+        Ok((self.round == 0).then(|| (0, Vec::new())))
     }
 
     /// The digests to ask for: certified blocks that are not stored, and missing parents.
-    pub fn unknown(&self) -> BTreeSet<Digest> {
-        let parents = self.flow.missing().map(|(_, parent)| parent);
-        let subjects = self.flow.absent().chain(parents);
-        subjects.map(|subject| subject.digest).collect()
+    pub fn unknown(&self) -> Outcome<BTreeSet<Digest>> {
+        let flow = self.flow();
+        let missing = flow.missing()?.into_iter().chain(flow.doubtful(ASKED)?);
+        let parents = missing.map(|(_, parent)| parent);
+        let subjects = flow.absent()?.into_iter().chain(parents);
+        Ok(subjects.map(|subject| subject.digest).collect())
     }
 
     /// Reads what the page shows, and forgets what it no longer shows.
@@ -211,28 +220,19 @@ impl Node {
         let oldest = (self.newest().saturating_sub(SHOWN), 0, Digest([0; 32]));
         self.seen = self.seen.split_off(&oldest);
         self.signers = self.signers.split_off(&oldest);
-        self.complete = self.complete.split_off(&oldest);
         self.status = self.reader.status()?.into_reply();
-        self.votes = self.votes.split_off(&(self.status.garbage_round, 0));
         self.missing = match self.status.wanted {
             0 => Vec::new(),
             _ => self.reader.missing(LISTED)?.into_reply(),
         };
-        for key in self.seen.keys() {
-            let look = self.store.look(key.0, key.1);
-            let is_open = look.satisfies(&key.2) && !self.complete.contains(key);
-            if is_open && matches!(self.reader.causal(&key.2)?, Causal::Ready(_)) {
-                self.complete.insert(*key);
-            }
-        }
+        self.absent = self.flow().absent()?;
         Ok(())
     }
 
     /// The blocks that the page shows, each with its state.
     pub fn rows(&self) -> BTreeMap<Key, &'static str> {
         let mut keys: BTreeSet<Key> = self.seen.keys().copied().collect();
-        let absent = self.flow.absent().chain(self.missing.iter().copied());
-        keys.extend(absent.map(|subject| key_of(&subject)));
+        keys.extend(self.absent.iter().chain(&self.missing).map(key_of));
         let is_same_slot = |one: &Key, other: &Key| (one.0, one.1) == (other.0, other.1);
         let count = |key: &Key| keys.iter().filter(|other| is_same_slot(key, other)).count();
         let state = |key: &Key| (*key, self.state(key, count(key) == 1));
@@ -244,7 +244,7 @@ impl Node {
         match (look.certified == Some(key.2), look.stands) {
             _ if key.0 < look.garbage_round => "collected",
             (true, false) => "missing",
-            (true, true) if self.complete.contains(key) => "complete",
+            (true, true) if look.complete => "complete",
             (true, true) => "certified",
             _ if !is_alone => "equivocating",
             _ if look.first == Some(key.2) => "held",

@@ -2,7 +2,7 @@
 
 use crate::log::Log;
 use crate::network::{MEMBERS, Outcome};
-use crate::node::Node;
+use crate::node::{ASKED, Node};
 use crate::post::{Post, REQUEST};
 use narwhal_store::{Digest, Message, Peek, Subject};
 
@@ -71,13 +71,8 @@ impl Validator {
         }
     }
 
-    fn vote(&mut self, due: &[Subject], post: &Post) {
-        for subject in due {
-            if let Some(node) = &mut self.node {
-                node.votes.insert((subject.round, subject.author), *subject);
-            }
-            self.send_vote(subject, post);
-        }
+    fn vote(&self, due: &[Subject], post: &Post) {
+        due.iter().for_each(|subject| self.send_vote(subject, post));
     }
 
     fn send_vote(&self, subject: &Subject, post: &Post) {
@@ -107,15 +102,16 @@ impl Validator {
             return Ok(());
         }
         let mut node = Node::new(self.me, &post.com.committee)?;
-        let mut due = node.collect(self.log.garbage_round)?.unwrap_or_default();
+        node.collect(self.log.garbage_round)?;
         for message in &self.log.messages {
             self.verified += signatures_of(message);
-            let more = node.call(&post.com.committee, message)?;
-            due.extend(more.ok_or("a call of the log got another reply")?);
+            let due = node.call(&post.com.committee, message)?;
+            due.ok_or("a call of the log got another reply")?;
         }
         self.replayed = self.log.messages.len();
+        // The second time that a vote is sent does no harm.
+        self.vote(&node.flow().due(ASKED)?, post);
         self.node = Some(node);
-        self.vote(&due, post); // The second time that a vote is sent does no harm.
         Ok(())
     }
 
@@ -124,21 +120,12 @@ impl Validator {
         let Some(node) = &self.node else {
             return Ok(());
         };
-        for digest in node.unknown() {
+        for digest in node.unknown()? {
             self.asked += 1;
             post.send_to_others(self.me, &[&[REQUEST][..], &digest.0].concat());
         }
-        for subject in node.votes.values() {
-            if node
-                .store
-                .look(subject.round, subject.author)
-                .certified
-                .is_none()
-            {
-                self.send_vote(subject, post);
-            }
-        }
-        match node.next_block() {
+        self.vote(&node.flow().due(ASKED)?, post);
+        match node.next_block()? {
             _ if self.is_silent => {}
             Some((round, parents)) => self.propose(round, &parents, post)?,
             None => {

@@ -3,7 +3,7 @@
 
     make.py                         writes corpus.bin beside this file
     make.py --check                 exits with 1 if this script would write another corpus.bin
-    make.py --load N ROUNDS FILE    writes the messages of N members for the benchmark
+    make.py --load N ROUNDS COUNT FILE    writes the messages of N members for the benchmark, COUNT transactions in a block
 
 The output depends only on SEED. A file is a list of records: the kind (1 byte), the length (4 bytes, highest byte first), and
 that many bytes. docs/FORMATS.md describes the messages.
@@ -246,7 +246,7 @@ def corpus():
     return records.bytes()
 
 
-def load(size, rounds):
+def load(size, rounds, count):
     """Returns the file of the benchmark: each member makes a block in each round, which as few as reach the quorum certify."""
     records, draw, members, before = Records(), Draw(SEED + b"load"), Members(size), []
     records.add("M", members.keys)
@@ -254,7 +254,7 @@ def load(size, rounds):
         links, now = before, []
         for author in range(size):
             links = draw.some(before, members.quorum) if before else []
-            transactions = [number(draw.below(2**32), 4) * 128 for _ in range(16)]
+            transactions = [number(draw.below(2**32), 4) * 128 for _ in range(count)]
             block = Block(author, round_, links, transactions)
             records.add("B", block.digest + members.message(block))
             records.add("C", members.certificate(block.subject, draw.some(range(size), members.quorum)))
@@ -264,9 +264,9 @@ def load(size, rounds):
 
 
 def main(arguments):
-    if len(arguments) == 4 and arguments[0] == "--load":
-        with open(arguments[3], "wb") as file:
-            file.write(load(int(arguments[1]), int(arguments[2])))
+    if len(arguments) == 5 and arguments[0] == "--load":
+        with open(arguments[4], "wb") as file:
+            file.write(load(*map(int, arguments[1:4])))
     elif arguments == ["--check"]:
         with open(HERE, "rb") as file:
             return 0 if file.read() == corpus() else 1

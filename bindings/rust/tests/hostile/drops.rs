@@ -1,6 +1,6 @@
 //! What a validator drops before it checks it, and what it asks for.
 
-use crate::flow::Flow;
+use crate::flow::{Flow, Missing};
 use crate::honest::{BUDGET, Honest, Rules};
 use crate::lab::Com;
 use crate::world::{Checks, Packet, Post};
@@ -14,7 +14,6 @@ struct Drops {
     com: Com,
     store: Store,
     session: Session,
-    flow: Flow,
 }
 
 impl Drops {
@@ -27,10 +26,19 @@ impl Drops {
         let store = Store::new(&com.committee, limits).unwrap();
         Drops {
             session: store.session().unwrap(),
-            flow: Flow::new(&store),
             store,
             com,
         }
+    }
+
+    fn flow(&self) -> Flow<'_> {
+        Flow::over(&self.store, &self.session)
+    }
+
+    /// What the certified blocks lack, and what all others do.
+    fn lacks(&self) -> [Vec<Missing>; 2] {
+        let (missing, doubtful) = (self.flow().missing(), self.flow().doubtful(usize::MAX));
+        [missing.unwrap(), doubtful.unwrap()]
     }
 
     /// Writes a block that the store takes. Returns the subjects to vote for.
@@ -39,7 +47,7 @@ impl Drops {
             panic!("no block");
         };
         match *self.session.write(&block).unwrap().reply() {
-            WriteReply::Stored { vote } => self.flow.stored(&block, vote),
+            WriteReply::Stored { .. } => self.flow().stored(&block.subject()).unwrap(),
             other => panic!("{other:?}"),
         }
     }
@@ -53,14 +61,14 @@ impl Drops {
         };
         let reply = self.session.certify(&made).unwrap().into_reply();
         assert_eq!(reply, CertifyReply::Certified);
-        self.flow.certified(subject)
+        self.flow().certified(subject).unwrap()
     }
 
     /// Raises the garbage round. Returns the subjects to vote for.
     fn collect(&mut self, round: u64) -> Vec<Subject> {
         let reply = self.session.collect(round).unwrap().into_reply();
         assert!(matches!(reply, CollectReply::Raised { .. }));
-        self.flow.collected(round)
+        self.flow().collected(round).unwrap()
     }
 
     /// A block of round 0, which is stored and certified.
@@ -87,11 +95,11 @@ fn copies_of_a_certificate_are_dropped_without_a_check() {
     let signers: Vec<u16> = (0..67).collect();
     let mut copy = drops.com.certificate(&subject, &signers);
     assert_eq!(copy.len(), 4_465);
-    assert!(!drops.flow.wants(&copy));
+    assert!(!drops.flow().wants(&copy));
     copy[100] ^= 1;
-    assert!(!drops.flow.wants(&copy));
+    assert!(!drops.flow().wants(&copy));
     let (_, other) = drops.com.block(8, 0, &[], &[]);
-    assert!(drops.flow.wants(&drops.com.certificate(&other, &signers)));
+    assert!(drops.flow().wants(&drops.com.certificate(&other, &signers)));
 }
 
 /// Repeated blocks, twins, and blocks outside of the window.
@@ -100,20 +108,20 @@ fn refused_blocks_are_dropped_without_a_check() {
     let mut drops = Drops::new(4);
     let (first, subject) = drops.com.block(1, 0, &[], &[]);
     let (twin, of_twin) = drops.com.block(1, 0, &[], &[vec![1]]);
-    assert!(drops.flow.wants(&first) && drops.flow.wants(&twin));
+    assert!(drops.flow().wants(&first) && drops.flow().wants(&twin));
     assert_eq!(drops.write(&first), [subject]);
-    assert!(!drops.flow.wants(&first) && !drops.flow.wants(&twin));
+    assert!(!drops.flow().wants(&first) && !drops.flow().wants(&twin));
     let window = u64::from(WINDOW);
-    assert!(!drops.flow.wants(&drops.made_up(2, window)));
-    assert!(drops.flow.wants(&drops.made_up(2, window - 1)));
+    assert!(!drops.flow().wants(&drops.made_up(2, window)));
+    assert!(drops.flow().wants(&drops.made_up(2, window - 1)));
     // The twin is wanted once it is certified, and until it is stored.
     drops.certify(&of_twin);
-    assert!(drops.flow.wants(&twin));
-    assert_eq!(drops.flow.absent().collect::<Vec<_>>(), [of_twin]);
+    assert!(drops.flow().wants(&twin));
+    assert_eq!(drops.flow().absent().unwrap(), [of_twin]);
     assert!(drops.write(&twin).is_empty());
-    assert!(!drops.flow.wants(&twin) && drops.flow.absent().count() == 0);
+    assert!(!drops.flow().wants(&twin) && drops.flow().absent().unwrap().is_empty());
     drops.collect(1);
-    assert!(!drops.flow.wants(&first) && drops.flow.bytes() == 0);
+    assert!(!drops.flow().wants(&first));
 }
 
 /// Of two blocks of a slot, only the certified one waits for its parents, whichever was stored first.
@@ -130,14 +138,14 @@ fn no_block_beside_the_certified_one_waits() {
             drops.write(&first);
         } else {
             drops.write(&first);
-            assert_eq!(drops.flow.missing().count(), 3);
+            assert_eq!(drops.lacks().map(|lacks| lacks.len()), [0, 3]);
             drops.certify(&of_twin);
         }
-        assert_eq!(drops.flow.missing().count(), 0);
-        assert_eq!(drops.flow.absent().collect::<Vec<_>>(), [of_twin]);
+        assert_eq!(drops.lacks(), [vec![], vec![]]);
+        assert_eq!(drops.flow().absent().unwrap(), [of_twin]);
         drops.write(&twin);
-        let missing: Vec<_> = drops.flow.missing().collect();
-        assert!(missing.iter().all(|(child, _)| *child == of_twin));
+        let [missing, doubtful] = drops.lacks();
+        assert!(missing.iter().all(|(child, _)| *child == of_twin) && doubtful.is_empty());
         let parents: Vec<_> = missing
             .iter()
             .map(|(_, of)| (of.author, of.digest))
@@ -164,14 +172,15 @@ fn invented_parents_do_not_hide_the_missing_parent_of_a_certified_block() {
     let (message, child) = drops.com.block(50, 1, &parents, &[]);
     assert!(drops.write(&message).is_empty());
     drops.certify(&child);
-    let is_certified = |subject: &Subject| {
-        let look = drops.store.look(subject.round, subject.author);
-        look.certified == Some(subject.digest)
-    };
-    let asked = drops.flow.missing().filter(|(of, _)| is_certified(of));
-    assert_eq!(asked.collect::<Vec<_>>(), [(child, lacking)]);
-    assert_eq!(drops.flow.missing().count(), 33 * 15 * 67 + 1);
-    assert!(drops.flow.bytes() <= Flow::most_bytes(100, WINDOW));
+    let [missing, doubtful] = drops.lacks();
+    assert_eq!(missing, [(child, lacking)]);
+    assert_eq!(doubtful.len(), 33 * 15 * 67);
+    // Only the author of such a block is asked, and for a few parents at a time.
+    assert_eq!(drops.flow().doubtful(8).unwrap().len(), 33 * 8);
+    // And only a few of its blocks are looked at again for a vote.
+    let before = drops.store.events();
+    assert!(drops.flow().due(8).unwrap().is_empty());
+    assert!(drops.store.events() - before <= 33 * 8);
 }
 
 /// Blocks of 33 members that invent 100 parents each wait for nothing once their rounds are collected.
@@ -186,10 +195,10 @@ fn blocks_with_100_unmet_parents_are_collected() {
         let (message, _) = drops.com.block(author, round, &parents, &[]);
         assert!(drops.write(&message).is_empty());
     }
-    assert_eq!(drops.flow.missing().count(), 33 * 15 * 100);
+    assert_eq!(drops.lacks().map(|lacks| lacks.len()), [0, 33 * 15 * 100]);
     // Blocks of the garbage round need no parents.
     assert_eq!(drops.collect(rounds.end - 1).len(), 33);
-    assert!(drops.collect(rounds.end).is_empty() && drops.flow.bytes() == 0);
+    assert!(drops.collect(rounds.end).is_empty() && drops.lacks() == [vec![], vec![]]);
     assert_eq!(drops.session.status().unwrap().reply().blocks, 0);
     assert!(drops.session.missing(1).unwrap().reply().is_empty());
 }
@@ -214,7 +223,9 @@ fn a_vote_waits_for_all_parents() {
     // The last certificate comes before its block.
     let (message, subject) = &made[2];
     assert!(drops.certify(subject).is_empty());
-    assert_eq!(drops.write(message), [*subject, child]);
+    // It needs no vote then, but the block over it gets one.
+    assert_eq!(drops.write(message), [child]);
+    assert_eq!(drops.flow().due(1).unwrap(), [child]);
     let others = [0, 1, 2].map(|author| (author, child.digest));
     let (message, next) = drops.com.block(2, 2, &others, &[]);
     assert!(drops.write(&message).is_empty());
@@ -245,5 +256,5 @@ fn a_peer_over_its_budget_is_not_checked() {
     assert_eq!(checks.0.len(), 2 * most);
     let (block, _) = com.block(2, 0, &[], &[]);
     honest.take(2, &Packet::Message(block.into()), &mut checks, &mut post);
-    assert_eq!(honest.store.events(), 1);
+    assert_eq!(honest.store.changes(), 1);
 }

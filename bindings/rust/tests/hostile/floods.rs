@@ -91,7 +91,7 @@ fn a_block_replayed_100_000_times_fills_nothing() {
     for _ in 0..50_000 {
         assert_eq!(flooded.write(&far), WriteReply::TooFar);
     }
-    flooded.session.collect(1).unwrap();
+    drop(flooded.session.collect(1).unwrap());
     for _ in 0..50_000 {
         let collected = WriteReply::Collected { garbage_round: 1 };
         assert_eq!(flooded.write(&block), collected);
@@ -122,7 +122,7 @@ fn a_certificate_replayed_100_000_times_fills_nothing() {
     let (_, subject) = flooded.com.block(1, 0, &[], &[]);
     let copies = [[0, 1, 2], [1, 2, 3]].map(|signers| flooded.certificate(&subject, &signers));
     for copy in 0..100_000 {
-        flooded.session.certify(&copies[copy % 2]).unwrap();
+        drop(flooded.session.certify(&copies[copy % 2]).unwrap());
     }
     // The first certificate's event has its message. The history restarted after 65,536 events.
     assert_eq!(flooded.store.history_bytes(), (100_000 - 65_536) * 150);

@@ -4,8 +4,9 @@ use crate::decide::Decider;
 use crate::flow::Flow;
 use crate::lab::Com;
 use crate::world::{Checks, Packet, Post};
+use narwhal_store::WriteReply;
 use narwhal_store::{CertifyReply, Checked, CheckedBlock, CheckedCertificate, CollectReply};
-use narwhal_store::{Digest, Gather, Limits, Message, Peek, Session, Store, Subject, WriteReply};
+use narwhal_store::{Digest, Gather, Limits, Look, Message, Peek, Session, Store, Subject};
 use std::collections::{BTreeMap, HashMap};
 use std::rc::Rc;
 
@@ -15,6 +16,8 @@ pub const LIMITS: Limits = Limits {
     window: 24,
     sessions: 1,
 };
+/// The most bytes that a validator keeps outside of its store and its disk.
+const KEPT_BYTES: usize = 20_000;
 /// The bytes at which a store restarts its history.
 pub const HISTORY_BYTES: u64 = 60_000;
 /// The most bytes of one peer that a validator checks between two ticks.
@@ -41,7 +44,6 @@ pub struct Honest<'a> {
     rules: Rules,
     pub store: Store,
     session: Session,
-    flow: Flow,
     pub decider: Decider,
     /// The votes for its last own block, and the messages of that block and its certificate.
     gather: Option<Gather>,
@@ -67,7 +69,6 @@ impl<'a> Honest<'a> {
             com,
             rules,
             session: store.session().expect("a session"),
-            flow: Flow::new(&store),
             store,
             decider: Decider::new(members),
             gather: None,
@@ -80,9 +81,14 @@ impl<'a> Honest<'a> {
         }
     }
 
+    fn flow(&self) -> Flow<'_> {
+        Flow::over(&self.store, &self.session)
+    }
+
     /// The bytes that it keeps outside of its store and its disk.
-    pub fn bytes(&self) -> usize {
-        self.flow.bytes() + self.kept.iter().map(|message| message.len()).sum::<usize>()
+    fn bytes(&self) -> usize {
+        let messages = self.own.iter().chain(&self.kept);
+        messages.map(|message| message.len()).sum()
     }
 
     /// Handles a packet from a member.
@@ -112,7 +118,7 @@ impl<'a> Honest<'a> {
             Some(Peek::Vote { subject, .. }) => {
                 self.gather.as_ref().is_some_and(|own| is_own(own, subject))
             }
-            _ => self.checks_all() || self.flow.wants(message),
+            _ => self.checks_all() || self.flow().wants(message),
         };
         let spent = &mut self.spent[usize::from(from)];
         let is_within = from == self.me || *spent + message.len() <= BUDGET;
@@ -151,7 +157,7 @@ impl<'a> Honest<'a> {
                     .or_default()
                     .push(message.clone());
                 self.decider.stored(block);
-                let due = self.flow.stored(block, vote);
+                let due = self.flow().stored(&subject).expect("memory");
                 match self.rules {
                     Rules::VotesAtOnce if vote => self.vote(&[subject], post),
                     Rules::VotesAtOnce => {}
@@ -178,7 +184,7 @@ impl<'a> Honest<'a> {
                     .entry(subject.digest)
                     .or_default()
                     .push(message.clone());
-                let due = self.flow.certified(&subject);
+                let due = self.flow().certified(&subject).expect("memory");
                 self.vote_later(&due, post);
                 self.decide(post);
             }
@@ -195,10 +201,9 @@ impl<'a> Honest<'a> {
 
     fn vote(&mut self, due: &[Subject], post: &mut Post) {
         for subject in due {
-            let before = self
-                .votes
-                .insert((subject.round, subject.author), subject.digest);
-            assert_eq!(before, None, "a second vote for {subject:?}");
+            let slot = (subject.round, subject.author);
+            let first = self.votes.entry(slot).or_insert(subject.digest);
+            assert_eq!(*first, subject.digest, "votes for two blocks of {slot:?}");
             let vote = self.com.vote(subject, self.me);
             post.send(self.me, subject.author, Packet::Message(vote.into()));
         }
@@ -209,7 +214,7 @@ impl<'a> Honest<'a> {
         while let Some(floor) = self.decider.decide(&self.session, &self.store) {
             let reply = self.session.collect(floor).expect("memory").into_reply();
             if let CollectReply::Raised { .. } = reply {
-                let due = self.flow.collected(floor);
+                let due = self.flow().collected(floor).expect("memory");
                 self.vote_later(&due, post);
             }
         }
@@ -226,16 +231,10 @@ impl<'a> Honest<'a> {
     }
 
     fn propose(&mut self, checks: &mut Checks, post: &mut Post) {
-        let members = self.spent.len() as u16;
         let quorum = self.com.committee.quorum() as usize;
         let floor = self.store.look(0, 0).garbage_round;
         for round in (self.round..floor + u64::from(LIMITS.window)).rev() {
-            let parent = |author| {
-                let look = self.store.look(round.checked_sub(1)?, author);
-                let digest = look.certified.filter(|_| look.stands)?;
-                Some((author, digest))
-            };
-            let parents: Vec<_> = (0..members).filter_map(parent).collect();
+            let parents = self.parents(round);
             if round > 0 && parents.len() < quorum {
                 continue;
             }
@@ -251,30 +250,37 @@ impl<'a> Honest<'a> {
         }
     }
 
-    /// Asks for the blocks of certificates, and for the parents of stored blocks.
+    /// The parents of a block of this round: the certified blocks of the preceding round that are stored.
+    fn parents(&self, round: u64) -> Vec<(u16, Digest)> {
+        let Some(preceding) = round.checked_sub(1) else {
+            return Vec::new();
+        };
+        let looks = self.store.look_round(preceding).expect("memory");
+        let parent = |(author, look): (u16, Look)| {
+            let digest = look.certified.filter(|_| look.stands)?;
+            Some((author, digest))
+        };
+        looks.into_iter().filter_map(parent).collect()
+    }
+
+    /// Asks several members for what certified blocks need, and only the author for what its other blocks need.
     fn ask(&self, post: &mut Post) {
-        for subject in self.flow.absent() {
+        for subject in self.flow().absent().expect("memory") {
             post.ask_some(self.me, subject.author, subject);
         }
-        let mut asked = vec![0; self.spent.len()];
-        for (child, parent) in self.flow.missing() {
-            let look = self.store.look(child.round, child.author);
-            let asked = &mut asked[usize::from(child.author)];
-            if look.certified == Some(child.digest) {
-                post.ask_some(self.me, child.author, parent);
-            } else if *asked < ASKED {
-                *asked += 1;
-                post.send(self.me, child.author, Packet::Fetch(parent));
-            }
+        for (child, parent) in self.flow().missing().expect("memory") {
+            post.ask_some(self.me, child.author, parent);
+        }
+        for (child, parent) in self.flow().doubtful(ASKED).expect("memory") {
+            post.send(self.me, child.author, Packet::Fetch(parent));
         }
     }
 
     /// The memory of the validator is within its bounds at this moment.
     pub fn check_memory(&self) {
-        let members = self.spent.len();
         assert!(self.store.history_bytes() <= HISTORY_BYTES, "the history");
-        let most = Flow::most_bytes(members, LIMITS.window);
-        assert!(self.bytes() <= most, "{} bytes are kept", self.bytes());
+        let bytes = self.bytes();
+        assert!(bytes <= KEPT_BYTES, "{bytes} bytes are kept");
     }
 
     /// The store has at most as many blocks as the window has slots.
