@@ -41,10 +41,15 @@ IsCalled accepts asked (kind.Session old) (kind.Session new) (kind.Answer told) 
 IsCalled accepts asked old new answer = ⊥
 
 -- the session made a causal read: the answer is a ticket for the digest, or says why there is none
-abbrev pub IsCausalRead : Meaning → Digest → Content → Content → Content → Type 0
-IsCausalRead accepts d (kind.Session old) (kind.Session new) (kind.Ticket given) = IsCallOf accepts (call.Causal d) old new reply.Ready given.front × (given.digest ≡ d)
-IsCausalRead accepts d (kind.Session old) (kind.Session new) (kind.Answer told) =
+abbrev pub IsReadBy : Meaning → Digest → SessionView → SessionView → Content → Type 0
+IsReadBy accepts d old new (kind.Ticket given) = IsCallOf accepts (call.Causal d) old new reply.Ready given.front × (given.digest ≡ d)
+IsReadBy accepts d old new (kind.Answer told) =
     IsCallOf accepts (call.Causal d) old new told.event.reply told.front × ((why : CausalReply) × (told.event.reply ≡ reply.Causal why))
+IsReadBy accepts d old new other = ⊥
+
+-- it is a session that made a causal read of the digest
+abbrev pub IsCausalRead : Meaning → Digest → Content → Content → Content → Type 0
+IsCausalRead accepts d (kind.Session old) (kind.Session new) answer = IsReadBy accepts d old new answer
 IsCausalRead accepts d old new answer = ⊥
 
 -- the session handed in the checked block as a write, or the checked certificate as a certification, and this is the answer

@@ -1,4 +1,5 @@
 -- Shared stores and their sessions may be sent to another thread.
+use mir.Syntax.{Dict}
 use denote.RattleType.{RattleType}
 use denote.Param.Send.{IsSend, IsSync, sendable, view_send}
 use denote.Param.SendFields.{declared_send, declared_sync}
@@ -11,10 +12,9 @@ use Rattle.std.specs.contracts.alloc.Global as heap
 use Rattle.std.specs.contracts.impls.GlobalAllocator.TheImpl.{ghosts as heap_ghosts}
 use Rattle.nw_sig.specs.declared.scheme.Scheme.{Ghosts}
 use Rattle.nw_history.specs.contracts.front.Front as front
-use Rattle.nw_history.proofs.Send.{front_send, front_sync}
 use Rattle.nw_book.proofs.Send.{book_send}
 use Rattle.nw_shared_store.specs.contracts.rule.OneHistory as rule
-use Rattle.nw_shared_store.specs.contracts.rule.OneHistoryTableRuleHeldKnowledgeFront.TheImpl.{ghosts as rule_ghosts}
+use Rattle.nw_shared_store.specs.contracts.rule.OneHistoryTableRuleHeldKnownFront.TheImpl.{ghosts as rule_ghosts}
 use Rattle.nw_shared_store.specs.contracts.held.Held as held
 use Rattle.nw_shared_store.specs.contracts.held.Held.TheInside as held_inside
 use Rattle.nw_shared_store.specs.contracts.knowledge.Knowledge as knowledge
@@ -24,7 +24,7 @@ use Rattle.nw_shared_store.specs.contracts.store.SharedStore.TheInside as store_
 use Rattle.nw_shared_store.specs.contracts.session.SharedSession as session
 use Rattle.nw_shared_store.specs.contracts.session.SharedSession.TheInside as session_inside
 
-module _ (S : RattleType) (g : Ghosts S.Denot) where
+module _ (S : RattleType) (g : Ghosts S.Denot) (d : Dict) where
   held_send : IsSend (held.the_row S g)
   held_send = view_send (held_inside.the_row S g) _ _ _ _ (declared_send (held_inside.the_type S g) (book_send S g, (search (sendable, crosses) depth 30, tt)))
 
@@ -34,28 +34,28 @@ module _ (S : RattleType) (g : Ghosts S.Denot) where
 
   -- the lock
   abbrev Lock : RattleType
-  Lock = table.the_row (held.the_row S g) Known (front.the_row S g) rule.the_row heap.the_row (rule_ghosts S g) heap_ghosts
+  Lock = table.the_row (held.the_row S g) Known (front.the_row S g) rule.the_row heap.the_row (rule_ghosts S g d) heap_ghosts
 
   lock_send : IsSend Lock
-  lock_send = declared_send (table.the_type (held.the_row S g) Known (front.the_row S g) rule.the_row heap.the_row (rule_ghosts S g) heap_ghosts) (
-    search (sendable, crosses, held_send, front_send, front_sync, shared.the_send) depth 30,
+  lock_send = declared_send (table.the_type (held.the_row S g) Known (front.the_row S g) rule.the_row heap.the_row (rule_ghosts S g d) heap_ghosts) (
+    search (sendable, crosses, held_send, shared.the_send) depth 30,
     (
       search (sendable, crosses) depth 30,
       (
         search (sendable, crosses) depth 30,
-        (search (sendable, crosses, lease.the_send) depth 30, (search (sendable, crosses, held_send, lease.the_send) depth 30, (search (sendable, crosses) depth 30, tt))),
+        (search (sendable, crosses, lease.the_send) depth 30, (search (sendable, crosses, lease.the_send) depth 30, (search (sendable, crosses) depth 30, tt))),
       ),
     ),
   )
 
   lock_sync : IsSync Lock
-  lock_sync = declared_sync (table.the_type (held.the_row S g) Known (front.the_row S g) rule.the_row heap.the_row (rule_ghosts S g) heap_ghosts) (
-    search (sendable, crosses, held_send, front_send, front_sync, shared.the_sync) depth 30,
+  lock_sync = declared_sync (table.the_type (held.the_row S g) Known (front.the_row S g) rule.the_row heap.the_row (rule_ghosts S g d) heap_ghosts) (
+    search (sendable, crosses, held_send, shared.the_sync) depth 30,
     (
       search (sendable, crosses) depth 30,
       (
         search (sendable, crosses) depth 30,
-        (search (sendable, crosses, lease.the_sync) depth 30, (search (sendable, crosses, held_send, lease.the_sync) depth 30, (search (sendable, crosses) depth 30, tt))),
+        (search (sendable, crosses, lease.the_sync) depth 30, (search (sendable, crosses, lease.the_sync) depth 30, (search (sendable, crosses) depth 30, tt))),
       ),
     ),
   )

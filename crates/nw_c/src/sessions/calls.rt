@@ -1,11 +1,13 @@
 //! The calls of a session that hand in neither a block nor a certificate.
-ghost use Rattle.std.specs.Prelude.{◌≡◌, ◌^◌, ◌≤◌, pos, None, true};
+ghost use Rattle.std.specs.Prelude.{◌≡◌, ◌^◌, ◌≤◌, pos, None, true, IfErr, IfOk, OnErr};
 ghost use Rattle.nw_ed25519.specs.Accepts.{accepts};
 ghost use Rattle.nw_model.specs.declared.call.Call.TheVariants as Call;
+ghost use Rattle.nw_book.specs.Journal.{origin_of};
+ghost use Rattle.nw_shared_store.specs.Session.{IsRefused};
 ghost use Rattle.nw_shared_store.specs.declared.error.Refusal.{Refusal};
 ghost use Rattle.nw_c.specs.Kinds.{HoldsRoom, HoldsSession, IsUnchanged};
 ghost use Rattle.nw_c.specs.Plain.{digest_in};
-ghost use Rattle.nw_c.specs.Sessions.{IsCalled, IsCausalRead, IsRefusedTo};
+ghost use Rattle.nw_c.specs.Sessions.{IsCalled, IsCausalRead, IsReadBy, IsRefusedTo};
 ghost use Rattle.nw_c.specs.Stores.{refusal_code};
 ghost use Rattle.nw_c.specs.declared.codes.TheConstants.{BAD_ROUND, CLOSED, OTHER_KIND};
 
@@ -18,8 +20,9 @@ use crate::plain::CDigest;
 use crate::stores::code_of_refusal;
 use nw_book::Command;
 use nw_check::{CheckedBlock, CheckedCert};
-use nw_digest::Round;
+use nw_digest::{Digest, Round};
 use nw_ed25519::Ed25519;
+use nw_shared_store::{Refusal, SharedSession};
 use std::alloc::Global;
 
 // What a command may borrow. The prover finds these types only in the function that makes a command, so each such function has a value of
@@ -208,15 +211,29 @@ pub extern "C" fn nw_session_open(
     let Content::Session(held) = session.lend() else {
         return OTHER_KIND;
     };
-    match held.open_causal(alloc, digest.get()) {
-        Ok(Ok(ticket)) => {
-            *answer.lend() = Content::Ticket(ticket);
-            DONE
-        }
-        Ok(Err(done)) => {
-            *answer.lend() = Content::Answer(done);
+    match read_causally(alloc, held, digest.get()) {
+        Ok(content) => {
+            *answer.lend() = content;
             DONE
         }
         Err(why) => code_of_refusal(why),
+    }
+}
+
+/// Opens a causal read of the digest, as the session's next call. Returns the content of the answer. A refusal changes nothing.
+fn read_causally(
+    alloc: Global,
+    session: &mut SharedSession<Ed25519>,
+    digest: Digest,
+) -> Result<Content, Refusal>
+    ensures read { IfOk result (IsReadBy accepts digest session.old session.new) }
+    ensures refused { IfErr result
+        (IsRefused accepts (origin_of session.old.store.first) session.old.journal None) }
+    ensures unchanged { OnErr result (session.new ≡ session.old) }
+{
+    match session.open_causal(alloc, digest) {
+        Ok(Ok(ticket)) => Ok(Content::Ticket(ticket)),
+        Ok(Err(done)) => Ok(Content::Answer(done)),
+        Err(why) => Err(why),
     }
 }
