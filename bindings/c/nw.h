@@ -5,8 +5,8 @@
    function of its kind, as nw_block_free. It does nothing for NULL or a closed handle.
 
    If several codes apply, a function returns the first of NW_CLOSED, NW_OPEN, NW_BAD_ROUND and NW_OTHER_KIND, and otherwise the first
-   that its comment names. But nw_book_hand_in looks at its text before all else, and nw_book_collect at its round. The numbers of codes,
-   kinds of texts, replies and calls do not overlap.
+   that its comment names. But nw_book_hand_in and nw_session_hand_in look at their text before all else, and nw_book_collect and
+   nw_session_collect at their round. The numbers of codes, kinds of texts, replies and calls do not overlap.
 
    The caller owes what the library cannot check:
 
@@ -19,8 +19,11 @@
    All other values are checked. A function that writes bytes into a buffer first writes how many bytes are needed, so a buffer of
    length 0 asks for the size.
 
-   Two threads may use two handles at once, even if these share a committee, blocks or a history. Put a lock of your own around a book.
-   Checks and walks need no lock.
+   Two threads may use two handles at once, even if these share a store, a committee, blocks or a history. Put a lock of your own around
+   a book. Checks and walks need no lock.
+
+   A store (nw_store) needs no lock: its own is proved. Threads call it at the same time, each with a session of its own. A call that comes
+   while another thread has the lock returns NW_BUSY and changes nothing: call again. A book (nw_book) is a store without a lock.
 
    Each session numbers its calls of a book from 1, and again from 1 after a restart. A refused call uses no number, and changes nothing
    except what its comment names. The store is in memory only: docs/EMBEDDING.md says what a validator logs. */
@@ -33,8 +36,8 @@
 /* The version of this header. nw_version() returns that of the library. */
 #define NW_VERSION "0.1.0"
 #define NW_VERSION_NUMBER 100
-/* The interface of this header. A program links only with a library of the same interface: see nw_interface_4. */
-#define NW_ABI 4
+/* The interface of this header. A program links only with a library of the same interface: see nw_interface_5. */
+#define NW_ABI 5
 
 /* The largest number of members of a committee. */
 #define NW_MAX_MEMBERS 100
@@ -114,6 +117,14 @@ enum {
 	NW_FEW_VOTES = 18,
 	/* The two tickets have different digests or garbage rounds, so their lists cannot be compared. */
 	NW_NOT_COMPARABLE = 19,
+	/* Another thread has the lock of the store. Nothing changed. Call again. */
+	NW_BUSY = 20,
+	/* The store has made as many sessions as its limit allows. */
+	NW_TOO_MANY_SESSIONS = 21,
+	/* The history is no prefix of the history of the session's store. */
+	NW_OTHER_HISTORY = 22,
+	/* The sessions are not all sessions of one store, in the order of their numbers. */
+	NW_UNSETTLED = 23,
 };
 
 /* The kinds of checked texts. */
@@ -256,8 +267,8 @@ typedef struct {
 typedef struct {
 	void *at;
 } nw_book;
-/* Room for an answer, an answer, or a ticket. A ticket is the answer to a causal read whose list can be
-   walked. */
+/* Room for an answer, an answer, a ticket, or a history. A ticket is the answer to a causal read whose list
+   can be walked. A history is a note of a session, or what sessions settled on. */
 typedef struct {
 	void *at;
 } nw_answer;
@@ -269,6 +280,18 @@ typedef struct {
 typedef struct {
 	void *at;
 } nw_block;
+/* A store that threads share. Each thread has a handle of its own. */
+typedef struct {
+	void *at;
+} nw_store;
+/* A session of a store: the calls of one thread. */
+typedef struct {
+	void *at;
+} nw_session;
+/* The sessions that are given to a settlement. */
+typedef struct {
+	void *at;
+} nw_settlement;
 
 /* A digest: 32 bytes of SHA-256. */
 typedef struct {
@@ -576,16 +599,17 @@ NW_USE int32_t nw_answer_status(nw_answer *answer, nw_status *out);
 /* Writes the reply of the answer. The reply of a ticket is NW_READY. */
 NW_USE int32_t nw_answer_reply(nw_answer *answer, nw_tagged *out);
 
-/* Writes the number of events in the history of the answer or ticket. The last event is its own call. */
+/* Writes the number of events in the history, or in the history of the answer or ticket. The last event of
+   an answer or ticket is its own call. */
 NW_USE int32_t nw_answer_events(nw_answer *answer, size_t *out);
 
-/* Writes the event at the index, counted from 0, of the history of the answer or ticket. Returns NW_ABSENT
-   if there is no such event. */
+/* Writes the event at the index, counted from 0, of the history, or of the history of the answer or ticket.
+   Returns NW_ABSENT if there is no such event. */
 NW_USE int32_t nw_answer_event(nw_answer *answer, size_t index, nw_event *out);
 
 /* Writes whether the history of answer is a prefix of the history of other. It is if both have the same
    committee, limits and base, and the first events of other are the events of answer. The time grows with
-   the number of these events. Both handles may be answers or tickets. */
+   the number of these events. Both handles may be answers, tickets or histories. */
 NW_USE int32_t nw_answer_is_prefix(nw_answer *answer, nw_answer *other, bool *out);
 
 /* Writes the digest that the ticket is for, and the garbage round at the call that gave the ticket. */
@@ -607,6 +631,89 @@ NW_USE int32_t nw_list_len(nw_list *list, size_t *out);
 /* Opens a handle of the block at the index, counted from 0. Returns NW_ABSENT if the list has no such block. */
 NW_USE int32_t nw_list_block(nw_list *list, size_t index, nw_block *out);
 
+/* Makes a store with an empty history under the committee and the limits. Threads may call it at the same
+   time without a lock of their own: each through a handle of its own, see nw_store_share, and sessions of
+   its own. Returns NW_BAD_LIMITS if a limit is out of range. */
+NW_USE int32_t nw_store_new(nw_committee *committee, const nw_limits *limits, nw_store *out);
+
+/* Opens one more handle of the store, for another thread. The store lives until its last handle and its last
+   session are freed. */
+NW_USE int32_t nw_store_share(nw_store *store, nw_store *out);
+
+/* Makes a session, which has made no call. A store numbers its sessions from 0. Returns NW_BUSY if another
+   thread has the lock, and NW_TOO_MANY_SESSIONS at the limit on sessions. */
+NW_USE int32_t nw_store_session(nw_store *store, nw_session *out);
+
+/* Rebuilds the list of complete blocks that tickets share, without collected blocks. Later tickets share the
+   new list, and earlier tickets keep theirs. It changes nothing that a call can observe. Returns NW_BUSY if
+   another thread has the lock. */
+NW_USE int32_t nw_store_compact(nw_store *store);
+
+/* Writes the session's number. A store numbers its sessions from 0, in the order in which it makes them. */
+NW_USE int32_t nw_session_id(nw_session *session, uint16_t *out);
+
+/* Writes the checked block, or certifies the digest of the checked certificate, as the session's next call.
+   Returns NW_BUSY if another thread has the lock: call again. The handle of the checked text stays open, and
+   the text may be handed to other stores. Returns NW_OTHER_KIND if the text is neither a valid block nor a
+   valid certificate. */
+NW_USE int32_t nw_session_hand_in(nw_session *session, nw_checked *checked, nw_answer *answer);
+
+/* Asks for the certificate of the digest, as the session's next call. */
+NW_USE int32_t nw_session_certificate(nw_session *session, const nw_digest *digest, nw_answer *answer);
+
+/* Asks for the block of the digest, as the session's next call. */
+NW_USE int32_t nw_session_read(nw_session *session, const nw_digest *digest, nw_answer *answer);
+
+/* Raises the garbage round to this round and drops everything of lower rounds, as the session's next call.
+   Returns NW_BAD_ROUND if the round is not below 2^48. */
+NW_USE int32_t nw_session_collect(nw_session *session, uint64_t round, nw_answer *answer);
+
+/* Asks for the first most missing parents, or for all if there are fewer, as the session's next call. They
+   ascend by round, author and digest. */
+NW_USE int32_t nw_session_missing(nw_session *session, uint16_t most, nw_answer *answer);
+
+/* Asks for the missing parents of the block of the digest, as the session's next call: those that it refers
+   to, and that are not stored or not certified. They ascend by author and digest. A block that is not above
+   the garbage round has none. */
+NW_USE int32_t nw_session_missing_of(nw_session *session, const nw_digest *digest, nw_answer *answer);
+
+/* Asks for the counts of the store, as the session's next call. */
+NW_USE int32_t nw_session_status(nw_session *session, nw_answer *answer);
+
+/* Opens a causal read of the digest, as the session's next call. The answer is a ticket if the digest is
+   complete: the block and its ancestors, down to the garbage round, are stored and certified. Otherwise the
+   reply of the answer says why there is no ticket. A ticket is walked without the lock. */
+NW_USE int32_t nw_session_open(nw_session *session, const nw_digest *digest, nw_answer *answer);
+
+/* Replaces the content of answer with a note: the history of the session's store as it is now. This is not a
+   call. A session of the same store that hears the note knows all that this session knows. Returns NW_BUSY
+   if another thread has the lock. */
+NW_USE int32_t nw_session_note(nw_session *session, nw_answer *answer);
+
+/* Hears a note of another session of the same store, or an answer or ticket of it. From then on, its history
+   is a prefix of the history of every answer of this session. This is not a call. Returns NW_BUSY if another
+   thread has the lock, and NW_OTHER_HISTORY if the note is no prefix of the store's history, for instance
+   because it is of another store. The time grows with the number of events of the note. */
+NW_USE int32_t nw_session_hear(nw_session *session, nw_answer *note);
+
+/* Makes a settlement, to which no session is given. */
+NW_USE int32_t nw_settlement_new(nw_settlement *out);
+
+/* Gives the session to the settlement, and closes its handle. Give the sessions in the order of their
+   numbers. */
+NW_USE int32_t nw_settlement_give(nw_settlement *settlement, nw_session *session);
+
+/* Settles the sessions that were given, which must be all that one store made, in the order of their
+   numbers, and replaces the content of answer with the store's history: it is an interleaving of their
+   calls, and the history of each of their answers is a prefix of it. The sessions stay with the settlement.
+   Returns NW_UNSETTLED if they are not all sessions of one store or not in order, and NW_BUSY if another
+   thread has a store's lock. The time grows with the number of sessions times the number of events. */
+NW_USE int32_t nw_settle(nw_settlement *settlement, nw_answer *answer);
+
+/* Takes back the session that was given last, which may go on calling. Returns NW_ABSENT if the settlement
+   has no session. */
+NW_USE int32_t nw_settlement_take(nw_settlement *settlement, nw_session *out);
+
 /* Closes the handle and frees everything that no other handle shares. A closed handle stays closed. */
 void nw_free(void *handle);
 
@@ -617,7 +724,7 @@ int32_t nw_version(void);
 /* Returns NW_ABI, the number of this interface. The number is in the name too, and changes with each change
    of an export, a struct or a code. So a program that calls this function links only with a library of the
    same interface. */
-int32_t nw_interface_4(void);
+int32_t nw_interface_5(void);
 
 /* Closes the handle, and frees everything that no other handle shares. Does nothing for NULL or a closed handle. */
 static inline void nw_committee_free(nw_committee *handle)
@@ -651,6 +758,21 @@ static inline void nw_list_free(nw_list *handle)
 		nw_free(handle);
 }
 static inline void nw_block_free(nw_block *handle)
+{
+	if (handle)
+		nw_free(handle);
+}
+static inline void nw_store_free(nw_store *handle)
+{
+	if (handle)
+		nw_free(handle);
+}
+static inline void nw_session_free(nw_session *handle)
+{
+	if (handle)
+		nw_free(handle);
+}
+static inline void nw_settlement_free(nw_settlement *handle)
 {
 	if (handle)
 		nw_free(handle);
@@ -700,6 +822,14 @@ static inline const char *nw_code_text(int32_t code)
 		return "The counted votes do not reach the quorum";
 	case NW_NOT_COMPARABLE:
 		return "The two tickets have different digests or garbage rounds, so their lists cannot be compared";
+	case NW_BUSY:
+		return "Another thread has the lock of the store";
+	case NW_TOO_MANY_SESSIONS:
+		return "The store has made as many sessions as its limit allows";
+	case NW_OTHER_HISTORY:
+		return "The history is no prefix of the history of the session's store";
+	case NW_UNSETTLED:
+		return "The sessions are not all sessions of one store, in the order of their numbers";
 	default:
 		return NULL;
 	}

@@ -8,8 +8,12 @@ use Rattle.nw_digest.proofs.digest.Digest.TheSendSync as digest
 use Rattle.nw_ed25519.specs.contracts.scheme.Ed25519 as ed25519
 use Rattle.nw_ed25519.specs.contracts.scheme.Ed25519Scheme.TheImpl.{ghosts}
 use Rattle.nw_check.specs.contracts.message.Checked as checked
+use Rattle.nw_history.proofs.Send.{front_send}
 use Rattle.nw_book.proofs.Send.{book_send, done_send, ticket_send}
+use Rattle.nw_shared_store.proofs.Send.{shared_session_send, shared_store_send}
 use Rattle.nw_c.specs.contracts.content.Content as content
+use Rattle.nw_c.specs.contracts.given.Given as given
+use Rattle.nw_c.specs.contracts.given.Given.TheInside as given_inside
 use Rattle.nw_c.specs.contracts.hashed.HashedBlock as hashed
 use Rattle.nw_c.specs.contracts.hashed.HashedBlock.TheInside as hashed_inside
 
@@ -33,6 +37,10 @@ checked_send = enum_send (shape Message) (
 hashed_send : IsSend hashed.the_row
 hashed_send = view_send hashed_inside.the_row _ _ _ _ (declared_send hashed_inside.the_type (digest.the_send, (search (sendable, crosses) depth 30, tt)))
 
+-- the sessions given to a settlement
+given_send : IsSend given.the_row
+given_send = view_send given_inside.the_row _ _ _ _ (declared_send given_inside.the_type (search (sendable, crosses, shared_session_send) depth 30, tt))
+
 pub content_send : IsSend content.the_row
 content_send = recorded_send (Enum (shape content.the_type)) (content.the_type).D (content.the_type).to (content.the_type).to_one (enum_send (shape content.the_type) (
   tt,
@@ -48,7 +56,19 @@ content_send = recorded_send (Enum (shape content.the_type)) (content.the_type).
             (search (sendable, crosses, done_send) depth 30, tt),
             (
               (search (sendable, crosses, ticket_send) depth 30, tt),
-              ((search (sendable, crosses, hashed_send) depth 30, tt), ((search (sendable, crosses, hashed_send) depth 30, tt), tt)),
+              (
+                (search (sendable, crosses, hashed_send) depth 30, tt),
+                (
+                  (search (sendable, crosses, hashed_send) depth 30, tt),
+                  (
+                    (search (sendable, crosses, shared_store_send) depth 30, tt),
+                    (
+                      (search (sendable, crosses, shared_session_send) depth 30, tt),
+                      ((search (sendable, crosses, front_send) depth 30, tt), ((search (sendable, crosses, given_send) depth 30, tt), tt)),
+                    ),
+                  ),
+                ),
+              ),
             ),
           ),
         ),

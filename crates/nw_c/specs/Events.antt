@@ -32,10 +32,11 @@ EncodesCall (call.AskCertify q) t = (t.kind ≡ CALL_CERTIFY) × (digest_in t.di
 abbrev pub EncodesEvent : Event → CEvent → Type 0
 EncodesEvent e t = (t.session ≡ e.session) × (t.number ≡ e.number) × EncodesCall e.call t.call × EncodesReplyTo e.reply t.reply
 
--- the history of an answer or a ticket
+-- the history of an answer or a ticket, or the history itself
 abbrev pub front_in : Content → Option Story
 front_in (kind.Answer told) = Some told.front
 front_in (kind.Ticket given) = Some given.front
+front_in (kind.History history) = Some history
 front_in other = None
 
 -- there is a history, and it has n events

@@ -11,6 +11,7 @@ use Rattle.nw_check.specs.declared.message.Checked.TheVariants as checked
 use Rattle.nw_history.specs.Story.{Story}
 use Rattle.nw_book.specs.Answer.{DoneView}
 use Rattle.nw_book.specs.Ticket.{TicketView}
+use Rattle.nw_shared_store.specs.Session.{SessionView, StoreId}
 use Rattle.nw_ed25519.specs.declared.scheme.Ed25519.{Ed25519}
 use Rattle.nw_c.specs.declared.content.Content.{Content}
 use Rattle.nw_c.specs.declared.content.Content.TheVariants as kind
@@ -56,11 +57,19 @@ HoldsAnswer c = (told : DoneView) × (c ≡ kind.Answer told)
 abbrev pub HoldsTicket : Content → Type 0
 HoldsTicket c = (given : TicketView) × (c ≡ kind.Ticket given)
 
--- it is an answer or a ticket, and so has a reply and a history
-abbrev pub HasHistory : Content → Type 0
-HasHistory c = HoldsAnswer c ⊎ HoldsTicket c
+-- it is a history
+abbrev pub HoldsHistory : Content → Type 0
+HoldsHistory c = (history : Story) × (c ≡ kind.History history)
 
--- an answer may replace it: it is room, an answer or a ticket
+-- it is an answer or a ticket, and so has a reply
+abbrev pub HoldsReply : Content → Type 0
+HoldsReply c = HoldsAnswer c ⊎ HoldsTicket c
+
+-- it is an answer, a ticket or a history, and so has a history
+abbrev pub HasHistory : Content → Type 0
+HasHistory c = HoldsReply c ⊎ HoldsHistory c
+
+-- an answer may replace it: it is room, an answer, a ticket or a history
 abbrev pub HoldsRoom : Content → Type 0
 HoldsRoom c = (c ≡ kind.Room) ⊎ HasHistory c
 
@@ -71,3 +80,15 @@ HoldsList c = (blocks : List Block) × (c ≡ kind.List blocks)
 -- it is a block
 abbrev pub HoldsBlock : Content → Type 0
 HoldsBlock c = (block : Block) × (c ≡ kind.Block block)
+
+-- it is a store that threads share
+abbrev pub HoldsStore : Content → Type 0
+HoldsStore c = (store : StoreId) × (c ≡ kind.Store store)
+
+-- it is a session of such a store
+abbrev pub HoldsSession : Content → Type 0
+HoldsSession c = (session : SessionView) × (c ≡ kind.Session session)
+
+-- it is the sessions that are given to a settlement
+abbrev pub HoldsSettlement : Content → Type 0
+HoldsSettlement c = (given : List SessionView) × (c ≡ kind.Settlement given)

@@ -16,4 +16,6 @@ pub mod Replies
 pub mod Events
 pub mod Answers
 pub mod Tickets
+pub mod Stores
+pub mod Sessions
 pub mod Interface

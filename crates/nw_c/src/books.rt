@@ -108,13 +108,13 @@ pub extern "C" fn nw_book_events(book: &mut BookHandle, out: &mut usize) -> i32
     }
 }
 
-/// Whether an answer may replace this content: it is room, an answer or a ticket.
+/// Whether an answer may replace this content: it is room, an answer, a ticket or a history.
 pub(crate) fn is_room(content: &Content) -> bool
     ensures { result ≡ false → HoldsRoom content.now → ⊥ }
 {
     matches!(
         content,
-        Content::Room | Content::Answer(_) | Content::Ticket(_)
+        Content::Room | Content::Answer(_) | Content::Ticket(_) | Content::History(_)
     )
 }
 

@@ -45,6 +45,14 @@ pub(crate) const BAD_SIGNATURE: i32 = 17;
 pub(crate) const FEW_VOTES: i32 = 18;
 /// The two tickets have different digests or garbage rounds, so their lists cannot be compared.
 pub(crate) const NOT_COMPARABLE: i32 = 19;
+/// Another thread has the lock of the store. Nothing changed. Call again.
+pub(crate) const BUSY: i32 = 20;
+/// The store has made as many sessions as its limit allows.
+pub(crate) const TOO_MANY_SESSIONS: i32 = 21;
+/// The history is no prefix of the history of the session's store.
+pub(crate) const OTHER_HISTORY: i32 = 22;
+/// The sessions are not all sessions of one store, in the order of their numbers.
+pub(crate) const UNSETTLED: i32 = 23;
 
 /// The code of a refused step.
 pub(crate) fn code_of_step(why: NoStep) -> i32

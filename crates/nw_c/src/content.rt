@@ -1,10 +1,13 @@
 //! The contents of handles.
+use crate::given::Given;
 use crate::hashed::HashedBlock;
 use nw_book::{Book, Done, Ticket};
 use nw_check::{Checked, Gather};
 use nw_committee::Committee;
 use nw_digest::{Sequence, Shared};
 use nw_ed25519::Ed25519;
+use nw_history::Front;
+use nw_shared_store::{SharedSession, SharedStore};
 
 /// The content of a handle. It has one variant for each kind of handle.
 #[derive(Drop)]
@@ -28,4 +31,12 @@ pub enum Content {
     List(Sequence<HashedBlock>),
     /// A block.
     Block(HashedBlock),
+    /// One owner of a store that threads share.
+    Store(SharedStore<Ed25519>),
+    /// A session of such a store.
+    Session(SharedSession<Ed25519>),
+    /// The history of a store: a note, or what its sessions settled on.
+    History(Front<Ed25519>),
+    /// The sessions that are given to a settlement, in order.
+    Settlement(Given),
 }

@@ -74,18 +74,20 @@ fn event_told(event: &Event) -> CEvent
     }
 }
 
-/// The history of an answer or a ticket. `None` for any other content.
-fn front_of(content: &Content) -> Option<&Front<Ed25519>>
+/// The history of an answer or a ticket, or the history itself. `None` for any other content.
+pub(crate) fn front_of(content: &Content) -> Option<&Front<Ed25519>>
     ensures { option_copied result ≡ front_in content.now }
 {
     match content {
         Content::Answer(done) => Some(done.front()),
         Content::Ticket(ticket) => Some(ticket.front()),
+        Content::History(front) => Some(front),
         _ => None,
     }
 }
 
-/// Writes the number of events in the history of the answer or ticket. The last event is its own call.
+/// Writes the number of events in the history, or in the history of the answer or ticket. The last event of an answer or ticket is its own
+/// call.
 #[unsafe(no_mangle)]
 pub extern "C" fn nw_answer_events(answer: &mut AnswerHandle, out: &mut usize) -> i32
     ensures events { result ≡ pos 0 → HasLength (front_in answer.old.value) out.new }
@@ -105,7 +107,8 @@ pub extern "C" fn nw_answer_events(answer: &mut AnswerHandle, out: &mut usize) -
     }
 }
 
-/// Writes the event at the index, counted from 0, of the history of the answer or ticket. Returns `NW_ABSENT` if there is no such event.
+/// Writes the event at the index, counted from 0, of the history, or of the history of the answer or ticket. Returns `NW_ABSENT` if there is
+/// no such event.
 #[unsafe(no_mangle)]
 pub extern "C" fn nw_answer_event(answer: &mut AnswerHandle, index: usize, out: &mut CEvent) -> i32
     ensures event { result ≡ pos 0 → HasEventAt (front_in answer.old.value) index out.new }
@@ -130,8 +133,8 @@ pub extern "C" fn nw_answer_event(answer: &mut AnswerHandle, index: usize, out: 
 }
 
 /// Writes whether the history of `answer` is a prefix of the history of `other`. It is if both have the same committee, limits and base, and the
-/// first events of `other` are the events of `answer`. The time grows with the number of these events. Both handles may be answers or
-/// tickets.
+/// first events of `other` are the events of `answer`. The time grows with the number of these events. Both handles may be answers,
+/// tickets or histories.
 #[unsafe(no_mangle)]
 pub extern "C" fn nw_answer_is_prefix(
     answer: &mut AnswerHandle,

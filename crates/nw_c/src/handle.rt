@@ -9,7 +9,7 @@ use std::marker::Model;
 mod calls;
 mod put;
 
-pub(crate) use put::put;
+pub(crate) use put::{open, put};
 
 /// A handle as C sees it: one pointer, which is null while the handle is closed.
 #[repr(C)]
@@ -36,9 +36,16 @@ pub type CheckedHandle = Handle;
 pub type GatherHandle = Handle;
 /// A book: the stored blocks and certificates, and the history of the calls that led to them.
 pub type BookHandle = Handle;
-/// Room for an answer, an answer, or a ticket. A ticket is the answer to a causal read whose list can be walked.
+/// Room for an answer, an answer, a ticket, or a history. A ticket is the answer to a causal read whose list can be walked. A history is a
+/// note of a session, or what sessions settled on.
 pub type AnswerHandle = Handle;
 /// The list of blocks of a walk.
 pub type ListHandle = Handle;
 /// A block.
 pub type BlockHandle = Handle;
+/// A store that threads share. Each thread has a handle of its own.
+pub type StoreHandle = Handle;
+/// A session of a store: the calls of one thread.
+pub type SessionHandle = Handle;
+/// The sessions that are given to a settlement.
+pub type SettlementHandle = Handle;

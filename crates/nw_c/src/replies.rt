@@ -2,7 +2,7 @@
 ghost use Rattle.std.specs.Prelude.{◌≡◌, pos, true};
 ghost use Rattle.nw_model.specs.declared.reply.Reply.TheVariants as Reply;
 ghost use Rattle.nw_c.specs.Replies.{EncodesReply, EncodesReplyTo};
-ghost use Rattle.nw_c.specs.Kinds.{HasHistory, IsUnchanged};
+ghost use Rattle.nw_c.specs.Kinds.{HoldsReply, IsUnchanged};
 ghost use Rattle.nw_c.specs.declared.codes.TheConstants.{CLOSED, OTHER_KIND};
 
 use crate::codes::{CLOSED, DONE, OTHER_KIND};
@@ -116,7 +116,7 @@ pub extern "C" fn nw_answer_reply(answer: &mut AnswerHandle, out: &mut CTagged) 
     ensures reply { result ≡ pos 0 → EncodesReply answer.old.value out.new }
     ensures same { IsUnchanged answer.old answer.new }
     ensures closed { result ≡ CLOSED → answer.old.held ≡ true → ⊥ }
-    ensures other_kind { result ≡ OTHER_KIND → HasHistory answer.old.value → ⊥ }
+    ensures other_kind { result ≡ OTHER_KIND → HoldsReply answer.old.value → ⊥ }
 {
     if !answer.is_open() {
         return CLOSED;

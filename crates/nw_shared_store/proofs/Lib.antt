@@ -5,3 +5,4 @@ pub mod Answered
 pub mod Enrolled
 pub mod Parts
 pub mod Stepped
+pub mod Send

@@ -29,6 +29,15 @@ pub(crate) fn put(alloc: Global, out: &mut Handle, content: Content) -> i32
     }
 }
 
+/// Opens a closed handle with the content of the box.
+pub(crate) fn open(out: &mut Handle, held: Box<Content, Global>)
+    requires { out.old.held ≡ false }
+    ensures held { out.new.held ≡ true }
+    ensures value { out.new.value ≡ held.value }
+{
+    *out = Handle::of_parts(Parts::of(held));
+}
+
 /// Closes the handle and frees everything that no other handle shares. A closed handle stays closed.
 #[unsafe(no_mangle)]
 pub extern "C" fn nw_free(alloc: Global, handle: &mut Handle)

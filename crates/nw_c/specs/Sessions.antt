@@ -1,0 +1,93 @@
+-- Calls of sessions and their notes.
+use Rattle.std.specs.Prelude.{◌≡◌, ℕ, List, Option, Some, None}
+use Rattle.nw_committee.specs.declared.member.Member.{Member}
+use Rattle.nw_digest.specs.declared.digest.Digest.{Digest}
+use Rattle.nw_sig.specs.Signed.{Meaning}
+use Rattle.nw_model.specs.Checks.{digest_of}
+use Rattle.nw_model.specs.declared.call.Call.{Call}
+use Rattle.nw_model.specs.declared.call.Call.TheVariants as call
+use Rattle.nw_model.specs.declared.reply.CausalReply.{CausalReply}
+use Rattle.nw_model.specs.declared.reply.Reply.{Reply}
+use Rattle.nw_model.specs.declared.reply.Reply.TheVariants as reply
+use Rattle.nw_history.specs.Story.{Story}
+use Rattle.nw_check.specs.declared.message.Checked.TheVariants as checked
+use Rattle.nw_book.specs.Answered.{IsExplained}
+use Rattle.nw_book.specs.Journal.{KnowsAll, origin_of}
+use Rattle.nw_book.specs.Settled.{IsJournalOf}
+use Rattle.nw_book.specs.Turn.{MatchesCommittee}
+use Rattle.nw_shared_store.specs.Session.{HasHeard, IsOfAnother, IsPresent, IsRefused, SessionView, knowing}
+use Rattle.nw_shared_store.specs.declared.error.Refusal.{Refusal}
+use Rattle.nw_c.specs.declared.content.Content.{Content}
+use Rattle.nw_c.specs.declared.content.Content.TheVariants as kind
+
+-- it is the session with this number
+abbrev pub HasNumber : Content → ℕ → Type 0
+HasNumber (kind.Session session) number = number ≡ session.journal.id
+HasNumber other number = ⊥
+
+-- the session's next call got this reply, and the answer carries this history
+pub record IsCallOf (accepts : Meaning) (asked : Call) (old new : SessionView) (told : Reply) (front : Story) : Type 0 where
+  -- the session is still one of its store
+  pub store : new.store ≡ old.store
+  -- there is a legal history of the store, after which the plain store's reply to the call is this one. The answer's history is this
+  -- history with the call, and all that the session knew is a prefix of the answer's history
+  pub explained : IsExplained accepts (origin_of old.store.first) old.journal new.journal asked told front
+  -- of this session, the answer's history has exactly the calls that the session made, in order
+  pub own_calls : IsJournalOf front old.journal.id new.journal
+
+-- the session made this call, and this is the answer
+abbrev pub IsCalled : Meaning → Call → Content → Content → Content → Type 0
+IsCalled accepts asked (kind.Session old) (kind.Session new) (kind.Answer told) = IsCallOf accepts asked old new told.event.reply told.front
+IsCalled accepts asked old new answer = ⊥
+
+-- the session made a causal read: the answer is a ticket for the digest, or says why there is none
+abbrev pub IsReadBy : Meaning → Digest → SessionView → SessionView → Content → Type 0
+IsReadBy accepts d old new (kind.Ticket given) = IsCallOf accepts (call.Causal d) old new reply.Ready given.front × (given.digest ≡ d)
+IsReadBy accepts d old new (kind.Answer told) =
+    IsCallOf accepts (call.Causal d) old new told.event.reply told.front × ((why : CausalReply) × (told.event.reply ≡ reply.Causal why))
+IsReadBy accepts d old new other = ⊥
+
+-- it is a session that made a causal read of the digest
+abbrev pub IsCausalRead : Meaning → Digest → Content → Content → Content → Type 0
+IsCausalRead accepts d (kind.Session old) (kind.Session new) answer = IsReadBy accepts d old new answer
+IsCausalRead accepts d old new answer = ⊥
+
+-- the session handed in the checked block as a write, or the checked certificate as a certification, and this is the answer
+abbrev pub IsHandedInBy : Meaning → Content → Content → Content → Content → Type 0
+IsHandedInBy accepts (kind.Checked (checked.Block b)) old new answer = IsCalled accepts (call.Write (digest_of b.block) b.block) old new answer
+IsHandedInBy accepts (kind.Checked (checked.Cert c)) old new answer = IsCalled accepts (call.Certify c.certificate) old new answer
+IsHandedInBy accepts other old new answer = ⊥
+
+-- it is a session, whose store is under the second committee, if there is one
+abbrev pub IsUnderOwn : Content → Option (List Member) → Type 0
+IsUnderOwn (kind.Session session) under = MatchesCommittee session.store.first.committee under
+IsUnderOwn other under = ⊥
+
+-- the session's next call is refused for this cause; `under` is the committee of the value handed in, if the call hands one in. The cause is
+-- never its turn. Each other cause but a taken lock applies after some history of the store
+abbrev pub IsRefusedTo : Meaning → Content → Option (List Member) → Refusal → Type 0
+IsRefusedTo accepts (kind.Session session) under why = IsRefused accepts (origin_of session.store.first) session.journal under why
+IsRefusedTo accepts other under why = ⊥
+
+-- the history is the present one of the session's store. Of this session it has exactly the calls that it made, in order, and all that the
+-- session knew is a prefix of it. From now on, the session knows of this history
+abbrev pub IsNoteOf : Meaning → Content → Content → Content → Type 0
+IsNoteOf accepts (kind.Session old) (kind.Session new) (kind.History history) =
+    (new.store ≡ old.store) × (new.journal ≡ knowing old.journal history) × ((made : ℕ) × IsPresent accepts (origin_of old.store.first) old.journal history made)
+IsNoteOf accepts old new answer = ⊥
+
+-- it is a session that knows of a history of which this one is a prefix
+abbrev pub KnowsNote : Content → Option Story → Type 0
+KnowsNote (kind.Session session) (Some front) = HasHeard session.journal front
+KnowsNote other front = ⊥
+
+-- it is the same session of the same store, with the same answers, and it still knows of each history that it knew of
+abbrev pub IsLater : Content → Content → Type 0
+IsLater (kind.Session old) (kind.Session new) =
+    (new.store ≡ old.store) × (new.journal.id ≡ old.journal.id) × (new.journal.answers ≡ old.journal.answers) × KnowsAll new.journal.known old.journal.known
+IsLater old new = ⊥
+
+-- this history is no prefix of some history of the session's store
+abbrev pub IsNoNoteFor : Meaning → Content → Option Story → Type 0
+IsNoNoteFor accepts (kind.Session session) (Some front) = IsOfAnother accepts (origin_of session.store.first) front
+IsNoNoteFor accepts other front = ⊥

@@ -1,0 +1,75 @@
+//! Notes: what one session knows, for another one.
+ghost use Rattle.std.specs.Prelude.{◌≡◌, pos, true};
+ghost use Rattle.nw_ed25519.specs.Accepts.{accepts};
+ghost use Rattle.nw_c.specs.Events.{front_in};
+ghost use Rattle.nw_c.specs.Kinds.{HasHistory, HoldsRoom, HoldsSession, IsUnchanged};
+ghost use Rattle.nw_c.specs.Sessions.{IsLater, IsNoNoteFor, IsNoteOf, KnowsNote};
+ghost use Rattle.nw_c.specs.declared.codes.TheConstants.{CLOSED, OTHER_HISTORY, OTHER_KIND};
+
+use crate::books::is_room;
+use crate::codes::{CLOSED, DONE, OTHER_HISTORY, OTHER_KIND};
+use crate::content::Content;
+use crate::events::front_of;
+use crate::handle::{AnswerHandle, SessionHandle};
+use crate::stores::code_of_refusal;
+
+/// Replaces the content of `answer` with a note: the history of the session's store as it is now. This is not a call. A session of the same
+/// store that hears the note knows all that this session knows. Returns `NW_BUSY` if another thread has the lock.
+#[unsafe(no_mangle)]
+pub extern "C" fn nw_session_note(session: &mut SessionHandle, answer: &mut AnswerHandle) -> i32
+    ensures note { result ≡ pos 0 → IsNoteOf accepts session.old.value session.new.value answer.new.value }
+    ensures unchanged { (result ≡ pos 0 → ⊥) → IsUnchanged session.old session.new }
+    ensures answer { (result ≡ pos 0 → ⊥) → IsUnchanged answer.old answer.new }
+    ensures stays { session.new.held ≡ session.old.held }
+    ensures answer_stays { answer.new.held ≡ answer.old.held }
+    ensures closed { result ≡ CLOSED → session.old.held ≡ true → answer.old.held ≡ true → ⊥ }
+    ensures other_kind { result ≡ OTHER_KIND → HoldsSession session.old.value → HoldsRoom answer.old.value → ⊥ }
+{
+    if !session.is_open() || !answer.is_open() {
+        return CLOSED;
+    }
+    if !is_room(answer.lend()) {
+        return OTHER_KIND;
+    }
+    let Content::Session(held) = session.lend() else {
+        return OTHER_KIND;
+    };
+    match held.history() {
+        Ok((history, _)) => {
+            *answer.lend() = Content::History(history);
+            DONE
+        }
+        Err(why) => code_of_refusal(why),
+    }
+}
+
+/// Hears a note of another session of the same store, or an answer or ticket of it. From then on, its history is a prefix of the history of
+/// every answer of this session. This is not a call. Returns `NW_BUSY` if another thread has the lock, and `NW_OTHER_HISTORY` if the note is
+/// no prefix of the store's history, for instance because it is of another store. The time grows with the number of events of the note.
+#[unsafe(no_mangle)]
+pub extern "C" fn nw_session_hear(session: &mut SessionHandle, note: &mut AnswerHandle) -> i32
+    ensures heard { result ≡ pos 0 → KnowsNote session.new.value (front_in note.old.value) }
+    ensures knew { result ≡ pos 0 → IsLater session.old.value session.new.value }
+    ensures other { result ≡ OTHER_HISTORY → IsNoNoteFor accepts session.old.value (front_in note.old.value) }
+    ensures other_knew { result ≡ OTHER_HISTORY → IsLater session.old.value session.new.value }
+    ensures unchanged { (result ≡ pos 0 → ⊥) → (result ≡ OTHER_HISTORY → ⊥) → IsUnchanged session.old session.new }
+    ensures same { IsUnchanged note.old note.new }
+    ensures stays { session.new.held ≡ session.old.held }
+    ensures closed { result ≡ CLOSED → session.old.held ≡ true → note.old.held ≡ true → ⊥ }
+    ensures other_kind { result ≡ OTHER_KIND → HoldsSession session.old.value → HasHistory note.old.value → ⊥ }
+{
+    if !session.is_open() || !note.is_open() {
+        return CLOSED;
+    }
+    let Some(note) = front_of(note.lend()) else {
+        return OTHER_KIND;
+    };
+    let Content::Session(held) = session.lend() else {
+        return OTHER_KIND;
+    };
+    match held.hear(note) {
+        Ok(true) => DONE,
+        Ok(false) => OTHER_HISTORY,
+        Err(why) => code_of_refusal(why),
+    }
+}

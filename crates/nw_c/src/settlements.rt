@@ -1,0 +1,146 @@
+//! Settlement: the sessions of a store are given, and their calls together are one history.
+ghost use Rattle.std.specs.Prelude.{◌≡◌, pos, true, false};
+ghost use Rattle.nw_ed25519.specs.Accepts.{accepts};
+ghost use Rattle.nw_c.specs.Kinds.{HoldsRoom, HoldsSession, HoldsSettlement, IsUnchanged};
+ghost use Rattle.nw_c.specs.Stores.{IsEmptySettlement, IsGiven, IsSettled, kept_in};
+ghost use Rattle.nw_c.specs.declared.codes.TheConstants.{ABSENT, CLOSED, OPEN, OTHER_KIND};
+
+use crate::books::is_room;
+use crate::codes::{ABSENT, CLOSED, DONE, NO_MEMORY, OPEN, OTHER_KIND, UNSETTLED};
+use crate::content::Content;
+use crate::given::Given;
+use crate::handle::{AnswerHandle, Handle, SessionHandle, SettlementHandle, open, put};
+use crate::stores::code_of_refusal;
+use nw_shared_store::Unsettled;
+use std::alloc::Global;
+
+/// Makes a settlement, to which no session is given.
+#[unsafe(no_mangle)]
+pub extern "C" fn nw_settlement_new(alloc: Global, out: &mut SettlementHandle) -> i32
+    ensures made { result ≡ pos 0 → IsEmptySettlement out.new.value }
+    ensures unchanged { (result ≡ pos 0 → ⊥) → IsUnchanged out.old out.new }
+    ensures opened { result ≡ pos 0 → out.new.held ≡ true }
+    ensures occupied { result ≡ OPEN → out.old.held ≡ true }
+{
+    if out.is_open() {
+        return OPEN;
+    }
+    put(alloc, out, Content::Settlement(Given::new(alloc)))
+}
+
+/// Gives the session to the settlement, and closes its handle. Give the sessions in the order of their numbers.
+#[unsafe(no_mangle)]
+pub extern "C" fn nw_settlement_give(
+    alloc: Global,
+    settlement: &mut SettlementHandle,
+    session: &mut SessionHandle,
+) -> i32
+    ensures given { result ≡ pos 0 → IsGiven settlement.old.value session.old.value settlement.new.value }
+    ensures gone { result ≡ pos 0 → session.new.held ≡ false }
+    ensures unchanged { (result ≡ pos 0 → ⊥) → IsUnchanged settlement.old settlement.new }
+    ensures session { (result ≡ pos 0 → ⊥) → IsUnchanged session.old session.new }
+    ensures stays { settlement.new.held ≡ settlement.old.held }
+    ensures closed { result ≡ CLOSED → settlement.old.held ≡ true → session.old.held ≡ true → ⊥ }
+    ensures other_kind { result ≡ OTHER_KIND → HoldsSettlement settlement.old.value → HoldsSession session.old.value → ⊥ }
+{
+    if !settlement.is_open() || !session.is_open() {
+        return CLOSED;
+    }
+    let Content::Settlement(given) = settlement.lend() else {
+        return OTHER_KIND;
+    };
+    match std::mem::replace(session.lend(), Content::Room) {
+        Content::Session(next) => match given.push(next) {
+            Ok(()) => {
+                let room = std::mem::replace(session, Handle::closed(alloc));
+                drop(room.into_parts().into_box());
+                DONE
+            }
+            Err(back) => {
+                *session.lend() = Content::Session(back);
+                NO_MEMORY
+            }
+        },
+        other => {
+            *session.lend() = other;
+            OTHER_KIND
+        }
+    }
+}
+
+/// Settles the sessions that were given, which must be all that one store made, in the order of their numbers, and replaces the content of
+/// `answer` with the store's history: it is an interleaving of their calls, and the history of each of their answers is a prefix of it.
+/// The sessions stay with the settlement. Returns `NW_UNSETTLED` if they are not all sessions of one store or not in order, and `NW_BUSY` if
+/// another thread has a store's lock. The time grows with the number of sessions times the number of events.
+#[unsafe(no_mangle)]
+pub extern "C" fn nw_settle(settlement: &mut SettlementHandle, answer: &mut AnswerHandle) -> i32
+    ensures settled { result ≡ pos 0 → IsSettled accepts settlement.new.value answer.new.value }
+    ensures kept { kept_in settlement.new.value ≡ kept_in settlement.old.value }
+    ensures answer { (result ≡ pos 0 → ⊥) → IsUnchanged answer.old answer.new }
+    ensures stays { settlement.new.held ≡ settlement.old.held }
+    ensures answer_stays { answer.new.held ≡ answer.old.held }
+    ensures closed { result ≡ CLOSED → settlement.old.held ≡ true → answer.old.held ≡ true → ⊥ }
+    ensures other_kind { result ≡ OTHER_KIND → HoldsSettlement settlement.old.value → HoldsRoom answer.old.value → ⊥ }
+{
+    if !settlement.is_open() || !answer.is_open() {
+        return CLOSED;
+    }
+    if !is_room(answer.lend()) {
+        return OTHER_KIND;
+    }
+    let Content::Settlement(given) = settlement.lend() else {
+        return OTHER_KIND;
+    };
+    match given.settle() {
+        Ok(history) => {
+            *answer.lend() = Content::History(history);
+            DONE
+        }
+        Err(Unsettled::Refused(why)) => code_of_refusal(why),
+        Err(_) => UNSETTLED,
+    }
+}
+
+/// Takes back the session that was given last, which may go on calling. Returns `NW_ABSENT` if the settlement has no session.
+#[unsafe(no_mangle)]
+pub extern "C" fn nw_settlement_take(
+    alloc: Global,
+    settlement: &mut SettlementHandle,
+    out: &mut SessionHandle,
+) -> i32
+    ensures taken { result ≡ pos 0 → IsGiven settlement.new.value out.new.value settlement.old.value }
+    ensures unchanged { (result ≡ pos 0 → ⊥) → IsUnchanged settlement.old settlement.new }
+    ensures out { (result ≡ pos 0 → ⊥) → IsUnchanged out.old out.new }
+    ensures opened { result ≡ pos 0 → out.new.held ≡ true }
+    ensures occupied { result ≡ OPEN → out.old.held ≡ true }
+    ensures stays { settlement.new.held ≡ settlement.old.held }
+    ensures absent { result ≡ ABSENT → IsEmptySettlement settlement.old.value }
+    ensures closed { result ≡ CLOSED → settlement.old.held ≡ true → ⊥ }
+    ensures other_kind { result ≡ OTHER_KIND → HoldsSettlement settlement.old.value → ⊥ }
+{
+    if !settlement.is_open() {
+        return CLOSED;
+    }
+    if out.is_open() {
+        return OPEN;
+    }
+    let Content::Settlement(given) = settlement.lend() else {
+        return OTHER_KIND;
+    };
+    // The room comes first, so that no session is lost.
+    let mut room = match Box::new(alloc, Content::Room) {
+        Ok(room) => room,
+        Err(refused) => {
+            drop(refused);
+            return NO_MEMORY;
+        }
+    };
+    match given.pop() {
+        Some(session) => {
+            *room = Content::Session(session);
+            open(out, room);
+            DONE
+        }
+        None => ABSENT,
+    }
+}
