@@ -399,7 +399,10 @@ typedef struct {
 } nw_event;
 
 /* Makes a committee of 1 to 100 members. A member's number is its index in the array. Returns
-   NW_BAD_COMMITTEE if there are too few or too many members, a weight is out of range, or a key is repeated. */
+   NW_BAD_COMMITTEE if there are too few or too many members, a weight is out of range, or a key is repeated.
+   It prepares the members' keys, with which checks and gatherings take less than half the time. This costs
+   34 KiB of memory for each member and 544 KiB once, and 20 to 40 ms for 100 members. All handles of
+   nw_committee_share have the same prepared keys. */
 NW_USE int32_t nw_committee_new(const nw_member *members, size_t members_len, nw_committee *out);
 
 /* Opens a second handle of the committee, which another thread can use. Both handles share the members. */
@@ -517,7 +520,8 @@ NW_USE int32_t nw_book_next(nw_book *book, uint16_t session, uint32_t *out);
 /* Writes the limits of the book. */
 NW_USE int32_t nw_book_limits(nw_book *book, nw_limits *out);
 
-/* Opens a handle of the committee of the book. */
+/* Opens a handle of the committee of the book. It prepares the keys again, which costs what it costs in
+   nw_committee_new. */
 NW_USE int32_t nw_book_committee(nw_book *book, nw_committee *out);
 
 /* Rebuilds the list of complete blocks that tickets share, without collected blocks. Later tickets share the

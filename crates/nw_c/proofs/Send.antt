@@ -14,6 +14,8 @@ use Rattle.nw_book.proofs.Send.{book_send, done_send, ticket_send}
 use Rattle.nw_shared_store.specs.contracts.session.SharedSession as session
 use Rattle.nw_shared_store.specs.contracts.store.SharedStore as store
 use Rattle.nw_shared_store.proofs.Send.{shared_session_send, shared_store_send}
+use Rattle.nw_prepared.proofs.committee.PreparedCommittee.TheSendSync as prepared
+use Rattle.nw_prepared.proofs.gather.PreparedGather.TheSendSync as gather
 use Rattle.nw_c.specs.contracts.content.Content as content
 use Rattle.nw_c.specs.contracts.given.Given as given
 use Rattle.nw_c.specs.contracts.given.Given.TheInside as given_inside
@@ -56,11 +58,11 @@ pub content_send : IsSend content.the_row
 content_send = recorded_send (Enum (shape content.the_type)) (content.the_type).D (content.the_type).to (content.the_type).to_one (enum_send (shape content.the_type) (
   tt,
   (
-    (search (sendable, crosses) depth 30, tt),
+    (search (sendable, crosses, prepared.the_send, prepared.the_sync) depth 30, tt),
     (
       (checked_send, tt),
       (
-        (search (sendable, crosses) depth 30, tt),
+        (gather.the_send, tt),
         (
           (search (sendable, crosses, book_send) depth 30, tt),
           (

@@ -10,6 +10,7 @@ ghost use Rattle.nw_c.specs.Kinds.{IsUnchanged, HoldsBook, HoldsCommittee, Holds
 ghost use Rattle.nw_c.specs.declared.codes.TheConstants.{BAD_LIMITS, BAD_ROUND, CLOSED, OPEN, OTHER_KIND, OUT_OF_TURN};
 
 use crate::codes::{BAD_LIMITS, CLOSED, DONE, NO_MEMORY, OPEN, OTHER_KIND, code_of_step};
+use crate::committees::put_prepared;
 use crate::content::Content;
 use crate::handle::{BookHandle, CommitteeHandle, Handle, put};
 use nw_book::{Book, BookError, Command, Limits};
@@ -71,7 +72,7 @@ pub extern "C" fn nw_book_new(
     let Content::Committee(members) = committee.lend() else {
         return OTHER_KIND;
     };
-    let Ok(members) = members.try_clone() else {
+    let Ok(members) = members.get().committee().try_clone() else {
         return NO_MEMORY;
     };
     let book = match Book::<Ed25519>::new(alloc, members, limits.get()) {
@@ -168,7 +169,7 @@ pub extern "C" fn nw_book_limits(book: &mut BookHandle, out: &mut CLimits) -> i3
     }
 }
 
-/// Opens a handle of the committee of the book.
+/// Opens a handle of the committee of the book. It prepares the keys again, which costs what it costs in `nw_committee_new`.
 #[unsafe(no_mangle)]
 pub extern "C" fn nw_book_committee(
     alloc: Global,
@@ -191,7 +192,7 @@ pub extern "C" fn nw_book_committee(
     }
     match book.lend() {
         Content::Book(held) => match held.history().committee().try_clone() {
-            Ok(committee) => put(alloc, out, Content::Committee(committee)),
+            Ok(committee) => put_prepared(alloc, out, committee),
             Err(_) => NO_MEMORY,
         },
         _ => OTHER_KIND,

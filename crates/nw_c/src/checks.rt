@@ -12,7 +12,7 @@ use crate::handle::{BlockHandle, CheckedHandle, CommitteeHandle, put};
 use crate::hashed::HashedBlock;
 use crate::messages::{CMessage, message_of};
 use crate::texts::{hand_out_certificate, hand_out_encoded};
-use nw_check::{Checked, CheckedCert, check_message};
+use nw_check::{Checked, CheckedCert, check_message_by};
 use nw_codec::{Message, encode_message};
 use nw_ed25519::Ed25519;
 use std::alloc::Global;
@@ -41,10 +41,13 @@ pub extern "C" fn nw_check(
         return OPEN;
     }
     match committee.lend() {
-        Content::Committee(members) => match check_message::<Ed25519>(alloc, members, text) {
-            Ok(checked) => put(alloc, out, Content::Checked(checked)),
-            Err(_) => NO_MEMORY,
-        },
+        Content::Committee(members) => {
+            let members = members.get();
+            match check_message_by::<Ed25519, _>(alloc, members.committee(), members, text) {
+                Ok(checked) => put(alloc, out, Content::Checked(checked)),
+                Err(_) => NO_MEMORY,
+            }
+        }
         _ => OTHER_KIND,
     }
 }

@@ -3,13 +3,15 @@ ghost use Rattle.std.specs.Prelude.{◌≡◌, pos, map, IfOk, IfErr, true};
 ghost use Rattle.nw_committee.specs.Committee.{IsCommittee as IsValid};
 ghost use Rattle.nw_c.specs.Committees.{AreOneCommittee, HasMember, HasQuorum, HasSize, IsCommitteeOf, LacksMember, member_in};
 ghost use Rattle.nw_c.specs.Kinds.{IsUnchanged, HoldsCommittee};
-ghost use Rattle.nw_c.specs.declared.codes.TheConstants.{ABSENT, BAD_COMMITTEE, CLOSED, OPEN, OTHER_KIND};
+ghost use Rattle.nw_c.specs.declared.codes.TheConstants.{ABSENT, BAD_COMMITTEE, CLOSED, NO_MEMORY, OPEN, OTHER_KIND};
+ghost use Rattle.nw_c.specs.declared.content.Content.TheVariants as kind;
 
 use crate::codes::{ABSENT, BAD_COMMITTEE, CLOSED, DONE, NO_MEMORY, OPEN, OTHER_KIND};
 use crate::content::Content;
-use crate::handle::{CommitteeHandle, put};
+use crate::handle::{CommitteeHandle, Handle, put};
 use nw_committee::{Committee, Key, MAX_MEMBERS, Member};
 use nw_digest::{NoMemory, Shared};
+use nw_prepared::PreparedCommittee;
 use std::alloc::Global;
 
 /// A member of a committee: an Ed25519 public key of 32 bytes and a weight from 1 to 1,000,000.
@@ -57,8 +59,32 @@ fn committee_of(alloc: Global, listed: &[CMember]) -> Result<Shared<Committee>, 
     }
 }
 
+/// Prepares the committee, and opens a closed handle with it. If memory runs out, the handle stays closed.
+pub(crate) fn put_prepared(alloc: Global, out: &mut Handle, committee: Shared<Committee>) -> i32
+    requires { out.old.held ≡ false }
+    ensures held { result ≡ pos 0 → out.new.held ≡ true }
+    ensures value { result ≡ pos 0 → out.new.value ≡ kind.Committee committee }
+    ensures unchanged { (result ≡ pos 0 → ⊥) → IsUnchanged out.old out.new }
+    ensures refused { (result ≡ pos 0 → ⊥) → result ≡ NO_MEMORY }
+{
+    match prepared(alloc, committee) {
+        Ok(prepared) => put(alloc, out, Content::Committee(prepared)),
+        Err(_) => NO_MEMORY,
+    }
+}
+
+/// The committee with prepared keys, to be shared.
+fn prepared(alloc: Global, committee: Shared<Committee>) -> Result<Shared<PreparedCommittee>, NoMemory>
+    ensures { IfOk result (λ prepared. prepared ≡ committee) }
+{
+    Shared::new(alloc, PreparedCommittee::new(alloc, committee)?)
+}
+
 /// Makes a committee of 1 to 100 members. A member's number is its index in the array. Returns `NW_BAD_COMMITTEE` if there are too few or
 /// too many members, a weight is out of range, or a key is repeated.
+///
+/// It prepares the members' keys, with which checks and gatherings take less than half the time. This costs 34 KiB of memory for each member
+/// and 544 KiB once, and 20 to 40 ms for 100 members. All handles of `nw_committee_share` have the same prepared keys.
 #[unsafe(no_mangle)]
 pub extern "C" fn nw_committee_new(
     alloc: Global,
@@ -75,7 +101,7 @@ pub extern "C" fn nw_committee_new(
         return OPEN;
     }
     match committee_of(alloc, members) {
-        Ok(committee) => put(alloc, out, Content::Committee(committee)),
+        Ok(committee) => put_prepared(alloc, out, committee),
         Err(why) => why,
     }
 }
@@ -123,7 +149,7 @@ pub extern "C" fn nw_committee_size(committee: &mut CommitteeHandle, out: &mut u
     }
     match committee.lend() {
         Content::Committee(members) => {
-            *out = members.get().size();
+            *out = members.get().committee().get().size();
             DONE
         }
         _ => OTHER_KIND,
@@ -149,7 +175,8 @@ pub extern "C" fn nw_committee_member(
     let Content::Committee(members) = committee.lend() else {
         return OTHER_KIND;
     };
-    match (members.get().key(number), members.get().weight(number)) {
+    let members = members.get().committee().get();
+    match (members.key(number), members.weight(number)) {
         (Some(key), Some(weight)) => {
             *out = CMember { key: key.0, weight };
             DONE
@@ -171,7 +198,7 @@ pub extern "C" fn nw_committee_quorum(committee: &mut CommitteeHandle, out: &mut
     }
     match committee.lend() {
         Content::Committee(members) => {
-            *out = members.get().quorum();
+            *out = members.get().committee().get().quorum();
             DONE
         }
         _ => OTHER_KIND,

@@ -2,11 +2,11 @@
 use crate::given::Given;
 use crate::hashed::HashedBlock;
 use nw_book::{Book, Done, Ticket};
-use nw_check::{Checked, Gather};
-use nw_committee::Committee;
+use nw_check::Checked;
 use nw_digest::{Sequence, Shared};
 use nw_ed25519::Ed25519;
 use nw_history::Front;
+use nw_prepared::{PreparedCommittee, PreparedGather};
 use nw_shared_store::{SharedSession, SharedStore};
 
 /// The content of a handle. It has one variant for each kind of handle.
@@ -14,12 +14,12 @@ use nw_shared_store::{SharedSession, SharedStore};
 pub enum Content {
     /// Room for an answer, made before the call.
     Room,
-    /// Members with keys and weights.
-    Committee(Shared<Committee>),
+    /// Members with weights and prepared keys.
+    Committee(Shared<PreparedCommittee>),
     /// The result of decoding and checking a text.
     Checked(Checked<Ed25519>),
     /// The votes for one block.
-    Gather(Gather<Ed25519>),
+    Gather(PreparedGather),
     /// A book: a history, and the tables with the state after it. It is boxed because every content, also an answer, takes as much memory
     /// as the largest variant.
     Book(Box<Book<Ed25519>>),

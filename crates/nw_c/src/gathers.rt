@@ -13,9 +13,9 @@ use crate::codes::{
 use crate::content::Content;
 use crate::handle::{CheckedHandle, CommitteeHandle, GatherHandle, put};
 use crate::plain::CSubject;
-use nw_check::{Checked, Counted, FinishFault, Gather, StartFault};
+use nw_check::{Checked, Counted, FinishFault, StartFault};
 use nw_digest::Round;
-use nw_ed25519::Ed25519;
+use nw_prepared::PreparedGather;
 use std::alloc::Global;
 
 /// Starts to gather votes for the block of this subject. Returns `NW_BAD_ROUND` if the round is not below 2^48, and `NW_NO_MEMBER` if the
@@ -49,7 +49,7 @@ pub extern "C" fn nw_gather_new(
     let Content::Committee(members) = committee.lend() else {
         return OTHER_KIND;
     };
-    match Gather::<Ed25519>::new(alloc, members, subject.digest.get(), round, subject.author) {
+    match PreparedGather::new(alloc, members, subject.digest.get(), round, subject.author) {
         Ok(gather) => put(alloc, out, Content::Gather(gather)),
         Err(StartFault::Author) => NO_MEMBER,
         Err(StartFault::NoMemory) => NO_MEMORY,

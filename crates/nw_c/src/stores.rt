@@ -56,7 +56,7 @@ pub extern "C" fn nw_store_new(
     let Content::Committee(members) = committee.lend() else {
         return OTHER_KIND;
     };
-    let Ok(members) = members.try_clone() else {
+    let Ok(members) = members.get().committee().try_clone() else {
         return NO_MEMORY;
     };
     match SharedStore::<Ed25519>::new(alloc, members, limits.get()) {

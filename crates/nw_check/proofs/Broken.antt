@@ -9,9 +9,11 @@ use Rattle.nw_codec.specs.declared.block.Block.{Block}
 use Rattle.nw_codec.specs.declared.certificate.Signature.{Signature}
 use Rattle.nw_codec.specs.declared.certificate.Seal.{Seal}
 use Rattle.nw_codec.specs.declared.certificate.Certificate.{Certificate}
+use Rattle.nw_codec.specs.Fits.{CertificateFits, signers}
+use Rattle.nw_committee.specs.Committee.{ReachesQuorum}
 use Rattle.nw_committee.specs.declared.member.Member.{Member}
 use Rattle.nw_sig.specs.Signed.{Meaning}
-use Rattle.nw_model.specs.Checks.{IsSealOf, IsValid}
+use Rattle.nw_model.specs.Checks.{IsMember, IsSealOf, IsValid}
 use Rattle.nw_check.specs.declared.fault.BlockFault.{BlockFault}
 use Rattle.nw_check.specs.declared.fault.BlockFault.TheVariants as block_fault
 use Rattle.nw_check.specs.declared.fault.CertFault.{CertFault}
@@ -55,6 +57,10 @@ module _ (accepts : Meaning) (members : List Member) (c : Certificate) where
   valid-keeps_rules cert_fault.FewVotes v h = h.1 v.votes
   valid-keeps_rules (cert_fault.Signature signer) v h = not_all_sealed signer h.2 v.sealed
   valid-keeps_rules cert_fault.NoMemory v h = h
+
+  -- a certificate with only good votes is valid
+  pub good_votes-valid : CertificateFits c → IsMember members c.author → All (IsMember members) (signers c.votes) → ReachesQuorum members (signers c.votes) → All (IsSealOf accepts members c) c.votes → IsValid accepts members c
+  good_votes-valid fits author named reached sealed = record { fits = fits; author = author; signer_numbers = named; votes = reached; sealed = sealed }
 
   -- a certificate is valid exactly when no rule was found broken
   pub none-valid : (r : Option CertFault) (none : Bool) → MatchOption r (IsValid accepts members c) (BreaksCertRule accepts members c) → is_some r ≡ not none → (none ≡ true → IsValid accepts members c) × (IsValid accepts members c → none ≡ true)

@@ -1,18 +1,18 @@
 //! Checks blocks and certificates, by the rules of docs/FORMATS.md.
-ghost use Rattle.std.specs.Prelude.{◌≡◌, ◌↔◌, IsTrue, IfOk, IfErr, OnOk, MatchOption, All};
+ghost use Rattle.std.specs.Prelude.{◌≡◌, ◌↔◌, IsTrue, IfOk, IfErr, OnOk, MatchOption};
 ghost use Rattle.nw_codec.specs.declared.certificate.Signature.{Signature};
 ghost use Rattle.nw_codec.specs.Fits.{Fits, CertificateFits};
 ghost use Rattle.nw_sig.specs.Signed.{Meaning};
-ghost use Rattle.nw_model.specs.Checks.{IsWellFormedWith, IsSealOf, IsValid};
+ghost use Rattle.nw_model.specs.Checks.{IsWellFormedWith, IsValid};
 ghost use Rattle.nw_check.specs.Fault.{HasParents, IsBlockFault, BreaksRule};
-ghost use Rattle.nw_check.specs.Fault.{IsCertFault, BreaksCertRule, IsFirstBadSeal};
+ghost use Rattle.nw_check.specs.Fault.{IsCertFault, BreaksCertRule};
 
-use crate::members::{are_members, is_member, is_signed_by, reach_quorum};
-use crate::{BlockFault, CertFault, CheckedBlock, CheckedCert};
+use crate::members::{are_members, is_member, reach_quorum};
+use crate::{BlockFault, CertFault, CheckedBlock, CheckedCert, Verifier};
 use nw_codec::{Block, Certificate, Signature, block_digest};
 use nw_committee::Committee;
 use nw_digest::{Digest, Shared};
-use nw_sig::{Scheme, text_of_block, text_of_vote};
+use nw_sig::{Scheme, text_of_block};
 use std::alloc::Global;
 
 /// Checks the block and its author's signature. Returns the block with its digest and the committee. It hashes the body only
@@ -38,12 +38,30 @@ pub fn check_block<S: Scheme>(
     ensures well_formed { OnOk result (IsWellFormedWith S.accepts committee.now block signature) }
     ensures fault { IfErr result (IsBlockFault S.accepts committee.now block signature) }
 {
+    check_block_by(alloc, committee, committee.get(), block, signature)
+}
+
+/// Does what `check_block` does, and has the signature verified by `verifier`, which is one of the committee's members.
+pub fn check_block_by<S: Scheme, V: Verifier<S>>(
+    alloc: Global,
+    committee: &Shared<Committee>,
+    verifier: &V,
+    block: Block,
+    signature: Signature,
+) -> Result<CheckedBlock<S>, BlockFault>
+    requires fits { Fits block }
+    requires members { V.members verifier.now ≡ committee.now }
+    ensures checked { IfOk result
+        (λ checked. checked ≡ record { block = block; committee = committee.now }) }
+    ensures well_formed { OnOk result (IsWellFormedWith S.accepts committee.now block signature) }
+    ensures fault { IfErr result (IsBlockFault S.accepts committee.now block signature) }
+{
     if let Some(fault) = committee_fault(committee.get(), &block) {
         return Err(fault);
     }
     let digest = block_digest(&block);
     let text = text_of_block(&digest);
-    if !is_signed_by::<S>(committee.get(), block.author, &text, &signature) {
+    if !verifier.is_signed_by(block.author, &text, &signature) {
         return Err(BlockFault::Signature);
     }
     Ok(CheckedBlock::new(Shared::new(alloc, block)?, digest, committee.try_clone()?))
@@ -90,7 +108,24 @@ pub fn check_cert<S: Scheme>(
     ensures valid { OnOk result (IsValid S.accepts committee.now certificate) }
     ensures fault { IfErr result (IsCertFault S.accepts committee.now certificate) }
 {
-    match cert_fault::<S>(committee.get(), &certificate) {
+    check_cert_by(alloc, committee, committee.get(), certificate)
+}
+
+/// Does what `check_cert` does, and has the signatures verified by `verifier`, which is one of the committee's members.
+pub fn check_cert_by<S: Scheme, V: Verifier<S>>(
+    alloc: Global,
+    committee: &Shared<Committee>,
+    verifier: &V,
+    certificate: Certificate,
+) -> Result<CheckedCert<S>, CertFault>
+    requires fits { CertificateFits certificate }
+    requires members { V.members verifier.now ≡ committee.now }
+    ensures checked { IfOk result
+        (λ checked. checked ≡ record { certificate = certificate; committee = committee.now }) }
+    ensures valid { OnOk result (IsValid S.accepts committee.now certificate) }
+    ensures fault { IfErr result (IsCertFault S.accepts committee.now certificate) }
+{
+    match cert_fault::<S, V>(committee.get(), verifier, &certificate) {
         Some(fault) => Err(fault),
         None => Ok(CheckedCert::new(Shared::new(alloc, certificate)?, committee.try_clone()?)),
     }
@@ -104,12 +139,18 @@ pub fn valid<S: Scheme>(committee: &Committee, digest: Digest, certificate: &Cer
     if !certificate.fits() {
         return false;
     }
-    certificate.digest == digest && cert_fault::<S>(committee, certificate).is_none()
+    certificate.digest == digest
+        && cert_fault::<S, Committee>(committee, committee, certificate).is_none()
 }
 
 /// The first rule that the certificate breaks, or `None` if it is valid.
-fn cert_fault<S: Scheme>(committee: &Committee, certificate: &Certificate) -> Option<CertFault>
-    requires { CertificateFits certificate.now }
+fn cert_fault<S: Scheme, V: Verifier<S>>(
+    committee: &Committee,
+    verifier: &V,
+    certificate: &Certificate,
+) -> Option<CertFault>
+    requires fits { CertificateFits certificate.now }
+    requires members { V.members verifier.now ≡ committee.now }
     ensures { MatchOption result (IsValid S.accepts committee.now certificate.now)
         (BreaksCertRule S.accepts committee.now certificate.now) }
 {
@@ -121,21 +162,9 @@ fn cert_fault<S: Scheme>(committee: &Committee, certificate: &Certificate) -> Op
     } else if !reach_quorum(committee, votes) {
         Some(CertFault::FewVotes)
     } else {
-        first_bad_signer::<S>(committee, certificate).map(|signer| CertFault::Signature { signer })
-    }
-}
-
-/// The signer of the first vote with a bad signature, or `None` if there is no such vote.
-fn first_bad_signer<S: Scheme>(committee: &Committee, certificate: &Certificate) -> Option<u16>
-    ensures { MatchOption result
-        (All (IsSealOf S.accepts committee.now certificate.now) certificate.now.votes)
-        (IsFirstBadSeal S.accepts committee.now certificate.now) }
-{
-    let text = text_of_vote(&certificate.digest, certificate.round, certificate.author);
-    for seal in certificate.votes.as_slice() {
-        if !is_signed_by::<S>(committee, seal.signer, &text, &seal.signature) {
-            return Some(seal.signer);
+        match verifier.first_bad_signer(certificate) {
+            Some(signer) => Some(CertFault::Signature { signer }),
+            None => None,
         }
     }
-    None
 }

@@ -9,8 +9,8 @@ ghost use Rattle.nw_model.specs.Checks.{IsMember};
 ghost use Rattle.nw_check.specs.Gathering.{IsGathering, CanCount, IsGatherFault, IsVoteForBlock, IsPlace};
 ghost use Rattle.nw_check.specs.Gathering.{CountsVote, IsCount, certificate_of};
 
-use crate::members::{is_member, is_signed_by, reach_quorum};
-use crate::{CheckedCert, Counted, FinishFault, GatherFault, StartFault};
+use crate::members::{is_member, reach_quorum};
+use crate::{CheckedCert, Counted, FinishFault, GatherFault, StartFault, Verifier};
 use nw_codec::{Certificate, Seal, Vote};
 use nw_committee::Committee;
 use nw_digest::{Digest, NoMemory, Round, Sequence, Shared};
@@ -104,7 +104,63 @@ impl<S: Scheme> Gather<S> {
         ensures fault { IfErr result (IsGatherFault S.accepts self.old vote.now) }
         ensures unchanged { OnErr result (self.new ≡ self.old) }
     {
-        let place = self.place_for(vote)?;
+        let place = self.place_for(self.committee.get(), vote)?;
+        self.count(place, vote)
+    }
+
+    /// Does what `add` does, and has the signature verified by `verifier`, which is one of the committee's members.
+    pub fn add_by<V: Verifier<S>>(
+        &mut self,
+        verifier: &V,
+        vote: &Vote,
+    ) -> Result<Counted, GatherFault>
+        requires { V.members verifier.now ≡ self.old.committee }
+        ensures counted { OnOk result (CountsVote self.old vote.now self.new) }
+        ensures quorum { IfOk result (IsCount self.new) }
+        ensures gathering { IsGathering S.accepts self.new }
+        ensures may_count { OnOk result (CanCount S.accepts self.old vote.now) }
+        ensures fault { IfErr result (IsGatherFault S.accepts self.old vote.now) }
+        ensures unchanged { OnErr result (self.new ≡ self.old) }
+    {
+        let place = self.place_for(verifier, vote)?;
+        self.count(place, vote)
+    }
+
+    /// The place at which to insert the vote's seal among the counted ones, or the first reason not to count the vote.
+    fn place_for<V: Verifier<S>>(&self, verifier: &V, vote: &Vote) -> Result<usize, GatherFault>
+        requires { V.members verifier.now ≡ self.now.committee }
+        ensures gathering { IsGathering S.accepts self.now }
+        ensures may_count { OnOk result (CanCount S.accepts self.now vote.now) }
+        ensures place { IfOk result (IsPlace (signers self.now.seals) vote.now.signer) }
+        ensures fault { IfErr result (IsGatherFault S.accepts self.now vote.now) }
+    {
+        let committee = self.committee.get();
+        if !self.is_for(vote) {
+            return Err(GatherFault::OtherBlock);
+        }
+        let Some(place) = place_of(&self.seals, vote.signer) else {
+            return Err(GatherFault::Repeated);
+        };
+        if !is_member(committee, vote.signer) {
+            return Err(GatherFault::Signer);
+        }
+        let text = text_of_vote(&vote.digest, vote.round, vote.author);
+        if !verifier.is_signed_by(vote.signer, &text, &vote.signature) {
+            return Err(GatherFault::Signature);
+        }
+        Ok(place)
+    }
+
+    /// Counts the vote, whose seal belongs at the place.
+    fn count(&mut self, place: usize, vote: &Vote) -> Result<Counted, GatherFault>
+        requires may_count { CanCount S.accepts self.old vote.now }
+        requires place { IsPlace (signers self.old.seals) vote.now.signer place }
+        ensures counted { OnOk result (CountsVote self.old vote.now self.new) }
+        ensures quorum { IfOk result (IsCount self.new) }
+        ensures gathering { IsGathering S.accepts self.new }
+        ensures fault { IfErr result (IsGatherFault S.accepts self.old vote.now) }
+        ensures unchanged { OnErr result (self.new ≡ self.old) }
+    {
         let seal = Seal {
             signer: vote.signer,
             signature: vote.signature,
@@ -115,28 +171,6 @@ impl<S: Scheme> Gather<S> {
         } else {
             Ok(Counted::Counted)
         }
-    }
-
-    /// The place at which to insert the vote's seal among the counted ones, or the first reason not to count the vote.
-    fn place_for(&self, vote: &Vote) -> Result<usize, GatherFault>
-        ensures may_count { OnOk result (CanCount S.accepts self.now vote.now) }
-        ensures place { IfOk result (IsPlace (signers self.now.seals) vote.now.signer) }
-        ensures fault { IfErr result (IsGatherFault S.accepts self.now vote.now) }
-    {
-        if !self.is_for(vote) {
-            return Err(GatherFault::OtherBlock);
-        }
-        let Some(place) = place_of(&self.seals, vote.signer) else {
-            return Err(GatherFault::Repeated);
-        };
-        if !is_member(self.committee.get(), vote.signer) {
-            return Err(GatherFault::Signer);
-        }
-        let text = text_of_vote(&vote.digest, vote.round, vote.author);
-        if !is_signed_by::<S>(self.committee.get(), vote.signer, &text, &vote.signature) {
-            return Err(GatherFault::Signature);
-        }
-        Ok(place)
     }
 
     /// Whether the vote is for the block of this gatherer.

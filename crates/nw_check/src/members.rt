@@ -1,13 +1,11 @@
-//! Membership, quorums, and signatures of members.
+//! Membership and quorums.
 ghost use Rattle.std.specs.Prelude.{◌≡◌, ◌↔◌, ◌≤◌, ℕ, length, map, All, IsTrue};
 ghost use Rattle.std.specs.List.Sorted.{IsStrictlyIncreasing};
 ghost use Rattle.nw_committee.specs.Committee.{IsCommittee, ReachesQuorum};
-ghost use Rattle.nw_codec.specs.Typed.{AreBytes, IsSignature};
-ghost use Rattle.nw_model.specs.Checks.{IsMember, IsSignedBy};
+ghost use Rattle.nw_model.specs.Checks.{IsMember};
 
-use nw_codec::{Ref, Seal, Signature};
+use nw_codec::{Ref, Seal};
 use nw_committee::Committee;
-use nw_sig::Scheme;
 
 /// The maximum number of parents of a block, and of votes of a certificate.
 const MAX_LISTED: usize = 100;
@@ -69,31 +67,3 @@ pub(crate) fn reach_quorum<T: Numbered>(committee: &Committee, listed: &[T]) -> 
     }
     committee.reaches_quorum(&numbers[..listed.len()])
 }
-
-/// Whether the scheme accepts the signature of the text under the key of the member with this number.
-pub(crate) fn is_signed_by<S: Scheme>(
-    committee: &Committee,
-    number: u16,
-    text: &[u8],
-    signature: &Signature,
-) -> bool
-    ensures { IsTrue result ↔ IsSignedBy S.accepts committee.now number text.now signature.now }
-{
-    note_size(signature);
-    match committee.key(number) {
-        Some(key) => S::verify(key, text, signature),
-        None => false,
-    }
-}
-
-/// Tells the prover that a signature has 64 bytes. Definitions see it as a list of any length.
-fn note_size(signature: &Signature)
-    ensures { IsSignature signature.now }
-{
-    note_bytes(&signature.0);
-}
-
-/// Tells the prover that the items of a byte slice are bytes. Definitions see them as numbers.
-fn note_bytes(bytes: &[u8])
-    ensures { AreBytes bytes.now }
-{}

@@ -1,10 +1,12 @@
 //! Decodes and checks messages from other validators.
-ghost use Rattle.std.specs.Prelude.{IfOk, OnErr};
+ghost use Rattle.std.specs.Prelude.{◌≡◌, IfOk, OnErr};
 ghost use Rattle.nw_codec.specs.Spelled.{Spells, DecodingAllocates};
 ghost use Rattle.nw_codec.specs.declared.message.Message.TheVariants as messages;
 ghost use Rattle.nw_check.specs.Message.{IsChecked};
 
-use crate::{BlockFault, CertFault, CheckedBlock, CheckedCert, check_block, check_cert};
+use crate::{
+    BlockFault, CertFault, CheckedBlock, CheckedCert, Verifier, check_block_by, check_cert_by,
+};
 use nw_codec::{Block, Certificate, DecodeError, Message, Signature, Vote, decode_message};
 use nw_committee::Committee;
 use nw_digest::{NoMemory, Shared};
@@ -40,11 +42,31 @@ pub fn check_message<S: Scheme>(
     ensures checked { IfOk result (IsChecked S.accepts committee.now text.now) }
     ensures memory { OnErr result (DecodingAllocates text.now) }
 {
+    check_message_by(alloc, committee, committee.get(), text)
+}
+
+/// Does what `check_message` does, and has the signatures verified by `verifier`, which is one of the committee's members.
+pub fn check_message_by<S: Scheme, V: Verifier<S>>(
+    alloc: Global,
+    committee: &Shared<Committee>,
+    verifier: &V,
+    text: &[u8],
+) -> Result<Checked<S>, NoMemory>
+    requires { V.members verifier.now ≡ committee.now }
+    ensures checked { IfOk result (IsChecked S.accepts committee.now text.now) }
+    ensures memory { OnErr result (DecodingAllocates text.now) }
+{
     match decode_message(alloc, text) {
         Ok(Message::Block { block, signature }) => checked_block(
-            alloc, committee, text, block, signature,
+            alloc, committee, verifier, text, block, signature,
         ),
-        Ok(Message::Certificate(certificate)) => checked_cert(alloc, committee, text, certificate),
+        Ok(Message::Certificate(certificate)) => checked_cert(
+            alloc,
+            committee,
+            verifier,
+            text,
+            certificate,
+        ),
         Ok(Message::Vote(vote)) => Ok(Checked::Vote(vote)),
         Err(error) => match error {
             DecodeError::NoMemory => Err(NoMemory),
@@ -54,17 +76,19 @@ pub fn check_message<S: Scheme>(
 }
 
 /// Checks the block that the text contains.
-fn checked_block<S: Scheme>(
+fn checked_block<S: Scheme, V: Verifier<S>>(
     alloc: Global,
     committee: &Shared<Committee>,
+    verifier: &V,
     text: &[u8],
     block: Block,
     signature: Signature,
 ) -> Result<Checked<S>, NoMemory>
-    requires { Spells text.now (messages.Block block signature) }
+    requires spelled { Spells text.now (messages.Block block signature) }
+    requires members { V.members verifier.now ≡ committee.now }
     ensures { IfOk result (IsChecked S.accepts committee.now text.now) }
 {
-    match check_block(alloc, committee, block, signature) {
+    match check_block_by(alloc, committee, verifier, block, signature) {
         Ok(checked) => Ok(Checked::Block(checked)),
         Err(BlockFault::NoMemory) => Err(NoMemory),
         Err(fault) => Ok(Checked::BadBlock(fault)),
@@ -72,16 +96,18 @@ fn checked_block<S: Scheme>(
 }
 
 /// Checks the certificate that the text contains.
-fn checked_cert<S: Scheme>(
+fn checked_cert<S: Scheme, V: Verifier<S>>(
     alloc: Global,
     committee: &Shared<Committee>,
+    verifier: &V,
     text: &[u8],
     certificate: Certificate,
 ) -> Result<Checked<S>, NoMemory>
-    requires { Spells text.now (messages.Certificate certificate) }
+    requires spelled { Spells text.now (messages.Certificate certificate) }
+    requires members { V.members verifier.now ≡ committee.now }
     ensures { IfOk result (IsChecked S.accepts committee.now text.now) }
 {
-    match check_cert(alloc, committee, certificate) {
+    match check_cert_by(alloc, committee, verifier, certificate) {
         Ok(checked) => Ok(Checked::Cert(checked)),
         Err(CertFault::NoMemory) => Err(NoMemory),
         Err(fault) => Ok(Checked::BadCert(fault)),

@@ -23,3 +23,4 @@ pub mod Represented
 pub mod Negatives
 pub mod Decoding
 pub mod Tables
+pub mod Inverses

@@ -46,10 +46,13 @@ decoded bytes =
     let y = n % 2 ^ 255 in
     if nat_lt y prime then affine y (recovered y (bit_at n 255 == 1)) else None
 
--- the encoding of a point: 255 bits of y, and then the lowest bit of x
-unfoldable pub encoded : Point → List ℕ
-encoded p =
-    let i = inverse p.z in
+-- 255 bits of y, and then the lowest bit of x, for X and Y times a factor
+abbrev pub scaled : Point → ℕ → List ℕ
+scaled p i =
     let x = times p.x i in
     let y = times p.y i in
     le_bytes 32 (y + (if is_odd x then 2 ^ 255 else 0))
+
+-- the encoding of a point: 255 bits of y, and then the lowest bit of x
+unfoldable pub encoded : Point → List ℕ
+encoded p = scaled p (inverse p.z)

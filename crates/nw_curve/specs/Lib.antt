@@ -6,3 +6,4 @@ pub mod Field
 pub mod Laws
 pub mod Table
 pub mod Weights
+pub mod Inverse

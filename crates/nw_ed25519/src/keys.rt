@@ -1,7 +1,9 @@
 //! Keys that are prepared for many verifications.
-ghost use Rattle.std.specs.Prelude.{◌≡◌, IfOk};
+ghost use Rattle.std.specs.Prelude.{◌≡◌, false, take, IfOk, MatchOption};
+ghost use Rattle.nw_codec.specs.Same.{same_bytes};
 ghost use Rattle.nw_curve.specs.Curve.{base};
-ghost use Rattle.nw_curve.specs.Coding.{decoded};
+ghost use Rattle.nw_curve.specs.Coding.{decoded, encoded};
+ghost use Rattle.nw_curve.specs.Inverse.{HasInverse};
 ghost use Rattle.nw_ed25519.specs.Accepts.{accepts};
 ghost use Rattle.nw_ed25519.specs.Comb.{rows};
 ghost use Rattle.nw_ed25519.specs.Prepared.{key_rows, entries_of, bits_of};
@@ -64,15 +66,28 @@ impl PreparedKey {
         ensures { result ≡ accepts self.now.key text.now signature.now }
     {
         let r = &signature.0[..32];
+        match self.expected(base, text, signature) {
+            None => false,
+            Some(point) => r == point.encoded().as_slice(),
+        }
+    }
+
+    /// The point whose encoding must be the signature's R, or `None` if Ed25519 accepts no signature with this S and key. So a caller can
+    /// encode the points of many signatures at once. Allocates nothing.
+    pub fn expected(&self, base: &PreparedBase, text: &[u8], signature: &Signature) -> Option<Point>
+        ensures { MatchOption result (accepts self.now.key text.now signature.now ≡ false)
+            (λ point. HasInverse point.z
+            × (accepts self.now.key text.now signature.now ≡ same_bytes (take 32 signature.now.0) (encoded point))) }
+    {
         let s = Whole::from_bytes(&signature.0[32..]);
         if !s.is_below(&the_order()) {
-            return false;
+            return None;
         }
         match &self.comb {
-            None => false,
+            None => None,
             Some(comb) => {
-                let k = challenge(r, &self.key, text);
-                r == expected_by_combs(&base.comb, comb, &s, &k).as_slice()
+                let k = challenge(&signature.0[..32], &self.key, text);
+                Some(expected_by_combs(&base.comb, comb, &s, &k))
             }
         }
     }

@@ -1,6 +1,7 @@
 //! The point that a verification compares with R, by combs.
 ghost use Rattle.std.specs.Prelude.{◌≡◌, ℕ, ◌<◌, ◌^◌, List, Some};
-ghost use Rattle.nw_curve.specs.Coding.{decoded};
+ghost use Rattle.nw_curve.specs.Coding.{decoded, encoded};
+ghost use Rattle.nw_curve.specs.Inverse.{HasInverse};
 ghost use Rattle.nw_curve.specs.Curve.{base, doubled, negated};
 ghost use Rattle.nw_curve.specs.Completed.{point_of};
 ghost use Rattle.nw_curve.specs.declared.curve.point.Point.{Point};
@@ -8,14 +9,15 @@ ghost use Rattle.nw_ed25519.specs.Accepts.{expected};
 ghost use Rattle.nw_ed25519.specs.Comb.{rows, with_rows};
 
 use crate::comb::{Comb, ROWS, digit};
-use nw_curve::{CompletedPoint, Whole};
+use nw_curve::{CompletedPoint, Point, Whole};
 
-/// The encoding of [s]B - [k]A by the combs of B and of -A, whose digits have 8 and 4 bits.
-pub fn expected_by_combs(bases: &Comb, keys: &Comb, s: &Whole, k: &Whole) -> [u8; 32]
+/// The point [s]B - [k]A by the combs of B and of -A, whose digits have 8 and 4 bits.
+pub fn expected_by_combs(bases: &Comb, keys: &Comb, s: &Whole, k: &Whole) -> Point
     requires s { s.now < 2 ^ 253 }
     requires k { k.now < 2 ^ 253 }
     ensures { (bytes : List ℕ) (p : Point) → decoded bytes ≡ Some p → bases.now.bits ≡ 8 → keys.now.bits ≡ 4
-        → bases.now.entries.items ≡ rows 256 16 base → keys.now.entries.items ≡ rows 16 16 (negated p) → result ≡ expected s.now k.now p }
+        → bases.now.entries.items ≡ rows 256 16 base → keys.now.entries.items ≡ rows 16 16 (negated p)
+        → HasInverse result.z × (encoded result ≡ expected s.now k.now p) }
 {
     let mut partial = CompletedPoint::identity();
     for done in 0..2 {
@@ -24,7 +26,7 @@ pub fn expected_by_combs(bases: &Comb, keys: &Comb, s: &Whole, k: &Whole) -> [u8
         let lower = with_rows(four_times_doubled(upper), keys, k, shift);
         partial = with_rows(lower, bases, s, shift);
     }
-    partial.point().encoded()
+    partial.point()
 }
 
 /// The point times 16.

@@ -1,6 +1,7 @@
 //! Points as 32 bytes.
 ghost use Rattle.std.specs.Prelude.{◌≡◌, ◌==◌, ◌<◌, length};
-ghost use Rattle.nw_curve.specs.Coding.{root, recovered, with_sign, decoded, encoded, is_odd};
+ghost use Rattle.nw_curve.specs.Coding.{root, recovered, with_sign, decoded, encoded, scaled, is_odd};
+ghost use Rattle.nw_curve.specs.Inverse.{IsInverse};
 
 use super::Point;
 use super::constants::{minus_one_root, the_d};
@@ -30,9 +31,17 @@ impl Point {
     pub fn encoded(&self) -> [u8; 32]
         ensures { result ≡ encoded self.now }
     {
-        let inverse = self.z.inverse();
-        let x = self.x.times(&inverse);
-        let y = self.y.times(&inverse);
+        self.encoded_by(&self.z.inverse())
+    }
+
+    /// The point's encoding by an inverse of its Z. So a caller can compute the inverses of many Z at once.
+    #[tactic(auto, using(crate::proofs::Inverses::scaled_encodes))]
+    pub fn encoded_by(&self, inverse: &Number) -> [u8; 32]
+        ensures scaled { result ≡ scaled self.now inverse.now }
+        ensures encoded { IsInverse self.now.z inverse.now → result ≡ encoded self.now }
+    {
+        let x = self.x.times(inverse);
+        let y = self.y.times(inverse);
         y.to_whole().with_top_bit(x.is_odd()).to_bytes()
     }
 }

@@ -1,11 +1,11 @@
 //! Edge cases: signatures that are refused, and some that only look wrong. The expected results are those of bench/ed25519.py.
-use super::{Case, is_right};
+use super::{Case, first_wrong};
 use std::test::Fail;
 
 #[test]
 fn each_edge_has_the_answer_of_the_reference(rt: HostRuntime) -> Result<(), Fail> {
-    for case in CASES.iter() {
-        assert!(rt; is_right(rt.alloc(), case)?, "R is {}", case.r);
+    if let Some(case) = first_wrong(rt.alloc(), &CASES)? {
+        assert!(rt; false, "R is {}", case.r);
     }
     Ok(())
 }

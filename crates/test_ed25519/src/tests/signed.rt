@@ -1,10 +1,11 @@
 //! Messages that OpenSSL signed, from their bytes to a causal read.
 use hex::FromHex;
 use nw_book::{Book, Command, Limits};
-use nw_check::{Checked, CheckedBlock, CheckedCert, check_message};
+use nw_check::{CertFault, Checked, CheckedBlock, CheckedCert, check_message, check_message_by};
 use nw_committee::{Committee, Key};
 use nw_digest::{Digest, Shared};
 use nw_ed25519::Ed25519;
+use nw_prepared::PreparedCommittee;
 use std::alloc::Global;
 use std::test::Fail;
 
@@ -146,5 +147,35 @@ fn a_block_and_its_certificate_are_stored_and_a_forged_one_is_refused(
     drop(book);
     drop(members);
     assert_eq!(rt; outcome?, (1, false));
+    Ok(())
+}
+
+/// The result of the message's check by the prepared committee.
+fn checked_by(
+    alloc: Global,
+    prepared: &PreparedCommittee,
+    message: &str,
+) -> Result<Checked<Ed25519>, Fail> {
+    let text = hex::decode(alloc, message)?;
+    Ok(check_message_by(alloc, prepared.committee(), prepared, text.as_slice())?)
+}
+
+/// Whether the prepared committee accepts the block and its certificate, and names the forged vote.
+fn gives_the_same(alloc: Global, prepared: &PreparedCommittee) -> Result<bool, Fail> {
+    let block = block_of(checked_by(alloc, prepared, BLOCK)?).is_some();
+    let certificate = certificate_of(checked_by(alloc, prepared, CERTIFICATE)?).is_some();
+    let forged = matches!(
+        checked_by(alloc, prepared, FORGED)?,
+        Checked::BadCert(CertFault::Signature { signer: 3 })
+    );
+    Ok(block && certificate && forged)
+}
+
+#[test]
+fn a_prepared_committee_accepts_the_same_messages(rt: HostRuntime) -> Result<(), Fail> {
+    let prepared = PreparedCommittee::new(rt.alloc(), committee(rt.alloc())?)?;
+    let same = gives_the_same(rt.alloc(), &prepared);
+    drop(prepared);
+    assert!(rt; same?);
     Ok(())
 }

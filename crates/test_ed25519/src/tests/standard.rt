@@ -1,11 +1,11 @@
 //! Test vectors of RFC 8032, section 7.1.
-use super::{Case, is_right};
+use super::{Case, first_wrong};
 use std::test::Fail;
 
 #[test]
 fn the_vectors_of_the_standard_are_accepted(rt: HostRuntime) -> Result<(), Fail> {
-    for case in CASES.iter() {
-        assert!(rt; is_right(rt.alloc(), case)?, "R is {}", case.r);
+    if let Some(case) = first_wrong(rt.alloc(), &CASES)? {
+        assert!(rt; false, "R is {}", case.r);
     }
     Ok(())
 }

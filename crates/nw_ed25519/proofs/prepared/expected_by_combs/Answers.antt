@@ -1,8 +1,8 @@
-use Rattle.std.proofs.Common.{◌≡◌, ◌+◌, ◌-◌, ◌*◌, ◌^◌, ◌∙◌, ap, subst, arith}
+use Rattle.std.proofs.Common.{◌≡◌, ◌+◌, ◌-◌, ◌*◌, ◌^◌, subst, arith}
 use Rattle.nw_ed25519.specs.Comb.{rows}
 use Rattle.nw_curve.specs.Curve.{base, negated}
 use Rattle.nw_curve.specs.Completed.{point_of}
-use Rattle.nw_curve.specs.Coding.{encoded}
+use Rattle.nw_curve.proofs.Inverses.{not_divided-has_inverse}
 use Rattle.nw_curve.proofs.Negatives.{negative_of, negative_valid, negated_represents}
 use Rattle.nw_curve.proofs.Decoding.{affine_base, base_valid, base_represents, coordinates, PointIfAny, decoded_point}
 use Rattle.nw_ed25519.proofs.CombSums.{no_windows, next_window, all_windows}
@@ -34,4 +34,5 @@ returns c bytes p h bb bk hb hk =
     let none : 16 - 8 * c.loop-done.done ≡ 0 = omega arith in
     let all = rw none at (c.loop-done.invariant p key on.0 on.1 bb bk hb hk) in
     let r = all_windows c.args.s.now c.args.k.now (point_of c.loop-done.partial) affine_base (negative_of key) c.requires.s c.requires.k all in
-    c.encoded.ensures ∙ (ap encoded c.point.ensures ∙ expected_of_key c.args.s.now c.args.k.now bytes p (point_of c.loop-done.partial) h c.requires.s c.requires.k r)
+    let q = point_of c.loop-done.partial in
+    rw c.point.ensures (not_divided-has_inverse q.z r.z_not_zero, expected_of_key c.args.s.now c.args.k.now bytes p q h c.requires.s c.requires.k r)

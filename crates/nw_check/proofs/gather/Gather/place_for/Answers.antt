@@ -10,7 +10,7 @@ returns-then-not-is_member-clause-fault g c =
     let committee = ap (λ (v : Gathering). v.committee) c.self.view_is in
     let for : IsTrue c.is_for.result = cc in
     let place = rw (c.deref.ensures.value, seals) at c.in-Some.ensures in
-    let member = rw (c.get.ensures, committee) at c.is_member.ensures.member in
+    let member = rw (c.get-committee.ensures, committee) at c.is_member.ensures.member in
     ((c.is_for.ensures.0 for, place_fresh _ _ _ place), λ h. let so : IsTrue c.is_member.result = member.1 h in cc)
 
 pub returns-then-not-is_signed_by-clause-fault : goal.returns-then-not-is_signed_by-clause-fault
@@ -20,8 +20,8 @@ returns-then-not-is_signed_by-clause-fault g c =
     let for : IsTrue c.is_for.result = cc in
     let place = rw (c.deref.ensures.value, seals) at c.in-Some.ensures in
     let named : IsTrue c.is_member.result = cc in
-    let member = rw (c.get.ensures, committee) at (c.is_member.ensures.member.0 named) in
-    let only = rw (c.get-2.ensures, committee, c.text_of_vote-text.ensures) at c.is_signed_by.ensures in
+    let member = rw (c.get-committee.ensures, committee) at (c.is_member.ensures.member.0 named) in
+    let only = rw (c.requires, c.text_of_vote-text.ensures) at c.is_signed_by.ensures in
     ((c.is_for.ensures.0 for, place_fresh _ _ _ place), member, λ h. let so : IsTrue c.is_signed_by.result = only.1 h in cc)
 
 pub returns-clause-may_count : goal.returns-clause-may_count
@@ -31,7 +31,7 @@ returns-clause-may_count g c =
     let for : IsTrue c.is_for.result = cc in
     let place = rw (c.deref.ensures.value, seals) at c.in-Some.ensures in
     let named : IsTrue c.is_member.result = cc in
-    let member = rw (c.get.ensures, committee) at (c.is_member.ensures.member.0 named) in
+    let member = rw (c.get-committee.ensures, committee) at (c.is_member.ensures.member.0 named) in
     let signed : IsTrue c.is_signed_by.result = cc in
-    let own = rw (c.get-2.ensures, committee, c.text_of_vote-text.ensures) at (c.is_signed_by.ensures.0 signed) in
+    let own = rw (c.requires, c.text_of_vote-text.ensures) at (c.is_signed_by.ensures.0 signed) in
     ((c.is_for.ensures.0 for, place_fresh _ _ _ place), member, own)

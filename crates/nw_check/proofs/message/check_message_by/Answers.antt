@@ -1,6 +1,6 @@
 use Rattle.std.proofs.Common.{◌≡◌, refl}
 use Rattle.nw_codec.specs.declared.error.DecodeError.TheVariants.{NoMemory}
-use Rattle.nw_check.proofs.message.check_message.Goals as goal
+use Rattle.nw_check.proofs.message.check_message_by.Goals as goal
 
 pub returns-in_default : goal.returns-in_default
 returns-in_default g c =

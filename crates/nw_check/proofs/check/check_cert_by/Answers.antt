@@ -1,5 +1,5 @@
 use Rattle.nw_check.proofs.Broken.{cert_fault-from_rule}
-use Rattle.nw_check.proofs.check.check_cert.Goals as goal
+use Rattle.nw_check.proofs.check.check_cert_by.Goals as goal
 
 pub returns-in-Some-clause-fault : goal.returns-in-Some-clause-fault
 returns-in-Some-clause-fault g c =

@@ -1,5 +1,5 @@
 use Rattle.nw_check.proofs.Broken.{block_fault-from_rule}
-use Rattle.nw_check.proofs.check.check_block.Goals as goal
+use Rattle.nw_check.proofs.check.check_block_by.Goals as goal
 
 pub returns-in-Some-clause-fault : goal.returns-in-Some-clause-fault
 returns-in-Some-clause-fault g c =

@@ -1,0 +1,8 @@
+use Rattle.std.proofs.Common.{take}
+use Rattle.std.specs.List.{All}
+use Rattle.nw_model.specs.Checks.{IsSealOf}
+use Rattle.nw_check.proofs.verifier.Verifier.first_bad_signer.Given as goal
+
+-- the votes so far have good signatures
+abbrev pub invariant-loop-seal : goal.invariant-loop-seal
+invariant-loop-seal g l = All (IsSealOf g.S.Scheme.accepts (g.Self.Verifier.members l.self) l.certificate) (take l.seal-index l.certificate.votes)

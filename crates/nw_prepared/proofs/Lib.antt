@@ -1,0 +1,2 @@
+mod FirstBad
+mod Members
