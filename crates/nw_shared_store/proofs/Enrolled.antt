@@ -1,52 +1,57 @@
 -- A session that is made, from what each step on the lock says.
-use Rattle.std.proofs.Common.{◌≡◌, ℕ, ◌+◌, ◌<◌, List, [], ◌∷◌, refl, sym, ap, ◌∙◌, subst}
-use Rattle.std.specs.Prelude.{All, ⊤}
-use Rattle.std.specs.List.{Contains}
+use Rattle.std.proofs.Common.{◌≡◌, ℕ, ◌+◌, ◌<◌, List, [], ◌∷◌, Some, refl, sym, ap, ◌∙◌, subst}
+use Rattle.std.specs.Prelude.{All}
 use Rattle.std.proofs.lemmas.List.Elements.{Contains-push}
 use Rattle.atomic_table.specs.Seated.{TableId}
 use Rattle.atomic_table.specs.Table.{Me}
 use Rattle.nw_sig.specs.Signed.{Meaning}
 use Rattle.nw_model.specs.declared.event.Event.{Event}
 use Rattle.nw_history.specs.Story.{Story}
-use Rattle.nw_book.specs.Journal.{Guarded}
-use Rattle.nw_shared_store.specs.Held.{IsEnrolled}
-use Rattle.nw_shared_store.specs.Rule.{Known, HasLock, HasValue, IsSeatAt, hearer, holder_of, member, new_journal}
-use Rattle.nw_shared_store.specs.Session.{IsSessionAt, StoreId}
-use Rattle.nw_shared_store.proofs.Answered.{one_value}
+use Rattle.nw_history.specs.Prefix.{IsPrefixOf}
+use Rattle.nw_shared_store.specs.Held.{Current, IsEnrolled}
+use Rattle.nw_shared_store.specs.Rule.{Known, HasLock, HasValue, IsSeatAt, Knows, hearer, holder_of, newcomer}
+use Rattle.nw_shared_store.specs.Session.{IsSessionAt, IsSessionOf, StoreId}
+use Rattle.nw_shared_store.proofs.Answered.{of_value, view_at}
 
--- the holder of the lock has the value
-pub has_value : (v : Known) (m1 : Me Guarded Known) → HasLock v m1 → HasValue m1 (λ g. ⊤)
-has_value v m1 lock = (lock.0, ap (λ (m : Me Guarded Known). m.1) lock.1, tt)
-
-module _ (accepts : Meaning) (store : StoreId) (id : ℕ) (m0 m1 m2 : Me Guarded Known) (start : m0 ≡ (hearer (store.first ∷ []), [])) (lock : HasLock m0.0 m1) (view : m2.0 ≡ m1.0)
-    (enrolled : HasValue m1 (λ g. HasValue m2 (λ n. IsEnrolled accepts g n id))) where
-  abbrev now : Guarded
+module _ (accepts : Meaning) (store : StoreId) (run id : ℕ) (m0 m1 m2 : Me Current Known) (start : m0 ≡ (hearer store.first, [])) (lock : HasLock m0.0 m1 (λ now. Knows now m0.0)) (view : m2.0 ≡ m1.0)
+    (run_is : HasValue m1 (λ g. run ≡ g.run)) (enrolled : HasValue m1 (λ g. HasValue m2 (λ n. IsEnrolled accepts g n id))) where
+  abbrev now : Current
   now = lock.0
 
-  new : IsEnrolled accepts now enrolled.2.0 id
-  new = subst (λ (g : Guarded). IsEnrolled accepts g enrolled.2.0 id) (one_value m1 enrolled.0 now enrolled.1 (ap (λ (m : Me Guarded Known). m.1) lock.1)) enrolled.2.2
+  new : HasValue m2 (λ n. IsEnrolled accepts now n id)
+  new = of_value m0.0 m1 lock enrolled
 
-  view_is : m2.0 ≡ holder_of now (hearer (store.first ∷ []))
-  view_is = view ∙ (ap (λ (m : Me Guarded Known). m.0) lock.1 ∙ ap (λ (m : Me Guarded Known). holder_of now m.0) start)
+  view_is : m2.0 ≡ holder_of now (hearer store.first)
+  view_is = view ∙ (ap (λ (m : Me Current Known). m.0) lock.1 ∙ ap (λ (m : Me Current Known). holder_of now m.0) start)
 
-  pub may_enrol : (g : Guarded) × (m2 ≡ (holder_of g (hearer (store.first ∷ [])), (0, record { history = g.history; made = g.made + 1 }) ∷ [])) × All (λ (e : Event). e.session < g.made) g.history.events
+  pub may_enrol : (g : Current) × (m2 ≡ (holder_of g (hearer store.first), (0, record { run = g.run; history = g.history; made = g.made + 1 }) ∷ [])) × All (λ (e : Event). e.session < g.made) g.history.events
   may_enrol = (
     now,
-    (λ i. (view_is i, (enrolled.2.1 ∙ ap (λ (g : Guarded). (0, g) ∷ []) new.grows) i)),
-    new.held.below,
+    (λ i. (view_is i, (new.1 ∙ ap (λ (g : Current). (0, g) ∷ []) new.2.grows) i)),
+    new.2.held.below,
   )
 
-  module _ (m3 : Me Guarded Known) (ended : (g : Guarded) → m2.0 ≡ holder_of g (hearer (store.first ∷ [])) → m3 ≡ (member (new_journal g.made (store.first ∷ [])), [])) where
-    made : m3 ≡ (member (new_journal id (store.first ∷ [])), [])
-    made = ended now view_is ∙ ap (λ n. (member (new_journal n (store.first ∷ [])), [])) (sym new.id_is)
+  module _ (m3 : Me Current Known) (ended : (g : Current) → m2.0.holds ≡ Some g → m3 ≡ (newcomer g g.made, [])) where
+    made : m3 ≡ (newcomer now now.made, [])
+    made = ended now (ap (λ (v : Known). v.holds) view_is)
 
-    pub session_made : (seat other : TableId) → IsSeatAt store.lock seat → other ≡ seat → IsSessionAt store id other m3
-    session_made seat other at same = subst (λ (x : TableId × Me Guarded Known). IsSessionAt store id x.0 x.1) (λ i. (sym same i, sym made i)) (record {
+    pub session_made : (seat other : TableId) → IsSeatAt store.lock seat → other ≡ seat → IsSessionAt store.lock run id other m3
+    session_made seat other at same = subst (λ (x : TableId × Me Current Known). IsSessionAt store.lock run id x.0 x.1) (λ i. (sym same i, sym made i)) (record {
       at = at;
       member_is = refl;
-      id_is = refl;
-      knows_first = Contains-push [] store.first;
+      id_is = sym new.2.id_is;
+      run_is = sym (of_value m0.0 m1 lock run_is);
+      knows_first = Contains-push [] now.history;
     })
 
-    pub no_answers : m3.0.journal.answers ≡ []
-    no_answers = ap (λ (m : Me Guarded Known). m.0.journal.answers) made
+    knows : Knows now (hearer store.first)
+    knows = subst (λ (m : Me Current Known). Knows now m.0) start lock.2
+
+    pub of_store : IsSessionOf store (view_at store.lock m3)
+    of_store = subst (λ (m : Me Current Known). IsSessionOf store (view_at store.lock m)) (sym made) (record {
+      lock = refl;
+      committee = sym knows.committee;
+      limits = sym knows.limits;
+      begins = λ z. knows.known (sym z) store.first (Contains-push [] store.first);
+      answers = refl;
+    })

@@ -9,11 +9,11 @@ use Rattle.nw_model.specs.History.{events_of}
 use Rattle.nw_history.specs.Story.{Story, with_event}
 use Rattle.nw_history.specs.Prefix.{IsPrefixOf}
 use Rattle.nw_book.specs.Answer.{DoneView}
-use Rattle.nw_book.specs.Journal.{Guarded, Journal, ArePrefixesOf}
+use Rattle.nw_book.specs.Journal.{Journal, ArePrefixesOf}
 use Rattle.nw_book.specs.Settled.{IsJournalOf, events_in}
 use Rattle.nw_book.proofs.Longer.{events_of_last}
 use Rattle.nw_book.proofs.Prefixes.{prefix_itself, prefix_trans, prefix_next}
-use Rattle.nw_shared_store.specs.Rule.{IsUpToDate, answered, new_journal}
+use Rattle.nw_shared_store.specs.Rule.{answered, new_journal}
 
 drop_begun : (xs ys : List Event) → drop (length xs) (xs ++ ys) ≡ ys
 drop_begun [] ys = refl
@@ -50,10 +50,13 @@ part_own h e j own part =
     })
 
 -- an event of another session
+pub events_other : (h : Story) (e : Event) (id : ℕ) → e.session ≢ id → events_of id (h.events ++ e ∷ []) ≡ events_of id h.events
+events_other h e id apart = events_of_last id h.events e ∙ (ap (λ (b : Bool). events_of id h.events ++ cond b (e ∷ []) []) (ne_eqb e.session id apart) ∙ append-nil (events_of id h.events))
+
 pub part_other : (h : Story) (e : Event) (j : Journal) → e.session ≢ j.id → IsJournalOf h j.id j → IsJournalOf (with_event h e) j.id j
 part_other h e j apart part = record {
   id_is = refl;
-  events = events_of_last j.id h.events e ∙ (ap (λ (b : Bool). events_of j.id h.events ++ cond b (e ∷ []) []) (ne_eqb e.session j.id apart) ∙ (append-nil (events_of j.id h.events) ∙ part.events));
+  events = events_other h e j.id apart ∙ part.events;
   begun = begun_next h e j.answers part.begun;
 }
 

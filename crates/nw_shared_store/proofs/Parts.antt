@@ -9,7 +9,8 @@ use Rattle.nw_history.specs.Story.{Story}
 use Rattle.nw_history.specs.Prefix.{IsPrefixOf}
 use Rattle.nw_book.specs.Journal.{Journal, IsHistoryOf, origin_of}
 use Rattle.nw_book.specs.Settled.{AreSettled, IsJournalOf}
-use Rattle.nw_shared_store.specs.Session.{IsPresent, SessionView, knowing}
+use Rattle.nw_shared_store.specs.Rule.{knowing}
+use Rattle.nw_shared_store.specs.Session.{IsPresent, IsSameSession, SessionView}
 use Rattle.nw_shared_store.specs.Settlement.{AreParts, IsPart}
 
 -- a prefix that is as long is the whole
@@ -22,10 +23,10 @@ prefix_whole (x ∷ xs) (y ∷ ys) p le = let rest = prefix_whole xs ys (p.0, cc
 pub same_story : (s t : Story) → IsPrefixOf s t → length s.events ≡ length t.events → s ≡ t
 same_story s t p same = λ i. record { committee = p.committee i; limits = p.limits i; base = p.base i; events = prefix_whole s.events t.events p.events same i }
 
-pub part : (accepts : Meaning) (id : ℕ) (h now : Story) (made : ℕ) (old new : SessionView) → IsPresent accepts (origin_of old.store.first) old.journal now made
-    → new.journal ≡ knowing old.journal now → new.store ≡ old.store → old.journal.id ≡ id → now ≡ h → IsPart accepts id h new
-part accepts id h now made old new present knows store id_is is = record {
-  of_store = subst (λ (x : Story). IsHistoryOf accepts (origin_of new.store.first) x) is (subst (λ s. IsHistoryOf accepts (origin_of s.first) now) (sym store) present.of_store);
+pub part : (accepts : Meaning) (id : ℕ) (h now : Story) (made : ℕ) (old new : SessionView) → IsPresent accepts (origin_of old.first) old.journal now made
+    → new.journal ≡ knowing old.journal now → IsSameSession old new → old.journal.id ≡ id → now ≡ h → IsPart accepts id h new
+part accepts id h now made old new present knows same id_is is = record {
+  of_store = subst (λ (x : Story). IsHistoryOf accepts (origin_of new.first) x) is (subst (λ (s : Story). IsHistoryOf accepts (origin_of s) now) (sym same.first) present.of_store);
   journal = subst (λ (j : Journal). IsJournalOf h id j) (sym knows) (subst (λ (x : ℕ × Story). IsJournalOf x.1 x.0 (knowing old.journal now)) (λ i. (id_is i, is i)) (record { id_is = refl; events = present.own.events; begun = present.own.begun }));
 }
 
@@ -53,6 +54,6 @@ settled accepts h made ss parts below count = record {
   others = subst (λ m. All (λ (e : Event). e.session < m) h.events) (count ∙ sym (journals_length ss)) below;
 }
 
-pub of_stores : (accepts : Meaning) (n : ℕ) (h : Story) (ss : List SessionView) → AreParts accepts n h ss → All (λ (s : SessionView). IsHistoryOf accepts (origin_of s.store.first) h) ss
-of_stores accepts n h [] parts = All-nil (λ (s : SessionView). IsHistoryOf accepts (origin_of s.store.first) h)
-of_stores accepts n h (s ∷ ss) parts = All-cons (λ (x : SessionView). IsHistoryOf accepts (origin_of x.store.first) h) s ss parts.0.of_store (of_stores accepts (n + 1) h ss parts.1)
+pub of_stores : (accepts : Meaning) (n : ℕ) (h : Story) (ss : List SessionView) → AreParts accepts n h ss → All (λ (s : SessionView). IsHistoryOf accepts (origin_of s.first) h) ss
+of_stores accepts n h [] parts = All-nil (λ (s : SessionView). IsHistoryOf accepts (origin_of s.first) h)
+of_stores accepts n h (s ∷ ss) parts = All-cons (λ (x : SessionView). IsHistoryOf accepts (origin_of x.first) h) s ss parts.0.of_store (of_stores accepts (n + 1) h ss parts.1)

@@ -3,33 +3,38 @@ use Rattle.std.proofs.Common.{◌≡◌, ℕ, List, [], ◌∷◌, Option, Some,
 use Rattle.std.specs.Prelude.{IfSome}
 use Rattle.std.specs.Result.{IfOk, IfErr}
 use Rattle.atomic_table.specs.Table.{Me, rest}
-use Rattle.nw_book.specs.Journal.{Guarded}
+use Rattle.nw_shared_store.specs.Held.{Current}
 use Rattle.nw_shared_store.specs.Rule.{Known, HasValue}
 
 -- the seat's slot, as `slot_mut` speaks of it
-pub slot_of : (me : Me Guarded Known) (g : Guarded) → me.1 ≡ (0, g) ∷ [] → me.1 ≡ (0, g) ∷ rest me.1
-slot_of me g is = is ∙ ap (λ (l : List (ℕ × Guarded)). (0, g) ∷ rest l) (sym is)
+pub slot_of : (me : Me Current Known) (g : Current) → me.1 ≡ (0, g) ∷ [] → me.1 ≡ (0, g) ∷ rest me.1
+slot_of me g is = is ∙ ap (λ (l : List (ℕ × Current)). (0, g) ∷ rest l) (sym is)
 
-module _ (me : Me Guarded Known) (x g : Guarded) (lent : me.1 ≡ (0, x) ∷ rest me.1) (is : me.1 ≡ (0, g) ∷ []) where
+module _ (me : Me Current Known) (x g : Current) (lent : me.1 ≡ (0, x) ∷ rest me.1) (is : me.1 ≡ (0, g) ∷ []) where
   pub value_is : me.1 ≡ (0, x) ∷ []
-  value_is = lent ∙ ap (λ (l : List (ℕ × Guarded)). (0, x) ∷ rest l) is
+  value_is = lent ∙ ap (λ (l : List (ℕ × Current)). (0, x) ∷ rest l) is
 
-  both : {A : Type 0} (n : Guarded) (P : Guarded → Guarded → A → Type 0) (a : A) → P x n a → HasValue me (λ d. HasValue (me.0, (0, n) ∷ rest me.1) (λ e. P d e a))
-  both n P a of = (x, value_is, (n, ap (λ (l : List (ℕ × Guarded)). (0, n) ∷ rest l) is, of))
+  both : {A : Type 0} (n : Current) (P : Current → Current → A → Type 0) (a : A) → P x n a → HasValue me (λ d. HasValue (me.0, (0, n) ∷ rest me.1) (λ e. P d e a))
+  both n P a of = (x, value_is, (n, ap (λ (l : List (ℕ × Current)). (0, n) ∷ rest l) is, of))
 
-  pub on_ok : {A E : Type 0} (n : Guarded) (P : Guarded → Guarded → A → Type 0) (r : Result A E) → IfOk r (P x n) → IfOk r (λ a. HasValue me (λ d. HasValue (me.0, (0, n) ∷ rest me.1) (λ e. P d e a)))
+  pub on_ok : {A E : Type 0} (n : Current) (P : Current → Current → A → Type 0) (r : Result A E) → IfOk r (P x n) → IfOk r (λ a. HasValue me (λ d. HasValue (me.0, (0, n) ∷ rest me.1) (λ e. P d e a)))
   on_ok n P (Ok a) of = both n P a of
   on_ok n P (Err e) of = tt
 
-  pub on_some : {A : Type 0} (n : Guarded) (P : Guarded → Guarded → A → Type 0) (r : Option A) → IfSome r (P x n) → IfSome r (λ a. HasValue me (λ d. HasValue (me.0, (0, n) ∷ rest me.1) (λ e. P d e a)))
+  pub on_some : {A : Type 0} (n : Current) (P : Current → Current → A → Type 0) (r : Option A) → IfSome r (P x n) → IfSome r (λ a. HasValue me (λ d. HasValue (me.0, (0, n) ∷ rest me.1) (λ e. P d e a)))
   on_some n P (Some a) of = both n P a of
   on_some n P None of = tt
 
-  pub on_err : {A E : Type 0} (Q : Guarded → E → Type 0) (r : Result A E) → IfErr r (Q x) → IfErr r (λ e. HasValue me (λ d. Q d e))
+  pub on_err : {A E : Type 0} (Q : Current → E → Type 0) (r : Result A E) → IfErr r (Q x) → IfErr r (λ e. HasValue me (λ d. Q d e))
   on_err Q (Ok a) of = tt
   on_err Q (Err e) of = (x, value_is, of)
 
   -- nothing changed
-  pub on_same : {A E : Type 0} (Q : Guarded → A → Type 0) (r : Result A E) → IfOk r (Q x) → IfOk r (λ a. HasValue me (λ d. Q d a))
+  pub on_same : {A E : Type 0} (Q : Current → A → Type 0) (r : Result A E) → IfOk r (Q x) → IfOk r (λ a. HasValue me (λ d. Q d a))
   on_same Q (Ok a) of = (x, value_is, of)
   on_same Q (Err e) of = tt
+
+  -- so is one more fact
+  pub on_also : {A E : Type 0} (P : Current → Type 0) (Q : Current → A → Type 0) (r : Result A E) → P x → IfOk r (Q x) → IfOk r (λ a. HasValue me (λ d. P d × Q d a))
+  on_also P Q (Ok a) fact of = (x, value_is, (fact, of))
+  on_also P Q (Err e) fact of = tt

@@ -13,14 +13,14 @@ use Rattle.nw_book.specs.Answer.{Takes}
 use Rattle.nw_book.specs.Turn.{event}
 use Rattle.nw_shared_store.specs.Held.{IsHeld}
 
-pub held_after : {A E : Type 0} (accepts : Meaning) (old new : Story) (made id number : ℕ) (call : Call) (reply_of : A → Reply) (front_of : A → Story) (r : Result A E)
-    → IsHeld accepts (record { history = old; made = made }) → id < made → IfOk r (λ a. Takes accepts old new id number call (reply_of a) (front_of a)) → OnErr r (new ≡ old)
-    → IsHeld accepts (record { history = new; made = made })
-held_after accepts old new made id number call reply_of front_of (Ok a) held below takes same = record {
+pub held_after : {A E : Type 0} (accepts : Meaning) (old new : Story) (run made id number : ℕ) (call : Call) (reply_of : A → Reply) (front_of : A → Story) (r : Result A E)
+    → IsHeld accepts (record { run = run; history = old; made = made }) → id < made → IfOk r (λ a. Takes accepts old new id number call (reply_of a) (front_of a)) → OnErr r (new ≡ old)
+    → IsHeld accepts (record { run = run; history = new; made = made })
+held_after accepts old new run made id number call reply_of front_of (Ok a) held below takes same = record {
   in_range = subst (λ (s : Story). AreInRange s.limits) (sym takes.history) held.in_range;
   legal = takes.legal;
   few = subst (λ (s : Story). made ≤ s.limits.sessions) (sym takes.history) held.few;
   below = subst (λ (s : Story). All (λ (x : Event). x.session < made) s.events) (sym takes.history) (All-push (λ (x : Event). x.session < made) old.events (event id number call (reply_of a)) held.below below);
 }
-held_after accepts old new made id number call reply_of front_of (Err e) held below takes same =
-    subst (λ (s : Story). IsHeld accepts (record { history = s; made = made })) (sym same) held
+held_after accepts old new run made id number call reply_of front_of (Err e) held below takes same =
+    subst (λ (s : Story). IsHeld accepts (record { run = run; history = s; made = made })) (sym same) held

@@ -8,6 +8,9 @@ pub enum Refusal {
     /// Another thread has the lock. Try again.
     #[error("the store is busy")]
     Busy,
+    /// The run of the session has ended. Renew the session.
+    #[error("the run has ended")]
+    Ended,
     /// The store has made as many sessions as its limit allows.
     #[error("too many sessions")]
     TooMany,

@@ -6,34 +6,38 @@ ghost use Rattle.nw_model.specs.declared.call.Call.TheVariants as Call;
 ghost use Rattle.nw_book.specs.Answer.{IsTicketFor, front_of, reply_of};
 ghost use Rattle.nw_book.specs.Command.{call_of, committee_of};
 ghost use Rattle.nw_book.specs.Turn.{IsInTurn, next_number};
-ghost use Rattle.nw_shared_store.specs.Held.{IsEnrolled, IsFound, IsHeld, IsTaken, IsUntaken};
+ghost use Rattle.nw_history.specs.Story.{state_of};
+ghost use Rattle.nw_model.specs.Look.{AreLooks, IsLook, TellsSatisfied};
+ghost use Rattle.nw_shared_store.specs.Held.{IsEnded, IsEnrolled, IsFound, IsHeld, IsTaken, IsUntaken};
 
 use nw_book::{Book, Command, Done, Front, NoStep, Ticket};
-use nw_digest::{Digest, NoMemory};
+use nw_digest::{Digest, NoMemory, Round};
+use nw_model::Look;
 use nw_sig::Scheme;
 use std::alloc::Global;
 use std::marker::Model;
 
-/// The value under the lock of a shared store. Contracts see the history and the number of sessions made so far.
+/// The value under the lock of a shared store. Contracts see the number of its run, the history of this run, and the number of sessions made
+/// so far.
 #[derive(Drop)]
 pub struct Held<S: Scheme> {
     book: Book<S>,
+    run: u64,
     made: u16,
 }
 
 impl<S: Scheme> Model for Held<S> {
     ghost use Rattle.std.specs.Coded.{codes};
     ghost use Rattle.nw_model.specs.State.{coded_state};
-    ghost use Rattle.nw_book.specs.Journal.{Guarded};
-    ghost use Rattle.nw_shared_store.specs.Held.{IsHeld};
+    ghost use Rattle.nw_shared_store.specs.Held.{Current, IsHeld};
 
-    ghost Value = { Guarded };
+    ghost Value = { Current };
 
     ghost coded = { Prim.hlevel (codes, coded_state) };
 
-    ghost view = { λ h. record { history = h.book; made = h.made } };
+    ghost view = { λ h. record { run = h.run; history = h.book; made = h.made } };
 
-    ghost invariant = { λ h. IsHeld S.accepts (record { history = h.book; made = h.made }) };
+    ghost invariant = { λ h. IsHeld S.accepts (record { run = h.run; history = h.book; made = h.made }) };
 }
 
 impl<S: Scheme> Held<S> {
@@ -42,9 +46,20 @@ impl<S: Scheme> Held<S> {
         requires in_range { AreInRange book.limits }
         requires legal { IsLegalStory S.accepts book }
         requires empty { book.events ≡ [] }
-        ensures { result ≡ record { history = book; made = 0 } }
+        ensures { result ≡ record { run = 0; history = book; made = 0 } }
     {
-        Held { book, made: 0 }
+        Held {
+            book,
+            run: 0,
+            made: 0,
+        }
+    }
+
+    /// The number of the run.
+    pub(crate) fn run(&self) -> u64
+        ensures { result ≡ self.now.run }
+    {
+        self.run
     }
 
     /// A clone of the history, and the number of sessions made so far.
@@ -114,6 +129,43 @@ impl<S: Scheme> Held<S> {
             Ok(number) => number,
             Err(_) => unreachable!(),
         }
+    }
+
+    /// What the state after the history has in the slot of this round and author.
+    pub(crate) fn look_at(&self, round: Round, author: u16) -> Look
+        ensures held { IsHeld S.accepts self.now }
+        ensures look { IsLook (state_of self.now.history) (round, author) result }
+        ensures satisfied { TellsSatisfied (state_of self.now.history) (round, author) result }
+    {
+        self.book.look(round, author)
+    }
+
+    /// What the state after the history has in each slot of this round.
+    pub(crate) fn look_round(
+        &self,
+        alloc: Global,
+        round: Round,
+    ) -> Result<Vec<(u16, Look)>, NoMemory>
+        ensures held { IsHeld S.accepts self.now }
+        ensures looks { IfOk result (λ looks. AreLooks (state_of self.now.history) round looks.items) }
+    {
+        self.book.look_round(alloc, round)
+    }
+
+    /// Ends the run and begins the next. Returns the last history of the run, and the number of the next run.
+    ///
+    /// `NoMemory`: an allocation failed, a reference count is at its limit, or the run has the greatest number.
+    pub(crate) fn restart(&mut self, alloc: Global) -> Result<(Front<S>, u64), NoMemory>
+        ensures ended { IfOk result (λ ended. IsEnded S.accepts self.old self.new ended.0 ended.1) }
+        ensures unchanged { OnErr result (self.new ≡ self.old) }
+    {
+        let Some(next) = self.run.checked_add(1) else {
+            return Err(NoMemory);
+        };
+        let last = self.book.history().try_clone()?;
+        self.book.restart(alloc)?;
+        self.run = next;
+        Ok((last, next))
     }
 
     /// Freezes all complete blocks as one generation.

@@ -4,12 +4,16 @@ use nw_sig::Scheme;
 use std::collections::LinkedList;
 use std::marker::Model;
 
-/// What a seat knows: `G` is the value under the lock, and `J` a journal. No value of this type is ever made.
-pub struct Knowledge<G, J> {
+/// What a seat knows: `G` is the value under the lock, `F` a history, and `J` a journal. No value of this type is ever made.
+pub struct Knowledge<G, F, J> {
     /// The value under the lock, if the seat has the lock.
     holds: Option<G>,
     /// Whether the seat has a session.
     acts: bool,
+    /// The number of the run that it knows of.
+    run: u64,
+    /// The history of this run when the seat came to it.
+    first: F,
     /// The journal of its session. If it has none, only the known histories count.
     journal: J,
 }

@@ -7,7 +7,7 @@ use nw_sig::Scheme;
 use std::alloc::Global;
 
 /// What a seat knows.
-pub(crate) type Known<S> = Knowledge<Held<S>, Written<S>>;
+pub(crate) type Known<S> = Knowledge<Held<S>, Front<S>, Written<S>>;
 
 /// The lock: a table of one word and one slot, which has the value.
 pub(crate) type Lock<S> = Table<Held<S>, Known<S>, Front<S>, OneHistory, Global>;
@@ -19,12 +19,11 @@ pub(crate) type Pass<S> = Seat<Held<S>, Known<S>>;
 pub struct OneHistory;
 
 impl<S: Scheme> TableRule<Held<S>, Known<S>, Front<S>> for OneHistory {
-    ghost use Rattle.std.specs.Prelude.{◌∷◌, []};
     ghost use Rattle.nw_shared_store.specs.Rule.{IsOneHistory, hearer};
 
     ghost holds = { λ first s. IsOneHistory first s };
 
-    ghost first = { λ first. hearer (first ∷ []) };
+    ghost first = { λ first. hearer first };
 }
 
 /// The step that makes a new seat.
@@ -79,4 +78,13 @@ impl<S: Scheme> Play<Held<S>, Known<S>> for Look {
     ghost use Rattle.nw_shared_store.specs.Rule.{Looks};
 
     ghost then = { Looks };
+}
+
+/// The step that gives the lock back, after which the seat's session is of the run of the value.
+pub(crate) struct Join;
+
+impl<S: Scheme> Play<Held<S>, Known<S>> for Join {
+    ghost use Rattle.nw_shared_store.specs.Rule.{Joins};
+
+    ghost then = { Joins };
 }

@@ -7,11 +7,13 @@ ghost use Rattle.nw_book.specs.Command.{call_of, committee_of};
 ghost use Rattle.nw_book.specs.Journal.{KnowsAll, origin_of};
 ghost use Rattle.nw_book.specs.Settled.{IsJournalOf};
 ghost use Rattle.nw_book.specs.Turn.{MatchesCommittee};
-ghost use Rattle.nw_shared_store.specs.Session.{HasHeard, IsOfAnother, IsPassing, IsPresent, IsRefused, knowing};
+ghost use Rattle.nw_shared_store.specs.Rule.{knowing};
+ghost use Rattle.nw_shared_store.specs.Session.{HasHeard, IsOfAnother, IsPresent, IsRefused, IsSameSession, IsUnseen};
 
 use crate::Refusal;
-use crate::lock::{call_at, end_call, end_look, give_back, history_at, open_at, try_take};
+use crate::lock::{end_call, end_look, give_back, take_in};
 use crate::rule::{Lock, Pass};
+use crate::work::{call_at, history_at, open_at};
 use nw_book::{Command, Done, Front, NoStep, Ticket};
 use nw_digest::Digest;
 use nw_sig::Scheme;
@@ -19,14 +21,16 @@ use std::alloc::Global;
 use std::marker::Model;
 use std::sync::Arc;
 
-/// One caller's sequence of calls of a shared store. It keeps the store alive, and may be sent to another thread. Contracts see its store and
-/// its journal: its id, its answers, and the histories that it knows of.
+/// One caller's sequence of calls of a shared store. It keeps the store alive, and may be sent to another thread. Contracts see its store, its
+/// run, and its journal of this run: its id, its answers, and the histories that it knows of.
 ///
-/// A call makes one attempt to take the store's lock, and never waits. On `Busy` nothing changed: call again.
+/// A call makes one attempt to take the store's lock, and never waits. On `Busy` nothing changed: call again. On `Ended` the run of the
+/// session has ended, and nothing changed: renew the session.
 #[derive(Drop)]
 pub struct SharedSession<S: Scheme> {
     pub(crate) lock: Arc<Lock<S>, Global>,
     pub(crate) pass: Pass<S>,
+    pub(crate) run: u64,
     pub(crate) id: u16,
 }
 
@@ -41,12 +45,13 @@ impl<S: Scheme> Model for SharedSession<S> {
     ghost coded = { Prim.hlevel (codes, coded_state) };
 
     ghost view = { λ s. record {
-      store = record { lock = s.lock.value.shared.table_id; first = s.lock.value.shared.key };
+      lock = s.lock.value.shared.table_id;
+      run = s.pass.me.0.run;
+      first = s.pass.me.0.first;
       journal = s.pass.me.0.journal;
     } };
 
-    ghost invariant = { λ s. IsSessionAt (record { lock = s.lock.value.shared.table_id; first = s.lock.value.shared.key })
-        s.id s.pass.table_id s.pass.me };
+    ghost invariant = { λ s. IsSessionAt s.lock.value.shared.table_id s.run s.id s.pass.table_id s.pass.me };
 }
 
 impl<S: Scheme> SharedSession<S> {
@@ -57,30 +62,36 @@ impl<S: Scheme> SharedSession<S> {
         self.id
     }
 
+    /// The number of the session's run. A store begins with run 0.
+    pub fn run(&self) -> u64
+        ensures { result ≡ self.now.run }
+    {
+        self.run
+    }
+
     /// Makes the command's call as the session's next call. The call is never out of turn.
     ///
     /// A refused call changes nothing, and can be tried again. The error is the first of these that applies:
     ///
     /// 1. `Busy`: another thread has the lock.
-    /// 2. `OtherCommittee`: the block or certificate was checked under another committee.
-    /// 3. `HistoryFull`: the history has reached its limit of events.
-    /// 4. `NoMemory`: an allocation failed.
+    /// 2. `Ended`: the run of the session has ended.
+    /// 3. `OtherCommittee`: the block or certificate was checked under another committee.
+    /// 4. `HistoryFull`: the history has reached its limit of events.
+    /// 5. `NoMemory`: an allocation failed.
     pub fn call(&mut self, alloc: Global, command: &Command<S>) -> Result<Done<S>, Refusal>
         ensures answered { IfOk result
-            (λ done. IsExplained S.accepts (origin_of self.old.store.first) self.old.journal
+            (λ done. IsExplained S.accepts (origin_of self.old.first) self.old.journal
             self.new.journal (call_of command.now) done.event.reply done.front) }
         ensures own_calls { IfOk result
             (λ done. IsJournalOf done.front self.old.journal.id self.new.journal) }
         ensures own_committee { OnOk result
-            (MatchesCommittee self.old.store.first.committee (committee_of command.now)) }
-        ensures refused { IfErr result (IsRefused S.accepts (origin_of self.old.store.first)
+            (MatchesCommittee self.old.first.committee (committee_of command.now)) }
+        ensures refused { IfErr result (IsRefused S.accepts (origin_of self.old.first)
             self.old.journal (committee_of command.now)) }
-        ensures store { self.new.store ≡ self.old.store }
+        ensures same { IsSameSession self.old self.new }
         ensures unchanged { OnErr result (self.new ≡ self.old) }
     {
-        if !try_take(&self.lock, &mut self.pass) {
-            return Err(Refusal::Busy);
-        }
+        take_in(&self.lock, &mut self.pass, self.run)?;
         let done = match call_at(&self.lock, &mut self.pass, alloc, self.id, command) {
             Ok(done) => done,
             Err(why) => {
@@ -98,27 +109,26 @@ impl<S: Scheme> SharedSession<S> {
     /// A refused call changes nothing, and can be tried again. The error is the first of these that applies:
     ///
     /// 1. `Busy`: another thread has the lock.
-    /// 2. `HistoryFull`: the history has reached its limit of events.
-    /// 3. `NoMemory`: an allocation failed.
+    /// 2. `Ended`: the run of the session has ended.
+    /// 3. `HistoryFull`: the history has reached its limit of events.
+    /// 4. `NoMemory`: an allocation failed.
     pub fn open_causal(
         &mut self,
         alloc: Global,
         digest: Digest,
     ) -> Result<Result<Ticket<S>, Done<S>>, Refusal>
         ensures answered { IfOk result
-            (λ answer. IsExplained S.accepts (origin_of self.old.store.first) self.old.journal
+            (λ answer. IsExplained S.accepts (origin_of self.old.first) self.old.journal
             self.new.journal (Call.Causal digest) (reply_of answer) (front_of answer)) }
         ensures own_calls { IfOk result
             (λ answer. IsJournalOf (front_of answer) self.old.journal.id self.new.journal) }
         ensures told { IfOk result (IsTicketFor digest) }
-        ensures refused { IfErr result (IsRefused S.accepts (origin_of self.old.store.first)
+        ensures refused { IfErr result (IsRefused S.accepts (origin_of self.old.first)
             self.old.journal None) }
-        ensures store { self.new.store ≡ self.old.store }
+        ensures same { IsSameSession self.old self.new }
         ensures unchanged { OnErr result (self.new ≡ self.old) }
     {
-        if !try_take(&self.lock, &mut self.pass) {
-            return Err(Refusal::Busy);
-        }
+        take_in(&self.lock, &mut self.pass, self.run)?;
         let answer = match open_at(&self.lock, &mut self.pass, alloc, self.id, digest) {
             Ok(answer) => answer,
             Err(why) => {
@@ -130,24 +140,22 @@ impl<S: Scheme> SharedSession<S> {
         Ok(answer)
     }
 
-    /// The store's history as it is now, and the number of sessions made so far. Of this session, the history has exactly the calls of its
+    /// The history of the run as it is now, and the number of sessions made so far. Of this session, the history has exactly the calls of its
     /// journal, in order. The session now knows of this history. This is not a call. It compares and copies no events.
     ///
     /// A session that hears this history as a note knows all that this session knows now.
     ///
-    /// `Busy`: another thread has the lock. `NoMemory`: a reference count is at its limit.
+    /// `Busy`: another thread has the lock. `Ended`: the run of the session has ended. `NoMemory`: a reference count is at its limit.
     pub fn history(&mut self) -> Result<(Front<S>, u16), Refusal>
-        ensures present { IfOk result (λ now. IsPresent S.accepts (origin_of self.old.store.first)
+        ensures present { IfOk result (λ now. IsPresent S.accepts (origin_of self.old.first)
             self.old.journal now.0 now.1) }
         ensures knows { IfOk result
             (λ now. self.new.journal ≡ knowing self.old.journal now.0) }
-        ensures refused { IfErr result IsPassing }
-        ensures store { self.new.store ≡ self.old.store }
+        ensures refused { IfErr result IsUnseen }
+        ensures same { IsSameSession self.old self.new }
         ensures unchanged { OnErr result (self.new ≡ self.old) }
     {
-        if !try_take(&self.lock, &mut self.pass) {
-            return Err(Refusal::Busy);
-        }
+        take_in(&self.lock, &mut self.pass, self.run)?;
         let now = match history_at(&self.lock, &mut self.pass) {
             Ok(now) => now,
             Err(_) => {
@@ -159,21 +167,20 @@ impl<S: Scheme> SharedSession<S> {
         Ok(now)
     }
 
-    /// Hears the note, which is a history of the same store: returns `true`, and from then on the note is a prefix of the history of every
-    /// answer of this session. Returns `false` if the note is no prefix of the store's history. This is not a call.
+    /// Hears the note, which is a history of the same run: returns `true`, and from then on the note is a prefix of the history of every
+    /// answer of this session in this run. Returns `false` if the note is no prefix of the run's history. This is not a call.
     ///
     /// It compares the session, number and call of each event of the note, without the lock.
     ///
-    /// `Busy`: another thread has the lock. `NoMemory`: a reference count is at its limit.
+    /// `Busy`: another thread has the lock. `Ended`: the run of the session has ended. `NoMemory`: a reference count is at its limit.
     pub fn hear(&mut self, note: &Front<S>) -> Result<bool, Refusal>
         ensures heard { IfOk result (λ yes. IsTrue yes → HasHeard self.new.journal note.now) }
         ensures other { IfOk result (λ yes. IsFalse yes
-            → IsOfAnother S.accepts (origin_of self.old.store.first) note.now) }
+            → IsOfAnother S.accepts (origin_of self.old.first) note.now) }
         ensures knew { KnowsAll self.new.journal.known self.old.journal.known }
-        ensures id { self.new.journal.id ≡ self.old.journal.id }
         ensures answers { self.new.journal.answers ≡ self.old.journal.answers }
-        ensures refused { IfErr result IsPassing }
-        ensures store { self.new.store ≡ self.old.store }
+        ensures refused { IfErr result IsUnseen }
+        ensures same { IsSameSession self.old self.new }
         ensures unchanged { OnErr result (self.new ≡ self.old) }
     {
         let (history, _) = self.history()?;

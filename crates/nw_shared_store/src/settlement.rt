@@ -29,8 +29,8 @@ pub enum Unsettled {
     Refused(Refusal),
 }
 
-/// Settles the sessions, which must be all that one store made, in the order of their ids, while none of them makes a call. Returns the
-/// store's history: it is an interleaving of the journals of these sessions, and each front in a journal is a prefix of it.
+/// Settles the sessions, which must be all that one store made, in the order of their ids, while none of them makes a call. All must be of the
+/// present run. Returns the run's history: it is an interleaving of the journals of these sessions, and each front in a journal is a prefix of it.
 ///
 /// The sessions can go on. Each reads the history of its own store under the lock, and all these histories are compared. The cost grows with
 /// the number of sessions times the number of events.
@@ -38,7 +38,7 @@ pub fn settle<S: Scheme>(sessions: &mut [SharedSession<S>]) -> Result<Front<S>, 
     ensures settled { IfOk result
         (λ history. AreSettled history (map (λ s. s.journal) sessions.new)) }
     ensures of_store { IfOk result (λ history.
-        All (λ s. IsHistoryOf S.accepts (origin_of s.store.first) history) sessions.new) }
+        All (λ s. IsHistoryOf S.accepts (origin_of s.first) history) sessions.new) }
     ensures same { map kept sessions.new ≡ map kept sessions.old }
 {
     let given = sessions.len();

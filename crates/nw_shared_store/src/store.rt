@@ -3,13 +3,15 @@ ghost use Rattle.std.specs.Prelude.{◌≡◌, ◌↔◌, [], IfOk, IfErr};
 ghost use Rattle.std.specs.Result.{IsErrOf};
 ghost use Rattle.nw_history.specs.Limits.{AreInRange};
 ghost use Rattle.nw_history.specs.Story.{IsLegalStory, first_origin, story_of};
-ghost use Rattle.nw_shared_store.specs.Session.{IsPassing, IsSessionAt};
+ghost use Rattle.nw_shared_store.specs.Rule.{newcomer};
+ghost use Rattle.nw_shared_store.specs.Session.{IsOfStore, IsPassing, IsSessionAt, IsSessionOf};
 
 use crate::held::Held;
-use crate::lock::{compact_at, end_enrolment, enrol_at, give_back, new_pass, try_take};
+use crate::lock::{end_enrolment, give_back, new_pass, try_take};
 use crate::rule::{Lock, Pass};
+use crate::work::{compact_at, enrol_at, history_at, run_at};
 use crate::{Refusal, SharedSession};
-use nw_book::{Book, BookError, Limits, NoStep};
+use nw_book::{Book, BookError, Front, Limits, NoStep};
 use nw_committee::Committee;
 use nw_digest::{NoMemory, Shared};
 use nw_sig::Scheme;
@@ -101,14 +103,37 @@ impl<S: Scheme> SharedStore<S> {
     /// `Busy`: another thread has the lock. `TooMany`: the store has made as many sessions as its limit allows. `NoMemory`: a reference
     /// count is at its limit.
     pub fn session(&self) -> Result<SharedSession<S>, Refusal>
-        ensures store { IfOk result (λ session. session.store ≡ self.now) }
-        ensures answers { IfOk result (λ session. session.journal.answers ≡ []) }
+        ensures { IfOk result (IsSessionOf self.now) }
     {
         let Ok(lock) = Arc::try_clone(&self.lock) else {
             return Err(Refusal::NoStep(NoStep::NoMemory));
         };
-        let (pass, id) = enrol(&lock)?;
-        Ok(SharedSession { lock, pass, id })
+        let (pass, run, id) = enrol(&lock)?;
+        Ok(SharedSession {
+            lock,
+            pass,
+            run,
+            id,
+        })
+    }
+
+    /// The history of the present run. It has the store's committee and limits. This is not a call. It compares and copies no events.
+    ///
+    /// `Busy`: another thread has the lock. `NoMemory`: a reference count is at its limit.
+    pub fn history(&self) -> Result<Front<S>, Refusal>
+        ensures of_store { IfOk result (IsOfStore S.accepts self.now) }
+        ensures refused { IfErr result IsPassing }
+    {
+        let mut pass = new_pass(&self.lock);
+        if !try_take(&self.lock, &mut pass) {
+            return Err(Refusal::Busy);
+        }
+        let found = history_at(&self.lock, &mut pass);
+        give_back(&self.lock, &mut pass);
+        match found {
+            Ok((history, _)) => Ok(history),
+            Err(_) => Err(Refusal::NoStep(NoStep::NoMemory)),
+        }
     }
 
     /// Freezes all complete blocks as one generation, which later tickets share. Collected blocks are not part of it. This is not a call:
@@ -131,22 +156,24 @@ impl<S: Scheme> SharedStore<S> {
     }
 }
 
-/// Makes a new session under the lock. Returns its seat and its number.
-fn enrol<S: Scheme>(lock: &Lock<S>) -> Result<(Pass<S>, u16), Refusal>
+/// Makes a new session under the lock. Returns its seat, its run and its number.
+fn enrol<S: Scheme>(lock: &Lock<S>) -> Result<(Pass<S>, u64, u16), Refusal>
     requires { (lock.now.shared.table_id.words ≡ 1) × (lock.now.shared.table_id.slots ≡ 1) }
     ensures session { IfOk result (λ made.
-        IsSessionAt (record { lock = lock.now.shared.table_id; first = lock.now.shared.key })
-        made.1 made.0.table_id made.0.me) }
-    ensures answers { IfOk result (λ made. made.0.me.0.journal.answers ≡ []) }
+        IsSessionAt lock.now.shared.table_id made.1 made.2 made.0.table_id made.0.me) }
+    ensures new { IfOk result (λ made.
+        IsSessionOf (record { lock = lock.now.shared.table_id; first = lock.now.shared.key })
+        (record { lock = made.0.table_id; run = made.0.me.0.run; first = made.0.me.0.first; journal = made.0.me.0.journal })) }
 {
     let mut pass = new_pass(lock);
     if !try_take(lock, &mut pass) {
         return Err(Refusal::Busy);
     }
+    let run = run_at(lock, &mut pass);
     match enrol_at(lock, &mut pass) {
         Some(id) => {
             end_enrolment(lock, &mut pass);
-            Ok((pass, id))
+            Ok((pass, run, id))
         }
         None => {
             give_back(lock, &mut pass);

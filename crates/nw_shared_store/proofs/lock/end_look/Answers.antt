@@ -1,7 +1,7 @@
 use Rattle.std.proofs.Common.{subst, sym, ◌<◌, arith}
 use mathlib.Core.Option.{none}
 use Rattle.atomic_table.specs.Table.{Me, Allows, step}
-use Rattle.nw_book.specs.Journal.{Guarded}
+use Rattle.nw_shared_store.specs.Held.{Current}
 use Rattle.nw_shared_store.specs.Rule.{Known, IsOneHistory, Looks, freed}
 use Rattle.nw_shared_store.proofs.Steps.{looks}
 use Rattle.nw_shared_store.proofs.lock.end_look.Goals as goal
@@ -13,5 +13,5 @@ store-requires g c =
     let t = c.requires.same in (
       c.requires.lock.same,
       subst (λ n. 0 < n) (sym c.requires.lock.words) (omega arith),
-      subst (λ (m : Me Guarded Known). Allows (IsOneHistory lock.key) slots c.args.pass.now.id m 0 (λ _. 0) (λ _. Looks (step slots 0 0 0 none) m 0)) (sym t.1) (looks lock.key slots c.args.pass.now.id t.0 (freed c.args.pass.now.me.0)),
+      subst (λ (m : Me Current Known). Allows (IsOneHistory lock.key) slots c.args.pass.now.id m 0 (λ _. 0) (λ _. Looks (step slots 0 0 0 none) m 0)) (sym t.1) (looks lock.key slots c.args.pass.now.id t.0 (freed c.args.pass.now.me.0)),
     )

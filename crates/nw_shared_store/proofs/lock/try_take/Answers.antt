@@ -4,8 +4,8 @@ use Rattle.std.proofs.lemmas.Bool.{eqb-true}
 use mathlib.Core.Option.{none}
 use prog.Atomic.{either}
 use Rattle.atomic_table.specs.Table.{Allows, Me, step}
-use Rattle.nw_book.specs.Journal.{Guarded}
-use Rattle.nw_shared_store.specs.Rule.{Known, IsOneHistory, Acquires, HasLock, holder_of}
+use Rattle.nw_shared_store.specs.Held.{Current}
+use Rattle.nw_shared_store.specs.Rule.{Known, IsOneHistory, Acquires, holder_of}
 use Rattle.nw_shared_store.proofs.Steps.{acquires}
 use Rattle.nw_shared_store.proofs.lock.try_take.Goals as goal
 
@@ -16,11 +16,11 @@ compare_exchange-requires g c =
     let me = c.args.pass.now.me in (
       c.requires.lock.same,
       subst (λ n. 0 < n) (sym c.requires.lock.words) (omega arith),
-      subst (λ (l : List (ℕ × Guarded)). Allows (IsOneHistory lock.key) slots c.args.pass.now.id (me.0, l) 0 (λ n. either (n == 0) 1 n) (Acquires (step slots 0 0 1 none) (me.0, l))) (sym c.requires.out) (acquires lock.key slots c.args.pass.now.id me.0),
+      subst (λ (l : List (ℕ × Current)). Allows (IsOneHistory lock.key) slots c.args.pass.now.id (me.0, l) 0 (λ n. either (n == 0) 1 n) (Acquires (step slots 0 0 1 none) (me.0, l))) (sym c.requires.out) (acquires lock.key slots c.args.pass.now.id me.0),
     )
 
 pub returns-clause-got : goal.returns-clause-got
 returns-clause-got g c = λ got.
     let told = c.compare_exchange.ensures.2.0 (eqb-true _ _ got) in
     let v = c.args.pass.now.me.0 in
-    (told.0, told.1 ∙ ap (λ (l : List (ℕ × Guarded)). (holder_of told.0 v, (0, told.0) ∷ l)) c.requires.out, told.2)
+    (told.0, told.1 ∙ ap (λ (l : List (ℕ × Current)). (holder_of told.0 v, (0, told.0) ∷ l)) c.requires.out, told.2)

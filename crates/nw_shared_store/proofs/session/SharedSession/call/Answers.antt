@@ -4,57 +4,64 @@ use Rattle.nw_book.specs.Command.{call_of, committee_of}
 use Rattle.nw_book.specs.Journal.{origin_of}
 use Rattle.nw_book.specs.Turn.{MatchesCommittee}
 use Rattle.nw_book.specs.Settled.{IsJournalOf}
-use Rattle.nw_shared_store.specs.Session.{IsRefused, SessionView}
+use Rattle.nw_shared_store.specs.Session.{IsRefused, IsSameSession, SessionView}
 use Rattle.nw_shared_store.specs.declared.error.Refusal.TheVariants as refusals
-use Rattle.nw_shared_store.proofs.Answered.{may_call, may_free, may_end, refused, session_freed, session_after, explained, own, own_committee, as_before, same_view}
+use Rattle.nw_shared_store.proofs.Answered.{may_call, may_free, may_end, same_called, unavailable_refused, unchanged_session, view_at, refused, session_freed, session_after, explained, own, own_committee, as_before, same_view}
 use Rattle.nw_shared_store.proofs.session.SharedSession.call.Goals as goal
 
 pub call_at-requires-clause-held : goal.call_at-requires-clause-held
 call_at-requires-clause-held g c =
-    may_call g.S.Scheme.accepts _ _ _ _ _ c.self.invariant (c.if-not-try_take.ensures.got refl)
+    may_call g.S.Scheme.accepts _ _ _ _ _ _ c.self.invariant c.in_ok-take_in.ensures.got
 
 pub end_call-requires-clause-called : goal.end_call-requires-clause-called
 end_call-requires-clause-called g c =
-    may_end g.S.Scheme.accepts _ _ _ _ _ c.self.invariant (c.if-not-try_take.ensures.got refl) (committee_of c.args.command.now) _ _ _ _ c.call_at.ensures.view c.in-Ok.ensures.taken
+    may_end g.S.Scheme.accepts _ _ _ _ _ _ c.self.invariant c.in_ok-take_in.ensures.got (committee_of c.args.command.now) _ _ _ _ c.call_at.ensures.view c.in-Ok.ensures.taken
 
 pub give_back-requires-clause-same : goal.give_back-requires-clause-same
 give_back-requires-clause-same g c =
-    may_free _ _ _ (c.if-not-try_take.ensures.got refl) c.in-Err.ensures.unchanged
+    may_free _ _ _ c.in_ok-take_in.ensures.got c.in-Err.ensures.unchanged
 
 pub invariant_of-self-in-Err : goal.invariant_of-self-in-Err
 invariant_of-self-in-Err g c =
-    session_freed g.S.Scheme.accepts _ _ _ _ _ c.self.invariant (c.if-not-try_take.ensures.got refl) _ _ _ (c.give_back.ensures.at ∙ (c.call_at.ensures.at ∙ c.try_take.ensures.at)) c.in-Err.ensures.unchanged c.give_back.ensures.freed
+    session_freed _ _ _ _ _ _ c.self.invariant c.in_ok-take_in.ensures.got _ _ _ (c.give_back.ensures.at ∙ (c.call_at.ensures.at ∙ c.take_in.ensures.at)) c.in-Err.ensures.unchanged c.give_back.ensures.freed
 
 pub returns-in-Err-clause-refused : goal.returns-in-Err-clause-refused
 returns-in-Err-clause-refused g c =
-    subst (λ (v : SessionView). IsRefused g.S.Scheme.accepts (origin_of v.store.first) v.journal (committee_of c.args.command.now) (refusals.NoStep c.in-Err.why)) c.self.view_is
-    (refused g.S.Scheme.accepts _ _ _ _ _ c.self.invariant (c.if-not-try_take.ensures.got refl) (committee_of c.args.command.now) c.in-Err.why c.in-Err.ensures.refused)
+    subst (λ (v : SessionView). IsRefused g.S.Scheme.accepts (origin_of v.first) v.journal (committee_of c.args.command.now) (refusals.NoStep c.in-Err.why)) c.self.view_is
+    (refused g.S.Scheme.accepts _ _ _ _ _ _ c.self.invariant c.in_ok-take_in.ensures.got (committee_of c.args.command.now) c.in-Err.why c.in-Err.ensures.refused)
 
-pub returns-in-Err-clause-store : goal.returns-in-Err-clause-store
-returns-in-Err-clause-store g c = ap (λ (v : SessionView). v.store) c.self.view_is
+pub returns-in-Err-clause-same : goal.returns-in-Err-clause-same
+returns-in-Err-clause-same g c =
+    subst (λ (v : SessionView). IsSameSession v (view_at _ c.give_back.new.pass.me)) c.self.view_is
+    (unchanged_session _ _ _ (as_before _ _ _ _ _ _ c.self.invariant c.in_ok-take_in.ensures.got _ _ c.in-Err.ensures.unchanged c.give_back.ensures.freed))
 
 pub returns-in-Err-clause-unchanged : goal.returns-in-Err-clause-unchanged
 returns-in-Err-clause-unchanged g c =
-    same_view (as_before g.S.Scheme.accepts _ _ _ _ _ c.self.invariant (c.if-not-try_take.ensures.got refl) _ _ c.in-Err.ensures.unchanged c.give_back.ensures.freed) ∙ c.self.view_is
+    same_view (as_before _ _ _ _ _ _ c.self.invariant c.in_ok-take_in.ensures.got _ _ c.in-Err.ensures.unchanged c.give_back.ensures.freed) ∙ c.self.view_is
 
 pub invariant_of-self-2 : goal.invariant_of-self-2
 invariant_of-self-2 g c =
-    session_after g.S.Scheme.accepts _ _ _ _ _ c.self.invariant (c.if-not-try_take.ensures.got refl) (committee_of c.args.command.now) _ _ _ _ c.call_at.ensures.view c.in-Ok.ensures.taken _ c.end_call.ensures.released _ (c.end_call.ensures.at ∙ (c.call_at.ensures.at ∙ c.try_take.ensures.at))
+    session_after g.S.Scheme.accepts _ _ _ _ _ _ c.self.invariant c.in_ok-take_in.ensures.got (committee_of c.args.command.now) _ _ _ _ c.call_at.ensures.view c.in-Ok.ensures.taken _ c.end_call.ensures.released _ (c.end_call.ensures.at ∙ (c.call_at.ensures.at ∙ c.take_in.ensures.at))
 
 pub returns-clause-answered : goal.returns-clause-answered
 returns-clause-answered g c =
-    subst (λ (v : SessionView). IsExplained g.S.Scheme.accepts (origin_of v.store.first) v.journal c.end_call.new.pass.me.0.journal (call_of c.args.command.now) c.in-Ok.done.event.reply c.in-Ok.done.front) c.self.view_is
-    (explained g.S.Scheme.accepts _ _ _ _ _ c.self.invariant (c.if-not-try_take.ensures.got refl) (committee_of c.args.command.now) _ _ _ _ c.call_at.ensures.view c.in-Ok.ensures.taken _ c.end_call.ensures.released)
+    subst (λ (v : SessionView). IsExplained g.S.Scheme.accepts (origin_of v.first) v.journal c.end_call.new.pass.me.0.journal (call_of c.args.command.now) c.in-Ok.done.event.reply c.in-Ok.done.front) c.self.view_is
+    (explained g.S.Scheme.accepts _ _ _ _ _ _ c.self.invariant c.in_ok-take_in.ensures.got (committee_of c.args.command.now) _ _ _ _ c.call_at.ensures.view c.in-Ok.ensures.taken _ c.end_call.ensures.released)
 
 pub returns-clause-own_calls : goal.returns-clause-own_calls
 returns-clause-own_calls g c =
     subst (λ (v : SessionView). IsJournalOf c.in-Ok.done.front v.journal.id c.end_call.new.pass.me.0.journal) c.self.view_is
-    (own g.S.Scheme.accepts _ _ _ _ _ c.self.invariant (c.if-not-try_take.ensures.got refl) (committee_of c.args.command.now) _ _ _ _ c.call_at.ensures.view c.in-Ok.ensures.taken _ c.end_call.ensures.released)
+    (own g.S.Scheme.accepts _ _ _ _ _ _ c.self.invariant c.in_ok-take_in.ensures.got (committee_of c.args.command.now) _ _ _ _ c.call_at.ensures.view c.in-Ok.ensures.taken _ c.end_call.ensures.released)
 
-pub returns-clause-store : goal.returns-clause-store
-returns-clause-store g c = ap (λ (v : SessionView). v.store) c.self.view_is
+pub returns-clause-same : goal.returns-clause-same
+returns-clause-same g c =
+    subst (λ (v : SessionView). IsSameSession v (view_at _ c.end_call.new.pass.me)) c.self.view_is
+    (same_called g.S.Scheme.accepts _ _ _ _ _ _ c.self.invariant c.in_ok-take_in.ensures.got (committee_of c.args.command.now) _ _ _ _ c.call_at.ensures.view c.in-Ok.ensures.taken _ c.end_call.ensures.released)
 
 pub returns-clause-own_committee : goal.returns-clause-own_committee
 returns-clause-own_committee g c =
-    subst (λ (v : SessionView). MatchesCommittee v.store.first.committee (committee_of c.args.command.now)) c.self.view_is
-    (own_committee g.S.Scheme.accepts _ _ _ _ _ c.self.invariant (c.if-not-try_take.ensures.got refl) (committee_of c.args.command.now) _ _ _ _ c.call_at.ensures.view c.in-Ok.ensures.taken)
+    subst (λ (v : SessionView). MatchesCommittee v.first.committee (committee_of c.args.command.now)) c.self.view_is
+    (own_committee g.S.Scheme.accepts _ _ _ _ _ _ c.self.invariant c.in_ok-take_in.ensures.got (committee_of c.args.command.now) _ _ _ _ c.call_at.ensures.view c.in-Ok.ensures.taken)
+
+pub returns-in_err-take_in-clause-refused : goal.returns-in_err-take_in-clause-refused
+returns-in_err-take_in-clause-refused g c = unavailable_refused g.S.Scheme.accepts _ _ (committee_of c.args.command.now) _ c.in_err-take_in.ensures.refused

@@ -1,9 +1,9 @@
 use Rattle.std.proofs.Common.{ℕ}
 use Rattle.nw_history.specs.Story.{Story}
-use Rattle.nw_book.specs.Journal.{Guarded}
+use Rattle.nw_shared_store.specs.Held.{Current}
 use Rattle.nw_shared_store.specs.Held.{IsFound}
 use Rattle.nw_shared_store.proofs.Slots.{slot_of, on_same}
-use Rattle.nw_shared_store.proofs.lock.history_at.Goals as goal
+use Rattle.nw_shared_store.proofs.work.history_at.Goals as goal
 
 pub slot_mut-held-requires : goal.slot_mut-held-requires
 slot_mut-held-requires g c = let t = c.requires.held in (c.requires.lock.same, (t.0, slot_of c.args.pass.now.me t.0 t.1))

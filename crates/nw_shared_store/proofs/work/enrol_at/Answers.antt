@@ -1,6 +1,6 @@
 use Rattle.nw_shared_store.specs.Held.{IsEnrolled}
 use Rattle.nw_shared_store.proofs.Slots.{slot_of, on_some}
-use Rattle.nw_shared_store.proofs.lock.enrol_at.Goals as goal
+use Rattle.nw_shared_store.proofs.work.enrol_at.Goals as goal
 
 pub slot_mut-held-requires : goal.slot_mut-held-requires
 slot_mut-held-requires g c = let t = c.requires.held in (c.requires.lock.same, (t.0, slot_of c.args.pass.now.me t.0 t.1))

@@ -4,7 +4,7 @@ use Rattle.nw_book.specs.Answer.{DoneView, front_of, reply_of}
 use Rattle.nw_book.specs.Ticket.{TicketView}
 use Rattle.nw_shared_store.specs.Held.{IsTaken, IsUntaken}
 use Rattle.nw_shared_store.proofs.Slots.{slot_of, on_ok, on_err}
-use Rattle.nw_shared_store.proofs.lock.open_at.Goals as goal
+use Rattle.nw_shared_store.proofs.work.open_at.Goals as goal
 
 pub slot_mut-held-requires : goal.slot_mut-held-requires
 slot_mut-held-requires g c = let t = c.requires.held in (c.requires.lock.same, (t.0, slot_of c.args.pass.now.me t.0 t.1))

@@ -1,0 +1,55 @@
+//! Looks of a session at the tables of its store.
+ghost use Rattle.std.specs.Prelude.{◌≡◌, IfOk, IfErr, OnErr};
+ghost use Rattle.nw_history.specs.Story.{state_of};
+ghost use Rattle.nw_model.specs.Look.{AreLooks, IsLook, TellsSatisfied};
+ghost use Rattle.nw_shared_store.specs.Session.{HasSeen, IsSameSession, IsUnseen};
+
+use crate::lock::{end_look, give_back, take_in};
+use crate::work::{look_at, look_round_at};
+use crate::{Refusal, SharedSession};
+use nw_book::{NoStep, Round};
+use nw_model::Look;
+use nw_sig::Scheme;
+use std::alloc::Global;
+
+impl<S: Scheme> SharedSession<S> {
+    /// What the store has now in the slot of this round and author. Of this session, the history has exactly the calls of its journal. This is
+    /// no call: it adds no event, and allocates nothing.
+    ///
+    /// `Busy`: another thread has the lock. `Ended`: the run of the session has ended.
+    pub fn look(&mut self, round: Round, author: u16) -> Result<Look, Refusal>
+        ensures seen { IfOk result (λ look. HasSeen S.accepts self.old self.new (λ h.
+            IsLook (state_of h) (round, author) look × TellsSatisfied (state_of h) (round, author) look)) }
+        ensures refused { IfErr result IsUnseen }
+        ensures same { IsSameSession self.old self.new }
+        ensures unchanged { OnErr result (self.new ≡ self.old) }
+    {
+        take_in(&self.lock, &mut self.pass, self.run)?;
+        let look = look_at(&self.lock, &mut self.pass, round, author);
+        end_look(&self.lock, &mut self.pass);
+        Ok(look)
+    }
+
+    /// What the store has now in each slot of this round that has a first or a certified digest: the authors, ascending, with the looks. Of
+    /// this session, the history has exactly the calls of its journal. This is no call: it adds no event.
+    ///
+    /// `Busy`: another thread has the lock. `Ended`: the run of the session has ended. `NoMemory`: an allocation failed.
+    pub fn look_round(&mut self, alloc: Global, round: Round) -> Result<Vec<(u16, Look)>, Refusal>
+        ensures seen { IfOk result (λ looks. HasSeen S.accepts self.old self.new (λ h.
+            AreLooks (state_of h) round looks.items)) }
+        ensures refused { IfErr result IsUnseen }
+        ensures same { IsSameSession self.old self.new }
+        ensures unchanged { OnErr result (self.new ≡ self.old) }
+    {
+        take_in(&self.lock, &mut self.pass, self.run)?;
+        let looks = match look_round_at(&self.lock, &mut self.pass, alloc, round) {
+            Ok(looks) => looks,
+            Err(_) => {
+                give_back(&self.lock, &mut self.pass);
+                return Err(Refusal::NoStep(NoStep::NoMemory));
+            }
+        };
+        end_look(&self.lock, &mut self.pass);
+        Ok(looks)
+    }
+}

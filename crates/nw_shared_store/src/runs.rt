@@ -1,0 +1,63 @@
+//! Runs: a session ends a run and begins the next, or comes to the present one.
+ghost use Rattle.std.specs.Prelude.{◌≡◌, IfOk, IfErr, OnOk, OnErr};
+ghost use Rattle.nw_shared_store.specs.Session.{IsPassing, IsRenewed, IsRestarted, IsUnseen};
+
+use crate::lock::{give_back, join, take_in, try_take};
+use crate::work::{restart_at, run_at};
+use crate::{Refusal, SharedSession};
+use nw_book::{Front, NoStep};
+use nw_sig::Scheme;
+use std::alloc::Global;
+
+impl<S: Scheme> SharedSession<S> {
+    /// Ends the run and begins the next, which has the same blocks, certificates and votes, and an empty history. The session is of the next
+    /// run, with its id and no calls. Returns the last history of the ended run. The other sessions of the store are renewed before their
+    /// next calls. Answers, tickets and notes of the ended run do not change.
+    ///
+    /// It copies the tables, sharing the blocks and certificates. The cost grows with the number of these, whatever the history has.
+    ///
+    /// A refused restart changes nothing. The error is the first of these that applies:
+    ///
+    /// 1. `Busy`: another thread has the lock.
+    /// 2. `Ended`: the run of the session has ended.
+    /// 3. `NoMemory`: an allocation failed, a reference count is at its limit, or the store has had 2^64 - 1 runs.
+    pub fn restart(&mut self, alloc: Global) -> Result<Front<S>, Refusal>
+        ensures restarted { IfOk result (IsRestarted S.accepts self.old self.new) }
+        ensures refused { IfErr result IsUnseen }
+        ensures unchanged { OnErr result (self.new ≡ self.old) }
+    {
+        take_in(&self.lock, &mut self.pass, self.run)?;
+        let (last, next) = match restart_at(&self.lock, &mut self.pass, alloc) {
+            Ok(ended) => ended,
+            Err(_) => {
+                give_back(&self.lock, &mut self.pass);
+                return Err(Refusal::NoStep(NoStep::NoMemory));
+            }
+        };
+        join(&self.lock, &mut self.pass);
+        self.run = next;
+        Ok(last)
+    }
+
+    /// Comes to the present run of the store, with the session's id and no calls. If the session is of the present run, nothing changes. This
+    /// is not a call.
+    ///
+    /// `Busy`: another thread has the lock.
+    pub fn renew(&mut self) -> Result<(), Refusal>
+        ensures renewed { OnOk result (IsRenewed S.accepts self.old self.new) }
+        ensures refused { IfErr result IsPassing }
+        ensures unchanged { OnErr result (self.new ≡ self.old) }
+    {
+        if !try_take(&self.lock, &mut self.pass) {
+            return Err(Refusal::Busy);
+        }
+        let present = run_at(&self.lock, &mut self.pass);
+        if present == self.run {
+            give_back(&self.lock, &mut self.pass);
+            return Ok(());
+        }
+        join(&self.lock, &mut self.pass);
+        self.run = present;
+        Ok(())
+    }
+}
