@@ -1,6 +1,6 @@
 use Rattle.std.proofs.Common.{◌≡◌, map, take}
 use Rattle.nw_c.specs.Look.{author_look_in}
-use Rattle.nw_c.proofs.books.look.copy_all.Given as goal
+use Rattle.nw_c.proofs.sessions.look.copy_all.Given as goal
 
 -- the looks so far are copied
 abbrev pub invariant-loop-index : goal.invariant-loop-index

@@ -1,6 +1,6 @@
 use Rattle.std.proofs.Common.{◌<◌, arith, length}
 use Rattle.nw_c.proofs.Looks.{copied}
-use Rattle.nw_c.proofs.books.look.copy_all.Goals as goal
+use Rattle.nw_c.proofs.sessions.look.copy_all.Goals as goal
 
 pub loop-index-preserved : goal.loop-index-preserved
 loop-index-preserved c =
