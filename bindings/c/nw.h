@@ -4,9 +4,10 @@
    NW_DONE. For a closed handle or a handle of another kind, a function returns a code. Never copy an open handle. Close each with the
    function of its kind, as nw_block_free. It does nothing for NULL or a closed handle.
 
-   If several codes apply, a function returns the first of NW_CLOSED, NW_OPEN, NW_BAD_ROUND and NW_OTHER_KIND, and otherwise the first
-   that its comment names. But nw_session_hand_in looks at its text before all else, and nw_session_collect at its round. The numbers of
-   codes, kinds of texts, replies and calls do not overlap.
+   If several codes apply, a function returns the first of NW_CLOSED, NW_OPEN and NW_OTHER_KIND, and otherwise the first that its comment
+   names. A call of a session returns the first of NW_BUSY, NW_ENDED, NW_OTHER_COMMITTEE, NW_HISTORY_FULL and NW_NO_MEMORY. But
+   nw_session_hand_in looks at its text before all else, nw_session_collect at its round, and nw_gather_new at its round before it returns
+   NW_OTHER_KIND. The numbers of codes, kinds of texts, replies and calls do not overlap.
 
    The caller owes what the library cannot check:
 
@@ -94,8 +95,7 @@ enum {
 	NW_BAD_COMMITTEE = 5,
 	/* A limit is outside its range. */
 	NW_BAD_LIMITS = 6,
-	/* The call's number is not the session's next one, or the session's number is not below the limit on
-	   sessions. */
+	/* The call is out of turn. No function returns this code, because a session numbers its own calls. */
 	NW_OUT_OF_TURN = 7,
 	/* The block or certificate was checked under another committee than the store's. */
 	NW_OTHER_COMMITTEE = 8,
@@ -125,7 +125,7 @@ enum {
 	NW_BUSY = 20,
 	/* The store has made as many sessions as its limit allows. */
 	NW_TOO_MANY_SESSIONS = 21,
-	/* The history is no prefix of the history of the session's store. */
+	/* The history is no prefix of the history of the session's run. */
 	NW_OTHER_HISTORY = 22,
 	/* The sessions are not all sessions of one store, in the order of their numbers. */
 	NW_UNSETTLED = 23,
@@ -270,7 +270,8 @@ typedef struct {
 	void *at;
 } nw_gather;
 /* Room for an answer, an answer, a ticket, or a history. A ticket is the answer to a causal read whose list
-   can be walked. A history is a note of a session, or what sessions settled on. */
+   can be walked. A history is a note of a session, the last history of an ended run, or what sessions
+   settled on. */
 typedef struct {
 	void *at;
 } nw_answer;
@@ -282,11 +283,12 @@ typedef struct {
 typedef struct {
 	void *at;
 } nw_block;
-/* A store that threads share. Each thread has a handle of its own. */
+/* A store that threads share: the stored blocks and certificates, and the history of the calls of the
+   present run. Each thread has a handle of its own. */
 typedef struct {
 	void *at;
 } nw_store;
-/* A session of a store: the calls of one thread. */
+/* A session of a store: the calls of one thread in one run. */
 typedef struct {
 	void *at;
 } nw_session;
@@ -351,9 +353,9 @@ typedef struct {
 } nw_message;
 
 /* The limits of a store. blocks limits the stored blocks, and separately the certificates: 1 to 65,536.
-   events limits the events of the history: 1 to 65,536. window is the number of rounds that the store
-   accepts, from the garbage round on: 1 to 4,096. sessions limits the sessions, which are numbered from 0: 1
-   to 256. */
+   events limits the events of the history of a run: 1 to 65,536. window is the number of rounds that the
+   store accepts, from the garbage round on: 1 to 4,096. sessions limits the sessions, which are numbered
+   from 0: 1 to 256. */
 typedef struct {
 	uint32_t blocks;
 	uint32_t events;
@@ -509,23 +511,19 @@ NW_USE int32_t nw_gather_add(nw_gather *gather, nw_checked *vote, bool *quorum);
    NW_FEW_VOTES if the votes do not reach the quorum. More votes can be added afterwards. */
 NW_USE int32_t nw_gather_certificate(nw_gather *gather, nw_checked *out);
 
-/* Makes a store with an empty history under the committee and the limits. Threads may call it at the same
-   time without a lock of their own: each through a handle of its own, see nw_store_share, and sessions of
-   its own. Returns NW_BAD_LIMITS if a limit is out of range. */
+/* Makes a store under the committee and the limits. Its first run, run 0, has an empty history. Threads may
+   call it at the same time without a lock of their own: each through a handle of its own, see
+   nw_store_share, and sessions of its own. Returns NW_BAD_LIMITS if a limit is out of range. */
 NW_USE int32_t nw_store_new(nw_committee *committee, const nw_limits *limits, nw_store *out);
 
 /* Opens one more handle of the store, for another thread. The store lives until its last handle and its last
    session are freed. */
 NW_USE int32_t nw_store_share(nw_store *store, nw_store *out);
 
-/* Makes a session, which has made no call. A store numbers its sessions from 0. Returns NW_BUSY if another
-   thread has the lock, and NW_TOO_MANY_SESSIONS at the limit on sessions. */
+/* Makes a session of the present run, which has made no call. A store numbers its sessions from 0, in all
+   runs together. Returns NW_BUSY if another thread has the lock, and NW_TOO_MANY_SESSIONS at the limit on
+   sessions. */
 NW_USE int32_t nw_store_session(nw_store *store, nw_session *out);
-
-/* Rebuilds the list of complete blocks that tickets share, without collected blocks. Later tickets share the
-   new list, and earlier tickets keep theirs. It changes nothing that a call can observe. Returns NW_BUSY if
-   another thread has the lock. */
-NW_USE int32_t nw_store_compact(nw_store *store);
 
 /* Writes the limits that the store was made with. Returns NW_BUSY if another thread has the lock. */
 NW_USE int32_t nw_store_limits(nw_store *store, nw_limits *out);
@@ -534,16 +532,18 @@ NW_USE int32_t nw_store_limits(nw_store *store, nw_limits *out);
    nw_committee_new. Returns NW_BUSY if another thread has the lock. */
 NW_USE int32_t nw_store_committee(nw_store *store, nw_committee *out);
 
+/* Rebuilds the list of complete blocks that tickets share, without collected blocks. Later tickets share the
+   new list, and earlier tickets keep theirs. It changes nothing that a call can observe. Returns NW_BUSY if
+   another thread has the lock. */
+NW_USE int32_t nw_store_compact(nw_store *store);
+
 /* Writes the session's number. A store numbers its sessions from 0, in the order in which it makes them. */
 NW_USE int32_t nw_session_id(nw_session *session, uint16_t *out);
 
-/* Writes the number of the session's run: 0 for the first. */
-NW_USE int32_t nw_session_run(nw_session *session, uint64_t *out);
-
 /* Writes the checked block, or certifies the digest of the checked certificate, as the session's next call.
-   Returns NW_BUSY if another thread has the lock: call again. The handle of the checked text stays open, and
-   the text may be handed to other stores. Returns NW_OTHER_KIND if the text is neither a valid block nor a
-   valid certificate. */
+   Returns NW_BUSY if another thread has the lock: call again. Returns NW_ENDED if the run of the session has
+   ended: renew the session. The handle of the checked text stays open, and the text may be handed to other
+   stores. Returns NW_OTHER_KIND if the text is neither a valid block nor a valid certificate. */
 NW_USE int32_t nw_session_hand_in(nw_session *session, nw_checked *checked, nw_answer *answer);
 
 /* Asks for the certificate of the digest, as the session's next call. */
@@ -581,29 +581,39 @@ NW_USE int32_t nw_session_open(nw_session *session, const nw_digest *digest, nw_
 NW_USE int32_t nw_session_look(nw_session *session, uint64_t round, uint16_t author, nw_look *out);
 
 /* Writes what the store has in each slot of this round that has a first or a certified digest, ascending by
-   author. Writes the number of these slots to needed; it is at most the number of members. Returns NW_SMALL
-   if the array is smaller, and NW_BAD_ROUND if the round is not below 2^48. This is not a call: it adds no
-   event. */
+   author, after a history that has all calls that the session knows of. Writes the number of these slots to
+   needed; it is at most the number of members. Returns NW_SMALL if the array is smaller, NW_BAD_ROUND if the
+   round is not below 2^48, NW_BUSY if another thread has the lock, and NW_ENDED if the run of the session
+   has ended. This is not a call: it adds no event. */
 NW_USE int32_t nw_session_look_round(nw_session *session, uint64_t round, nw_author_look *looks, size_t looks_len, size_t *needed);
 
-/* Ends the run and begins the next, to which the session then belongs. Replaces the content of answer with
-   the last history of the ended run. Returns NW_BUSY if another thread has the lock, and NW_ENDED if the run
-   of the session has ended already. */
+/* Writes the number of the session's run. A store begins with run 0. */
+NW_USE int32_t nw_session_run(nw_session *session, uint64_t *out);
+
+/* Ends the run and begins the next, to which the session then belongs. The store keeps its blocks,
+   certificates, votes and garbage round, so no round and author gets a second vote. The history of the next
+   run is empty, and the calls of each session are numbered from 1 again. It replaces the content of answer
+   with the last history of the ended run. Calls of the other sessions return NW_ENDED, until
+   nw_session_renew. Earlier answers, tickets and notes do not change. It copies the tables, and shares the
+   blocks and certificates, so its time depends only on how many are stored. Returns NW_BUSY if another
+   thread has the lock, NW_ENDED if the run of the session has ended, and NW_NO_MEMORY also after 2^64 - 1
+   runs. */
 NW_USE int32_t nw_session_restart(nw_session *session, nw_answer *answer);
 
 /* Takes the session into the present run, with its number and no calls. If it is of the present run, nothing
-   changes. Returns NW_BUSY if another thread has the lock. */
+   changes. This is not a call. Returns NW_BUSY if another thread has the lock. */
 NW_USE int32_t nw_session_renew(nw_session *session);
 
-/* Replaces the content of answer with a note: the history of the session's store as it is now. This is not a
-   call. A session of the same store that hears the note knows all that this session knows. Returns NW_BUSY
-   if another thread has the lock. */
+/* Replaces the content of answer with a note: the history of the session's run as it is now. This is not a
+   call. A session of the same run that hears the note knows all that this session knows. Returns NW_BUSY if
+   another thread has the lock, and NW_ENDED if the run of the session has ended. */
 NW_USE int32_t nw_session_note(nw_session *session, nw_answer *answer);
 
-/* Hears a note of another session of the same store, or an answer or ticket of it. From then on, its history
-   is a prefix of the history of every answer of this session. This is not a call. Returns NW_BUSY if another
-   thread has the lock, and NW_OTHER_HISTORY if the note is no prefix of the store's history, for instance
-   because it is of another store. The time grows with the number of events of the note. */
+/* Hears a note of another session of the same run, or an answer or ticket of it. From then on, its history
+   is a prefix of the history of every answer of this session in this run. This is not a call. Returns
+   NW_BUSY if another thread has the lock, NW_ENDED if the run of the session has ended, and NW_OTHER_HISTORY
+   if the note is no prefix of the run's history, for instance because it is of another store or run. The
+   time grows with the number of events of the note. */
 NW_USE int32_t nw_session_hear(nw_session *session, nw_answer *note);
 
 /* Makes a settlement, to which no session is given. */
@@ -614,10 +624,11 @@ NW_USE int32_t nw_settlement_new(nw_settlement *out);
 NW_USE int32_t nw_settlement_give(nw_settlement *settlement, nw_session *session);
 
 /* Settles the sessions that were given, which must be all that one store made, in the order of their
-   numbers, and replaces the content of answer with the store's history: it is an interleaving of their
-   calls, and the history of each of their answers is a prefix of it. The sessions stay with the settlement.
-   Returns NW_UNSETTLED if they are not all sessions of one store or not in order, and NW_BUSY if another
-   thread has a store's lock. The time grows with the number of sessions times the number of events. */
+   numbers, and of the present run. It replaces the content of answer with the run's history, which is an
+   interleaving of their calls in this run. The history of each answer to these calls is a prefix of it. The
+   sessions stay with the settlement. Returns NW_UNSETTLED if they are not all sessions of one store or not
+   in order, NW_BUSY if another thread has a store's lock, and NW_ENDED if the run of a session has ended.
+   The time grows with the number of sessions times the number of events. */
 NW_USE int32_t nw_settle(nw_settlement *settlement, nw_answer *answer);
 
 /* Takes back the session that was given last, which may go on calling. Returns NW_ABSENT if the settlement
@@ -759,7 +770,7 @@ static inline const char *nw_code_text(int32_t code)
 	case NW_BAD_LIMITS:
 		return "A limit is outside its range";
 	case NW_OUT_OF_TURN:
-		return "The call's number is not the session's next one, or the session's number is not below the limit on sessions";
+		return "The call is out of turn";
 	case NW_OTHER_COMMITTEE:
 		return "The block or certificate was checked under another committee than the store's";
 	case NW_HISTORY_FULL:
@@ -789,7 +800,7 @@ static inline const char *nw_code_text(int32_t code)
 	case NW_TOO_MANY_SESSIONS:
 		return "The store has made as many sessions as its limit allows";
 	case NW_OTHER_HISTORY:
-		return "The history is no prefix of the history of the session's store";
+		return "The history is no prefix of the history of the session's run";
 	case NW_UNSETTLED:
 		return "The sessions are not all sessions of one store, in the order of their numbers";
 	case NW_ENDED:

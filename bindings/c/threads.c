@@ -1,6 +1,6 @@
 /* Four threads share a store without a lock of their own, each with a session of its own. The first one stores a block and its certificate,
    and passes a note to the second, which then finds the block. After half of its calls the second restarts the history, and the others renew
-   their sessions when a call returns NW_ENDED. At the end the sessions settle: the history of each run has all its calls, each once, in order.
+   their sessions when a call returns NW_ENDED. At the end the sessions settle: each run has all its calls, each once, in order.
 
        cc -std=c99 -pthread -I bindings/c bindings/c/threads.c bindings/c/alloc.c bindings/rust/prebuilt/x86_64-linux/libnw.a -o /tmp/threads
        /tmp/threads [CALLS]
@@ -14,7 +14,7 @@
 #include <stdio.h>
 #include <stdlib.h>
 
-/* Each thread has a session, and main has one too. */
+/* Each thread has a session. Main is the last worker, and its session makes one call, in the first run. */
 enum { THREADS = 4, SESSIONS = THREADS + 1, RUNS = 2 };
 
 /* The key of the only member of the committee. */
@@ -45,7 +45,7 @@ static pthread_mutex_t lock = PTHREAD_MUTEX_INITIALIZER;
 static pthread_cond_t passed = PTHREAD_COND_INITIALIZER;
 static int has_note;
 static nw_answer note, ended;
-static uint32_t calls = 1000;
+static uint32_t calls;
 
 static void must(int holds, const char *what)
 {
@@ -195,8 +195,7 @@ static void *work(void *arg)
 	return NULL;
 }
 
-/* Looks at the history of a run: it has the calls of each session, each once and in order. The history of an answer is a prefix of it, if and
-   only if the answer is of this run. The workers are in the order of their sessions. */
+/* The history has all calls of the run, in the order of each session, and begins with the history of each answer of this run and no other. */
 static void check_run(nw_answer *history, int run, worker **workers)
 {
 	nw_event event;
@@ -217,7 +216,7 @@ static void check_run(nw_answer *history, int run, worker **workers)
 	}
 }
 
-/* Settles, and looks at the histories of both runs. The first session is of the ended run, and the note too. */
+/* Settles, and checks the histories of both runs. The first session is of the ended run, and the note too. */
 static void settle(worker **workers)
 {
 	nw_settlement settlement = {0};
@@ -228,10 +227,12 @@ static void settle(worker **workers)
 	tell("call a session of an ended run", nw_session_status(first, &history));
 	tell("restart by this session", nw_session_restart(first, &history));
 	tell("settle without sessions", nw_settle(&settlement, &history));
-	done(nw_settlement_give(&settlement, first), "give");
+	for (int i = 0; i < SESSIONS; i++)
+		done(nw_settlement_give(&settlement, &workers[i]->session), "give");
 	tell("settle a session of an ended run", nw_settle(&settlement, &history));
 	tell("call a session that is given", nw_session_status(first, &history));
-	done(nw_settlement_take(&settlement, first), "take");
+	for (int i = SESSIONS; i-- > 0;)
+		done(nw_settlement_take(&settlement, &workers[i]->session), "take");
 	tell("take one more", nw_settlement_take(&settlement, &none));
 	renew(workers[0]);
 	tell("hear a note of an ended run", nw_session_hear(first, &note));
@@ -257,8 +258,7 @@ int main(int count, char **words)
 	worker workers[SESSIONS] = {{.task = write_and_note}, {.task = hear_and_restart}}, *ordered[SESSIONS];
 	pthread_t threads[THREADS];
 
-	if (count > 1)
-		calls = (uint32_t)atoi(words[1]);
+	calls = count > 1 ? (uint32_t)atoi(words[1]) : 1000;
 	must(calls >= 10 && calls <= 16000, "the number of calls");
 	bytes_of(KEY, member.key);
 	done(nw_committee_new(&member, 1, &committee), "committee");
@@ -270,7 +270,6 @@ int main(int count, char **words)
 		done(nw_store_share(&store, &workers[i].store), "share");
 		done(nw_committee_share(&committee, &workers[i].committee), "share");
 	}
-	/* The last worker is main. It makes one call of the first run. */
 	begin(&workers[THREADS]);
 	ask_status(&workers[THREADS]);
 	for (int i = 0; i < THREADS; i++)
@@ -284,7 +283,6 @@ int main(int count, char **words)
 	tell("hear a note of another store", nw_session_hear(&session, &note));
 	tell("hear a store", nw_session_hear(&session, (nw_answer *)&other));
 	settle(ordered);
-	done(nw_store_compact(&store), "compact");
 	for (int i = 0; i < SESSIONS; i++) {
 		for (int run = 0; run < RUNS; run++)
 			nw_answer_free(&workers[i].answers[run]);
