@@ -165,13 +165,6 @@ static int32_t settle(nw_answer *answer)
 	return code;
 }
 
-static int32_t add_session(void)
-{
-	int32_t code = nw_store_session(&store, &sessions[made]);
-	made += code == NW_DONE;
-	return code;
-}
-
 /* What is no call of the session. */
 static int32_t act(unsigned long kind, nw_session *session, nw_answer *answer, nw_answer *other, bool *yes)
 {
@@ -185,7 +178,7 @@ static int32_t act(unsigned long kind, nw_session *session, nw_answer *answer, n
 	case 6: return nw_store_compact(&store);
 	case 7: return look(session);
 	case 8: return settle(answer);
-	default: return add_session();
+	default: return nw_store_session(&store, &sessions[made]);
 	}
 }
 
@@ -215,6 +208,7 @@ static void step(unsigned long calls)
 	bool yes = false;
 	printf("%s %lu", is_call ? "call" : "act", kind);
 	int32_t code = is_call ? call(kind, &sessions[who], &answers[who]) : act(kind, &sessions[who], &answers[who], &answers[other], &yes);
+	made += !is_call && kind == 9 && code == NW_DONE;
 	printf(" %d %d", (int)code, yes);
 	if (code == NW_ENDED && draw(2))
 		printf(" renew %d", (int)nw_session_renew(&sessions[who]));
@@ -234,7 +228,7 @@ static void play_store(unsigned long steps, unsigned long calls)
 	printf(" %d", (int)nw_store_limits(&store, &limits));
 	printf(" %u %d\n", (unsigned)limits.window, (int)nw_store_committee(&store, &its));
 	nw_committee_free(&its);
-	for (made = 0; made < SESSIONS - 1 && add_session() == NW_DONE;)
+	for (made = 0; made < SESSIONS - 1 && nw_store_session(&store, &sessions[made]) == NW_DONE; made++)
 		;
 	while (steps-- > 0)
 		step(calls);
