@@ -1,7 +1,8 @@
 -- What an answer of a session means, from what each step on its lock says.
-use Rattle.std.proofs.Common.{◌≡◌, ◌≢◌, ℕ, ◌+◌, ◌<◌, ◌≤◌, true, List, [], ◌∷◌, ◌++◌, Option, Some, length, map, refl, sym, ap, ◌∙◌, subst, inl, inr, arith}
-use Rattle.std.specs.Prelude.{All, ⊤}
+use Rattle.std.proofs.Common.{◌≡◌, ℕ, ◌+◌, ◌<◌, ◌≤◌, true, List, [], ◌∷◌, ◌++◌, Option, Some, None, Result, Ok, Err, length, refl, sym, ap, ◌∙◌, subst, inl, inr, arith}
+use Rattle.std.specs.Prelude.{⊤}
 use Rattle.std.specs.List.{Contains}
+use Rattle.std.specs.Result.{IfErr}
 use Rattle.std.proofs.lemmas.List.Elements.{All-weaker, Contains-append_left, Contains-push}
 use Rattle.atomic_table.specs.Seated.{TableId}
 use Rattle.atomic_table.specs.Table.{Me}
@@ -13,7 +14,7 @@ use Rattle.nw_model.specs.declared.reply.Reply.{Reply}
 use Rattle.nw_history.specs.Story.{Story, IsLegalStory, reopened, with_event}
 use Rattle.nw_history.specs.Prefix.{IsPrefixOf}
 use Rattle.nw_book.specs.Answer.{DoneView, Takes}
-use Rattle.nw_book.specs.Answered.{IsAnswered, IsExplained, TakesNoStep}
+use Rattle.nw_book.specs.Answered.{IsAnswered, IsExplained}
 use Rattle.nw_book.specs.Journal.{Journal, IsHistoryOf, origin_of, next_number}
 use Rattle.nw_book.specs.Settled.{IsJournalOf, events_in}
 use Rattle.nw_book.specs.Turn.{IsRefusal, MatchesCommittee, event, next_number as number_after}
@@ -64,61 +65,85 @@ unchanged_session at m n is = record { lock = refl; run = ap (λ (x : Me Current
 same_number : (h : Story) (j : Journal) → IsJournalOf h j.id j → number_after h j.id ≡ next_number j
 same_number h j part = ap (λ n. n + 1) (ap length part.events ∙ length_events_in j.answers)
 
--- the holder of the lock may give the value back as it was
-pub may_free : {then : Current → Type 0} (v : Known) (m1 m : Me Current Known) → HasLock v m1 then → m ≡ m1 → HasLock (freed m.0) m (λ now. ⊤)
+-- a seat that took the lock may give the value back as it was
+pub may_free : (v : Known) (m1 m : Me Current Known) → HasLock v m1 (λ now. Knows now v) → m ≡ m1 → HasLock (freed m.0) m (λ now. ⊤)
 may_free v m1 m lock is = subst (λ (n : Me Current Known). HasLock (freed n.0) n (λ now. ⊤)) (sym (is ∙ lock.1)) (lock.0, refl, tt)
 
--- the holder of the lock has the value
-pub has_value : {then : Current → Type 0} (v : Known) (m1 : Me Current Known) → HasLock v m1 then → HasValue m1 (λ g. ⊤)
+-- it has the value
+pub has_value : (v : Known) (m1 : Me Current Known) → HasLock v m1 (λ now. Knows now v) → HasValue m1 (λ g. ⊤)
 has_value v m1 lock = (lock.0, ap (λ (m : Me Current Known). m.1) lock.1, tt)
 
 -- what is true of the value in the slot
 pub of_value : {then also : Current → Type 0} (v : Known) (m1 : Me Current Known) (lock : HasLock v m1 then) → HasValue m1 also → also lock.0
 of_value {also = also} v m1 lock has = subst also (one_value m1 has.0 lock.0 has.1 (ap (λ (m : Me Current Known). m.1) lock.1)) has.2
 
-pub unavailable_refused : (accepts : Meaning) (first : Story) (j : Journal) (under : Option (List Member)) (r : Refusal) → IsUnavailable r → IsRefused accepts (origin_of first) j under r
+unavailable_refused : (accepts : Meaning) (first : Story) (j : Journal) (under : Option (List Member)) (r : Refusal) → IsUnavailable r → IsRefused accepts (origin_of first) j under r
 unavailable_refused accepts first j under refusals.Busy is = tt
 unavailable_refused accepts first j under refusals.Ended is = tt
+unavailable_refused accepts first j under refusals.TooMany is = elim is [ ]
+unavailable_refused accepts first j under (refusals.NoStep _) is = elim is [ ]
 
-pub unavailable_unseen : (r : Refusal) → IsUnavailable r → IsUnseen r
+unavailable_unseen : (r : Refusal) → IsUnavailable r → IsUnseen r
 unavailable_unseen refusals.Busy is = tt
 unavailable_unseen refusals.Ended is = tt
+unavailable_unseen refusals.TooMany is = elim is [ ]
+unavailable_unseen (refusals.NoStep _) is = elim is [ ]
 
--- the seat of a session without the lock
-free_itself : (at seat : TableId) (run id : ℕ) (m0 : Me Current Known) → IsSessionAt at run id seat m0 → m0 ≡ (freed m0.0, [])
-free_itself at seat run id m0 session = session.member_is ∙ ap (λ (m : Me Current Known). (freed m.0, [])) (sym session.member_is)
+pub refused_of : {A : Type 0} (accepts : Meaning) (first : Story) (j : Journal) (under : Option (List Member)) (r : Result A Refusal) → IfErr r IsUnavailable → IfErr r (IsRefused accepts (origin_of first) j under)
+refused_of accepts first j under (Ok a) is = tt
+refused_of accepts first j under (Err why) is = unavailable_refused accepts first j under why is
+
+pub unseen_of : {A : Type 0} (r : Result A Refusal) → IfErr r IsUnavailable → IfErr r IsUnseen
+unseen_of (Ok a) is = tt
+unseen_of (Err why) is = unavailable_unseen why is
+
+-- the seat of a session that gave the lock back with the value as it was is as before
+pub as_free : {then : Current → Type 0} (m0 m1 m n : Me Current Known) → m0 ≡ (member m0.0.run m0.0.first m0.0.journal, []) → HasLock m0.0 m1 then → m ≡ m1 → n ≡ (freed m.0, []) → n ≡ m0
+as_free m0 m1 m n is_member lock is free = free ∙ (ap (λ (x : Me Current Known). (freed x.0, [])) (is ∙ lock.1) ∙ sym (is_member ∙ ap (λ (m : Me Current Known). (freed m.0, [])) (sym is_member)))
+
+-- a session took the lock, and its run is the present one
+pub took_in : (accepts : Meaning) (v : Known) (m1 m2 : Me Current Known) (run found : ℕ) (lock : HasLock v m1 (λ now. Knows now v)) → m2 ≡ m1 → v.run ≡ run → found ≡ run
+    → HasValue m1 (λ g. (found ≡ g.run) × IsHeld accepts g) → HasLock v m2 (λ now. KnowsRun now v)
+took_in accepts v m1 m2 run found lock same is is_found has =
+    let here : (found ≡ lock.0.run) × IsHeld accepts lock.0 = of_value v m1 lock has in
+    (lock.0, same ∙ lock.1, record { same = is ∙ (sym is_found ∙ here.0); knows = lock.2 })
 
 module _ {then : Current → Type 0} (at : TableId) (run id : ℕ) (seat : TableId) (m0 m1 : Me Current Known) (session : IsSessionAt at run id seat m0) (lock : HasLock m0.0 m1 then) where
-  -- the seat that gave the lock back with the value as it was is as before
   pub as_before : (m n : Me Current Known) → m ≡ m1 → n ≡ (freed m.0, []) → n ≡ m0
-  as_before m n is free = free ∙ (ap (λ (x : Me Current Known). (freed x.0, [])) (is ∙ lock.1) ∙ sym (free_itself at seat run id m0 session))
+  as_before m n is free = as_free m0 m1 m n session.member_is lock is free
 
   pub session_freed : (other : TableId) (m n : Me Current Known) → other ≡ seat → m ≡ m1 → n ≡ (freed m.0, []) → IsSessionAt at run id other n
   session_freed other m n is_at is free = subst (λ (x : TableId × Me Current Known). IsSessionAt at run id x.0 x.1) (λ i. (sym is_at i, sym (as_before m n is free) i)) session
+
+  pub session_may_free : (m : Me Current Known) → m ≡ m1 → HasLock (freed m.0) m (λ now. ⊤)
+  session_may_free m is = subst (λ (n : Me Current Known). HasLock (freed n.0) n (λ now. ⊤)) (sym (is ∙ lock.1)) (lock.0, refl, tt)
+
+  pub session_has_value : HasValue m1 (λ g. ⊤)
+  session_has_value = (lock.0, ap (λ (m : Me Current Known). m.1) lock.1, tt)
 
   acting : m0.0.acts ≡ true
   acting = ap (λ (m : Me Current Known). m.0.acts) session.member_is
 
   -- the seat after it came to the run of the value d
-  module _ (d : Current) (m2 m3 : Me Current Known) (view : m2.0 ≡ m1.0) (out : m2.1 ≡ (0, d) ∷ [])
-      (joined : (g e : Current) (v : Known) → m2 ≡ (holder_of g v, (0, e) ∷ []) → m3 ≡ (newcomer e v.journal.id, [])) where
+  module _ (d : Current) (m2 : Me Current Known) (view : m2.0 ≡ m1.0) (out : m2.1 ≡ (0, d) ∷ []) where
     has : m2 ≡ (holder_of lock.0 m0.0, (0, d) ∷ [])
     has = λ i. ((view ∙ ap (λ (m : Me Current Known). m.0) lock.1) i, out i)
 
     pub may_join : MayJoin lock.0 d m0.0.run → (g : Current) × (e : Current) × (v : Known) × (v.acts ≡ true) × MayJoin g e v.run × (m2 ≡ (holder_of g v, (0, e) ∷ []))
     may_join may = (lock.0, d, m0.0, acting, may, has)
 
-    pub joined_is : m3 ≡ (newcomer d m0.0.journal.id, [])
-    joined_is = joined lock.0 d m0.0 has
+    module _ (m3 : Me Current Known) (joined : (g e : Current) (v : Known) → m2 ≡ (holder_of g v, (0, e) ∷ []) → m3 ≡ (newcomer e v.journal.id, [])) where
+      pub joined_is : m3 ≡ (newcomer d m0.0.journal.id, [])
+      joined_is = joined lock.0 d m0.0 has
 
-    pub session_joined : (other : TableId) (next : ℕ) → other ≡ seat → next ≡ d.run → IsSessionAt at next id other m3
-    session_joined other next is_at is = subst (λ (x : TableId × Me Current Known). IsSessionAt at next id x.0 x.1) (λ i. (sym is_at i, sym joined_is i)) (record {
-      at = session.at;
-      member_is = refl;
-      id_is = session.id_is;
-      run_is = sym is;
-      knows_first = Contains-push [] d.history;
-    })
+      pub session_joined : (other : TableId) (next : ℕ) → other ≡ seat → next ≡ d.run → IsSessionAt at next id other m3
+      session_joined other next is_at is = subst (λ (x : TableId × Me Current Known). IsSessionAt at next id x.0 x.1) (λ i. (sym is_at i, sym joined_is i)) (record {
+        at = session.at;
+        member_is = refl;
+        id_is = session.id_is;
+        run_is = sym is;
+        knows_first = Contains-push [] d.history;
+      })
 
 module _ (accepts : Meaning) (at : TableId) (run id : ℕ) (seat : TableId) (m0 m1 : Me Current Known) (session : IsSessionAt at run id seat m0) (lock : HasLock m0.0 m1 (λ now. KnowsRun now m0.0)) where
   abbrev j : Journal
@@ -206,31 +231,28 @@ module _ (accepts : Meaning) (at : TableId) (run id : ℕ) (seat : TableId) (m0 
       knows = knows_it ∙ ap (knowing j) found_is.0
 
   -- the end of the run
-  module _ (last : Story) (next : ℕ) (m2 m3 : Me Current Known) (view : m2.0 ≡ m1.0) (ended : HasValue m1 (λ g. HasValue m2 (λ n. IsEnded accepts g n last next)))
-      (joined : (g e : Current) (v : Known) → m2 ≡ (holder_of g v, (0, e) ∷ []) → m3 ≡ (newcomer e v.journal.id, [])) where
+  module _ (last : Story) (next : ℕ) (m2 : Me Current Known) (view : m2.0 ≡ m1.0) (ended : HasValue m1 (λ g. HasValue m2 (λ n. IsEnded accepts g n last next))) where
     end : HasValue m2 (λ n. IsEnded accepts now n last next)
     end = of_value m0.0 m1 lock ended
 
-    out : m2.1 ≡ (0, end.0) ∷ []
-    out = end.1
-
     pub may_restart : (g : Current) × (e : Current) × (v : Known) × (v.acts ≡ true) × MayJoin g e v.run × (m2 ≡ (holder_of g v, (0, e) ∷ []))
-    may_restart = may_join at run id seat m0 m1 session lock end.0 m2 m3 view out joined (inr end.2.next)
+    may_restart = may_join at run id seat m0 m1 session lock end.0 m2 view end.1 (inr end.2.next)
 
-    is_next : m3 ≡ (newcomer (next_run now) j.id, [])
-    is_next = joined_is at run id seat m0 m1 session lock end.0 m2 m3 view out joined ∙ ap (λ (d : Current). (newcomer d j.id, [])) end.2.next
+    module _ (m3 : Me Current Known) (joined : (g e : Current) (v : Known) → m2 ≡ (holder_of g v, (0, e) ∷ []) → m3 ≡ (newcomer e v.journal.id, [])) where
+      is_next : m3 ≡ (newcomer (next_run now) j.id, [])
+      is_next = joined_is at run id seat m0 m1 session lock end.0 m2 view end.1 m3 joined ∙ ap (λ (d : Current). (newcomer d j.id, [])) end.2.next
 
-    pub session_restarted : (other : TableId) → other ≡ seat → IsSessionAt at next id other m3
-    session_restarted other is_at = session_joined at run id seat m0 m1 session lock end.0 m2 m3 view out joined other next is_at end.2.run_is
+      pub session_restarted : (other : TableId) → other ≡ seat → IsSessionAt at next id other m3
+      session_restarted other is_at = session_joined at run id seat m0 m1 session lock end.0 m2 view end.1 m3 joined other next is_at end.2.run_is
 
-    pub restarted : IsRestarted accepts (view_at at m0) (view_at at m3) last
-    restarted = record {
-      present = (now.made, subst (λ (h : Story). IsPresent accepts (origin_of m0.0.first) j h now.made) (sym end.2.last_is) (present end.2.held));
-      lock = refl;
-      run = ap (λ (m : Me Current Known). m.0.run) is_next ∙ ap (λ n. n + 1) (sym same_run);
-      first = ap (λ (m : Me Current Known). m.0.first) is_next ∙ ap reopened (sym end.2.last_is);
-      journal = ap (λ (m : Me Current Known). m.0.journal) is_next ∙ ap (λ (h : Story). new_journal j.id (reopened h ∷ [])) (sym end.2.last_is);
-    }
+      pub restarted : IsRestarted accepts (view_at at m0) (view_at at m3) last
+      restarted = record {
+        present = (now.made, subst (λ (h : Story). IsPresent accepts (origin_of m0.0.first) j h now.made) (sym end.2.last_is) (present end.2.held));
+        lock = refl;
+        run = ap (λ (m : Me Current Known). m.0.run) is_next ∙ ap (λ n. n + 1) (sym same_run);
+        first = ap (λ (m : Me Current Known). m.0.first) is_next ∙ ap reopened (sym end.2.last_is);
+        journal = ap (λ (m : Me Current Known). m.0.journal) is_next ∙ ap (λ (h : Story). new_journal j.id (reopened h ∷ [])) (sym end.2.last_is);
+      }
 
   module _ (under : Option (List Member)) (call : Call) (reply : Reply) (front : Story) (m2 : Me Current Known) (view : m2.0 ≡ m1.0)
       (taken : HasValue m1 (λ g. HasValue m2 (λ n. IsTaken accepts g n id under call reply front))) where
@@ -313,26 +335,58 @@ module _ (accepts : Meaning) (at : TableId) (run id : ℕ) (seat : TableId) (m0 
         knows_first = Contains-append_left j.known (after.history ∷ []) m0.0.first session.knows_first;
       })
 
--- a session that came to the present run
+-- a session that comes to the present run
 module _ (accepts : Meaning) (at : TableId) (run id : ℕ) (seat : TableId) (m0 m1 : Me Current Known) (session : IsSessionAt at run id seat m0) (lock : HasLock m0.0 m1 (λ now. Knows now m0.0))
-    (m2 m3 : Me Current Known) (same : m2 ≡ m1) (held : IsHeld accepts lock.0)
-    (joined : (g e : Current) (v : Known) → m2 ≡ (holder_of g v, (0, e) ∷ []) → m3 ≡ (newcomer e v.journal.id, [])) (apart : m0.0.run ≡ lock.0.run → ⊥) where
-  is_new : m3 ≡ (newcomer lock.0 m0.0.journal.id, [])
-  is_new = joined lock.0 lock.0 m0.0 (same ∙ lock.1)
+    (m2 : Me Current Known) (same : m2 ≡ m1) (present_run : ℕ) (found : HasValue m1 (λ g. (present_run ≡ g.run) × IsHeld accepts g)) where
+  seen_is : (present_run ≡ lock.0.run) × IsHeld accepts lock.0
+  seen_is = of_value m0.0 m1 lock found
 
-  pub renewed : IsRenewed accepts (view_at at m0) (view_at at m3)
-  renewed = record {
-    lock = refl;
-    run = subst (λ n. m0.0.run ≤ n) (sym run_is) lock.2.run;
-    same = λ is. absurd (apart (sym is ∙ run_is));
-    legal = record { starts = refl; legal = subst (IsLegalStory accepts) (sym first_is) held.legal };
-    committee = ap (λ (h : Story). h.committee) first_is ∙ sym lock.2.committee;
-    limits = ap (λ (h : Story). h.limits) first_is ∙ sym lock.2.limits;
-    journal = λ _. ap (λ (m : Me Current Known). m.0.journal) is_new ∙ ap (λ (h : Story). new_journal m0.0.journal.id (h ∷ [])) (sym first_is);
-  }
-    where
+  seen_view : m2.0 ≡ m1.0
+  seen_view = ap (λ (m : Me Current Known). m.0) same
+
+  given : m2.1 ≡ (0, lock.0) ∷ []
+  given = ap (λ (m : Me Current Known). m.1) (same ∙ lock.1)
+
+  module _ (apart : present_run ≡ run → ⊥) where
+    other_run : m0.0.run ≡ lock.0.run → ⊥
+    other_run is = apart (seen_is.0 ∙ (sym is ∙ session.run_is))
+
+    pub may_renew : (g : Current) × (e : Current) × (v : Known) × (v.acts ≡ true) × MayJoin g e v.run × (m2 ≡ (holder_of g v, (0, e) ∷ []))
+    may_renew = may_join at run id seat m0 m1 session lock lock.0 m2 seen_view given (inl (refl, other_run))
+
+    module _ (m3 : Me Current Known) (joined : (g e : Current) (v : Known) → m2 ≡ (holder_of g v, (0, e) ∷ []) → m3 ≡ (newcomer e v.journal.id, [])) where
+      is_new : m3 ≡ (newcomer lock.0 m0.0.journal.id, [])
+      is_new = joined_is at run id seat m0 m1 session lock lock.0 m2 seen_view given m3 joined
+
+      pub session_renewed : (other : TableId) → other ≡ seat → IsSessionAt at present_run id other m3
+      session_renewed other is_at = session_joined at run id seat m0 m1 session lock lock.0 m2 seen_view given m3 joined other present_run is_at seen_is.0
+
       run_is : m3.0.run ≡ lock.0.run
       run_is = ap (λ (m : Me Current Known). m.0.run) is_new
 
       first_is : m3.0.first ≡ lock.0.history
       first_is = ap (λ (m : Me Current Known). m.0.first) is_new
+
+      pub renewed : IsRenewed accepts (view_at at m0) (view_at at m3)
+      renewed = record {
+        lock = refl;
+        run = subst (λ n. m0.0.run ≤ n) (sym run_is) lock.2.run;
+        same = λ is. absurd (other_run (sym is ∙ run_is));
+        legal = λ _. record { starts = refl; legal = subst (IsLegalStory accepts) (sym first_is) seen_is.1.legal };
+        committee = ap (λ (h : Story). h.committee) first_is ∙ sym lock.2.committee;
+        limits = ap (λ (h : Story). h.limits) first_is ∙ sym lock.2.limits;
+        journal = λ _. ap (λ (m : Me Current Known). m.0.journal) is_new ∙ ap (λ (h : Story). new_journal m0.0.journal.id (h ∷ [])) (sym first_is);
+      }
+
+  -- nothing changed
+  module _ (m3 : Me Current Known) (free : m3 ≡ (freed m2.0, [])) where
+    pub not_renewed : IsRenewed accepts (view_at at m0) (view_at at m3)
+    not_renewed = subst (λ (m : Me Current Known). IsRenewed accepts (view_at at m0) (view_at at m)) (sym (as_before at run id seat m0 m1 session lock m2 m3 same free)) (record {
+      lock = refl;
+      run = omega arith;
+      same = λ _. refl;
+      committee = refl;
+      limits = refl;
+      legal = λ apart. absurd (apart refl);
+      journal = λ apart. absurd (apart refl);
+    })

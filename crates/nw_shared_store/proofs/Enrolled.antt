@@ -1,24 +1,22 @@
 -- A session that is made, from what each step on the lock says.
-use Rattle.std.proofs.Common.{◌≡◌, ℕ, ◌+◌, ◌<◌, List, [], ◌∷◌, Some, refl, sym, ap, ◌∙◌, subst}
+use Rattle.std.proofs.Common.{◌≡◌, ℕ, ◌+◌, ◌<◌, [], ◌∷◌, Some, refl, sym, ap, ◌∙◌, subst}
 use Rattle.std.specs.Prelude.{All}
 use Rattle.std.proofs.lemmas.List.Elements.{Contains-push}
 use Rattle.atomic_table.specs.Seated.{TableId}
 use Rattle.atomic_table.specs.Table.{Me}
 use Rattle.nw_sig.specs.Signed.{Meaning}
 use Rattle.nw_model.specs.declared.event.Event.{Event}
-use Rattle.nw_history.specs.Story.{Story}
-use Rattle.nw_history.specs.Prefix.{IsPrefixOf}
 use Rattle.nw_shared_store.specs.Held.{Current, IsEnrolled}
 use Rattle.nw_shared_store.specs.Rule.{Known, HasLock, HasValue, IsSeatAt, Knows, hearer, holder_of, newcomer}
 use Rattle.nw_shared_store.specs.Session.{IsSessionAt, IsSessionOf, StoreId}
 use Rattle.nw_shared_store.proofs.Answered.{of_value, view_at}
 
 module _ (accepts : Meaning) (store : StoreId) (run id : ℕ) (m0 m1 m2 : Me Current Known) (start : m0 ≡ (hearer store.first, [])) (lock : HasLock m0.0 m1 (λ now. Knows now m0.0)) (view : m2.0 ≡ m1.0)
-    (run_is : HasValue m1 (λ g. run ≡ g.run)) (enrolled : HasValue m1 (λ g. HasValue m2 (λ n. IsEnrolled accepts g n id))) where
+    (enrolled : HasValue m1 (λ g. HasValue m2 (λ n. IsEnrolled accepts g n run id))) where
   abbrev now : Current
   now = lock.0
 
-  new : HasValue m2 (λ n. IsEnrolled accepts now n id)
+  new : HasValue m2 (λ n. IsEnrolled accepts now n run id)
   new = of_value m0.0 m1 lock enrolled
 
   view_is : m2.0 ≡ holder_of now (hearer store.first)
@@ -40,7 +38,7 @@ module _ (accepts : Meaning) (store : StoreId) (run id : ℕ) (m0 m1 m2 : Me Cur
       at = at;
       member_is = refl;
       id_is = sym new.2.id_is;
-      run_is = sym (of_value m0.0 m1 lock run_is);
+      run_is = sym new.2.run_is;
       knows_first = Contains-push [] now.history;
     })
 

@@ -26,11 +26,11 @@ use Rattle.nw_shared_store.specs.contracts.session.SharedSession.TheInside as se
 
 module _ (S : RattleType) (g : Ghosts S.Denot) (d : Dict) where
   held_send : IsSend (held.the_row S g)
-  held_send = view_send (held_inside.the_row S g) _ _ _ _ (declared_send (held_inside.the_type S g) (book_send S g, (search (sendable, crosses) depth 30, tt)))
+  held_send = view_send (held_inside.the_row S g) _ _ _ _ (declared_send (held_inside.the_type S g) (book_send S g, (search (sendable, crosses) depth 30, (search (sendable, crosses) depth 30, tt))))
 
   -- what a seat knows
   abbrev Known : RattleType
-  Known = knowledge.the_row (held.the_row S g) (written.the_row S g)
+  Known = knowledge.the_row (held.the_row S g) (front.the_row S g) (written.the_row S g)
 
   -- the lock
   abbrev Lock : RattleType
@@ -66,5 +66,5 @@ module _ (S : RattleType) (g : Ghosts S.Denot) (d : Dict) where
   pub shared_session_send : IsSend (session.the_row S g)
   shared_session_send = view_send (session_inside.the_row S g) _ _ _ _ (declared_send (session_inside.the_type S g) (
     search (sendable, crosses, lock_send, lock_sync) depth 40,
-    (seat.the_send (held.the_row S g) Known held_send, (search (sendable, crosses) depth 30, tt)),
+    (seat.the_send (held.the_row S g) Known held_send, (search (sendable, crosses) depth 30, (search (sendable, crosses) depth 30, tt))),
   ))

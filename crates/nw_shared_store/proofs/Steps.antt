@@ -2,7 +2,7 @@
 use Rattle.std.proofs.Common.{◌≡◌, ◌≢◌, ℕ, zero, suc, ◌+◌, ◌<◌, ◌≤◌, Bool, true, false, true≢false, cond, List, [], ◌∷◌, ◌++◌, Option, Some, None, refl, sym, ap, ◌∙◌, subst, inl, inr, ⊎_elim, arith, eq-eqb, ne_eqb}
 use Rattle.std.specs.Prelude.{slice_set, slice_index, ◌==◌, All}
 use Rattle.std.specs.List.{Contains}
-use Rattle.std.proofs.lemmas.List.Elements.{All-nil, All-cons, All-contains, Contains-append_cases, Contains-push}
+use Rattle.std.proofs.lemmas.List.Elements.{All-nil, All-cons, All-contains, Contains-append_cases}
 use mathlib.Core.Option.{Option as Home, some, none, some-injective, some-ne-none}
 use lib.ListN.{get_elem?}
 use prog.Atomic.{either}
@@ -14,7 +14,7 @@ use Rattle.nw_history.specs.Prefix.{IsPrefixOf}
 use Rattle.nw_book.specs.Settled.{IsJournalOf}
 use Rattle.nw_book.proofs.Prefixes.{prefix_itself, prefix_trans, prefix_next}
 use Rattle.nw_shared_store.specs.Held.{Current, next_run}
-use Rattle.nw_shared_store.specs.Rule.{Known, new_journal, hearer, holder_of, with_journal, freed, newcomer, Knows, Fits, AllFit, NoneHolds, IsAt, IsValueOf, IsOneHistory, answered, Comes, Acquires, Returns, Releases, Enrols, looked, Looks, Joins, MayJoin}
+use Rattle.nw_shared_store.specs.Rule.{Known, new_journal, hearer, holder_of, with_journal, freed, newcomer, Knows, Fits, AllFit, NoneHolds, IsValueOf, IsOneHistory, answered, Comes, Acquires, Returns, Releases, Enrols, looked, Looks, Joins, MayJoin}
 use Rattle.nw_shared_store.proofs.Grown.{part_own, part_other, part_new, events_other}
 
 off : false ≡ true → ⊥
@@ -189,7 +189,7 @@ returns first slots id g v s h len at fits =
       gives,
       tt,
       gives_back first s h id (holder_of g v) (freed v) g g h.0 at refl refl (λ of. of)
-          (record { holds = λ x e. absurd (cc (e)); owns = mine.owns; knows = subst (λ (x : Current). Knows x (freed v)) (sym same) (with_holds h.2 v None mine.knows) })
+          (record { holds = λ x e. absurd (cc (e)); owns = mine.owns; knows = subst (λ (x : Current). Knows x (freed v)) (sym same) (with_holds h.2 (holder_of g v) None mine.knows) })
           (λ is by u apart e free. subst (λ (x : Current). Fits h.0 h.1 x by u) (sym same) (h.5 by u e)),
       refl,
     )

@@ -1,7 +1,7 @@
 -- The rule of the lock: a table of one word and one slot. The word is 0 while the value is in the slot, and positive while the holder of the
 -- lock has it. A seat is a token of the kit's `atomic_table` that takes no bytes: its owner takes steps on the table with it, and it has a
 -- view, which is what the owner knows.
-use Rattle.std.specs.Prelude.{◌≡◌, ℕ, suc, ◌+◌, ◌<◌, ◌≤◌, List, [], ◌∷◌, ◌++◌, Bool, true, false, Option, Some, None, drop, length, map}
+use Rattle.std.specs.Prelude.{◌≡◌, ℕ, suc, ◌<◌, ◌≤◌, List, [], ◌∷◌, ◌++◌, true, false, Some, None, drop, length, map}
 use Rattle.std.specs.List.{Contains}
 use mathlib.Core.Option.{some, none}
 use mathlib.Core.Logic.{◌⊎◌}

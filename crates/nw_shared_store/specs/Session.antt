@@ -134,10 +134,12 @@ pub record IsRenewed (accepts : Meaning) (old new : SessionView) : Type 0 where
   pub lock : new.lock ≡ old.lock
   pub run : old.run ≤ new.run
   pub same : new.run ≡ old.run → new ≡ old
-  -- the history of the run is legal, and has the store's committee and limits
-  pub legal : IsHistoryOf accepts (origin_of new.first) new.first
+  -- the store's committee and limits are the same in each run
   pub committee : new.first.committee ≡ old.first.committee
   pub limits : new.first.limits ≡ old.first.limits
+  -- the history of a later run is legal
+  pub legal : (new.run ≡ old.run → ⊥) → IsHistoryOf accepts (origin_of new.first) new.first
+  -- the session made no call in it
   pub journal : (new.run ≡ old.run → ⊥) → new.journal ≡ new_journal old.journal.id (new.first ∷ [])
 
 -- the session knows of a history of which the note is a prefix

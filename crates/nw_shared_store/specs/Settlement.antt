@@ -1,5 +1,5 @@
 -- Settlement of sessions, each with the history of its own store.
-use Rattle.std.specs.Prelude.{◌≡◌, ℕ, ◌+◌, List, [], ◌∷◌}
+use Rattle.std.specs.Prelude.{ℕ, ◌+◌, List, [], ◌∷◌}
 use Rattle.nw_sig.specs.Signed.{Meaning}
 use Rattle.nw_history.specs.Story.{Story}
 use Rattle.nw_book.specs.Answer.{DoneView}

@@ -57,7 +57,8 @@ impl<S: Scheme> Held<S> {
 
     /// The number of the run.
     pub(crate) fn run(&self) -> u64
-        ensures { result ≡ self.now.run }
+        ensures run { result ≡ self.now.run }
+        ensures held { IsHeld S.accepts self.now }
     {
         self.run
     }
@@ -71,9 +72,9 @@ impl<S: Scheme> Held<S> {
         Ok((self.book.history().try_clone()?, self.made))
     }
 
-    /// Makes one more session and returns its number, unless the limit is reached.
-    pub(crate) fn enrol(&mut self) -> Option<u16>
-        ensures made { IfSome result (IsEnrolled S.accepts self.old self.new) }
+    /// Makes one more session, unless the limit is reached. Returns the number of the run, and that of the session.
+    pub(crate) fn enrol(&mut self) -> Option<(u64, u16)>
+        ensures made { IfSome result (λ made. IsEnrolled S.accepts self.old self.new made.0 made.1) }
         ensures unchanged { IfNone result (self.new ≡ self.old) }
     {
         let id = self.made;
@@ -81,7 +82,7 @@ impl<S: Scheme> Held<S> {
             return None;
         }
         self.made += 1;
-        Some(id)
+        Some((self.run, id))
     }
 
     /// Takes the step of the session's next call.

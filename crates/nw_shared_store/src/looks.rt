@@ -1,7 +1,8 @@
 //! Looks of a session at the tables of its store.
 ghost use Rattle.std.specs.Prelude.{◌≡◌, IfOk, IfErr, OnErr};
 ghost use Rattle.nw_history.specs.Story.{state_of};
-ghost use Rattle.nw_model.specs.Look.{AreLooks, IsLook, TellsSatisfied};
+ghost use Rattle.nw_model.specs.Look.{AreLooks};
+ghost use Rattle.nw_shared_store.specs.Held.{IsLookAfter};
 ghost use Rattle.nw_shared_store.specs.Session.{HasSeen, IsSameSession, IsUnseen};
 
 use crate::lock::{end_look, give_back, take_in};
@@ -19,7 +20,7 @@ impl<S: Scheme> SharedSession<S> {
     /// `Busy`: another thread has the lock. `Ended`: the run of the session has ended.
     pub fn look(&mut self, round: Round, author: u16) -> Result<Look, Refusal>
         ensures seen { IfOk result (λ look. HasSeen S.accepts self.old self.new (λ h.
-            IsLook (state_of h) (round, author) look × TellsSatisfied (state_of h) (round, author) look)) }
+            IsLookAfter h (round, author) look)) }
         ensures refused { IfErr result IsUnseen }
         ensures same { IsSameSession self.old self.new }
         ensures unchanged { OnErr result (self.new ≡ self.old) }

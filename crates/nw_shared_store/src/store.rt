@@ -9,7 +9,7 @@ ghost use Rattle.nw_shared_store.specs.Session.{IsOfStore, IsPassing, IsSessionA
 use crate::held::Held;
 use crate::lock::{end_enrolment, give_back, new_pass, try_take};
 use crate::rule::{Lock, Pass};
-use crate::work::{compact_at, enrol_at, history_at, run_at};
+use crate::work::{compact_at, enrol_at, history_at};
 use crate::{Refusal, SharedSession};
 use nw_book::{Book, BookError, Front, Limits, NoStep};
 use nw_committee::Committee;
@@ -163,15 +163,14 @@ fn enrol<S: Scheme>(lock: &Lock<S>) -> Result<(Pass<S>, u64, u16), Refusal>
         IsSessionAt lock.now.shared.table_id made.1 made.2 made.0.table_id made.0.me) }
     ensures new { IfOk result (λ made.
         IsSessionOf (record { lock = lock.now.shared.table_id; first = lock.now.shared.key })
-        (record { lock = made.0.table_id; run = made.0.me.0.run; first = made.0.me.0.first; journal = made.0.me.0.journal })) }
+        (record { lock = lock.now.shared.table_id; run = made.0.me.0.run; first = made.0.me.0.first; journal = made.0.me.0.journal })) }
 {
     let mut pass = new_pass(lock);
     if !try_take(lock, &mut pass) {
         return Err(Refusal::Busy);
     }
-    let run = run_at(lock, &mut pass);
     match enrol_at(lock, &mut pass) {
-        Some(id) => {
+        Some((run, id)) => {
             end_enrolment(lock, &mut pass);
             Ok((pass, run, id))
         }

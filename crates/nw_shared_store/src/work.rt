@@ -1,11 +1,11 @@
 //! Work on the value, which a seat has while it has the lock.
 ghost use Rattle.std.specs.Prelude.{◌≡◌, ◌<◌, None, ⊤, IfOk, IfErr, IfSome, IfNone, OnErr};
-ghost use Rattle.nw_model.specs.Look.{AreLooks, IsLook, TellsSatisfied};
+ghost use Rattle.nw_model.specs.Look.{AreLooks};
 ghost use Rattle.nw_model.specs.declared.call.Call.TheVariants as Call;
 ghost use Rattle.nw_history.specs.Story.{state_of};
 ghost use Rattle.nw_book.specs.Answer.{IsTicketFor, front_of, reply_of};
 ghost use Rattle.nw_book.specs.Command.{call_of, committee_of};
-ghost use Rattle.nw_shared_store.specs.Held.{IsEnded, IsEnrolled, IsFound, IsHeld, IsTaken, IsUntaken};
+ghost use Rattle.nw_shared_store.specs.Held.{IsEnded, IsEnrolled, IsFound, IsHeld, IsLookAfter, IsTaken, IsUntaken};
 ghost use Rattle.nw_shared_store.specs.Rule.{HasValue, IsSeatAt};
 
 use crate::rule::{Lock, Pass};
@@ -21,7 +21,7 @@ pub(crate) fn run_at<S: Scheme>(lock: &Lock<S>, pass: &mut Pass<S>) -> u64
     requires held { HasValue pass.old.me (λ g. ⊤) }
     ensures at { pass.new.table_id ≡ pass.old.table_id }
     ensures same { pass.new.me ≡ pass.old.me }
-    ensures run { HasValue pass.old.me (λ g. result ≡ g.run) }
+    ensures run { HasValue pass.old.me (λ g. (result ≡ g.run) × IsHeld S.accepts g) }
 {
     let held = pass.slot_mut(&lock.shared, 0);
     held.run()
@@ -72,14 +72,14 @@ pub(crate) fn open_at<S: Scheme>(
     held.open(alloc, id, digest)
 }
 
-/// Makes one more session on the value, unless the limit is reached.
-pub(crate) fn enrol_at<S: Scheme>(lock: &Lock<S>, pass: &mut Pass<S>) -> Option<u16>
+/// Makes one more session on the value, unless the limit is reached. Returns the number of the run, and that of the session.
+pub(crate) fn enrol_at<S: Scheme>(lock: &Lock<S>, pass: &mut Pass<S>) -> Option<(u64, u16)>
     requires lock { IsSeatAt lock.now.shared.table_id pass.old.table_id }
     requires held { HasValue pass.old.me (λ g. ⊤) }
     ensures at { pass.new.table_id ≡ pass.old.table_id }
     ensures view { pass.new.me.0 ≡ pass.old.me.0 }
-    ensures made { IfSome result (λ id. HasValue pass.old.me (λ g. HasValue pass.new.me (λ n.
-        IsEnrolled S.accepts g n id))) }
+    ensures made { IfSome result (λ made. HasValue pass.old.me (λ g. HasValue pass.new.me (λ n.
+        IsEnrolled S.accepts g n made.0 made.1))) }
     ensures unchanged { IfNone result (pass.new.me ≡ pass.old.me) }
 {
     let held = pass.slot_mut(&lock.shared, 0);
@@ -130,8 +130,8 @@ pub(crate) fn look_at<S: Scheme>(
     requires held { HasValue pass.old.me (λ g. ⊤) }
     ensures at { pass.new.table_id ≡ pass.old.table_id }
     ensures same { pass.new.me ≡ pass.old.me }
-    ensures look { HasValue pass.old.me (λ g. IsHeld S.accepts g × IsLook (state_of g.history) (round, author) result
-        × TellsSatisfied (state_of g.history) (round, author) result) }
+    ensures look { HasValue pass.old.me (λ g.
+        IsHeld S.accepts g × IsLookAfter g.history (round, author) result) }
 {
     let held = pass.slot_mut(&lock.shared, 0);
     held.look_at(round, author)

@@ -1,4 +1,4 @@
-use Rattle.std.proofs.Common.{[], ◌∷◌, ◌∙◌, List, ap, subst, sym, ◌<◌, arith}
+use Rattle.std.proofs.Common.{[], ◌∙◌, ap, subst, sym, ◌<◌, arith}
 use mathlib.Core.Option.{none}
 use Rattle.atomic_table.specs.Table.{Me, Allows, step}
 use Rattle.nw_shared_store.specs.Held.{Current}

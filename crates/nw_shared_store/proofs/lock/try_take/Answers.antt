@@ -1,11 +1,11 @@
-use Rattle.std.proofs.Common.{◌≡◌, ℕ, List, [], ◌∷◌, subst, sym, ◌<◌, arith, ◌∙◌, ap}
+use Rattle.std.proofs.Common.{ℕ, List, ◌∷◌, subst, sym, ◌<◌, arith, ◌∙◌, ap}
 use Rattle.std.specs.Prelude.{◌==◌}
 use Rattle.std.proofs.lemmas.Bool.{eqb-true}
 use mathlib.Core.Option.{none}
 use prog.Atomic.{either}
-use Rattle.atomic_table.specs.Table.{Allows, Me, step}
+use Rattle.atomic_table.specs.Table.{Allows, step}
 use Rattle.nw_shared_store.specs.Held.{Current}
-use Rattle.nw_shared_store.specs.Rule.{Known, IsOneHistory, Acquires, holder_of}
+use Rattle.nw_shared_store.specs.Rule.{IsOneHistory, Acquires, holder_of}
 use Rattle.nw_shared_store.proofs.Steps.{acquires}
 use Rattle.nw_shared_store.proofs.lock.try_take.Goals as goal
 

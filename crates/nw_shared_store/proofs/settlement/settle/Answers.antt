@@ -1,4 +1,4 @@
-use Rattle.std.proofs.Common.{◌≡◌, length, arith, ◌∙◌, sym}
+use Rattle.std.proofs.Common.{◌≡◌, length, arith}
 use Rattle.nw_shared_store.proofs.Parts.{settled, of_stores}
 use Rattle.nw_shared_store.proofs.settlement.settle.Goals as goal
 

@@ -1,3 +1,4 @@
+use Rattle.std.proofs.Common.{ℕ}
 use Rattle.nw_shared_store.specs.Held.{IsEnrolled}
 use Rattle.nw_shared_store.proofs.Slots.{slot_of, on_some}
 use Rattle.nw_shared_store.proofs.work.enrol_at.Goals as goal
@@ -8,4 +9,4 @@ slot_mut-held-requires g c = let t = c.requires.held in (c.requires.lock.same, (
 pub returns-clause-made : goal.returns-clause-made
 returns-clause-made g c =
     let t = c.requires.held in
-    on_some c.args.pass.now.me c.slot_mut-held.result.now t.0 c.slot_mut-held.ensures.value t.1 c.enrol.new.self (IsEnrolled g.S.Scheme.accepts) c.enrol.result c.enrol.ensures.made
+    on_some c.args.pass.now.me c.slot_mut-held.result.now t.0 c.slot_mut-held.ensures.value t.1 c.enrol.new.self (λ d n (made : ℕ × ℕ). IsEnrolled g.S.Scheme.accepts d n made.0 made.1) c.enrol.result c.enrol.ensures.made

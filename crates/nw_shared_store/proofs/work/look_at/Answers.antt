@@ -7,4 +7,4 @@ slot_mut-held-requires g c = let t = c.requires.held in (c.requires.lock.same, (
 pub returns-clause-look : goal.returns-clause-look
 returns-clause-look g c =
     let t = c.requires.held in
-    (c.slot_mut-held.result.now, value_is c.args.pass.now.me c.slot_mut-held.result.now t.0 c.slot_mut-held.ensures.value t.1, (c.look_at.ensures.held, c.look_at.ensures.look, c.look_at.ensures.satisfied))
+    (c.slot_mut-held.result.now, value_is c.args.pass.now.me c.slot_mut-held.result.now t.0 c.slot_mut-held.ensures.value t.1, (c.look_at.ensures.held, (c.look_at.ensures.look, c.look_at.ensures.satisfied)))

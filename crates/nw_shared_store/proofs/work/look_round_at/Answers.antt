@@ -1,7 +1,6 @@
-use Rattle.std.proofs.Common.{ℕ, List}
 use Rattle.nw_history.specs.Story.{state_of}
 use Rattle.nw_model.specs.Look.{AreLooks}
-use Rattle.nw_shared_store.specs.Held.{Current, IsHeld}
+use Rattle.nw_shared_store.specs.Held.{IsHeld}
 use Rattle.nw_shared_store.proofs.Slots.{slot_of, on_also}
 use Rattle.nw_shared_store.proofs.work.look_round_at.Goals as goal
 

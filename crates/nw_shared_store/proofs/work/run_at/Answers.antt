@@ -7,4 +7,4 @@ slot_mut-held-requires g c = let t = c.requires.held in (c.requires.lock.same, (
 pub returns-clause-run : goal.returns-clause-run
 returns-clause-run g c =
     let t = c.requires.held in
-    (c.slot_mut-held.result.now, value_is c.args.pass.now.me c.slot_mut-held.result.now t.0 c.slot_mut-held.ensures.value t.1, c.run.ensures)
+    (c.slot_mut-held.result.now, value_is c.args.pass.now.me c.slot_mut-held.result.now t.0 c.slot_mut-held.ensures.value t.1, (c.run.ensures.run, c.run.ensures.held))

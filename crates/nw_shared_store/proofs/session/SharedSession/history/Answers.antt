@@ -1,21 +1,21 @@
-use Rattle.std.proofs.Common.{◌∙◌, ap, subst}
+use Rattle.std.proofs.Common.{rules, ◌∙◌, ap, subst}
 use Rattle.nw_book.specs.Journal.{origin_of}
 use Rattle.nw_shared_store.specs.Rule.{knowing}
 use Rattle.nw_shared_store.specs.Session.{IsPresent, IsSameSession, SessionView}
-use Rattle.nw_shared_store.proofs.Answered.{as_before, has_value, knows, may_free, present_is, same_looked, same_view, session_freed, session_knowing, unavailable_unseen, unchanged_session, view_at}
+use Rattle.nw_shared_store.proofs.Answered.{as_before, session_has_value, knows, session_may_free, present_is, same_looked, same_view, session_freed, session_knowing, unseen_of, unchanged_session, view_at}
 use Rattle.nw_shared_store.proofs.session.SharedSession.history.Goals as goal
 
 pub returns-in_err-take_in-clause-refused : goal.returns-in_err-take_in-clause-refused
-returns-in_err-take_in-clause-refused g c = unavailable_unseen _ c.in_err-take_in.ensures.refused
+returns-in_err-take_in-clause-refused g c = unseen_of c.from_residual.result (search rules)
 
 pub history_at-requires-clause-held : goal.history_at-requires-clause-held
-history_at-requires-clause-held g c = has_value _ _ c.in_ok-take_in.ensures.got
+history_at-requires-clause-held g c = session_has_value _ _ _ _ _ _ c.self.invariant c.in_ok-take_in.ensures.got
 
 pub give_back-requires-clause-same : goal.give_back-requires-clause-same
-give_back-requires-clause-same g c = may_free _ _ _ c.in_ok-take_in.ensures.got c.history_at.ensures.same
+give_back-requires-clause-same g c = session_may_free _ _ _ _ _ _ c.self.invariant c.in_ok-take_in.ensures.got _ c.history_at.ensures.same
 
 pub end_look-requires-clause-same : goal.end_look-requires-clause-same
-end_look-requires-clause-same g c = may_free _ _ _ c.in_ok-take_in.ensures.got c.history_at.ensures.same
+end_look-requires-clause-same g c = session_may_free _ _ _ _ _ _ c.self.invariant c.in_ok-take_in.ensures.got _ c.history_at.ensures.same
 
 pub invariant_of-self-in-Err : goal.invariant_of-self-in-Err
 invariant_of-self-in-Err g c =
@@ -23,7 +23,7 @@ invariant_of-self-in-Err g c =
 
 pub returns-in-Err-clause-same : goal.returns-in-Err-clause-same
 returns-in-Err-clause-same g c =
-    subst (λ (v : SessionView). IsSameSession v (view_at _ c.give_back.new.pass.me)) c.self.view_is
+    subst (λ (v : SessionView). IsSameSession v (view_at c.self.inside.lock.value.shared.table_id c.give_back.new.pass.me)) c.self.view_is
     (unchanged_session _ _ _ (as_before _ _ _ _ _ _ c.self.invariant c.in_ok-take_in.ensures.got _ _ c.history_at.ensures.same c.give_back.ensures.freed))
 
 pub returns-in-Err-clause-unchanged : goal.returns-in-Err-clause-unchanged
@@ -45,5 +45,5 @@ returns-clause-knows g c =
 
 pub returns-clause-same : goal.returns-clause-same
 returns-clause-same g c =
-    subst (λ (v : SessionView). IsSameSession v (view_at _ c.end_look.new.pass.me)) c.self.view_is
+    subst (λ (v : SessionView). IsSameSession v (view_at c.self.inside.lock.value.shared.table_id c.end_look.new.pass.me)) c.self.view_is
     (same_looked g.S.Scheme.accepts _ _ _ _ _ _ c.self.invariant c.in_ok-take_in.ensures.got _ _ c.history_at.ensures.same c.end_look.ensures.looked)

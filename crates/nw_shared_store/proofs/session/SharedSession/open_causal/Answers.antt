@@ -1,4 +1,4 @@
-use Rattle.std.proofs.Common.{None, ◌∙◌, ap, subst, refl}
+use Rattle.std.proofs.Common.{rules, None, ◌∙◌, subst}
 use Rattle.nw_book.specs.Answered.{IsExplained}
 use Rattle.nw_model.specs.declared.call.Call.TheVariants as Call
 use Rattle.nw_book.specs.Answer.{front_of, reply_of}
@@ -6,7 +6,7 @@ use Rattle.nw_book.specs.Journal.{origin_of}
 use Rattle.nw_book.specs.Settled.{IsJournalOf}
 use Rattle.nw_shared_store.specs.Session.{IsRefused, IsSameSession, SessionView}
 use Rattle.nw_shared_store.specs.declared.error.Refusal.TheVariants as refusals
-use Rattle.nw_shared_store.proofs.Answered.{may_call, may_free, may_end, same_called, unavailable_refused, unchanged_session, view_at, refused, session_freed, session_after, explained, own, as_before, same_view}
+use Rattle.nw_shared_store.proofs.Answered.{may_call, session_may_free, may_end, same_called, refused_of, unchanged_session, view_at, refused, session_freed, session_after, explained, own, as_before, same_view}
 use Rattle.nw_shared_store.proofs.session.SharedSession.open_causal.Goals as goal
 
 pub open_at-requires-clause-held : goal.open_at-requires-clause-held
@@ -19,7 +19,7 @@ end_call-requires-clause-called g c =
 
 pub give_back-requires-clause-same : goal.give_back-requires-clause-same
 give_back-requires-clause-same g c =
-    may_free _ _ _ c.in_ok-take_in.ensures.got c.in-Err.ensures.unchanged
+    session_may_free _ _ _ _ _ _ c.self.invariant c.in_ok-take_in.ensures.got _ c.in-Err.ensures.unchanged
 
 pub invariant_of-self-in-Err : goal.invariant_of-self-in-Err
 invariant_of-self-in-Err g c =
@@ -32,7 +32,7 @@ returns-in-Err-clause-refused g c =
 
 pub returns-in-Err-clause-same : goal.returns-in-Err-clause-same
 returns-in-Err-clause-same g c =
-    subst (λ (v : SessionView). IsSameSession v (view_at _ c.give_back.new.pass.me)) c.self.view_is
+    subst (λ (v : SessionView). IsSameSession v (view_at c.self.inside.lock.value.shared.table_id c.give_back.new.pass.me)) c.self.view_is
     (unchanged_session _ _ _ (as_before _ _ _ _ _ _ c.self.invariant c.in_ok-take_in.ensures.got _ _ c.in-Err.ensures.unchanged c.give_back.ensures.freed))
 
 pub returns-in-Err-clause-unchanged : goal.returns-in-Err-clause-unchanged
@@ -55,8 +55,8 @@ returns-clause-own_calls g c =
 
 pub returns-clause-same : goal.returns-clause-same
 returns-clause-same g c =
-    subst (λ (v : SessionView). IsSameSession v (view_at _ c.end_call.new.pass.me)) c.self.view_is
+    subst (λ (v : SessionView). IsSameSession v (view_at c.self.inside.lock.value.shared.table_id c.end_call.new.pass.me)) c.self.view_is
     (same_called g.S.Scheme.accepts _ _ _ _ _ _ c.self.invariant c.in_ok-take_in.ensures.got None _ _ _ _ c.open_at.ensures.view c.in-Ok.ensures.taken _ c.end_call.ensures.released)
 
 pub returns-in_err-take_in-clause-refused : goal.returns-in_err-take_in-clause-refused
-returns-in_err-take_in-clause-refused g c = unavailable_refused g.S.Scheme.accepts _ _ None _ c.in_err-take_in.ensures.refused
+returns-in_err-take_in-clause-refused g c = refused_of g.S.Scheme.accepts c.args.self.now.first c.args.self.now.journal None c.from_residual.result (search rules)

@@ -1,0 +1,32 @@
+use Rattle.std.proofs.Common.{◌∙◌, refl, subst}
+use Rattle.nw_shared_store.specs.Session.{IsRenewed, SessionView}
+use Rattle.nw_shared_store.proofs.Answered.{has_value, may_free, may_renew, not_renewed, renewed, session_freed, session_renewed, view_at}
+use Rattle.nw_shared_store.proofs.session.SharedSession.renew.Goals as goal
+
+pub run_at-present-requires-clause-held : goal.run_at-present-requires-clause-held
+run_at-present-requires-clause-held g c = has_value _ _ (c.if-not-try_take.ensures.got refl)
+
+pub give_back-requires-clause-same : goal.give_back-requires-clause-same
+give_back-requires-clause-same g c = may_free _ _ _ (c.if-not-try_take.ensures.got refl) c.run_at-present.ensures.same
+
+pub invariant_of-self-then-present-self : goal.invariant_of-self-then-present-self
+invariant_of-self-then-present-self g c =
+    session_freed _ _ _ _ _ _ c.self.invariant (c.if-not-try_take.ensures.got refl) _ _ _ (c.give_back.ensures.at ∙ (c.run_at-present.ensures.at ∙ c.try_take.ensures.at)) c.run_at-present.ensures.same c.give_back.ensures.freed
+
+pub returns-then-present-self-clause-renewed : goal.returns-then-present-self-clause-renewed
+returns-then-present-self-clause-renewed g c =
+    subst (λ (v : SessionView). IsRenewed g.S.Scheme.accepts v (view_at c.self.inside.lock.value.shared.table_id c.give_back.new.pass.me)) c.self.view_is
+    (not_renewed g.S.Scheme.accepts _ _ _ _ _ _ c.self.invariant (c.if-not-try_take.ensures.got refl) _ c.run_at-present.ensures.same _ c.run_at-present.ensures.run _ c.give_back.ensures.freed)
+
+pub join-requires-clause-joins : goal.join-requires-clause-joins
+join-requires-clause-joins g c =
+    may_renew g.S.Scheme.accepts _ _ _ _ _ _ c.self.invariant (c.if-not-try_take.ensures.got refl) _ c.run_at-present.ensures.same _ c.run_at-present.ensures.run c.if-present-self.false
+
+pub invariant_of-self-2 : goal.invariant_of-self-2
+invariant_of-self-2 g c =
+    session_renewed g.S.Scheme.accepts _ _ _ _ _ _ c.self.invariant (c.if-not-try_take.ensures.got refl) _ c.run_at-present.ensures.same _ c.run_at-present.ensures.run c.if-present-self.false _ c.join.ensures.joined _ (c.join.ensures.at ∙ (c.run_at-present.ensures.at ∙ c.try_take.ensures.at))
+
+pub returns-clause-renewed : goal.returns-clause-renewed
+returns-clause-renewed g c =
+    subst (λ (v : SessionView). IsRenewed g.S.Scheme.accepts v (view_at c.self.inside.lock.value.shared.table_id c.join.new.pass.me)) c.self.view_is
+    (renewed g.S.Scheme.accepts _ _ _ _ _ _ c.self.invariant (c.if-not-try_take.ensures.got refl) _ c.run_at-present.ensures.same _ c.run_at-present.ensures.run c.if-present-self.false _ c.join.ensures.joined)

@@ -1,0 +1,9 @@
+use Rattle.std.proofs.Common.{refl}
+use Rattle.nw_shared_store.proofs.Answered.{has_value, may_free}
+use Rattle.nw_shared_store.proofs.store.SharedStore.history.Goals as goal
+
+pub history_at-found-requires-clause-held : goal.history_at-found-requires-clause-held
+history_at-found-requires-clause-held g c = has_value _ _ (c.if-not-try_take.ensures.got refl)
+
+pub give_back-requires-clause-same : goal.give_back-requires-clause-same
+give_back-requires-clause-same g c = may_free _ _ _ (c.if-not-try_take.ensures.got refl) c.history_at-found.ensures.same
