@@ -127,28 +127,33 @@ four_doublings s k p q a b u v r eq =
     let ek : (k4 + k4) + (k4 + k4) ≡ 16 * k = omega arith in
     rw (eq, ← es, ← ek) four
 
--- the sum before the first digit
-pub no_windows : (s k : ℕ) (p : Point) (a b : Affine) → p ≡ identity → Represents p (combination (above 16 16 s) (above 16 16 k) a b)
-no_windows s k p a b e = rw (e, above_last 16 s, above_last 16 k) (combination_of_zeros a b)
+-- the sum after the highest digit of each row of the second comb
+pub first_digits : (k : ℕ) (start after f : Point) (a b : Affine) → IsOnCurve a → IsOnCurve b → Represents f b → start ≡ identity → after ≡ with_rows 4 16 12 k start f
+    → Represents after (combination 0 (above 16 12 k) a b)
+first_digits k start after f a b u v rf es ea =
+    let none : Represents start (combination 0 0 a b) = rw es (combination_of_zeros a b) in
+    let all : 0 + rows_value 4 16 12 k ≡ above 16 12 k = omega (arith, above_next 4 16 12 k, above_last 16 k) in
+    subst (λ (n : ℕ). Represents after (combination 0 n a b)) all (rw ea (second_rows 4 16 12 k 0 0 start f a b u v rf none))
 
--- the sum after 8 more bits of each row: two digits of the second comb, and one of the first
-pub next_window : (shift s k : ℕ) (p start middle start' lower after e f : Point) (a b : Affine) → IsOnCurve a → IsOnCurve b → Represents e a → Represents f b
-    → Represents p (combination (above 16 (shift + 8) s) (above 16 (shift + 8) k) a b) → start ≡ doubled (doubled (doubled (doubled p))) → middle ≡ with_rows 4 16 (shift + 4) k start f
-    → start' ≡ doubled (doubled (doubled (doubled middle))) → lower ≡ with_rows 4 16 shift k start' f → after ≡ with_rows 8 16 shift s lower e
-    → Represents after (combination (above 16 shift s) (above 16 shift k) a b)
-next_window shift s k p start middle start' lower after e f a b u v re rf r es em es' el ea =
-    let x = above 16 (shift + 8) s in
-    let y = above 16 (shift + 8) k in
-    let z = above 16 (shift + 4) k in
-    let same : shift + 4 + 4 ≡ shift + 8 = omega arith in
-    let upper : 16 * y + rows_value 4 16 (shift + 4) k ≡ z = sym (above_next 4 16 (shift + 4) k ∙ ap (λ (i : ℕ). 16 * above 16 i k + rows_value 4 16 (shift + 4) k) same) in
-    let one = second_rows 4 16 (shift + 4) k (16 * x) (16 * y) start f a b u v rf (four_doublings x y p start a b u v r es) in
-    let two = subst (λ (n : ℕ). Represents middle (combination (16 * x) n a b)) upper (rw em one) in
-    let three = second_rows 4 16 shift k (16 * (16 * x)) (16 * z) start' f a b u v rf (four_doublings (16 * x) z middle start' a b u v two es') in
-    let four = subst (λ (n : ℕ). Represents lower (combination (16 * (16 * x)) n a b)) (sym (above_next 4 16 shift k)) (rw el three) in
-    let five = first_rows 8 16 shift s (16 * (16 * x)) (above 16 shift k) lower e a b u v re four in
-    let last : 16 * (16 * x) + rows_value 8 16 shift s ≡ above 16 shift s = omega (arith, above_next 8 16 shift s) in
-    subst (λ (n : ℕ). Represents after (combination n (above 16 shift k) a b)) last (rw ea five)
+-- the sum after one more digit of each row of the second comb
+pub next_digits : (shift x k : ℕ) (p after f : Point) (a b : Affine) → IsOnCurve a → IsOnCurve b → Represents f b → Represents p (combination x (above 16 (shift + 4) k) a b)
+    → after ≡ with_rows 4 16 shift k (doubled (doubled (doubled (doubled p)))) f → Represents after (combination (16 * x) (above 16 shift k) a b)
+next_digits shift x k p after f a b u v rf r ea =
+    let y = above 16 (shift + 4) k in
+    let start = doubled (doubled (doubled (doubled p))) in
+    let all : 16 * y + rows_value 4 16 shift k ≡ above 16 shift k = omega (arith, above_next 4 16 shift k) in
+    subst (λ (n : ℕ). Represents after (combination (16 * x) n a b)) all (rw ea (second_rows 4 16 shift k (16 * x) (16 * y) start f a b u v rf (four_doublings x y p start a b u v r refl)))
+
+-- the sum after one more digit of each row of the first comb
+pub next_base_digits : (shift x y s : ℕ) (p after e : Point) (a b : Affine) → IsOnCurve a → IsOnCurve b → Represents e a → Represents p (combination x y a b)
+    → x ≡ 256 * above 16 (shift + 8) s → after ≡ with_rows 8 16 shift s p e → Represents after (combination (above 16 shift s) y a b)
+next_base_digits shift x y s p after e a b u v re r ex ea =
+    let all : x + rows_value 8 16 shift s ≡ above 16 shift s = omega (arith, ex, above_next 8 16 shift s) in
+    subst (λ (n : ℕ). Represents after (combination n y a b)) all (rw ea (first_rows 8 16 shift s x y p e a b u v re r))
+
+-- no digit of the first comb is above the 16th bit
+pub none_above : (s : ℕ) → 16 * 0 ≡ 256 * above 16 16 s
+none_above s = omega (arith, above_last 16 s)
 
 -- the sum after all digits
 pub all_windows : (s k : ℕ) (p : Point) (a b : Affine) → s < 2 ^ 253 → k < 2 ^ 253 → Represents p (combination (above 16 0 s) (above 16 0 k) a b) → Represents p (combination s k a b)

@@ -19,14 +19,27 @@ pub fn expected_by_combs(bases: &Comb, keys: &Comb, s: &Whole, k: &Whole) -> Poi
         → bases.now.entries.items ≡ rows 256 16 base → keys.now.entries.items ≡ rows 16 16 (negated p)
         → HasInverse result.z × (encoded result ≡ expected s.now k.now p) }
 {
-    let mut partial = CompletedPoint::identity();
-    for done in 0..2 {
-        let shift = 8 - 8 * done;
-        let upper = with_rows(four_times_doubled(partial), keys, k, shift + 4);
-        let lower = with_rows(four_times_doubled(upper), keys, k, shift);
-        partial = with_rows(lower, bases, s, shift);
-    }
-    partial.point()
+    let highest = with_rows(CompletedPoint::identity(), keys, k, 12);
+    let upper = doubled_with_rows(highest, keys, k, 8);
+    let half = with_rows(upper, bases, s, 8);
+    let middle = doubled_with_rows(half, keys, k, 4);
+    let lower = doubled_with_rows(middle, keys, k, 0);
+    with_rows(lower, bases, s, 0).point()
+}
+
+/// The point times 16, and an entry of each row of the comb.
+fn doubled_with_rows(
+    start: CompletedPoint,
+    comb: &Comb,
+    number: &Whole,
+    shift: u32,
+) -> CompletedPoint
+    requires { shift < 16 }
+    ensures { (p : Point) → comb.now.entries.items ≡ rows (2 ^ comb.now.bits) 16 p
+        → point_of result ≡ with_rows comb.now.bits 16 shift number.now
+        (doubled (doubled (doubled (doubled (point_of start))))) p }
+{
+    with_rows(four_times_doubled(start), comb, number, shift)
 }
 
 /// The point times 16.

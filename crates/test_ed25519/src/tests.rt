@@ -28,7 +28,7 @@ fn first_wrong<'a>(alloc: Global, cases: &'a [Case]) -> Result<Option<&'a Case>,
     let prepared = prepared(alloc, &keys)?;
     for case in cases {
         let key = key_of(case)?;
-        let number = keys.iter().position(|it| *it == key).unwrap_or(0) as u16;
+        let number = u16::try_from(keys.iter().position(|it| *it == key).unwrap_or(0))?;
         if !is_right(alloc, case, &key, &prepared, number)? {
             return Ok(Some(case));
         }
