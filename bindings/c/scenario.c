@@ -173,11 +173,10 @@ static int32_t act(unsigned long kind, nw_session *session, nw_answer *answer, n
 	case 1: return nw_session_renew(session);
 	case 2: return nw_session_note(session, answer);
 	case 3: return nw_session_hear(session, other);
-	case 4: return nw_ticket_agree(answer, other, yes);
-	case 5: return nw_answer_is_prefix(other, answer, yes);
-	case 6: return nw_store_compact(&store);
-	case 7: return look(session);
-	case 8: return settle(answer);
+	case 4: return nw_answer_is_prefix(other, answer, yes);
+	case 5: return nw_store_compact(&store);
+	case 6: return look(session);
+	case 7: return settle(answer);
 	default: return nw_store_session(&store, &sessions[made]);
 	}
 }
@@ -202,13 +201,13 @@ static int32_t call(unsigned long kind, nw_session *session, nw_answer *answer)
 static void step(unsigned long calls)
 {
 	size_t who = draw(made ? (unsigned long)made : 1), other = (who + 1 + draw(SESSIONS - 1)) % SESSIONS;
-	unsigned long is_call = draw(calls), kind = draw(is_call ? 21 : 10);
+	unsigned long is_call = draw(calls), kind = draw(is_call ? 21 : 9);
 	uint16_t id = 0;
 	uint64_t run = 0;
 	bool yes = false;
 	printf("%s %lu", is_call ? "call" : "act", kind);
 	int32_t code = is_call ? call(kind, &sessions[who], &answers[who]) : act(kind, &sessions[who], &answers[who], &answers[other], &yes);
-	made += !is_call && kind == 9 && code == NW_DONE;
+	made += !is_call && kind == 8 && code == NW_DONE;
 	printf(" %d %d", (int)code, yes);
 	if (code == NW_ENDED && draw(2))
 		printf(" renew %d", (int)nw_session_renew(&sessions[who]));
@@ -222,7 +221,7 @@ static void step(unsigned long calls)
 /* This many steps of a store, which begins with all its sessions but one. */
 static void play_store(unsigned long steps, unsigned long calls)
 {
-	nw_limits limits = {64, 48, 8, SESSIONS};
+	nw_limits limits = {64, 80, 8, SESSIONS};
 	nw_committee its = {0};
 	printf("store %d", (int)nw_store_new(&committee, &limits, &store));
 	printf(" %d", (int)nw_store_limits(&store, &limits));

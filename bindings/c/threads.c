@@ -17,12 +17,10 @@
 /* Each thread has a session. Main is the last worker, and its session makes one call, in the first run. */
 enum { THREADS = 4, SESSIONS = THREADS + 1, RUNS = 2 };
 
-/* The key of the only member of the committee. */
+/* The key of the only member of the committee, its block of round 0 with the transaction "x", and the block's certificate with its vote. */
 static const char KEY[] = "b1e281447549fd943d16645ad3dc9eadac410bf57b088568b28330f362eb6440";
-/* Its block of round 0, with the transaction "x". */
 static const char BLOCK[] = "01010000000000000000000000010000000178100df078007058a2a433eb0e865f10d7120fa20e3f6c89ac9c35510f7d4e6a92"
 			    "faa7cc8417b30d9dbcdbc42b864b0828ad172bee46ecebf8f0aa3572d4c65406";
-/* The block's certificate, with the member's vote. */
 static const char CERTIFICATE[] = "02ad5f105076afa169e3887acc36005405d73a816843e97e749449384f3c19f2050000000000000000000100009af1d253"
 				  "3135fb248c8f10d4cc4553277987ca1d852e79d4f63b0762f35cfe4177e47693ee5d3b12f7c6687209012153b24a019108"
 				  "72017e1ac6663d4d51940b";
@@ -40,6 +38,8 @@ typedef struct worker {
 	nw_answer answers[RUNS];
 } worker;
 
+/* All threads meet here before their first calls, and before their last. */
+static pthread_barrier_t meeting;
 /* The note that the first thread passes to the second, under a lock, and the last history of the first run. */
 static pthread_mutex_t lock = PTHREAD_MUTEX_INITIALIZER;
 static pthread_cond_t passed = PTHREAD_COND_INITIALIZER;
@@ -55,17 +55,16 @@ static void must(int holds, const char *what)
 	}
 }
 
-static void done(int32_t code, const char *what)
-{
-	if (code != NW_DONE) {
-		fprintf(stderr, "%s: %s\n", what, nw_code_text(code));
-		exit(1);
-	}
-}
-
 static void tell(const char *what, int32_t code)
 {
 	printf("%s: %s\n", what, nw_code_text(code));
+}
+
+static void done(int32_t code, const char *what)
+{
+	if (code != NW_DONE)
+		tell(what, code);
+	must(code == NW_DONE, what);
 }
 
 /* Takes the session into the present run. */
@@ -131,7 +130,6 @@ static void ask_status(worker *own)
 	must(answered(own) == NW_STATUS, "the reply to a status");
 }
 
-/* The block is there, and complete. */
 static void find_block(worker *own)
 {
 	nw_look look;
@@ -169,7 +167,6 @@ static void hear_and_restart(worker *own)
 		ask_status(own);
 	TAKE(own, nw_session_restart(&own->session, &ended));
 	done(nw_session_run(&own->session, &own->run), "run");
-	must(own->run == 1, "the session is of the next run");
 	must(hand_in(own, BLOCK) == NW_HELD, "the block is stored before the restart");
 	find_block(own);
 }
@@ -188,10 +185,14 @@ static void *work(void *arg)
 {
 	worker *own = arg;
 	begin(own);
+	pthread_barrier_wait(&meeting);
 	if (own->task)
 		own->task(own);
-	while (own->calls[0] + own->calls[1] < calls)
+	while (own->calls[0] + own->calls[1] < calls - 1)
 		ask_status(own);
+	pthread_barrier_wait(&meeting);
+	ask_status(own);
+	must(own->run == 1, "the last call is of the second run");
 	return NULL;
 }
 
@@ -240,10 +241,9 @@ static void settle(worker **workers)
 		renew(workers[i]);
 		done(nw_settlement_give(&settlement, &workers[i]->session), "give");
 	}
-	done(nw_settle(&settlement, &history), "settle");
+	tell("settle all sessions", nw_settle(&settlement, &history));
 	check_run(&ended, 0, workers);
 	check_run(&history, 1, workers);
-	printf("settled: %d sessions\n", SESSIONS);
 	nw_settlement_free(&settlement);
 	nw_answer_free(&history);
 }
@@ -257,7 +257,6 @@ int main(int count, char **words)
 	const nw_limits limits = {1024, NW_MAX_EVENTS, 64, SESSIONS};
 	worker workers[SESSIONS] = {{.task = write_and_note}, {.task = hear_and_restart}}, *ordered[SESSIONS];
 	pthread_t threads[THREADS];
-
 	calls = count > 1 ? (uint32_t)atoi(words[1]) : 1000;
 	must(calls >= 10 && calls <= 16000, "the number of calls");
 	bytes_of(KEY, member.key);
@@ -272,6 +271,7 @@ int main(int count, char **words)
 	}
 	begin(&workers[THREADS]);
 	ask_status(&workers[THREADS]);
+	must(pthread_barrier_init(&meeting, NULL, THREADS) == 0, "the meeting");
 	for (int i = 0; i < THREADS; i++)
 		must(pthread_create(&threads[i], NULL, work, &workers[i]) == 0, "a thread starts");
 	for (int i = 0; i < THREADS; i++)
