@@ -1,5 +1,5 @@
 //! Making and reading committees.
-ghost use Rattle.std.specs.Prelude.{◌≡◌, pos, map, IfOk, IfErr, true};
+ghost use Rattle.std.specs.Prelude.{◌≡◌, pos, map, IfOk, IfErr, true, false};
 ghost use Rattle.nw_committee.specs.Committee.{IsCommittee as IsValid};
 ghost use Rattle.nw_c.specs.Committees.{AreOneCommittee, HasMember, HasQuorum, HasSize, IsCommitteeOf, LacksMember, member_in};
 ghost use Rattle.nw_c.specs.Kinds.{IsUnchanged, HoldsCommittee};
