@@ -74,7 +74,10 @@ pub(crate) fn put_prepared(alloc: Global, out: &mut Handle, committee: Shared<Co
 }
 
 /// The committee with prepared keys, to be shared.
-fn prepared(alloc: Global, committee: Shared<Committee>) -> Result<Shared<PreparedCommittee>, NoMemory>
+fn prepared(
+    alloc: Global,
+    committee: Shared<Committee>,
+) -> Result<Shared<PreparedCommittee>, NoMemory>
     ensures { IfOk result (λ prepared. prepared ≡ committee) }
 {
     Shared::new(alloc, PreparedCommittee::new(alloc, committee)?)

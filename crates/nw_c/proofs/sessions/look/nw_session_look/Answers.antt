@@ -12,10 +12,11 @@ use Rattle.nw_c.proofs.sessions.look.nw_session_look.Goals as goal
 seen : (content : Content) (old new : SessionView) (round r author : ℕ) (told look : Look) → content ≡ kind.Session old → r ≡ round → told ≡ look → IsSameSession old new
     → HasSeen accepts old new (λ h. IsLookAfter h (r, author) look) → HasLook accepts round author told content (kind.Session new)
 seen content old new round r author told look is at tells same has =
-    subst (λ (x : Content). HasLook accepts round author told x (kind.Session new)) (sym is)
-    (same,
-    subst (λ (n : ℕ). HasSeen accepts old new (λ h. IsLookAfter h (n, author) told)) at
-    (subst (λ (l : Look). HasSeen accepts old new (λ h. IsLookAfter h (r, author) l)) (sym tells) has))
+    subst (λ (x : Content). HasLook accepts round author told x (kind.Session new)) (sym is) (
+      same,
+      subst (λ (n : ℕ). HasSeen accepts old new (λ h. IsLookAfter h (n, author) told)) at
+          (subst (λ (l : Look). HasSeen accepts old new (λ h. IsLookAfter h (r, author) l)) (sym tells) has),
+    )
 
 pub returns-in-Ok-clause-look : goal.returns-in-Ok-clause-look
 returns-in-Ok-clause-look c = λ code.
