@@ -2,9 +2,10 @@
 use Rattle.std.specs.Prelude.{◌≡◌, ℕ, List, length, Bool, Option, Some, None, if◌then◌else◌}
 use Rattle.nw_digest.specs.declared.digest.Digest.{Digest}
 use Rattle.nw_sig.specs.Signed.{Meaning}
-use Rattle.nw_model.specs.Look.{AreLooks, IsLook, TellsSatisfied}
+use Rattle.nw_model.specs.Look.{AreLooks}
 use Rattle.nw_model.specs.declared.look.Look.{Look}
 use Rattle.nw_history.specs.Story.{state_of}
+use Rattle.nw_shared_store.specs.Held.{IsLookAfter}
 use Rattle.nw_shared_store.specs.Session.{HasSeen, IsSameSession}
 use Rattle.nw_c.specs.declared.content.Content.{Content}
 use Rattle.nw_c.specs.declared.content.Content.TheVariants as kind
@@ -28,8 +29,7 @@ author_look_in c = (c.author, look_in c.look)
 -- the look has what the state after the session's present history has in the slot of this round and author, and tells which references of
 -- the next round are satisfied. From now on, the session knows of this history
 abbrev pub HasLook : Meaning → ℕ → ℕ → Look → Content → Content → Type 0
-HasLook accepts round author look (kind.Session old) (kind.Session new) =
-    IsSameSession old new × HasSeen accepts old new (λ h. IsLook (state_of h) (round, author) look × TellsSatisfied (state_of h) (round, author) look)
+HasLook accepts round author look (kind.Session old) (kind.Session new) = IsSameSession old new × HasSeen accepts old new (λ h. IsLookAfter h (round, author) look)
 HasLook accepts round author look old new = ⊥
 
 -- these are the looks at the round in the state after the session's present history. From now on, the session knows of this history

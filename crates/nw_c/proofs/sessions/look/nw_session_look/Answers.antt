@@ -1,8 +1,7 @@
 use Rattle.std.proofs.Common.{◌≡◌, ℕ, ap, sym, subst, ◌∙◌}
 use Rattle.nw_ed25519.specs.Accepts.{accepts}
-use Rattle.nw_model.specs.Look.{IsLook, TellsSatisfied}
 use Rattle.nw_model.specs.declared.look.Look.{Look}
-use Rattle.nw_history.specs.Story.{state_of}
+use Rattle.nw_shared_store.specs.Held.{IsLookAfter}
 use Rattle.nw_shared_store.specs.Session.{HasSeen, IsSameSession, SessionView}
 use Rattle.nw_c.specs.Look.{HasLook}
 use Rattle.nw_c.specs.declared.content.Content.{Content}
@@ -11,12 +10,13 @@ use Rattle.nw_c.proofs.sessions.look.nw_session_look.Goals as goal
 
 -- a look of the session in the content
 seen : (content : Content) (old new : SessionView) (round r author : ℕ) (told look : Look) → content ≡ kind.Session old → r ≡ round → told ≡ look → IsSameSession old new
-    → HasSeen accepts old new (λ h. IsLook (state_of h) (r, author) look × TellsSatisfied (state_of h) (r, author) look) → HasLook accepts round author told content (kind.Session new)
+    → HasSeen accepts old new (λ h. IsLookAfter h (r, author) look) → HasLook accepts round author told content (kind.Session new)
 seen content old new round r author told look is at tells same has =
-    subst (λ (x : Content). HasLook accepts round author told x (kind.Session new)) (sym is)
-    (same,
-    subst (λ (n : ℕ). HasSeen accepts old new (λ h. IsLook (state_of h) (n, author) told × TellsSatisfied (state_of h) (n, author) told)) at
-    (subst (λ (l : Look). HasSeen accepts old new (λ h. IsLook (state_of h) (r, author) l × TellsSatisfied (state_of h) (r, author) l)) (sym tells) has))
+    subst (λ (x : Content). HasLook accepts round author told x (kind.Session new)) (sym is) (
+      same,
+      subst (λ (n : ℕ). HasSeen accepts old new (λ h. IsLookAfter h (n, author) told)) at
+          (subst (λ (l : Look). HasSeen accepts old new (λ h. IsLookAfter h (r, author) l)) (sym tells) has),
+    )
 
 pub returns-in-Ok-clause-look : goal.returns-in-Ok-clause-look
 returns-in-Ok-clause-look c = λ code.
