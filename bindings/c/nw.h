@@ -7,7 +7,9 @@
    If several codes apply, a function returns the first of NW_CLOSED, NW_OPEN and NW_OTHER_KIND, and otherwise the first that its comment
    names. A call of a session returns the first of NW_BUSY, NW_ENDED, NW_OTHER_COMMITTEE, NW_HISTORY_FULL and NW_NO_MEMORY. But
    nw_session_hand_in looks at its text before all else, nw_session_collect at its round, and nw_gather_new at its round before it returns
-   NW_OTHER_KIND. The numbers of codes, kinds of texts, replies and calls do not overlap.
+   NW_OTHER_KIND. nw_session_look_round returns NW_SMALL last, and nw_settle looks at one session after another.
+
+   The numbers of codes, kinds of texts, replies and calls do not overlap.
 
    The caller owes what the library cannot check:
 
