@@ -2,4 +2,3 @@ pub mod Looks
 pub mod AsBox
 pub mod Send
 pub mod Cut
-pub mod Boxed

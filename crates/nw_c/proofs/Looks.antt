@@ -4,7 +4,7 @@ use Rattle.std.specs.Prelude.{slice_set}
 use Rattle.std.proofs.lemmas.List.{map-append, take_more, take_more_set}
 use Rattle.nw_model.specs.declared.look.Look.{Look}
 use Rattle.nw_c.specs.Look.{author_look_in}
-use Rattle.nw_c.specs.declared.books.look.CAuthorLook.{CAuthorLook}
+use Rattle.nw_c.specs.declared.sessions.look.CAuthorLook.{CAuthorLook}
 
 -- one more look is copied
 pub copied : (looks : List CAuthorLook) (found : List (ℕ × Look)) (i : ℕ) (one : CAuthorLook) (seen : ℕ × Look) → i < length looks → i < length found → author_look_in one ≡ seen → seen ≡ get_or found i seen → map author_look_in (take i looks) ≡ take i found

@@ -10,7 +10,7 @@ use Rattle.nw_ed25519.specs.contracts.scheme.Ed25519 as ed25519
 use Rattle.nw_ed25519.specs.contracts.scheme.Ed25519Scheme.TheImpl.{ghosts}
 use Rattle.nw_check.specs.contracts.message.Checked as checked
 use Rattle.nw_history.proofs.Send.{front_send}
-use Rattle.nw_book.proofs.Send.{book_send, done_send, ticket_send}
+use Rattle.nw_book.proofs.Send.{done_send, ticket_send}
 use Rattle.nw_shared_store.specs.contracts.session.SharedSession as session
 use Rattle.nw_shared_store.specs.contracts.store.SharedStore as store
 use Rattle.nw_shared_store.proofs.Send.{shared_session_send, shared_store_send}
@@ -64,21 +64,18 @@ content_send = recorded_send (Enum (shape content.the_type)) (content.the_type).
       (
         (gather.the_send, tt),
         (
-          (search (sendable, crosses, book_send) depth 30, tt),
+          (search (sendable, crosses, done_send) depth 30, tt),
           (
-            (search (sendable, crosses, done_send) depth 30, tt),
+            (search (sendable, crosses, ticket_send) depth 30, tt),
             (
-              (search (sendable, crosses, ticket_send) depth 30, tt),
+              (search (sendable, crosses, hashed_send) depth 30, tt),
               (
                 (search (sendable, crosses, hashed_send) depth 30, tt),
                 (
-                  (search (sendable, crosses, hashed_send) depth 30, tt),
+                  (search (sendable, crosses, store_send) depth 30, tt),
                   (
-                    (search (sendable, crosses, store_send) depth 30, tt),
-                    (
-                      (search (sendable, crosses, session_send) depth 30, tt),
-                      ((search (sendable, crosses, front_send) depth 30, tt), ((search (sendable, crosses, given_send) depth 30, tt), tt)),
-                    ),
+                    (search (sendable, crosses, session_send) depth 30, tt),
+                    ((search (sendable, crosses, front_send) depth 30, tt), ((search (sendable, crosses, given_send) depth 30, tt), tt)),
                   ),
                 ),
               ),

@@ -1,6 +1,5 @@
 -- The contents that functions require, and unchanged handles.
-use Rattle.std.specs.Prelude.{◌≡◌, ◌⊎◌, Box, List}
-use Rattle.std.specs.Global.{Global}
+use Rattle.std.specs.Prelude.{◌≡◌, ◌⊎◌, List}
 use Rattle.nw_committee.specs.declared.member.Member.{Member}
 use Rattle.nw_codec.specs.declared.block.Block.{Block}
 use Rattle.nw_codec.specs.declared.vote.Vote.{Vote}
@@ -44,10 +43,6 @@ HoldsVote c = (vote : Vote) × (c ≡ kind.Checked (checked.Vote vote))
 -- it is the votes gathered for a block
 abbrev pub HoldsGather : Content → Type 0
 HoldsGather c = (votes : Gathering) × (c ≡ kind.Gather votes)
-
--- it is a book
-abbrev pub HoldsBook : Content → Type 0
-HoldsBook c = (book : Box Story Global) × (c ≡ kind.Book book)
 
 -- it is an answer
 abbrev pub HoldsAnswer : Content → Type 0

@@ -9,13 +9,12 @@ pub mod Votes
 pub mod Checks
 pub mod Gathers
 pub mod Blocks
-pub mod Look
-pub mod Books
-pub mod Handed
 pub mod Replies
 pub mod Events
 pub mod Answers
 pub mod Tickets
 pub mod Stores
 pub mod Sessions
+pub mod Look
+pub mod Runs
 pub mod Interface

@@ -15,7 +15,8 @@ use Rattle.nw_book.specs.Answered.{IsExplained}
 use Rattle.nw_book.specs.Journal.{KnowsAll, origin_of}
 use Rattle.nw_book.specs.Settled.{IsJournalOf}
 use Rattle.nw_book.specs.Turn.{MatchesCommittee}
-use Rattle.nw_shared_store.specs.Session.{HasHeard, IsOfAnother, IsPresent, IsRefused, SessionView, knowing}
+use Rattle.nw_shared_store.specs.Rule.{knowing}
+use Rattle.nw_shared_store.specs.Session.{HasHeard, IsOfAnother, IsPresent, IsRefused, IsSameSession, SessionView}
 use Rattle.nw_shared_store.specs.declared.error.Refusal.{Refusal}
 use Rattle.nw_c.specs.declared.content.Content.{Content}
 use Rattle.nw_c.specs.declared.content.Content.TheVariants as kind
@@ -27,11 +28,11 @@ HasNumber other number = ⊥
 
 -- the session's next call got this reply, and the answer carries this history
 pub record IsCallOf (accepts : Meaning) (asked : Call) (old new : SessionView) (told : Reply) (front : Story) : Type 0 where
-  -- the session is still one of its store
-  pub store : new.store ≡ old.store
-  -- there is a legal history of the store, after which the plain store's reply to the call is this one. The answer's history is this
+  -- it is still the same session, of the same run
+  pub same : IsSameSession old new
+  -- there is a legal history of the run, after which the plain store's reply to the call is this one. The answer's history is this
   -- history with the call, and all that the session knew is a prefix of the answer's history
-  pub explained : IsExplained accepts (origin_of old.store.first) old.journal new.journal asked told front
+  pub explained : IsExplained accepts (origin_of old.first) old.journal new.journal asked told front
   -- of this session, the answer's history has exactly the calls that the session made, in order
   pub own_calls : IsJournalOf front old.journal.id new.journal
 
@@ -52,6 +53,12 @@ abbrev pub IsCausalRead : Meaning → Digest → Content → Content → Content
 IsCausalRead accepts d (kind.Session old) (kind.Session new) answer = IsReadBy accepts d old new answer
 IsCausalRead accepts d old new answer = ⊥
 
+-- the committee under which the block or certificate was checked
+abbrev pub committee_checked_under : Content → Option (List Member)
+committee_checked_under (kind.Checked (checked.Block b)) = Some b.committee
+committee_checked_under (kind.Checked (checked.Cert c)) = Some c.committee
+committee_checked_under other = None
+
 -- the session handed in the checked block as a write, or the checked certificate as a certification, and this is the answer
 abbrev pub IsHandedInBy : Meaning → Content → Content → Content → Content → Type 0
 IsHandedInBy accepts (kind.Checked (checked.Block b)) old new answer = IsCalled accepts (call.Write (digest_of b.block) b.block) old new answer
@@ -60,20 +67,20 @@ IsHandedInBy accepts other old new answer = ⊥
 
 -- it is a session, whose store is under the second committee, if there is one
 abbrev pub IsUnderOwn : Content → Option (List Member) → Type 0
-IsUnderOwn (kind.Session session) under = MatchesCommittee session.store.first.committee under
+IsUnderOwn (kind.Session session) under = MatchesCommittee session.first.committee under
 IsUnderOwn other under = ⊥
 
 -- the session's next call is refused for this cause; `under` is the committee of the value handed in, if the call hands one in. The cause is
--- never its turn. Each other cause but a taken lock applies after some history of the store
+-- never its turn. The lock may be taken, or the session's run has ended. Each other cause applies after some history of the run
 abbrev pub IsRefusedTo : Meaning → Content → Option (List Member) → Refusal → Type 0
-IsRefusedTo accepts (kind.Session session) under why = IsRefused accepts (origin_of session.store.first) session.journal under why
+IsRefusedTo accepts (kind.Session session) under why = IsRefused accepts (origin_of session.first) session.journal under why
 IsRefusedTo accepts other under why = ⊥
 
--- the history is the present one of the session's store. Of this session it has exactly the calls that it made, in order, and all that the
+-- the history is the present one of the session's run. Of this session it has exactly the calls that it made, in order, and all that the
 -- session knew is a prefix of it. From now on, the session knows of this history
 abbrev pub IsNoteOf : Meaning → Content → Content → Content → Type 0
 IsNoteOf accepts (kind.Session old) (kind.Session new) (kind.History history) =
-    (new.store ≡ old.store) × (new.journal ≡ knowing old.journal history) × ((made : ℕ) × IsPresent accepts (origin_of old.store.first) old.journal history made)
+    IsSameSession old new × (new.journal ≡ knowing old.journal history) × ((made : ℕ) × IsPresent accepts (origin_of old.first) old.journal history made)
 IsNoteOf accepts old new answer = ⊥
 
 -- it is a session that knows of a history of which this one is a prefix
@@ -81,13 +88,13 @@ abbrev pub KnowsNote : Content → Option Story → Type 0
 KnowsNote (kind.Session session) (Some front) = HasHeard session.journal front
 KnowsNote other front = ⊥
 
--- it is the same session of the same store, with the same answers, and it still knows of each history that it knew of
+-- it is the same session of the same run, with the same answers, and it still knows of each history that it knew of
 abbrev pub IsLater : Content → Content → Type 0
 IsLater (kind.Session old) (kind.Session new) =
-    (new.store ≡ old.store) × (new.journal.id ≡ old.journal.id) × (new.journal.answers ≡ old.journal.answers) × KnowsAll new.journal.known old.journal.known
+    IsSameSession old new × (new.journal.answers ≡ old.journal.answers) × KnowsAll new.journal.known old.journal.known
 IsLater old new = ⊥
 
--- this history is no prefix of some history of the session's store
+-- this history is no prefix of some history of the session's run
 abbrev pub IsNoNoteFor : Meaning → Content → Option Story → Type 0
-IsNoNoteFor accepts (kind.Session session) (Some front) = IsOfAnother accepts (origin_of session.store.first) front
+IsNoNoteFor accepts (kind.Session session) (Some front) = IsOfAnother accepts (origin_of session.first) front
 IsNoNoteFor accepts other front = ⊥

@@ -14,7 +14,7 @@ use crate::texts::hand_out_certificate;
 use nw_model::Reply;
 use std::alloc::Global;
 
-/// The counts of a book: its garbage round, and how many blocks, certificates, complete blocks and missing parents (`wanted`) it has.
+/// The counts of a store: its garbage round, and how many blocks, certificates, complete blocks and missing parents (`wanted`) it has.
 #[repr(C)]
 #[derive(Clone, Copy)]
 pub struct CStatus {

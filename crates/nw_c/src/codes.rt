@@ -19,9 +19,9 @@ pub(crate) const OTHER_KIND: i32 = 4;
 pub(crate) const BAD_COMMITTEE: i32 = 5;
 /// A limit is outside its range.
 pub(crate) const BAD_LIMITS: i32 = 6;
-/// The call's number is not the session's next one, or the session's number is not below the limit on sessions.
+/// The call is out of turn. No function returns this code, because a session numbers its own calls.
 pub(crate) const OUT_OF_TURN: i32 = 7;
-/// The block or certificate was checked under another committee than the book's.
+/// The block or certificate was checked under another committee than the store's.
 pub(crate) const OTHER_COMMITTEE: i32 = 8;
 /// The history has reached its limit on events.
 pub(crate) const HISTORY_FULL: i32 = 9;
@@ -49,10 +49,12 @@ pub(crate) const NOT_COMPARABLE: i32 = 19;
 pub(crate) const BUSY: i32 = 20;
 /// The store has made as many sessions as its limit allows.
 pub(crate) const TOO_MANY_SESSIONS: i32 = 21;
-/// The history is no prefix of the history of the session's store.
+/// The history is no prefix of the history of the session's run.
 pub(crate) const OTHER_HISTORY: i32 = 22;
 /// The sessions are not all sessions of one store, in the order of their numbers.
 pub(crate) const UNSETTLED: i32 = 23;
+/// The run of the session has ended. Nothing changed. Renew the session.
+pub(crate) const ENDED: i32 = 24;
 
 /// The code of a refused step.
 pub(crate) fn code_of_step(why: NoStep) -> i32

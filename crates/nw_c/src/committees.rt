@@ -1,5 +1,5 @@
 //! Making and reading committees.
-ghost use Rattle.std.specs.Prelude.{◌≡◌, pos, map, IfOk, IfErr, true};
+ghost use Rattle.std.specs.Prelude.{◌≡◌, pos, map, IfOk, IfErr, true, false};
 ghost use Rattle.nw_committee.specs.Committee.{IsCommittee as IsValid};
 ghost use Rattle.nw_c.specs.Committees.{AreOneCommittee, HasMember, HasQuorum, HasSize, IsCommitteeOf, LacksMember, member_in};
 ghost use Rattle.nw_c.specs.Kinds.{IsUnchanged, HoldsCommittee};
@@ -74,7 +74,10 @@ pub(crate) fn put_prepared(alloc: Global, out: &mut Handle, committee: Shared<Co
 }
 
 /// The committee with prepared keys, to be shared.
-fn prepared(alloc: Global, committee: Shared<Committee>) -> Result<Shared<PreparedCommittee>, NoMemory>
+fn prepared(
+    alloc: Global,
+    committee: Shared<Committee>,
+) -> Result<Shared<PreparedCommittee>, NoMemory>
     ensures { IfOk result (λ prepared. prepared ≡ committee) }
 {
     Shared::new(alloc, PreparedCommittee::new(alloc, committee)?)

@@ -1,7 +1,10 @@
 //! The contents of handles.
+ghost use Rattle.std.specs.Prelude.{◌≡◌, false};
+ghost use Rattle.nw_c.specs.Kinds.{HoldsRoom};
+
 use crate::given::Given;
 use crate::hashed::HashedBlock;
-use nw_book::{Book, Done, Ticket};
+use nw_book::{Done, Ticket};
 use nw_check::Checked;
 use nw_digest::{Sequence, Shared};
 use nw_ed25519::Ed25519;
@@ -20,9 +23,6 @@ pub enum Content {
     Checked(Checked<Ed25519>),
     /// The votes for one block.
     Gather(PreparedGather),
-    /// A book: a history, and the tables with the state after it. It is boxed because every content, also an answer, takes as much memory
-    /// as the largest variant.
-    Book(Box<Book<Ed25519>>),
     /// The answer to a call.
     Answer(Done<Ed25519>),
     /// A ticket, which can be walked at any time.
@@ -31,12 +31,22 @@ pub enum Content {
     List(Sequence<HashedBlock>),
     /// A block.
     Block(HashedBlock),
-    /// One owner of a store that threads share.
+    /// One owner of a store.
     Store(SharedStore<Ed25519>),
-    /// A session of such a store.
+    /// A session of a store.
     Session(SharedSession<Ed25519>),
-    /// The history of a store: a note, or what its sessions settled on.
+    /// The history of a run: a note, the last history of an ended run, or what sessions settled on.
     History(Front<Ed25519>),
     /// The sessions that are given to a settlement, in order.
     Settlement(Given),
+}
+
+/// Whether an answer may replace this content: it is room, an answer, a ticket or a history.
+pub(crate) fn is_room(content: &Content) -> bool
+    ensures { result ≡ false → HoldsRoom content.now → ⊥ }
+{
+    matches!(
+        content,
+        Content::Room | Content::Answer(_) | Content::Ticket(_) | Content::History(_)
+    )
 }

@@ -68,7 +68,7 @@ impl Given {
     pub(crate) fn settle(&mut self) -> Result<Front<Ed25519>, Unsettled>
         ensures settled { IfOk result (λ history. AreSettled history (map (λ s. s.journal) self.new)) }
         ensures of_store { IfOk result (λ history.
-            All (λ s. IsHistoryOf accepts (origin_of s.store.first) history) self.new) }
+            All (λ s. IsHistoryOf accepts (origin_of s.first) history) self.new) }
         ensures kept { map kept self.new ≡ map kept self.old }
     {
         settle(self.sessions.as_mut_slice())

@@ -34,18 +34,17 @@ pub type CommitteeHandle = Handle;
 pub type CheckedHandle = Handle;
 /// The votes gathered for one block.
 pub type GatherHandle = Handle;
-/// A book: the stored blocks and certificates, and the history of the calls that led to them.
-pub type BookHandle = Handle;
 /// Room for an answer, an answer, a ticket, or a history. A ticket is the answer to a causal read whose list can be walked. A history is a
-/// note of a session, or what sessions settled on.
+/// note of a session, the last history of an ended run, or what sessions settled on.
 pub type AnswerHandle = Handle;
 /// The list of blocks of a walk.
 pub type ListHandle = Handle;
 /// A block.
 pub type BlockHandle = Handle;
-/// A store that threads share. Each thread has a handle of its own.
+/// A store that threads share: the stored blocks and certificates, and the history of the calls of the present run. Each thread has a handle
+/// of its own.
 pub type StoreHandle = Handle;
-/// A session of a store: the calls of one thread.
+/// A session of a store: the calls of one thread in one run.
 pub type SessionHandle = Handle;
 /// The sessions that are given to a settlement.
 pub type SettlementHandle = Handle;

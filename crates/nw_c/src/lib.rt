@@ -6,7 +6,6 @@
 
 mod answers;
 mod blocks;
-mod books;
 mod checks;
 mod codes;
 mod committees;
@@ -14,7 +13,6 @@ mod content;
 mod events;
 mod gathers;
 mod given;
-mod handed;
 mod handle;
 mod hashed;
 mod interface;

@@ -1,23 +1,27 @@
 //! Notes: what one session knows, for another one.
 ghost use Rattle.std.specs.Prelude.{◌≡◌, pos, true};
 ghost use Rattle.nw_ed25519.specs.Accepts.{accepts};
+ghost use Rattle.nw_shared_store.specs.Session.{IsUnseen};
+ghost use Rattle.nw_shared_store.specs.declared.error.Refusal.{Refusal};
 ghost use Rattle.nw_c.specs.Events.{front_in};
 ghost use Rattle.nw_c.specs.Kinds.{HasHistory, HoldsRoom, HoldsSession, IsUnchanged};
 ghost use Rattle.nw_c.specs.Sessions.{IsLater, IsNoNoteFor, IsNoteOf, KnowsNote};
+ghost use Rattle.nw_c.specs.Stores.{refusal_code};
 ghost use Rattle.nw_c.specs.declared.codes.TheConstants.{CLOSED, OTHER_HISTORY, OTHER_KIND};
 
-use crate::books::is_room;
 use crate::codes::{CLOSED, DONE, OTHER_HISTORY, OTHER_KIND};
-use crate::content::Content;
+use crate::content::{Content, is_room};
 use crate::events::front_of;
 use crate::handle::{AnswerHandle, SessionHandle};
 use crate::stores::code_of_refusal;
 
-/// Replaces the content of `answer` with a note: the history of the session's store as it is now. This is not a call. A session of the same
-/// store that hears the note knows all that this session knows. Returns `NW_BUSY` if another thread has the lock.
+/// Replaces the content of `answer` with a note: the history of the session's run as it is now. This is not a call. A session of the same run
+/// that hears the note knows all that this session knows. Returns `NW_BUSY` if another thread has the lock, and `NW_ENDED` if the run of the
+/// session has ended.
 #[unsafe(no_mangle)]
 pub extern "C" fn nw_session_note(session: &mut SessionHandle, answer: &mut AnswerHandle) -> i32
     ensures note { result ≡ pos 0 → IsNoteOf accepts session.old.value session.new.value answer.new.value }
+    ensures refused { (why : Refusal) → result ≡ refusal_code why → IsUnseen why }
     ensures unchanged { (result ≡ pos 0 → ⊥) → IsUnchanged session.old session.new }
     ensures answer { (result ≡ pos 0 → ⊥) → IsUnchanged answer.old answer.new }
     ensures stays { session.new.held ≡ session.old.held }
@@ -43,15 +47,17 @@ pub extern "C" fn nw_session_note(session: &mut SessionHandle, answer: &mut Answ
     }
 }
 
-/// Hears a note of another session of the same store, or an answer or ticket of it. From then on, its history is a prefix of the history of
-/// every answer of this session. This is not a call. Returns `NW_BUSY` if another thread has the lock, and `NW_OTHER_HISTORY` if the note is
-/// no prefix of the store's history, for instance because it is of another store. The time grows with the number of events of the note.
+/// Hears a note of another session of the same run, or an answer or ticket of it. From then on, its history is a prefix of the history of
+/// every answer of this session in this run. This is not a call. Returns `NW_BUSY` if another thread has the lock, `NW_ENDED` if the run of
+/// the session has ended, and `NW_OTHER_HISTORY` if the note is no prefix of the run's history, for instance because it is of another store
+/// or run. The time grows with the number of events of the note.
 #[unsafe(no_mangle)]
 pub extern "C" fn nw_session_hear(session: &mut SessionHandle, note: &mut AnswerHandle) -> i32
     ensures heard { result ≡ pos 0 → KnowsNote session.new.value (front_in note.old.value) }
     ensures knew { result ≡ pos 0 → IsLater session.old.value session.new.value }
     ensures other { result ≡ OTHER_HISTORY → IsNoNoteFor accepts session.old.value (front_in note.old.value) }
     ensures other_knew { result ≡ OTHER_HISTORY → IsLater session.old.value session.new.value }
+    ensures refused { (why : Refusal) → result ≡ refusal_code why → IsUnseen why }
     ensures unchanged { (result ≡ pos 0 → ⊥) → (result ≡ OTHER_HISTORY → ⊥) → IsUnchanged session.old session.new }
     ensures same { IsUnchanged note.old note.new }
     ensures stays { session.new.held ≡ session.old.held }

@@ -12,7 +12,7 @@ use crate::plain::{CTagged, named, numbered, plain};
 use nw_model::{CausalReply, CertifyReply, CollectReply, Reply, WriteReply};
 
 /// Write: the block is now stored, and it is the first of its round and author. Vote for it once all its parents are
-/// stored and certified (`nw_book_look`). A block of the garbage round needs no parents.
+/// stored and certified (`nw_session_look`). A block of the garbage round needs no parents.
 pub(crate) const STORED_VOTE: i32 = 201;
 /// Write: the block is now stored, without a vote: another block of its round and author came first, but this one is certified.
 pub(crate) const STORED: i32 = 202;
@@ -35,7 +35,7 @@ pub(crate) const COLLECTED: i32 = 209;
 pub(crate) const TOO_FAR: i32 = 210;
 /// Write or certificate: a stored block or certificate of this digest has another round or author.
 pub(crate) const MISFIT: i32 = 211;
-/// Write or certificate: the book has reached its limit on blocks or on certificates. Drop it, and fetch it after a collection.
+/// Write or certificate: the store has reached its limit on blocks or on certificates. Drop it, and fetch it after a collection.
 pub(crate) const FULL: i32 = 212;
 /// Read or call for a certificate: it was found.
 pub(crate) const FOUND: i32 = 213;

@@ -3,15 +3,13 @@ ghost use Rattle.std.specs.Prelude.{◌≡◌, ◌⊎◌, pos, true};
 ghost use Rattle.nw_ed25519.specs.Accepts.{accepts};
 ghost use Rattle.nw_book.specs.Command.{call_of, committee_of};
 ghost use Rattle.nw_shared_store.specs.declared.error.Refusal.{Refusal};
-ghost use Rattle.nw_c.specs.Handed.{committee_checked_under};
 ghost use Rattle.nw_c.specs.Kinds.{HoldsCheckedBlock, HoldsCheckedCert, HoldsRoom, HoldsSession, IsUnchanged};
-ghost use Rattle.nw_c.specs.Sessions.{HasNumber, IsCalled, IsHandedInBy, IsRefusedTo, IsUnderOwn};
+ghost use Rattle.nw_c.specs.Sessions.{HasNumber, IsCalled, IsHandedInBy, IsRefusedTo, IsUnderOwn, committee_checked_under};
 ghost use Rattle.nw_c.specs.Stores.{refusal_code};
 ghost use Rattle.nw_c.specs.declared.codes.TheConstants.{BAD_ROUND, CLOSED, OTHER_KIND};
 
-use crate::books::is_room;
 use crate::codes::{CLOSED, DONE, OTHER_KIND};
-use crate::content::Content;
+use crate::content::{Content, is_room};
 use crate::handle::{AnswerHandle, CheckedHandle, Handle, SessionHandle};
 use crate::stores::code_of_refusal;
 use nw_book::Command;
@@ -20,6 +18,8 @@ use nw_ed25519::Ed25519;
 use std::alloc::Global;
 
 mod calls;
+mod look;
+mod runs;
 
 /// Writes the session's number. A store numbers its sessions from 0, in the order in which it makes them.
 #[unsafe(no_mangle)]
@@ -82,8 +82,9 @@ pub(crate) fn call(
 }
 
 /// Writes the checked block, or certifies the digest of the checked certificate, as the session's next call. Returns `NW_BUSY` if another
-/// thread has the lock: call again. The handle of the checked text stays open, and the text may be handed to other stores. Returns
-/// `NW_OTHER_KIND` if the text is neither a valid block nor a valid certificate.
+/// thread has the lock: call again. Returns `NW_ENDED` if the run of the session has ended: renew the session. The handle of the checked text
+/// stays open, and the text may be handed to other stores. Returns `NW_OTHER_KIND` if the text is neither a valid block nor a valid
+/// certificate.
 #[unsafe(no_mangle)]
 pub extern "C" fn nw_session_hand_in(
     alloc: Global,

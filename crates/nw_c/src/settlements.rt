@@ -1,13 +1,12 @@
-//! Settlement: the sessions of a store are given, and their calls together are one history.
+//! Settlement: the sessions of a store are given, and their calls of one run together are its history.
 ghost use Rattle.std.specs.Prelude.{◌≡◌, pos, true, false};
 ghost use Rattle.nw_ed25519.specs.Accepts.{accepts};
 ghost use Rattle.nw_c.specs.Kinds.{HoldsRoom, HoldsSession, HoldsSettlement, IsUnchanged};
 ghost use Rattle.nw_c.specs.Stores.{IsEmptySettlement, IsGiven, IsSettled, kept_in};
 ghost use Rattle.nw_c.specs.declared.codes.TheConstants.{ABSENT, CLOSED, OPEN, OTHER_KIND};
 
-use crate::books::is_room;
 use crate::codes::{ABSENT, CLOSED, DONE, NO_MEMORY, OPEN, OTHER_KIND, UNSETTLED};
-use crate::content::Content;
+use crate::content::{Content, is_room};
 use crate::given::Given;
 use crate::handle::{AnswerHandle, Handle, SessionHandle, SettlementHandle, open, put};
 use crate::stores::code_of_refusal;
@@ -68,10 +67,11 @@ pub extern "C" fn nw_settlement_give(
     }
 }
 
-/// Settles the sessions that were given, which must be all that one store made, in the order of their numbers, and replaces the content of
-/// `answer` with the store's history: it is an interleaving of their calls, and the history of each of their answers is a prefix of it.
-/// The sessions stay with the settlement. Returns `NW_UNSETTLED` if they are not all sessions of one store or not in order, and `NW_BUSY` if
-/// another thread has a store's lock. The time grows with the number of sessions times the number of events.
+/// Settles the sessions that were given, which must be all that one store made, in the order of their numbers, and of the present run. It
+/// replaces the content of `answer` with the run's history, which is an interleaving of their calls in this run. The history of each answer to
+/// these calls is a prefix of it. The sessions stay with the settlement. Returns `NW_UNSETTLED` if they are not all sessions of one store or
+/// not in order, `NW_BUSY` if another thread has a store's lock, and `NW_ENDED` if the run of a session has ended. The time grows with the
+/// number of sessions times the number of events.
 #[unsafe(no_mangle)]
 pub extern "C" fn nw_settle(settlement: &mut SettlementHandle, answer: &mut AnswerHandle) -> i32
     ensures settled { result ≡ pos 0 → IsSettled accepts settlement.new.value answer.new.value }

@@ -1,22 +1,49 @@
-//! Stores that threads share: making and sharing them, and making sessions.
+//! Stores that threads share: making and sharing them, what they were made with, and making sessions.
 ghost use Rattle.std.specs.Prelude.{◌≡◌, pos, true};
 ghost use Rattle.nw_history.specs.Limits.{AreInRange};
+ghost use Rattle.nw_shared_store.specs.Session.{IsPassing};
 ghost use Rattle.nw_shared_store.specs.declared.error.Refusal.{Refusal};
-ghost use Rattle.nw_c.specs.Books.{limits_in};
 ghost use Rattle.nw_c.specs.Kinds.{HoldsCommittee, HoldsStore, IsUnchanged};
-ghost use Rattle.nw_c.specs.Stores.{AreOneStore, IsEmptyStore, IsNewSessionOf, refusal_code};
+ghost use Rattle.nw_c.specs.Stores.{AreOneStore, HasLimits, IsEmptyStore, IsNewSessionOf, IsUnder, limits_in, refusal_code};
 ghost use Rattle.nw_c.specs.declared.codes.TheConstants.{BAD_LIMITS, CLOSED, OPEN, OTHER_KIND};
 
-use crate::books::CLimits;
 use crate::codes::{
-    BAD_LIMITS, BUSY, CLOSED, DONE, NO_MEMORY, OPEN, OTHER_KIND, TOO_MANY_SESSIONS, code_of_step,
+    BAD_LIMITS, BUSY, CLOSED, DONE, ENDED, NO_MEMORY, OPEN, OTHER_KIND, TOO_MANY_SESSIONS,
+    code_of_step,
 };
+use crate::committees::put_prepared;
 use crate::content::Content;
 use crate::handle::{CommitteeHandle, SessionHandle, StoreHandle, open, put};
-use nw_book::BookError;
+use nw_book::{BookError, Limits};
 use nw_ed25519::Ed25519;
 use nw_shared_store::{Refusal, SharedStore};
 use std::alloc::Global;
+
+/// The limits of a store. `blocks` limits the stored blocks, and separately the certificates: 1 to 65,536. `events` limits the events of the
+/// history of a run: 1 to 65,536. `window` is the number of rounds that the store accepts, from the garbage round on: 1 to 4,096. `sessions`
+/// limits the sessions, which are numbered from 0: 1 to 256.
+#[repr(C)]
+#[derive(Clone, Copy)]
+pub struct CLimits {
+    pub blocks: u32,
+    pub events: u32,
+    pub window: u32,
+    pub sessions: u32,
+}
+
+impl CLimits {
+    /// The limits as values of `nw_book`.
+    pub fn get(&self) -> Limits
+        ensures { result ≡ limits_in self.now }
+    {
+        Limits {
+            blocks: self.blocks,
+            events: self.events,
+            window: self.window,
+            sessions: self.sessions,
+        }
+    }
+}
 
 /// The code of a refusal.
 pub(crate) fn code_of_refusal(why: Refusal) -> i32
@@ -24,13 +51,15 @@ pub(crate) fn code_of_refusal(why: Refusal) -> i32
 {
     match why {
         Refusal::Busy => BUSY,
+        Refusal::Ended => ENDED,
         Refusal::TooMany => TOO_MANY_SESSIONS,
         Refusal::NoStep(why) => code_of_step(why),
     }
 }
 
-/// Makes a store with an empty history under the committee and the limits. Threads may call it at the same time without a lock of their own:
-/// each through a handle of its own, see `nw_store_share`, and sessions of its own. Returns `NW_BAD_LIMITS` if a limit is out of range.
+/// Makes a store under the committee and the limits. Its first run, run 0, has an empty history. Threads may call it at the same time without
+/// a lock of their own: each through a handle of its own, see `nw_store_share`, and sessions of its own. Returns `NW_BAD_LIMITS` if a limit is
+/// out of range.
 #[unsafe(no_mangle)]
 pub extern "C" fn nw_store_new(
     alloc: Global,
@@ -96,8 +125,8 @@ pub extern "C" fn nw_store_share(
     }
 }
 
-/// Makes a session, which has made no call. A store numbers its sessions from 0. Returns `NW_BUSY` if another thread has the lock, and
-/// `NW_TOO_MANY_SESSIONS` at the limit on sessions.
+/// Makes a session of the present run, which has made no call. A store numbers its sessions from 0, in all runs together. Returns `NW_BUSY` if
+/// another thread has the lock, and `NW_TOO_MANY_SESSIONS` at the limit on sessions.
 #[unsafe(no_mangle)]
 pub extern "C" fn nw_store_session(
     alloc: Global,
@@ -139,10 +168,78 @@ pub extern "C" fn nw_store_session(
     }
 }
 
+/// Writes the limits that the store was made with. Returns `NW_BUSY` if another thread has the lock.
+#[unsafe(no_mangle)]
+pub extern "C" fn nw_store_limits(store: &mut StoreHandle, out: &mut CLimits) -> i32
+    ensures limits { result ≡ pos 0 → HasLimits store.old.value out.new }
+    ensures refused { (why : Refusal) → result ≡ refusal_code why → IsPassing why }
+    ensures same { IsUnchanged store.old store.new }
+    ensures unchanged { (result ≡ pos 0 → ⊥) → out.new ≡ out.old }
+    ensures closed { result ≡ CLOSED → store.old.held ≡ true → ⊥ }
+    ensures other_kind { result ≡ OTHER_KIND → HoldsStore store.old.value → ⊥ }
+{
+    if !store.is_open() {
+        return CLOSED;
+    }
+    let Content::Store(held) = store.lend() else {
+        return OTHER_KIND;
+    };
+    match held.history() {
+        Ok(history) => {
+            let limits = history.limits();
+            *out = CLimits {
+                blocks: limits.blocks,
+                events: limits.events,
+                window: limits.window,
+                sessions: limits.sessions,
+            };
+            DONE
+        }
+        Err(why) => code_of_refusal(why),
+    }
+}
+
+/// Opens a handle of the store's committee. It prepares the keys again, which costs what it costs in `nw_committee_new`. Returns `NW_BUSY` if
+/// another thread has the lock.
+#[unsafe(no_mangle)]
+pub extern "C" fn nw_store_committee(
+    alloc: Global,
+    store: &mut StoreHandle,
+    out: &mut CommitteeHandle,
+) -> i32
+    ensures committee { result ≡ pos 0 → IsUnder store.old.value out.new.value }
+    ensures refused { (why : Refusal) → result ≡ refusal_code why → IsPassing why }
+    ensures same { IsUnchanged store.old store.new }
+    ensures unchanged { (result ≡ pos 0 → ⊥) → IsUnchanged out.old out.new }
+    ensures opened { result ≡ pos 0 → out.new.held ≡ true }
+    ensures occupied { result ≡ OPEN → out.old.held ≡ true }
+    ensures closed { result ≡ CLOSED → store.old.held ≡ true → ⊥ }
+    ensures other_kind { result ≡ OTHER_KIND → HoldsStore store.old.value → ⊥ }
+{
+    if !store.is_open() {
+        return CLOSED;
+    }
+    if out.is_open() {
+        return OPEN;
+    }
+    let Content::Store(held) = store.lend() else {
+        return OTHER_KIND;
+    };
+    let history = match held.history() {
+        Ok(history) => history,
+        Err(why) => return code_of_refusal(why),
+    };
+    match history.committee().try_clone() {
+        Ok(committee) => put_prepared(alloc, out, committee),
+        Err(_) => NO_MEMORY,
+    }
+}
+
 /// Rebuilds the list of complete blocks that tickets share, without collected blocks. Later tickets share the new list, and earlier
 /// tickets keep theirs. It changes nothing that a call can observe. Returns `NW_BUSY` if another thread has the lock.
 #[unsafe(no_mangle)]
 pub extern "C" fn nw_store_compact(alloc: Global, store: &mut StoreHandle) -> i32
+    ensures refused { (why : Refusal) → result ≡ refusal_code why → IsPassing why }
     ensures same { IsUnchanged store.old store.new }
     ensures closed { result ≡ CLOSED → store.old.held ≡ true → ⊥ }
     ensures other_kind { result ≡ OTHER_KIND → HoldsStore store.old.value → ⊥ }

@@ -57,8 +57,8 @@ fn agree(alloc: Global, one: &Ticket<Ed25519>, other: &Ticket<Ed25519>) -> Resul
     }
 }
 
-/// Compares the lists of both tickets, and writes whether they are equal. The tickets may come from two books. If the lists differ, two different
-/// blocks have the same digest. Returns `NW_NOT_COMPARABLE` if the tickets have different digests or garbage rounds.
+/// Compares the lists of both tickets, and writes whether they are equal. The tickets may come from two stores. If the lists differ, two
+/// different blocks have the same digest. Returns `NW_NOT_COMPARABLE` if the tickets have different digests or garbage rounds.
 #[unsafe(no_mangle)]
 pub extern "C" fn nw_ticket_agree(
     alloc: Global,

@@ -12,9 +12,8 @@ ghost use Rattle.nw_c.specs.Stores.{refusal_code};
 ghost use Rattle.nw_c.specs.declared.codes.TheConstants.{BAD_ROUND, CLOSED, OTHER_KIND};
 
 use super::call;
-use crate::books::is_room;
 use crate::codes::{BAD_ROUND, CLOSED, DONE, OTHER_KIND};
-use crate::content::Content;
+use crate::content::{Content, is_room};
 use crate::handle::{AnswerHandle, SessionHandle};
 use crate::plain::CDigest;
 use crate::stores::code_of_refusal;
@@ -228,7 +227,7 @@ fn read_causally(
 ) -> Result<Content, Refusal>
     ensures read { IfOk result (IsReadBy accepts digest session.old session.new) }
     ensures refused { IfErr result
-        (IsRefused accepts (origin_of session.old.store.first) session.old.journal None) }
+        (IsRefused accepts (origin_of session.old.first) session.old.journal None) }
     ensures unchanged { OnErr result (session.new ≡ session.old) }
 {
     match session.open_causal(alloc, digest) {

@@ -5,11 +5,11 @@ returns-in-Ok-Ok-clause-read c =
     let answered = rw c.in-Ok-Ok.field-0-is at c.in-Ok-Ok.ensures.answered in
     let own = rw c.in-Ok-Ok.field-0-is at c.in-Ok-Ok.ensures.own_calls in
     let told = rw c.in-Ok-Ok.field-0-is at c.in-Ok-Ok.ensures.told in
-    (record { store = c.open_causal.ensures.store; explained = answered; own_calls = own }, told)
+    (record { same = c.open_causal.ensures.same; explained = answered; own_calls = own }, told)
 
 pub returns-in-Ok-Err-clause-read : goal.returns-in-Ok-Err-clause-read
 returns-in-Ok-Err-clause-read c =
     let answered = rw c.in-Ok-Err.field-0-is at c.in-Ok-Err.ensures.answered in
     let own = rw c.in-Ok-Err.field-0-is at c.in-Ok-Err.ensures.own_calls in
     let told = rw c.in-Ok-Err.field-0-is at c.in-Ok-Err.ensures.told in
-    (record { store = c.open_causal.ensures.store; explained = answered; own_calls = own }, told)
+    (record { same = c.open_causal.ensures.same; explained = answered; own_calls = own }, told)
