@@ -1,4 +1,4 @@
-use Rattle.std.proofs.Common.{◌≡◌, ◌==◌, ◌<◌, ◌≤◌, Err, false, ap, arith, subst, sym, ◌∙◌}
+use Rattle.std.proofs.Common.{◌≡◌, ◌==◌, Err, false, ap, arith, subst, sym, ◌∙◌}
 use Rattle.nw_c.proofs.Cut.{Cutting, has_room, is_short, none_left}
 use Rattle.nw_c.proofs.blocks.making.transactions_of.Goals as goal
 
