@@ -1,4 +1,4 @@
-/* An example of a validator in C. It stores a block and its certificate, and reads the block causally.
+/* An example of a validator in C. It stores a block and its certificate, reads the block causally, and restarts the history.
 
        cc -std=c99 -I bindings/c bindings/c/example.c bindings/c/alloc.c bindings/rust/prebuilt/x86_64-linux/libnw.a -o /tmp/example
        /tmp/example
@@ -57,13 +57,15 @@ int main(void)
 	const nw_limits limits = {1024, 1024, 64, 1};
 	nw_committee committee = {0};
 	nw_checked block = {0}, certificate = {0};
-	nw_book book = {0};
+	nw_store store = {0};
+	nw_session session = {0};
 	nw_answer answer = {0}, ticket = {0};
 	nw_list list = {0};
 	nw_block found = {0};
 	nw_message message;
 	nw_subject subject;
 	nw_status status;
+	nw_look look;
 	uint32_t size = 0;
 	size_t length = 0, events = 0;
 
@@ -73,9 +75,10 @@ int main(void)
 		memcpy(members[i].key, keys + 32 * i, 32);
 		members[i].weight = 1;
 	}
-	tell("book without a committee", nw_book_new(&committee, &limits, &book));
+	tell("store without a committee", nw_store_new(&committee, &limits, &store));
 	tell("committee", nw_committee_new(members, 4, &committee));
-	tell("book", nw_book_new(&committee, &limits, &book));
+	tell("store", nw_store_new(&committee, &limits, &store));
+	tell("session", nw_store_session(&store, &session));
 	tell("room for answers", nw_answer_new(&answer));
 	tell("room for a ticket", nw_answer_new(&ticket));
 	tell("check of the block", nw_check(&committee, text, bytes_of(BLOCK, text), &block));
@@ -83,14 +86,15 @@ int main(void)
 	tell("what the certificate is", nw_checked_kind(&certificate, &message));
 	printf("  kind %d round %llu author %d\n", (int)message.kind, (unsigned long long)message.subject.round, (int)message.subject.author);
 
-	tell_reply("write", nw_book_hand_in(&book, 0, 1, &block, &answer), &answer);
-	tell_reply("write out of turn", nw_book_hand_in(&book, 0, 1, &block, &answer), &answer);
-	tell_reply("write again", nw_book_hand_in(&book, 0, 2, &block, &answer), &answer);
-	tell_reply("causal read", nw_book_open(&book, 0, 3, &message.subject.digest, &ticket), &ticket);
-	tell_reply("certify", nw_book_hand_in(&book, 0, 4, &certificate, &answer), &answer);
-	tell_reply("causal read", nw_book_open(&book, 0, 5, &message.subject.digest, &ticket), &ticket);
-	tell_reply("collect", nw_book_collect(&book, 0, 6, 1, &answer), &answer);
-	tell_reply("read", nw_book_read(&book, 0, 7, &message.subject.digest, &answer), &answer);
+	tell_reply("write", nw_session_hand_in(&session, &block, &answer), &answer);
+	tell_reply("write again", nw_session_hand_in(&session, &block, &answer), &answer);
+	tell_reply("causal read", nw_session_open(&session, &message.subject.digest, &ticket), &ticket);
+	tell_reply("certify", nw_session_hand_in(&session, &certificate, &answer), &answer);
+	tell("look", nw_session_look(&session, message.subject.round, message.subject.author, &look));
+	printf("  certified %d, stands %d, complete %d\n", look.has_certified, look.stands, look.complete);
+	tell_reply("causal read", nw_session_open(&session, &message.subject.digest, &ticket), &ticket);
+	tell_reply("collect", nw_session_collect(&session, 1, &answer), &answer);
+	tell_reply("read", nw_session_read(&session, &message.subject.digest, &answer), &answer);
 
 	tell("walk", nw_ticket_walk(&ticket, &list));
 	tell("length", nw_list_len(&list, &length));
@@ -104,17 +108,24 @@ int main(void)
 	tell("body", nw_block_body(&found, body, sizeof body, &length));
 	printf("  %zu bytes, the last is %c\n", length, body[length - 1]);
 
-	tell_reply("status", nw_book_status(&book, 0, 8, &answer), &answer);
+	tell_reply("status", nw_session_status(&session, &answer), &answer);
 	tell("counts", nw_answer_status(&answer, &status));
 	printf("  garbage round %llu, %llu blocks\n", (unsigned long long)status.floor, (unsigned long long)status.blocks);
 	tell("events", nw_answer_events(&answer, &events));
 	printf("  %zu explain the answer\n", events);
+	tell("restart", nw_session_restart(&session, &answer));
+	tell("events of the ended run", nw_answer_events(&answer, &events));
+	printf("  %zu\n", events);
+	tell_reply("write after the restart", nw_session_hand_in(&session, &block, &answer), &answer);
+	tell("events", nw_answer_events(&answer, &events));
+	printf("  %zu explains the answer\n", events);
 
 	nw_block_free(&found);
 	nw_list_free(&list);
 	nw_answer_free(&ticket);
 	nw_answer_free(&answer);
-	nw_book_free(&book);
+	nw_session_free(&session);
+	nw_store_free(&store);
 	nw_checked_free(&certificate);
 	nw_checked_free(&block);
 	nw_committee_free(&committee);

@@ -4,9 +4,10 @@
    NW_DONE. For a closed handle or a handle of another kind, a function returns a code. Never copy an open handle. Close each with the
    function of its kind, as nw_block_free. It does nothing for NULL or a closed handle.
 
-   If several codes apply, a function returns the first of NW_CLOSED, NW_OPEN, NW_BAD_ROUND and NW_OTHER_KIND, and otherwise the first
-   that its comment names. But nw_book_hand_in and nw_session_hand_in look at their text before all else, and nw_book_collect and
-   nw_session_collect at their round. The numbers of codes, kinds of texts, replies and calls do not overlap.
+   If several codes apply, a function returns the first of NW_CLOSED, NW_OPEN and NW_OTHER_KIND, and otherwise the first that its comment
+   names. A call of a session returns the first of NW_BUSY, NW_ENDED, NW_OTHER_COMMITTEE, NW_HISTORY_FULL and NW_NO_MEMORY. But
+   nw_session_hand_in looks at its text before all else, nw_session_collect at its round, and nw_gather_new at its round before it returns
+   NW_OTHER_KIND. The numbers of codes, kinds of texts, replies and calls do not overlap.
 
    The caller owes what the library cannot check:
 
@@ -19,14 +20,18 @@
    All other values are checked. A function that writes bytes into a buffer first writes how many bytes are needed, so a buffer of
    length 0 asks for the size.
 
-   Two threads may use two handles at once, even if these share a store, a committee, blocks or a history. Put a lock of your own around
-   a book. Checks and walks need no lock.
+   Two threads may use two handles at once, even if these share a store, a committee, blocks or a history.
 
-   A store (nw_store) needs no lock: its own is proved. Threads call it at the same time, each with a session of its own. A call that comes
-   while another thread has the lock returns NW_BUSY and changes nothing: call again. A book (nw_book) is a store without a lock.
+   Threads call one store (nw_store) at the same time, each through a handle and a session of its own. They need no lock: the store's own
+   is proved. A call that comes while another thread has the lock returns NW_BUSY and changes nothing: call again. Checks and walks take
+   no lock.
 
-   Each session numbers its calls of a book from 1, and again from 1 after a restart. A refused call uses no number, and changes nothing
-   except what its comment names. The store is in memory only: docs/EMBEDDING.md says what a validator logs. */
+   A store has runs, and each run has one history. The first is run 0. nw_session_restart ends the run and begins the next: blocks,
+   certificates and votes stay, and the history is empty. A session belongs to a run. Once its run has ended, its calls return NW_ENDED
+   and change nothing, until nw_session_renew takes it into the present run. Answers and tickets never change.
+
+   Each session numbers its calls of a run from 1. A refused call uses no number, and changes nothing except what its comment names. The
+   store is in memory only: docs/EMBEDDING.md says what a validator logs. */
 #ifndef NW_H
 #define NW_H
 #include <stdbool.h>
@@ -36,8 +41,8 @@
 /* The version of this header. nw_version() returns that of the library. */
 #define NW_VERSION "0.1.0"
 #define NW_VERSION_NUMBER 100
-/* The interface of this header. A program links only with a library of the same interface: see nw_interface_5. */
-#define NW_ABI 5
+/* The interface of this header. A program links only with a library of the same interface: see nw_interface_6. */
+#define NW_ABI 6
 
 /* The largest number of members of a committee. */
 #define NW_MAX_MEMBERS 100
@@ -90,10 +95,9 @@ enum {
 	NW_BAD_COMMITTEE = 5,
 	/* A limit is outside its range. */
 	NW_BAD_LIMITS = 6,
-	/* The call's number is not the session's next one, or the session's number is not below the limit on
-	   sessions. */
+	/* The call is out of turn. No function returns this code, because a session numbers its own calls. */
 	NW_OUT_OF_TURN = 7,
-	/* The block or certificate was checked under another committee than the book's. */
+	/* The block or certificate was checked under another committee than the store's. */
 	NW_OTHER_COMMITTEE = 8,
 	/* The history has reached its limit on events. */
 	NW_HISTORY_FULL = 9,
@@ -121,10 +125,12 @@ enum {
 	NW_BUSY = 20,
 	/* The store has made as many sessions as its limit allows. */
 	NW_TOO_MANY_SESSIONS = 21,
-	/* The history is no prefix of the history of the session's store. */
+	/* The history is no prefix of the history of the session's run. */
 	NW_OTHER_HISTORY = 22,
 	/* The sessions are not all sessions of one store, in the order of their numbers. */
 	NW_UNSETTLED = 23,
+	/* The run of the session has ended. Nothing changed. Renew the session. */
+	NW_ENDED = 24,
 };
 
 /* The kinds of checked texts. */
@@ -180,7 +186,7 @@ enum {
 /* The kinds of replies. */
 enum {
 	/* Write: the block is now stored, and it is the first of its round and author. Vote for it once all its
-	   parents are stored and certified (nw_book_look). A block of the garbage round needs no parents. */
+	   parents are stored and certified (nw_session_look). A block of the garbage round needs no parents. */
 	NW_STORED_VOTE = 201,
 	/* Write: the block is now stored, without a vote: another block of its round and author came first, but this
 	   one is certified. */
@@ -205,7 +211,7 @@ enum {
 	NW_TOO_FAR = 210,
 	/* Write or certificate: a stored block or certificate of this digest has another round or author. */
 	NW_MISFIT = 211,
-	/* Write or certificate: the book has reached its limit on blocks or on certificates. Drop it, and fetch it
+	/* Write or certificate: the store has reached its limit on blocks or on certificates. Drop it, and fetch it
 	   after a collection. */
 	NW_FULL = 212,
 	/* Read or call for a certificate: it was found. */
@@ -263,12 +269,9 @@ typedef struct {
 typedef struct {
 	void *at;
 } nw_gather;
-/* A book: the stored blocks and certificates, and the history of the calls that led to them. */
-typedef struct {
-	void *at;
-} nw_book;
 /* Room for an answer, an answer, a ticket, or a history. A ticket is the answer to a causal read whose list
-   can be walked. A history is a note of a session, or what sessions settled on. */
+   can be walked. A history is a note of a session, the last history of an ended run, or what sessions
+   settled on. */
 typedef struct {
 	void *at;
 } nw_answer;
@@ -280,11 +283,12 @@ typedef struct {
 typedef struct {
 	void *at;
 } nw_block;
-/* A store that threads share. Each thread has a handle of its own. */
+/* A store that threads share: the stored blocks and certificates, and the history of the calls of the
+   present run. Each thread has a handle of its own. */
 typedef struct {
 	void *at;
 } nw_store;
-/* A session of a store: the calls of one thread. */
+/* A session of a store: the calls of one thread in one run. */
 typedef struct {
 	void *at;
 } nw_session;
@@ -348,10 +352,10 @@ typedef struct {
 	nw_subject subject;
 } nw_message;
 
-/* The limits of a book. blocks limits the stored blocks, and separately the certificates: 1 to 65,536.
-   events limits the events of the history: 1 to 65,536. window is the number of rounds that the book
-   accepts, from the garbage round on: 1 to 4,096. sessions limits the sessions, which are numbered from 0: 1
-   to 256. */
+/* The limits of a store. blocks limits the stored blocks, and separately the certificates: 1 to 65,536.
+   events limits the events of the history of a run: 1 to 65,536. window is the number of rounds that the
+   store accepts, from the garbage round on: 1 to 4,096. sessions limits the sessions, which are numbered
+   from 0: 1 to 256. */
 typedef struct {
 	uint32_t blocks;
 	uint32_t events;
@@ -359,10 +363,10 @@ typedef struct {
 	uint32_t sessions;
 } nw_limits;
 
-/* What a book has in a slot, that is, for a round and an author: the garbage round, the digest of the slot's
-   first block and the certified digest. A digest that the slot lacks is 0, and its flag is not set. stands
-   is set if the block of the certified digest is stored, and complete if also all its ancestors above the
-   garbage round have their parents. */
+/* What a store has in a slot, that is, for a round and an author: the garbage round, the digest of the
+   slot's first block and the certified digest. A digest that the slot lacks is 0, and its flag is not set.
+   stands is set if the block of the certified digest is stored, and complete if also all its ancestors above
+   the garbage round have their parents. */
 typedef struct {
 	uint64_t floor;
 	nw_digest first;
@@ -373,13 +377,13 @@ typedef struct {
 	bool complete;
 } nw_look;
 
-/* What a book has in the slot of this author. */
+/* What a store has in the slot of this author. */
 typedef struct {
 	uint16_t author;
 	nw_look look;
 } nw_author_look;
 
-/* The counts of a book: its garbage round, and how many blocks, certificates, complete blocks and missing
+/* The counts of a store: its garbage round, and how many blocks, certificates, complete blocks and missing
    parents (wanted) it has. */
 typedef struct {
 	uint64_t floor;
@@ -507,76 +511,129 @@ NW_USE int32_t nw_gather_add(nw_gather *gather, nw_checked *vote, bool *quorum);
    NW_FEW_VOTES if the votes do not reach the quorum. More votes can be added afterwards. */
 NW_USE int32_t nw_gather_certificate(nw_gather *gather, nw_checked *out);
 
-/* Makes an empty book under the committee and the limits. Returns NW_BAD_LIMITS if a limit is out of range. */
-NW_USE int32_t nw_book_new(nw_committee *committee, const nw_limits *limits, nw_book *out);
+/* Makes a store under the committee and the limits. Its first run, run 0, has an empty history. Threads may
+   call it at the same time without a lock of their own: each through a handle of its own, see
+   nw_store_share, and sessions of its own. Returns NW_BAD_LIMITS if a limit is out of range. */
+NW_USE int32_t nw_store_new(nw_committee *committee, const nw_limits *limits, nw_store *out);
 
-/* Writes how many events the history has. */
-NW_USE int32_t nw_book_events(nw_book *book, size_t *out);
+/* Opens one more handle of the store, for another thread. The store lives until its last handle and its last
+   session are freed. */
+NW_USE int32_t nw_store_share(nw_store *store, nw_store *out);
 
-/* Writes the number of the session's next call. Returns NW_OUT_OF_TURN if the session's number is not below
-   the limit on sessions. */
-NW_USE int32_t nw_book_next(nw_book *book, uint16_t session, uint32_t *out);
+/* Makes a session of the present run, which has made no call. A store numbers its sessions from 0, in all
+   runs together. Returns NW_BUSY if another thread has the lock, and NW_TOO_MANY_SESSIONS at the limit on
+   sessions. */
+NW_USE int32_t nw_store_session(nw_store *store, nw_session *out);
 
-/* Writes the limits of the book. */
-NW_USE int32_t nw_book_limits(nw_book *book, nw_limits *out);
+/* Writes the limits that the store was made with. Returns NW_BUSY if another thread has the lock. */
+NW_USE int32_t nw_store_limits(nw_store *store, nw_limits *out);
 
-/* Opens a handle of the committee of the book. It prepares the keys again, which costs what it costs in
-   nw_committee_new. */
-NW_USE int32_t nw_book_committee(nw_book *book, nw_committee *out);
+/* Opens a handle of the store's committee. It prepares the keys again, which costs what it costs in
+   nw_committee_new. Returns NW_BUSY if another thread has the lock. */
+NW_USE int32_t nw_store_committee(nw_store *store, nw_committee *out);
 
 /* Rebuilds the list of complete blocks that tickets share, without collected blocks. Later tickets share the
-   new list, and earlier tickets keep theirs. It changes nothing that a call can observe. */
-NW_USE int32_t nw_book_compact(nw_book *book);
+   new list, and earlier tickets keep theirs. It changes nothing that a call can observe. Returns NW_BUSY if
+   another thread has the lock. */
+NW_USE int32_t nw_store_compact(nw_store *store);
 
-/* Empties the history. The book keeps its blocks, certificates, votes and garbage round, so no round and
-   author gets a second vote. The next call of each session has number 1 again. Answers and tickets do not
-   change. It copies the tables, and shares the blocks and certificates, so its time depends only on how many
-   are stored. */
-NW_USE int32_t nw_book_restart(nw_book *book);
+/* Writes the session's number. A store numbers its sessions from 0, in the order in which it makes them. */
+NW_USE int32_t nw_session_id(nw_session *session, uint16_t *out);
 
-/* Writes what the book has in the slot of this round and author. This is not a call: it adds no event, and
-   no session numbers it. A parent of a block of the next round, with this author and a digest, is stored and
-   certified exactly when the digest is the certified one and stands is set. Returns NW_BAD_ROUND if the
-   round is not below 2^48. */
-NW_USE int32_t nw_book_look(nw_book *book, uint64_t round, uint16_t author, nw_look *out);
+/* Writes the checked block, or certifies the digest of the checked certificate, as the session's next call.
+   Returns NW_BUSY if another thread has the lock: call again. Returns NW_ENDED if the run of the session has
+   ended: renew the session. The handle of the checked text stays open, and the text may be handed to other
+   stores. Returns NW_OTHER_KIND if the text is neither a valid block nor a valid certificate. */
+NW_USE int32_t nw_session_hand_in(nw_session *session, nw_checked *checked, nw_answer *answer);
 
-/* Writes what the book has in each slot of this round that has a first or a certified digest, ascending by
-   author. Writes the number of these slots to needed; it is at most the number of members. Returns NW_SMALL
-   if the array is smaller, and NW_BAD_ROUND if the round is not below 2^48. This is not a call: it adds no
-   event, and no session numbers it. */
-NW_USE int32_t nw_book_look_round(nw_book *book, uint64_t round, nw_author_look *looks, size_t looks_len, size_t *needed);
+/* Asks for the certificate of the digest, as the session's next call. */
+NW_USE int32_t nw_session_certificate(nw_session *session, const nw_digest *digest, nw_answer *answer);
 
-/* Writes the checked block, or certifies the digest of the checked certificate. number must be that of the
-   session's next call. The handle of the checked text stays open, and the text may be handed to other books.
-   Returns NW_OTHER_KIND if the text is neither a valid block nor a valid certificate. */
-NW_USE int32_t nw_book_hand_in(nw_book *book, uint16_t session, uint32_t number, nw_checked *checked, nw_answer *answer);
+/* Asks for the block of the digest, as the session's next call. */
+NW_USE int32_t nw_session_read(nw_session *session, const nw_digest *digest, nw_answer *answer);
 
-/* Asks for the certificate of the digest. number must be that of the session's next call. */
-NW_USE int32_t nw_book_certificate(nw_book *book, uint16_t session, uint32_t number, const nw_digest *digest, nw_answer *answer);
+/* Raises the garbage round to this round and drops everything of lower rounds, as the session's next call.
+   Returns NW_BAD_ROUND if the round is not below 2^48. */
+NW_USE int32_t nw_session_collect(nw_session *session, uint64_t round, nw_answer *answer);
 
-/* Asks for the block of the digest. number must be that of the session's next call. */
-NW_USE int32_t nw_book_read(nw_book *book, uint16_t session, uint32_t number, const nw_digest *digest, nw_answer *answer);
+/* Asks for the first most missing parents, or for all if there are fewer, as the session's next call. They
+   ascend by round, author and digest. */
+NW_USE int32_t nw_session_missing(nw_session *session, uint16_t most, nw_answer *answer);
 
-/* Raises the garbage round to this round and drops everything of lower rounds. number must be that of the
-   session's next call. Returns NW_BAD_ROUND if the round is not below 2^48. */
-NW_USE int32_t nw_book_collect(nw_book *book, uint16_t session, uint32_t number, uint64_t round, nw_answer *answer);
+/* Asks for the missing parents of the block of the digest, as the session's next call: those that it refers
+   to, and that are not stored or not certified. They ascend by author and digest. A block that is not above
+   the garbage round has none. */
+NW_USE int32_t nw_session_missing_of(nw_session *session, const nw_digest *digest, nw_answer *answer);
 
-/* Asks for the first most missing parents, or for all if there are fewer. They ascend by round, author and
-   digest. number must be that of the session's next call. */
-NW_USE int32_t nw_book_missing(nw_book *book, uint16_t session, uint32_t number, uint16_t most, nw_answer *answer);
+/* Asks for the counts of the store, as the session's next call. */
+NW_USE int32_t nw_session_status(nw_session *session, nw_answer *answer);
 
-/* Asks for the missing parents of the block of the digest: those that it refers to, and that are not stored
-   or not certified. They ascend by author and digest. A block that is not above the garbage round has none.
-   number must be that of the session's next call. */
-NW_USE int32_t nw_book_missing_of(nw_book *book, uint16_t session, uint32_t number, const nw_digest *digest, nw_answer *answer);
+/* Opens a causal read of the digest, as the session's next call. The answer is a ticket if the digest is
+   complete: the block and its ancestors, down to the garbage round, are stored and certified. Otherwise the
+   reply of the answer says why there is no ticket. A ticket is walked without the lock. */
+NW_USE int32_t nw_session_open(nw_session *session, const nw_digest *digest, nw_answer *answer);
 
-/* Asks for the counts of the book. number must be that of the session's next call. */
-NW_USE int32_t nw_book_status(nw_book *book, uint16_t session, uint32_t number, nw_answer *answer);
+/* Writes what the store has in the slot of this round and author, after a history that has all calls that
+   the session knows of. This is not a call: it adds no event. A parent of a block of the next round, with
+   this author and a digest, is stored and certified exactly when the digest is the certified one and stands
+   is set. Returns NW_BAD_ROUND if the round is not below 2^48, NW_BUSY if another thread has the lock, and
+   NW_ENDED if the run of the session has ended. */
+NW_USE int32_t nw_session_look(nw_session *session, uint64_t round, uint16_t author, nw_look *out);
 
-/* Opens a causal read of the digest. number must be that of the session's next call. The answer is a ticket
-   if the digest is complete: the block and its ancestors, down to the garbage round, are stored and
-   certified. Otherwise the reply of the answer says why there is no ticket. */
-NW_USE int32_t nw_book_open(nw_book *book, uint16_t session, uint32_t number, const nw_digest *digest, nw_answer *answer);
+/* Writes what the store has in each slot of this round that has a first or a certified digest, ascending by
+   author, after a history that has all calls that the session knows of. Writes the number of these slots to
+   needed; it is at most the number of members. Returns NW_SMALL if the array is smaller, NW_BAD_ROUND if the
+   round is not below 2^48, NW_BUSY if another thread has the lock, and NW_ENDED if the run of the session
+   has ended. This is not a call: it adds no event. */
+NW_USE int32_t nw_session_look_round(nw_session *session, uint64_t round, nw_author_look *looks, size_t looks_len, size_t *needed);
+
+/* Writes the number of the session's run. A store begins with run 0. */
+NW_USE int32_t nw_session_run(nw_session *session, uint64_t *out);
+
+/* Ends the run and begins the next, to which the session then belongs. The store keeps its blocks,
+   certificates, votes and garbage round, so no round and author gets a second vote. The history of the next
+   run is empty, and the calls of each session are numbered from 1 again. It replaces the content of answer
+   with the last history of the ended run. Calls of the other sessions return NW_ENDED, until
+   nw_session_renew. Earlier answers, tickets and notes do not change. It copies the tables, and shares the
+   blocks and certificates, so its time depends only on how many are stored. Returns NW_BUSY if another
+   thread has the lock, NW_ENDED if the run of the session has ended, and NW_NO_MEMORY also after 2^64 - 1
+   runs. */
+NW_USE int32_t nw_session_restart(nw_session *session, nw_answer *answer);
+
+/* Takes the session into the present run, with its number and no calls. If it is of the present run, nothing
+   changes. This is not a call. Returns NW_BUSY if another thread has the lock. */
+NW_USE int32_t nw_session_renew(nw_session *session);
+
+/* Replaces the content of answer with a note: the history of the session's run as it is now. This is not a
+   call. A session of the same run that hears the note knows all that this session knows. Returns NW_BUSY if
+   another thread has the lock, and NW_ENDED if the run of the session has ended. */
+NW_USE int32_t nw_session_note(nw_session *session, nw_answer *answer);
+
+/* Hears a note of another session of the same run, or an answer or ticket of it. From then on, its history
+   is a prefix of the history of every answer of this session in this run. This is not a call. Returns
+   NW_BUSY if another thread has the lock, NW_ENDED if the run of the session has ended, and NW_OTHER_HISTORY
+   if the note is no prefix of the run's history, for instance because it is of another store or run. The
+   time grows with the number of events of the note. */
+NW_USE int32_t nw_session_hear(nw_session *session, nw_answer *note);
+
+/* Makes a settlement, to which no session is given. */
+NW_USE int32_t nw_settlement_new(nw_settlement *out);
+
+/* Gives the session to the settlement, and closes its handle. Give the sessions in the order of their
+   numbers. */
+NW_USE int32_t nw_settlement_give(nw_settlement *settlement, nw_session *session);
+
+/* Settles the sessions that were given, which must be all that one store made, in the order of their
+   numbers, and of the present run. It replaces the content of answer with the run's history, which is an
+   interleaving of their calls in this run. The history of each answer to these calls is a prefix of it. The
+   sessions stay with the settlement. Returns NW_UNSETTLED if they are not all sessions of one store or not
+   in order, NW_BUSY if another thread has a store's lock, and NW_ENDED if the run of a session has ended.
+   The time grows with the number of sessions times the number of events. */
+NW_USE int32_t nw_settle(nw_settlement *settlement, nw_answer *answer);
+
+/* Takes back the session that was given last, which may go on calling. Returns NW_ABSENT if the settlement
+   has no session. */
+NW_USE int32_t nw_settlement_take(nw_settlement *settlement, nw_session *out);
 
 /* Makes room for an answer. Make it before the call, so that a call that was taken never runs out of memory
    for its answer. The room can be used again: a new answer replaces the old one. A refused call leaves the
@@ -620,7 +677,7 @@ NW_USE int32_t nw_answer_is_prefix(nw_answer *answer, nw_answer *other, bool *ou
 NW_USE int32_t nw_ticket_scope(nw_answer *ticket, nw_digest *digest, uint64_t *floor);
 
 /* Compares the lists of both tickets, and writes whether they are equal. The tickets may come from two
-   books. If the lists differ, two different blocks have the same digest. Returns NW_NOT_COMPARABLE if the
+   stores. If the lists differ, two different blocks have the same digest. Returns NW_NOT_COMPARABLE if the
    tickets have different digests or garbage rounds. */
 NW_USE int32_t nw_ticket_agree(nw_answer *ticket, nw_answer *other, bool *out);
 
@@ -635,89 +692,6 @@ NW_USE int32_t nw_list_len(nw_list *list, size_t *out);
 /* Opens a handle of the block at the index, counted from 0. Returns NW_ABSENT if the list has no such block. */
 NW_USE int32_t nw_list_block(nw_list *list, size_t index, nw_block *out);
 
-/* Makes a store with an empty history under the committee and the limits. Threads may call it at the same
-   time without a lock of their own: each through a handle of its own, see nw_store_share, and sessions of
-   its own. Returns NW_BAD_LIMITS if a limit is out of range. */
-NW_USE int32_t nw_store_new(nw_committee *committee, const nw_limits *limits, nw_store *out);
-
-/* Opens one more handle of the store, for another thread. The store lives until its last handle and its last
-   session are freed. */
-NW_USE int32_t nw_store_share(nw_store *store, nw_store *out);
-
-/* Makes a session, which has made no call. A store numbers its sessions from 0. Returns NW_BUSY if another
-   thread has the lock, and NW_TOO_MANY_SESSIONS at the limit on sessions. */
-NW_USE int32_t nw_store_session(nw_store *store, nw_session *out);
-
-/* Rebuilds the list of complete blocks that tickets share, without collected blocks. Later tickets share the
-   new list, and earlier tickets keep theirs. It changes nothing that a call can observe. Returns NW_BUSY if
-   another thread has the lock. */
-NW_USE int32_t nw_store_compact(nw_store *store);
-
-/* Writes the session's number. A store numbers its sessions from 0, in the order in which it makes them. */
-NW_USE int32_t nw_session_id(nw_session *session, uint16_t *out);
-
-/* Writes the checked block, or certifies the digest of the checked certificate, as the session's next call.
-   Returns NW_BUSY if another thread has the lock: call again. The handle of the checked text stays open, and
-   the text may be handed to other stores. Returns NW_OTHER_KIND if the text is neither a valid block nor a
-   valid certificate. */
-NW_USE int32_t nw_session_hand_in(nw_session *session, nw_checked *checked, nw_answer *answer);
-
-/* Asks for the certificate of the digest, as the session's next call. */
-NW_USE int32_t nw_session_certificate(nw_session *session, const nw_digest *digest, nw_answer *answer);
-
-/* Asks for the block of the digest, as the session's next call. */
-NW_USE int32_t nw_session_read(nw_session *session, const nw_digest *digest, nw_answer *answer);
-
-/* Raises the garbage round to this round and drops everything of lower rounds, as the session's next call.
-   Returns NW_BAD_ROUND if the round is not below 2^48. */
-NW_USE int32_t nw_session_collect(nw_session *session, uint64_t round, nw_answer *answer);
-
-/* Asks for the first most missing parents, or for all if there are fewer, as the session's next call. They
-   ascend by round, author and digest. */
-NW_USE int32_t nw_session_missing(nw_session *session, uint16_t most, nw_answer *answer);
-
-/* Asks for the missing parents of the block of the digest, as the session's next call: those that it refers
-   to, and that are not stored or not certified. They ascend by author and digest. A block that is not above
-   the garbage round has none. */
-NW_USE int32_t nw_session_missing_of(nw_session *session, const nw_digest *digest, nw_answer *answer);
-
-/* Asks for the counts of the store, as the session's next call. */
-NW_USE int32_t nw_session_status(nw_session *session, nw_answer *answer);
-
-/* Opens a causal read of the digest, as the session's next call. The answer is a ticket if the digest is
-   complete: the block and its ancestors, down to the garbage round, are stored and certified. Otherwise the
-   reply of the answer says why there is no ticket. A ticket is walked without the lock. */
-NW_USE int32_t nw_session_open(nw_session *session, const nw_digest *digest, nw_answer *answer);
-
-/* Replaces the content of answer with a note: the history of the session's store as it is now. This is not a
-   call. A session of the same store that hears the note knows all that this session knows. Returns NW_BUSY
-   if another thread has the lock. */
-NW_USE int32_t nw_session_note(nw_session *session, nw_answer *answer);
-
-/* Hears a note of another session of the same store, or an answer or ticket of it. From then on, its history
-   is a prefix of the history of every answer of this session. This is not a call. Returns NW_BUSY if another
-   thread has the lock, and NW_OTHER_HISTORY if the note is no prefix of the store's history, for instance
-   because it is of another store. The time grows with the number of events of the note. */
-NW_USE int32_t nw_session_hear(nw_session *session, nw_answer *note);
-
-/* Makes a settlement, to which no session is given. */
-NW_USE int32_t nw_settlement_new(nw_settlement *out);
-
-/* Gives the session to the settlement, and closes its handle. Give the sessions in the order of their
-   numbers. */
-NW_USE int32_t nw_settlement_give(nw_settlement *settlement, nw_session *session);
-
-/* Settles the sessions that were given, which must be all that one store made, in the order of their
-   numbers, and replaces the content of answer with the store's history: it is an interleaving of their
-   calls, and the history of each of their answers is a prefix of it. The sessions stay with the settlement.
-   Returns NW_UNSETTLED if they are not all sessions of one store or not in order, and NW_BUSY if another
-   thread has a store's lock. The time grows with the number of sessions times the number of events. */
-NW_USE int32_t nw_settle(nw_settlement *settlement, nw_answer *answer);
-
-/* Takes back the session that was given last, which may go on calling. Returns NW_ABSENT if the settlement
-   has no session. */
-NW_USE int32_t nw_settlement_take(nw_settlement *settlement, nw_session *out);
-
 /* Closes the handle and frees everything that no other handle shares. A closed handle stays closed. */
 void nw_free(void *handle);
 
@@ -728,7 +702,7 @@ int32_t nw_version(void);
 /* Returns NW_ABI, the number of this interface. The number is in the name too, and changes with each change
    of an export, a struct or a code. So a program that calls this function links only with a library of the
    same interface. */
-int32_t nw_interface_5(void);
+int32_t nw_interface_6(void);
 
 /* Closes the handle, and frees everything that no other handle shares. Does nothing for NULL or a closed handle. */
 static inline void nw_committee_free(nw_committee *handle)
@@ -742,11 +716,6 @@ static inline void nw_checked_free(nw_checked *handle)
 		nw_free(handle);
 }
 static inline void nw_gather_free(nw_gather *handle)
-{
-	if (handle)
-		nw_free(handle);
-}
-static inline void nw_book_free(nw_book *handle)
 {
 	if (handle)
 		nw_free(handle);
@@ -801,9 +770,9 @@ static inline const char *nw_code_text(int32_t code)
 	case NW_BAD_LIMITS:
 		return "A limit is outside its range";
 	case NW_OUT_OF_TURN:
-		return "The call's number is not the session's next one, or the session's number is not below the limit on sessions";
+		return "The call is out of turn";
 	case NW_OTHER_COMMITTEE:
-		return "The block or certificate was checked under another committee than the book's";
+		return "The block or certificate was checked under another committee than the store's";
 	case NW_HISTORY_FULL:
 		return "The history has reached its limit on events";
 	case NW_BAD_ROUND:
@@ -831,9 +800,11 @@ static inline const char *nw_code_text(int32_t code)
 	case NW_TOO_MANY_SESSIONS:
 		return "The store has made as many sessions as its limit allows";
 	case NW_OTHER_HISTORY:
-		return "The history is no prefix of the history of the session's store";
+		return "The history is no prefix of the history of the session's run";
 	case NW_UNSETTLED:
 		return "The sessions are not all sessions of one store, in the order of their numbers";
+	case NW_ENDED:
+		return "The run of the session has ended";
 	default:
 		return NULL;
 	}

@@ -1,24 +1,33 @@
-/* Makes random calls of the library, and prints each code and all that the library writes. So two archives that print the same behave the
+/* Takes random steps with the library, and prints each code and all that the library writes. So two archives that print the same behave the
    same. The gate compares archives for two processors in this way.
 
-       scenario CALLS REFUSED <messages
+       scenario STEPS REFUSED <messages
 
-   The input has a line for each key and each message of a committee: `key` or `message`, and hex digits. It makes CALLS calls. Then it makes
-   60 calls once for each of their allocations, with that allocation failing, at most REFUSED times. */
+   The input has a line for each key and each message of a committee: `key` or `message`, and hex digits. Most of the STEPS steps are calls
+   of the sessions of a store. The others restart it, renew a session, take a note, look, settle and so on. Then it takes 60 steps once for
+   each of their allocations, with that allocation failing, at most REFUSED times. */
 #include "nw.h"
 #include "nw_alloc.h"
 #include <stdio.h>
 #include <stdlib.h>
 #include <string.h>
 
-enum { MEMBERS = 4, MESSAGES = 64, SHORT = 60, ROOM = 4096 };
+enum { MEMBERS = 4, MESSAGES = 64, SESSIONS = 4, STORE = 150, SHORT = 60, ROOM = 4096 };
 
-static uint8_t keys[MEMBERS][32];
+static nw_member members[MEMBERS] = {{{0}, 1}, {{0}, 1}, {{0}, 1}, {{0}, 1}};
 static struct {
 	uint8_t bytes[ROOM];
 	size_t length;
+	nw_checked checked;
+	nw_message told;
 } messages[MESSAGES];
-static size_t key_count, message_count;
+static size_t member_count, message_count, made;
+
+/* A store, the sessions that it made in the order of their numbers, and an answer for each. The last session is closed. */
+static nw_committee committee;
+static nw_store store;
+static nw_session sessions[SESSIONS + 1];
+static nw_answer answers[SESSIONS];
 
 /* Allocations so far, the one that fails, and how many failed. */
 static unsigned long allocations, refused, failures;
@@ -27,15 +36,13 @@ static char nothing;
 
 static nw_room room_at(void *at)
 {
-	nw_room room = {at != NULL, at ? at : &nothing};
-	return room;
+	return (nw_room){at != NULL, at ? at : &nothing};
 }
 
 static int fails(void)
 {
-	int now = ++allocations == refused;
-	failures += (unsigned long)now;
-	return now;
+	failures += ++allocations == refused;
+	return allocations == refused;
 }
 
 nw_room rattle_alloc(size_t n, size_t align)
@@ -63,10 +70,9 @@ static unsigned long draw(unsigned long below)
 
 static void print_bytes(const char *what, const void *bytes, size_t length)
 {
-	const uint8_t *at = (const uint8_t *)bytes;
 	printf(" %s ", what);
 	for (size_t i = 0; i < length; i++)
-		printf("%02x", at[i]);
+		printf("%02x", ((const uint8_t *)bytes)[i]);
 }
 
 static void print_block(nw_block *block)
@@ -96,15 +102,16 @@ static void print_reply(nw_answer *answer)
 	nw_subject missing;
 	nw_block block = {0};
 	size_t events = 0;
+	if (nw_answer_events(answer, &events) == NW_DONE)
+		printf(" events %zu", events);
+	if (events > 0 && nw_answer_event(answer, draw((unsigned long)events), &event) == NW_DONE)
+		printf(" event %u %u %d %d", (unsigned)event.session, (unsigned)event.number, (int)event.call.kind, (int)event.reply.kind);
 	if (nw_answer_reply(answer, &reply) != NW_DONE)
 		return;
 	printf(" reply %d %llu", (int)reply.kind, (unsigned long long)reply.number);
 	print_bytes("", reply.digest.bytes, 32);
-	if (nw_answer_events(answer, &events) == NW_DONE && nw_answer_event(answer, draw((unsigned long)events), &event) == NW_DONE)
-		printf(" event %u %u %d %d", (unsigned)event.session, (unsigned)event.number, (int)event.call.kind, (int)event.reply.kind);
 	if (nw_answer_status(answer, &status) == NW_DONE)
-		printf(" status %llu %llu %llu %llu %llu", (unsigned long long)status.floor, (unsigned long long)status.blocks,
-		       (unsigned long long)status.certificates, (unsigned long long)status.complete, (unsigned long long)status.wanted);
+		print_bytes("status", &status, sizeof status);
 	for (size_t i = 0; nw_answer_missing(answer, i, &missing) == NW_DONE; i++)
 		printf(" misses %llu.%u", (unsigned long long)missing.round, (unsigned)missing.author);
 	if (nw_answer_block(answer, &block) == NW_DONE)
@@ -117,170 +124,172 @@ static void print_walk(nw_answer *ticket)
 	nw_list list = {0};
 	nw_block block = {0};
 	size_t length = 0;
-	int32_t code = nw_ticket_walk(ticket, &list);
-	printf(" walk %d", (int)code);
-	if (code == NW_DONE && nw_list_len(&list, &length) == NW_DONE && length > 0) {
-		printf(" %zu", length);
-		if (nw_list_block(&list, draw((unsigned long)length), &block) == NW_DONE)
-			print_block(&block);
-	}
+	printf(" walk %d", (int)nw_ticket_walk(ticket, &list));
+	if (nw_list_len(&list, &length) == NW_DONE && length && nw_list_block(&list, draw((unsigned long)length), &block) == NW_DONE)
+		print_block(&block);
+	printf(" %zu", length);
 	nw_block_free(&block);
 	nw_list_free(&list);
 }
 
-/* One random call of a book, as one of two sessions. A wrong number is drawn now and then. */
-static int32_t call(nw_book *book, nw_checked *checked, nw_answer *answer, uint32_t *next, unsigned long kind)
+/* Looks at a slot, or at all slots of a round. */
+static int32_t look(nw_session *session)
 {
-	uint16_t session = (uint16_t)draw(2);
-	uint32_t number = next[session] + (draw(16) == 0);
-	nw_message message;
-	int32_t code = nw_checked_kind(checked, &message);
-	if (code != NW_DONE)
-		return code;
-	switch (kind) {
-	case 0:
-		code = nw_book_certificate(book, session, number, &message.subject.digest, answer);
-		break;
-	case 1:
-		code = nw_book_read(book, session, number, &message.subject.digest, answer);
-		break;
-	case 2:
-		code = nw_book_collect(book, session, number, draw(8) ? 0 : draw(3), answer);
-		break;
-	case 3:
-		code = nw_book_missing(book, session, number, (uint16_t)draw(5), answer);
-		break;
-	case 4:
-		code = nw_book_status(book, session, number, answer);
-		break;
-	case 5:
-	case 6:
-		code = nw_book_open(book, session, number, &message.subject.digest, answer);
-		break;
-	default:
-		code = nw_book_hand_in(book, session, number, checked, answer);
+	nw_author_look looks[MEMBERS] = {{.author = (uint16_t)draw(MEMBERS)}};
+	size_t count = 1;
+	uint64_t round = draw(4);
+	int32_t code = draw(2) ? nw_session_look(session, round, looks->author, &looks->look)
+			       : nw_session_look_round(session, round, looks, draw(MEMBERS + 1), &count);
+	printf(" %zu", count);
+	for (size_t i = 0; code == NW_DONE && i < count; i++) {
+		nw_look *at = &looks[i].look;
+		printf(" %u %llu %d%d", (unsigned)looks[i].author, (unsigned long long)at->floor, at->stands, at->complete);
+		print_bytes("first", at->first.bytes, at->has_first ? 32 : 0);
+		print_bytes("certified", at->certified.bytes, at->has_certified ? 32 : 0);
 	}
-	next[session] += code == NW_DONE;
 	return code;
 }
 
-/* What is no call: an empty history, a list of complete blocks made anew, a look, and what a book is. */
-static void call_silently(nw_book *book, uint32_t *next, unsigned long kind)
+/* Settles all sessions, or all but the first, and takes them back. */
+static int32_t settle(nw_answer *answer)
 {
-	nw_look look;
-	nw_limits limits;
-	nw_committee committee = {0};
-	uint32_t number = 0, quorum = 0;
-	int32_t code;
-	if (kind == 0) {
-		code = nw_book_restart(book);
-		if (code == NW_DONE)
-			next[0] = next[1] = 1;
-		printf("restart %d\n", (int)code);
-	} else if (kind == 1) {
-		printf("compact %d\n", (int)nw_book_compact(book));
-	} else if (kind == 2) {
-		code = nw_book_next(book, (uint16_t)draw(3), &number);
-		printf("next %d %u\n", (int)code, (unsigned)number);
-	} else if (kind == 3) {
-		code = nw_book_limits(book, &limits);
-		printf("limits %d %u\n", (int)code, code == NW_DONE ? (unsigned)limits.window : 0);
-		code = nw_book_committee(book, &committee);
-		printf("committee %d", (int)code);
-		code = nw_committee_quorum(&committee, &quorum);
-		printf(" %d %u\n", (int)code, (unsigned)quorum);
-		nw_committee_free(&committee);
-	} else {
-		uint64_t round = draw(4);
-		code = nw_book_look(book, round, (uint16_t)draw(MEMBERS), &look);
-		printf("look %d %llu", (int)code, (unsigned long long)(code == NW_DONE ? look.floor : 0));
-		if (code == NW_DONE && look.has_first)
-			print_bytes("first", look.first.bytes, 32);
-		if (code == NW_DONE && look.has_certified)
-			print_bytes("certified", look.certified.bytes, 32);
-		printf("\n");
+	nw_settlement settlement = {0};
+	printf(" %d", (int)nw_settlement_new(&settlement));
+	for (size_t i = draw(3) == 0; i < made; i++)
+		printf(" %d", (int)nw_settlement_give(&settlement, &sessions[i]));
+	int32_t code = nw_settle(&settlement, answer);
+	for (size_t i = made; i-- > 0;)
+		while (nw_settlement_take(&settlement, &sessions[i]) == NW_NO_MEMORY)
+			printf(" again");
+	nw_settlement_free(&settlement);
+	return code;
+}
+
+/* What is no call of the session. */
+static int32_t act(unsigned long kind, nw_session *session, nw_answer *answer, nw_answer *other, bool *yes)
+{
+	switch (kind) {
+	case 0: return nw_session_restart(session, answer);
+	case 1: return nw_session_renew(session);
+	case 2: return nw_session_note(session, answer);
+	case 3: return nw_session_hear(session, other);
+	case 4: return nw_ticket_agree(answer, other, yes);
+	case 5: return nw_answer_is_prefix(other, answer, yes);
+	case 6: return nw_store_compact(&store);
+	case 7: return look(session);
+	case 8: return settle(answer);
+	default: return nw_store_session(&store, &sessions[made]);
 	}
 }
 
-/* This many calls on one book after another: a collection leaves a book with little to do. */
-static void play(unsigned long calls)
+static int32_t call(unsigned long kind, nw_session *session, nw_answer *answer)
 {
-	static nw_checked checked[MESSAGES];
-	const nw_limits limits = {64, 48, 8, 2};
-	nw_member members[MEMBERS];
-	nw_committee committee = {0};
-	nw_book book = {0};
-	nw_answer answer = {0};
-	uint32_t next[2] = {1, 1};
-	uint16_t signer = 0;
-	for (size_t i = 0; i < MEMBERS; i++) {
-		memcpy(members[i].key, keys[i], 32);
-		members[i].weight = 1;
+	size_t at = draw((unsigned long)message_count);
+	const nw_digest *digest = &messages[at].told.subject.digest;
+	switch (kind) {
+	case 0: return nw_session_certificate(session, digest, answer);
+	case 1: return nw_session_read(session, digest, answer);
+	case 2: return nw_session_missing_of(session, digest, answer);
+	case 3: return nw_session_missing(session, (uint16_t)draw(5), answer);
+	case 4: return nw_session_collect(session, draw(8) ? 0 : draw(3), answer);
+	case 5: return nw_session_status(session, answer);
+	case 6: case 7: return nw_session_open(session, digest, answer);
+	default: return nw_session_hand_in(session, &messages[at].checked, answer);
 	}
+}
+
+/* A step of a session, and what it has then. One of `calls` steps is no call. */
+static void step(unsigned long calls)
+{
+	size_t who = draw(made ? (unsigned long)made : 1), other = (who + 1 + draw(SESSIONS - 1)) % SESSIONS;
+	unsigned long is_call = draw(calls), kind = draw(is_call ? 21 : 10);
+	uint16_t id = 0;
+	uint64_t run = 0;
+	bool yes = false;
+	printf("%s %lu", is_call ? "call" : "act", kind);
+	int32_t code = is_call ? call(kind, &sessions[who], &answers[who]) : act(kind, &sessions[who], &answers[who], &answers[other], &yes);
+	made += !is_call && kind == 9 && code == NW_DONE;
+	printf(" %d %d", (int)code, yes);
+	if (code == NW_ENDED && draw(2))
+		printf(" renew %d", (int)nw_session_renew(&sessions[who]));
+	printf(" of %d %d", (int)nw_session_id(&sessions[who], &id), (int)nw_session_run(&sessions[who], &run));
+	printf(" %u %llu", (unsigned)id, (unsigned long long)run);
+	print_reply(&answers[who]);
+	print_walk(&answers[who]);
+	printf("\n");
+}
+
+/* This many steps of a store, which begins with all its sessions but one. */
+static void play_store(unsigned long steps, unsigned long calls)
+{
+	nw_limits limits = {64, 48, 8, SESSIONS};
+	nw_committee its = {0};
+	printf("store %d", (int)nw_store_new(&committee, &limits, &store));
+	printf(" %d", (int)nw_store_limits(&store, &limits));
+	printf(" %u %d\n", (unsigned)limits.window, (int)nw_store_committee(&store, &its));
+	nw_committee_free(&its);
+	for (made = 0; made < SESSIONS - 1 && nw_store_session(&store, &sessions[made]) == NW_DONE; made++)
+		;
+	while (steps-- > 0)
+		step(calls);
+	for (size_t i = 0; i < SESSIONS; i++)
+		nw_session_free(&sessions[i]);
+	nw_store_free(&store);
+}
+
+/* This many steps, on one store after another: a collection leaves a store with little to do. One of `calls` steps is no call. */
+static void play(unsigned long steps, unsigned long calls)
+{
+	uint16_t signer = 0;
 	printf("committee %d\n", (int)nw_committee_new(members, MEMBERS, &committee));
 	for (size_t i = 0; i < message_count; i++) {
-		printf("check %d", (int)nw_check(&committee, messages[i].bytes, messages[i].length, &checked[i]));
-		for (size_t at = 0; nw_checked_signer(&checked[i], at, &signer) == NW_DONE; at++)
+		printf("check %d", (int)nw_check(&committee, messages[i].bytes, messages[i].length, &messages[i].checked));
+		printf(" %d", (int)nw_checked_kind(&messages[i].checked, &messages[i].told));
+		for (size_t at = 0; nw_checked_signer(&messages[i].checked, at, &signer) == NW_DONE; at++)
 			printf(" %u", (unsigned)signer);
 		printf("\n");
 	}
-	printf("room %d\n", (int)nw_answer_new(&answer));
-	for (unsigned long i = 0; i < calls; i++) {
-		if (i % 150 == 0) {
-			nw_book_free(&book);
-			next[0] = next[1] = 1;
-			printf("book %d\n", (int)nw_book_new(&committee, &limits, &book));
-		}
-		unsigned long kind = draw(24);
-		if (kind > 20) {
-			call_silently(&book, next, draw(12));
-			continue;
-		}
-		printf("call %lu %d", kind, (int)call(&book, &checked[draw((unsigned long)message_count)], &answer, next, kind));
-		print_reply(&answer);
-		print_walk(&answer);
-		printf("\n");
-	}
-	nw_answer_free(&answer);
-	nw_book_free(&book);
+	for (size_t i = 0; i < SESSIONS; i++)
+		printf("room %d\n", (int)nw_answer_new(&answers[i]));
+	for (; steps > STORE; steps -= STORE)
+		play_store(STORE, calls);
+	play_store(steps, calls);
+	for (size_t i = 0; i < SESSIONS; i++)
+		nw_answer_free(&answers[i]);
 	for (size_t i = 0; i < message_count; i++)
-		nw_checked_free(&checked[i]);
+		nw_checked_free(&messages[i].checked);
 	nw_committee_free(&committee);
 }
 
 static size_t bytes_of(const char *hex, uint8_t *out, size_t most)
 {
 	size_t length = 0;
-	unsigned value;
-	while (length < most && sscanf(hex + 2 * length, "%2x", &value) == 1)
-		out[length++] = (uint8_t)value;
+	while (length < most && sscanf(hex + 2 * length, "%2hhx", out + length) == 1)
+		length++;
 	return length;
 }
 
 int main(int count, char **words)
 {
 	static char line[2 * ROOM + 16];
-	unsigned long runs = 0;
-	if (count != 3)
-		return 2;
 	while (fgets(line, sizeof line, stdin)) {
-		if (!strncmp(line, "key ", 4) && key_count < MEMBERS)
-			bytes_of(line + 4, keys[key_count++], 32);
+		if (!strncmp(line, "key ", 4) && member_count < MEMBERS)
+			bytes_of(line + 4, members[member_count++].key, 32);
 		else if (!strncmp(line, "message ", 8) && message_count < MESSAGES) {
 			messages[message_count].length = bytes_of(line + 8, messages[message_count].bytes, ROOM);
 			message_count++;
 		}
 	}
-	if (key_count < MEMBERS || message_count == 0)
+	if (count != 3 || member_count < MEMBERS || message_count == 0)
 		return 2;
 	random_state = 1;
-	play(strtoul(words[1], NULL, 10));
+	play(strtoul(words[1], NULL, 10), 8);
 	do {
 		random_state = 1;
 		allocations = 0;
-		refused = ++runs;
-		play(SHORT);
-	} while (allocations >= refused && runs < strtoul(words[2], NULL, 10));
+		refused++;
+		play(SHORT, 2);
+	} while (allocations >= refused && refused < strtoul(words[2], NULL, 10));
 	printf("%lu allocations failed\n", failures);
 	return 0;
 }

@@ -16,20 +16,19 @@ It is a thin ctypes layer over the C interface (bindings/c/nw.h). For a validato
 Keys, digests and messages are bytes-like objects or strings of hex digits; a subject has its digest in hex. A wrong length or a number out of
 range raises ValueError. A refused call raises NwError with the name of its code in nw.h.
 
-A Store has one session: use it in one thread. If two threads use it, a call can raise OUT_OF_TURN or return the reply of the other thread.
-Calls never overlap, because each call of the library holds the interpreter's lock.
+A Store has one session. Threads may share it: calls never overlap, because each call of the library holds the interpreter's lock.
 """
 import ctypes
 import os
 import re
-from ctypes import Structure, byref, c_int32, c_size_t, c_uint8, c_uint16, c_uint32, c_uint64, c_void_p
+from ctypes import Structure, byref, c_bool, c_int32, c_size_t, c_uint8, c_uint16, c_uint32, c_uint64, c_void_p
 
 HERE = os.path.dirname(os.path.abspath(__file__))
 PATH = os.environ.get("NW_LIBRARY", os.path.normpath(f"{HERE}/../out/libnw.so"))
 try:
     # CDLL releases the interpreter's lock in each call. Then two threads can use one handle at once, which the library does not allow.
     LIBRARY = ctypes.PyDLL(PATH)
-    _ = LIBRARY.nw_interface_5  # Only a library with the functions and structs of this module has it.
+    _ = LIBRARY.nw_interface_6  # Only a library with the functions and structs of this module has it.
 except (OSError, AttributeError) as why:
     raise ImportError(f"{PATH} cannot be loaded: run bindings/python/make, or set NW_LIBRARY to its path") from why
 
@@ -53,6 +52,8 @@ Member = record("Member", key=c_uint8 * 32, weight=c_uint32)
 Limits = record("Limits", blocks=c_uint32, events=c_uint32, window=c_uint32, sessions=c_uint32)
 Subject = record("Subject", digest=Digest, round=c_uint64, author=c_uint16)
 Told = record("Told", kind=c_int32, number=c_uint64, digest=Digest)
+Look = record("Look", floor=c_uint64, first=Digest, certified=Digest, has_first=c_bool, has_certified=c_bool, stands=c_bool, complete=c_bool)
+AuthorLook = record("AuthorLook", author=c_uint16, look=Look)
 Event = record("Event", session=c_uint16, number=c_uint32, call=Told, reply=Told)
 Message = record("Message", kind=c_int32, signer=c_uint16, subject=Subject)
 Status = record("Status", floor=c_uint64, blocks=c_uint64, certificates=c_uint64, complete=c_uint64, wanted=c_uint64)
@@ -108,6 +109,12 @@ class Handle:
             LIBRARY.nw_free(self.ref)
 
 
+def events(answer):
+    """The events of an answer's history: session, number, call and reply."""
+    found = (answer.read("answer_event", Event, c_size_t(index)) for index in range(answer.read("answer_events", c_size_t).value))
+    return [(it.session, it.number, CALLS[it.call.kind], REPLIES[it.reply.kind]) for it in found]
+
+
 def place(subject):
     """The round, the author and the digest in hex."""
     return subject.round, subject.author, bytes(subject.digest.bytes).hex()
@@ -137,49 +144,72 @@ class Block(Handle):
     body = property(lambda self: text("block_body", self.ref))
 
 
+def fields(look):
+    """The fields of a look, as a dictionary. A digest that is not there is None."""
+    digests = {name: bytes(getattr(look, name).bytes).hex() if getattr(look, f"has_{name}") else None for name in ("first", "certified")}
+    return {"floor": look.floor, **digests, "stands": look.stands, "complete": look.complete}
+
+
 class Store(Handle):
-    """A book with one session. Each call returns the name of its reply, or the reply's content."""
+    """A store with one session. Each call returns the name of its reply, or the reply's content."""
 
     def __init__(self, committee, blocks=65_536, events=65_536, window=4_096):
         limits = (number(limit, c_uint32) for limit in (blocks, events, window, 1))
-        super().__init__("book_new", committee.ref, byref(Limits(*limits)))
-        self.answer, self.number = Handle("answer_new"), 0
+        super().__init__("store_new", committee.ref, byref(Limits(*limits)))
+        self.session, self.answer = Handle("store_session", self.ref), Handle("answer_new")
 
     def make(self, name, *arguments):
-        call(name, self.ref, c_uint16(0), c_uint32(self.number + 1), *arguments, self.answer.ref)
-        self.number += 1
-        return REPLIES[self.answer.read("answer_reply", Told).kind]
+        """Makes the call. Returns its answer and the name of its reply."""
+        answer = Handle("answer_new")
+        call(f"session_{name}", self.session.ref, *arguments, answer.ref)
+        self.answer = answer
+        return answer, REPLIES[answer.read("answer_reply", Told).kind]
 
     def take(self, checked):
         """Writes a checked block, or certifies with a checked certificate."""
-        return self.make("book_hand_in", checked.ref)
+        return self.make("hand_in", checked.ref)[1]
 
     def read_block(self, digest):
-        found = self.make("book_read", byref(Digest(octets(digest, 32)))) == "FOUND"
-        return Block("answer_block", self.answer.ref) if found else None
+        answer, reply = self.make("read", byref(Digest(octets(digest, 32))))
+        return Block("answer_block", answer.ref) if reply == "FOUND" else None
 
     def causal(self, digest):
         """The block and its certified ancestors in order, or the name of the reply that says why there is no list."""
-        reply = self.make("book_open", byref(Digest(octets(digest, 32))))
+        ticket, reply = self.make("open", byref(Digest(octets(digest, 32))))
         if reply != "READY":
             return reply
-        walk = Handle("ticket_walk", self.answer.ref)
+        walk = Handle("ticket_walk", ticket.ref)
         return [Block("list_block", walk.ref, c_size_t(index)) for index in range(walk.read("list_len", c_size_t).value)]
 
     def collect(self, round):
-        return self.make("book_collect", number(round, c_uint64))
+        return self.make("collect", number(round, c_uint64))[1]
 
     def missing(self, most=1_024):
-        self.make("book_missing", number(most, c_uint16))
-        count = self.answer.read("answer_reply", Told).number
-        return [place(self.answer.read("answer_missing", Subject, c_size_t(index))) for index in range(count)]
+        answer, _ = self.make("missing", number(most, c_uint16))
+        count = answer.read("answer_reply", Told).number
+        return [place(answer.read("answer_missing", Subject, c_size_t(index))) for index in range(count)]
 
     def status(self):
-        self.make("book_status")
-        status = self.answer.read("answer_status", Status)
+        answer, _ = self.make("status")
+        status = answer.read("answer_status", Status)
         return {name: getattr(status, name) for name, _ in Status._fields_}
+
+    def look(self, round, author):
+        """What the store has for the round and author. This is not a call."""
+        return fields(self.session.read("session_look", Look, number(round, c_uint64), number(author, c_uint16)))
+
+    def look_round(self, round):
+        """A look for each author of the round that has a first or a certified digest. This is not a call."""
+        looks, count = (AuthorLook * 100)(), c_size_t()  # A committee has at most 100 members.
+        call("session_look_round", self.session.ref, number(round, c_uint64), looks, c_size_t(len(looks)), byref(count))
+        return {each.author: fields(each.look) for each in looks[: count.value]}
+
+    def restart(self):
+        """Empties the history. Blocks, certificates and votes stay. Returns the events of the ended run, as `history` does."""
+        last = Handle("answer_new")
+        call("session_restart", self.session.ref, last.ref)
+        return events(last)
 
     def history(self):
         """The events that explain the last answer: session, number, call and reply."""
-        events = (self.answer.read("answer_event", Event, c_size_t(index)) for index in range(self.answer.read("answer_events", c_size_t).value))
-        return [(it.session, it.number, CALLS[it.call.kind], REPLIES[it.reply.kind]) for it in events]
+        return events(self.answer)

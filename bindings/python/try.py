@@ -20,24 +20,18 @@ def refusal(kind, function, argument):
     raise AssertionError(f"no {kind.__name__}")
 
 
-def replies_to_two_threads(store, messages):
-    """Two threads hand the messages to one store again and again. Returns the texts of their replies and errors."""
+def replies_to_two_threads(store, checked, other):
+    """Each of two threads hands its message to the store again and again. Returns the names of the replies to each."""
 
-    def work():
-        replies = set()
-        for at in range(10_000):
-            try:
-                replies.add(store.take(messages[at % len(messages)]))
-            except NwError as why:
-                replies.add(str(why))
-        return replies
+    def work(message):
+        return {store.take(message) for _ in range(10_000)}
 
     before = sys.getswitchinterval()
     sys.setswitchinterval(1e-6)
     with ThreadPoolExecutor(2) as threads:
-        replies = [threads.submit(work), threads.submit(work)]
+        replies = [threads.submit(work, message) for message in (checked, other)]
     sys.setswitchinterval(before)
-    return set().union(*(each.result() for each in replies))
+    return [each.result() for each in replies]
 
 
 def main():
@@ -48,19 +42,26 @@ def main():
     assert (block.kind, certificate.kind, broken.kind) == ("BLOCK", "CERTIFICATE", "TEXT_SHORT")
     assert store.take(block) == "STORED_VOTE" and store.take(block) == "HELD"
     assert store.causal(digest) == "UNCERTIFIED"
+    look = {"floor": 0, "first": digest, "certified": None, "stands": False, "complete": False}
+    assert store.look(0, 0) == look and store.look_round(0) == {0: look} and store.look_round(1) == {}
     assert store.take(certificate) == "CERTIFIED"
+    assert store.look(0, 0) == {**look, "certified": digest, "stands": True, "complete": True}
     assert [each.subject for each in store.causal(digest)] == [block.subject] == [(0, 0, digest)]
     assert store.read_block(digest).body == store.read_block(bytearray.fromhex(digest)).body == BLOCK[1:-64]
     assert store.missing() == [] and store.status()["complete"] == 1
     assert store.collect(1) == "RAISED" and store.read_block(digest) is None
     assert store.history()[-1] == (0, 11, "CALL_READ", "UNKNOWN")
+    assert store.restart() == store.history() and len(store.history()) == 11
+    assert store.take(block) == "COLLECTED" and store.history() == [(0, 1, "CALL_WRITE", "COLLECTED")]
     assert refusal(NwError, store.take, broken) == "OTHER_KIND"
     for function, argument in ((store.causal, digest[2:]), (store.causal, b""), (store.collect, -1), (store.missing, 65_536), (Committee, [(KEYS, 1)]), (Committee, [(KEYS[:32], 1 << 32)])):
         refusal(ValueError, function, argument)
     shared = Store(committee)
-    replies = replies_to_two_threads(shared, [block, certificate])
-    assert replies <= {"STORED_VOTE", "HELD", "CERTIFIED", "ALREADY", "OUT_OF_TURN"}, replies
-    assert shared.status()["complete"] == 1 and len(shared.history()) == shared.number
+    assert replies_to_two_threads(shared, block, certificate) == [{"STORED_VOTE", "HELD"}, {"CERTIFIED", "ALREADY"}]
+    assert shared.status()["complete"] == 1 and len(shared.history()) == 20_001
+    small = Store(committee, events=1)
+    assert small.take(block) == "STORED_VOTE" and refusal(NwError, small.take, certificate) == "HISTORY_FULL"
+    assert len(small.restart()) == 1 and small.take(certificate) == "CERTIFIED" and small.look(0, 0)["complete"]
     assert doctest.testmod(nw).failed == 0
     print("nw.py: all answers are as they should be")
 
