@@ -43,11 +43,11 @@ pub extern "C" fn nw_gather_new(
     if out.is_open() {
         return OPEN;
     }
-    let Some(round) = Round::new(subject.round) else {
-        return BAD_ROUND;
-    };
     let Content::Committee(members) = committee.lend() else {
         return OTHER_KIND;
+    };
+    let Some(round) = Round::new(subject.round) else {
+        return BAD_ROUND;
     };
     match PreparedGather::new(alloc, members, subject.digest.get(), round, subject.author) {
         Ok(gather) => put(alloc, out, Content::Gather(gather)),

@@ -146,9 +146,9 @@ fn hand_out(found: &[(u16, Look)], looks: &mut [CAuthorLook], needed: &mut usize
 }
 
 /// Writes what the store has in each slot of this round that has a first or a certified digest, ascending by author, after a history that has
-/// all calls that the session knows of. Writes the number of these slots to `needed`; it is at most the number of members. Returns `NW_SMALL`
-/// if the array is smaller, `NW_BAD_ROUND` if the round is not below 2^48, `NW_BUSY` if another thread has the lock, and `NW_ENDED` if the run
-/// of the session has ended. This is not a call: it adds no event.
+/// all calls that the session knows of. Writes the number of these slots to `needed`; it is at most the number of members. Returns
+/// `NW_BAD_ROUND` if the round is not below 2^48, `NW_BUSY` if another thread has the lock, `NW_ENDED` if the run of the session has ended,
+/// and `NW_SMALL` if the array is smaller. This is not a call: it adds no event.
 #[unsafe(no_mangle)]
 pub extern "C" fn nw_session_look_round(
     alloc: Global,
