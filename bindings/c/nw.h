@@ -6,8 +6,7 @@
 
    If several codes apply, a function returns the first of NW_CLOSED, NW_OPEN and NW_OTHER_KIND, and otherwise the first that its comment
    names. A call of a session returns the first of NW_BUSY, NW_ENDED, NW_OTHER_COMMITTEE, NW_HISTORY_FULL and NW_NO_MEMORY. But
-   nw_session_hand_in looks at its text before all else, nw_session_collect at its round, and nw_gather_new at its round before it returns
-   NW_OTHER_KIND. nw_session_look_round returns NW_SMALL last, and nw_settle looks at one session after another.
+   nw_session_hand_in looks at its text before all else, and nw_session_collect at its round. nw_settle looks at one session after another.
 
    The numbers of codes, kinds of texts, replies and calls do not overlap.
 
@@ -584,9 +583,9 @@ NW_USE int32_t nw_session_look(nw_session *session, uint64_t round, uint16_t aut
 
 /* Writes what the store has in each slot of this round that has a first or a certified digest, ascending by
    author, after a history that has all calls that the session knows of. Writes the number of these slots to
-   needed; it is at most the number of members. Returns NW_SMALL if the array is smaller, NW_BAD_ROUND if the
-   round is not below 2^48, NW_BUSY if another thread has the lock, and NW_ENDED if the run of the session
-   has ended. This is not a call: it adds no event. */
+   needed; it is at most the number of members. Returns NW_BAD_ROUND if the round is not below 2^48, NW_BUSY
+   if another thread has the lock, NW_ENDED if the run of the session has ended, and NW_SMALL if the array is
+   smaller. This is not a call: it adds no event. */
 NW_USE int32_t nw_session_look_round(nw_session *session, uint64_t round, nw_author_look *looks, size_t looks_len, size_t *needed);
 
 /* Writes the number of the session's run. A store begins with run 0. */
