@@ -181,7 +181,7 @@ impl<'a> Load<'a> {
     /// Plays all messages to a new store.
     fn play(&self, calls: &mut Calls) -> Result<()> {
         let store = Store::new(&self.committee, Limits::default())?;
-        let session = store.session()?;
+        let mut session = store.session()?;
         for (block, certificate) in self.blocks.iter().zip(&self.certificates) {
             let subject = block.subject();
             calls.write.take(|| session.write(block).map(drop))?;

@@ -9,7 +9,7 @@
 //! # Use
 //!
 //! 1. Make a [`Committee`] from the members' Ed25519 keys, and a [`Store`] under it.
-//! 2. For each message of the network, [`Message::peek`] reads what it is about, and [`Store::look`]
+//! 2. For each message of the network, [`Message::peek`] reads what it is about, and [`Session::look`]
 //!    says what the store has. Drop the message if the store has it or would refuse it, or if it
 //!    exceeds a peer's budget. Check the others with [`Message::check`] or [`check_all`]. A check
 //!    does not take the store's lock.
@@ -31,7 +31,7 @@
 //!
 //! let committee = Committee::equal(&keys)?;
 //! let store = Store::new(&committee, Limits::default())?;
-//! let session = store.session()?;
+//! let mut session = store.session()?;
 //! let mut last = Digest([0; 32]);
 //! for message in &messages {
 //!     match Message::check(&committee, message)? {
@@ -88,6 +88,7 @@ mod answer;
 mod block;
 mod builder;
 mod bytes;
+mod caller;
 mod checked;
 mod code;
 mod committee;
@@ -103,15 +104,18 @@ mod look;
 mod message;
 #[cfg(test)]
 mod no_memory;
+mod note;
 mod parts;
 mod peek;
 mod raw;
 mod reply;
 mod room;
 mod session;
+mod settled;
 mod store;
 mod subject;
 mod ticket;
+mod turns;
 mod walk;
 
 pub use answer::{Answer, Causal};
@@ -129,10 +133,12 @@ pub use intake::check_all;
 pub use limits::Limits;
 pub use look::Look;
 pub use message::Message;
+pub use note::Note;
 pub use parts::Transactions;
 pub use peek::Peek;
 pub use reply::{CausalFault, CertifyReply, CollectReply, Status, WriteReply};
 pub use session::Session;
+pub use settled::{SettleError, Settled, Unsettled};
 pub use store::Store;
 pub use subject::{Subject, text_of_block, text_of_vote, vote_message};
 pub use ticket::{AgreeError, Ticket};
@@ -156,7 +162,6 @@ const _: () = {
     send::<Store>();
     sync::<Store>();
     send::<Session>();
-    sync::<Session>();
     send::<Block>();
     sync::<Block>();
     send::<Checked>();
@@ -165,6 +170,11 @@ const _: () = {
     send::<Answer<WriteReply>>();
     send::<Causal>();
     send::<History>();
+    sync::<History>();
+    send::<Note>();
+    sync::<Note>();
+    send::<Settled>();
+    send::<Unsettled>();
     send::<Ticket>();
     send::<Walk>();
     sync::<Walk>();

@@ -65,7 +65,7 @@ impl World {
     fn new() -> World {
         let committee = Committee::equal(&data::keys()).unwrap();
         let store = Store::new(&committee, Limits::default()).unwrap();
-        let session = store.session().unwrap();
+        let mut session = store.session().unwrap();
         let (mut blocks, mut certificates) = (Vec::new(), Vec::new());
         for checked in check_all(&committee, &data::values("message"), 1) {
             match checked.unwrap() {
@@ -75,12 +75,12 @@ impl World {
             }
         }
         let (block, certificate) = (blocks.pop().unwrap(), certificates.pop().unwrap());
-        let write = |block| session.write(block).unwrap();
+        let mut write = |block| session.write(block).unwrap();
         blocks.iter().for_each(|block| drop(write(block)));
-        let certify = |certificate| session.certify(certificate).unwrap();
+        let mut certify = |certificate| session.certify(certificate).unwrap();
         certificates.iter().for_each(|one| drop(certify(one)));
         let leader = certificates.last().unwrap().subject().digest;
-        let ticket = || session.causal(&leader).unwrap().into_ticket().unwrap();
+        let mut ticket = || session.causal(&leader).unwrap().into_ticket().unwrap();
         let votes = check_all(&committee, &data::values("vote"), 1).into_iter();
         let vote = |checked| match checked {
             Ok(Checked::Vote(vote)) => vote,
@@ -98,7 +98,7 @@ impl World {
         }
     }
 
-    fn status(&self) -> Status {
+    fn status(&mut self) -> Status {
         self.session.status().unwrap().into_reply()
     }
 }
@@ -108,15 +108,15 @@ impl World {
 #[track_caller]
 fn fail_each<T: Debug + PartialEq, E: Debug + PartialEq>(
     no_memory: E,
-    call: impl Fn(&World) -> Result<T, E>,
+    call: impl Fn(&mut World) -> Result<T, E>,
 ) {
-    let wanted = call(&World::new());
+    let wanted = call(&mut World::new());
     assert!(wanted.is_ok(), "{wanted:?}");
     for number in 1.. {
-        let world = World::new();
+        let mut world = World::new();
         let (before, events) = (world.status(), world.store.events());
         FAILS.set(number);
-        let outcome = call(&world);
+        let outcome = call(&mut world);
         if FAILS.replace(0) > 0 {
             assert_eq!(outcome, wanted);
             assert!(number > 1, "the call makes no allocation");
@@ -126,7 +126,7 @@ fn fail_each<T: Debug + PartialEq, E: Debug + PartialEq>(
             assert_eq!(error, no_memory);
             assert_eq!(world.store.events(), events);
             assert_eq!(world.status(), before);
-            assert_eq!(call(&world), wanted);
+            assert_eq!(call(&mut world), wanted);
         }
     }
 }
@@ -139,7 +139,12 @@ fn committees_and_stores() {
     fail_each(OpenError::NoMemory, |world| {
         Store::new(&world.committee, Limits::default()).map(|store| store.events())
     });
-    fail_each(NoMemory, |world| world.store.restart());
+    fail_each(OpenError::NoMemory, |world| {
+        world.store.session().map(|session| session.id())
+    });
+    fail_each(StepError::NoMemory, |world| {
+        world.session.restart().map(drop)
+    });
 }
 
 #[test]
@@ -195,7 +200,7 @@ fn other_steps() {
 
 #[test]
 fn looks() {
-    fail_each(NoMemory, |world| world.store.look_round(0));
+    fail_each(NoMemory, |world| world.session.look_round(0));
 }
 
 #[test]
@@ -214,7 +219,7 @@ fn causal_reads() {
 fn all_is_freed_at_the_end() {
     let before = LIVE.get();
     for _ in 0..2 {
-        let world = World::new();
+        let mut world = World::new();
         let [one, other] = &world.tickets;
         assert!(one.agrees(other).unwrap());
         // Three answers are dropped, and the store keeps one of them as its spare.
@@ -227,7 +232,7 @@ fn all_is_freed_at_the_end() {
             .iter()
             .for_each(|vote| assert!(gather.add(vote).is_ok()));
         drop(gather.certificate().unwrap().message());
-        world.store.restart().unwrap();
+        drop(world.session.restart().unwrap());
         assert!(
             world
                 .session
@@ -243,10 +248,10 @@ fn all_is_freed_at_the_end() {
 
 #[test]
 fn a_restart_frees_the_history() {
-    let world = World::new();
-    let live_after = |calls: usize| {
+    let mut world = World::new();
+    let mut live_after = |calls: usize| {
         (0..calls).for_each(|_| drop(world.session.status().unwrap()));
-        world.store.restart().unwrap();
+        drop(world.session.restart().unwrap());
         LIVE.get()
     };
     let few = live_after(1);
@@ -296,7 +301,7 @@ fn restarting_calls(limits: Limits, bytes: u64) -> Vec<(Option<StepError>, usize
     for number in 1.. {
         let builder = Store::builder(&committee).limits(limits);
         let store = builder.restart_when(bytes, u32::MAX).open().unwrap();
-        let session = store.session().unwrap();
+        let mut session = store.session().unwrap();
         (0..4).for_each(|_| drop(session.status().unwrap()));
         FAILS.set(number);
         let outcome = session.status().map(drop).err();

@@ -99,7 +99,7 @@ fn a_store_has_the_limits_that_it_was_opened_with() {
 /// A store with a chain of complete blocks, one for each round, and their subjects.
 fn chain(com: &Com, rounds: u64) -> (Session, Vec<Subject>) {
     let store = Store::new(&com.committee, Limits::default()).expect("a store");
-    let session = store.session().expect("a session");
+    let mut session = store.session().expect("a session");
     let mut subjects: Vec<Subject> = Vec::new();
     for round in 0..rounds {
         let parents: Vec<_> = subjects
@@ -120,7 +120,7 @@ fn chain(com: &Com, rounds: u64) -> (Session, Vec<Subject>) {
     (session, subjects)
 }
 
-fn ticket(session: &Session, subject: &Subject) -> Ticket {
+fn ticket(session: &mut Session, subject: &Subject) -> Ticket {
     let causal = session.causal(&subject.digest).expect("a causal read");
     causal.into_ticket().expect("a complete block")
 }
@@ -155,15 +155,15 @@ fn goes_each_way<I, K: Debug + PartialEq>(
 #[test]
 fn events_and_walks_go_each_way() {
     let com = Com::new(1);
-    let (session, subjects) = chain(&com, 6);
-    let ticket = ticket(&session, &subjects[5]);
+    let (mut session, subjects) = chain(&com, 6);
+    let ticket = ticket(&mut session, &subjects[5]);
     goes_each_way(
         || ticket.walk().expect("a walk"),
         &subjects,
         |block| block.subject(),
     );
     let store = Store::new(&com.committee, Limits::default()).expect("a store");
-    let session = store.session().expect("a session");
+    let mut session = store.session().expect("a session");
     let answers = [1, 2, 3, 4, 5, 6].map(|_| session.status().expect("a status"));
     let history = answers[5].history();
     goes_each_way(
@@ -176,12 +176,12 @@ fn events_and_walks_go_each_way() {
 #[test]
 fn tickets_of_two_blocks_or_floors_are_not_compared() {
     let com = Com::new(1);
-    let (session, subjects) = chain(&com, 3);
-    let [low, high, again] = [1, 2, 2].map(|round: usize| ticket(&session, &subjects[round]));
+    let (mut session, subjects) = chain(&com, 3);
+    let [low, high, again] = [1, 2, 2].map(|round: usize| ticket(&mut session, &subjects[round]));
     assert_eq!(high.agrees(&again), Ok(true));
     assert_eq!(high.agrees(&low), Err(AgreeError::NotComparable));
     drop(session.collect(1).expect("a collection"));
-    let collected = ticket(&session, &subjects[2]);
+    let collected = ticket(&mut session, &subjects[2]);
     assert_eq!(high.agrees(&collected), Err(AgreeError::NotComparable));
     assert_eq!((high.floor(), collected.floor()), (0, 1));
 }

@@ -47,7 +47,7 @@ impl Heard {
 
 /// Makes the call. `checked` is the message to write or certify.
 pub fn ask_store(
-    session: &Session,
+    session: &mut Session,
     call: &Call,
     checked: Option<&Checked>,
 ) -> Result<Heard, StepError> {
