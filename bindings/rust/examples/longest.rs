@@ -125,7 +125,7 @@ fn restarts(members: u16, rounds: u64, lag: u64) -> Result<()> {
         drop(lab.session.restart()?);
     }
     once(&format!("restart, {what}"), || {
-        Ok(drop(lab.session.restart()?))
+        Ok(lab.session.restart().map(drop)?)
     })?;
     let (message, _) = lab.com.block(0, rounds - 1, &[(0, Digest([1; 32]))], &[]);
     let Checked::Block(twin) = Message::check(&lab.com.committee, &message)? else {
@@ -136,7 +136,7 @@ fn restarts(members: u16, rounds: u64, lag: u64) -> Result<()> {
             drop(lab.session.write(&twin)?);
         }
         once(&format!("restart, {what}, 65,536 events"), || {
-            Ok(drop(lab.session.restart()?))
+            Ok(lab.session.restart().map(drop)?)
         })?;
     }
     Ok(())

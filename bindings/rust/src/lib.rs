@@ -9,20 +9,20 @@
 //! # Use
 //!
 //! 1. Make a [`Committee`] from the members' Ed25519 keys, and a [`Store`] under it.
-//! 2. For each message of the network, [`Message::peek`] reads what it is about, and [`Session::look`]
+//! 2. Make a [`Session`] for each thread with [`Store::session`].
+//! 3. For each message of the network, [`Message::peek`] reads what it is about, and [`Session::look`]
 //!    says what the store has. Drop the message if the store has it or would refuse it, or if it
 //!    exceeds a peer's budget. Check the others with [`Message::check`] or [`check_all`]. A check
-//!    does not take the store's lock.
-//! 3. Pass checked messages to a [`Session`] of the store: [`Session::write`] and
-//!    [`Session::certify`].
-//! 4. When a write answers `Stored { vote: true }`, the block is the first of its round and author.
+//!    waits for no other thread.
+//! 4. Pass checked messages to the thread's session: [`Session::write`] and [`Session::certify`].
+//! 5. When a write answers `Stored { vote: true }`, the block is the first of its round and author.
 //!    Vote for it once all its parents are stored and certified ([`Look::satisfies`]): log, sync,
 //!    and send the vote.
-//! 5. Make your own blocks with [`Block::new`], sign [`Block::text_to_sign`], and pass
+//! 6. Make your own blocks with [`Block::new`], sign [`Block::text_to_sign`], and pass
 //!    [`Block::message`] to [`Message::check`] before you write and send it. Make a vote with
 //!    [`vote_message`], and pass the checked votes to [`Gather::add`], which verifies them.
-//! 6. Open a causal read of a leader with [`Session::causal`], and walk its [`Ticket`].
-//! 7. Raise the garbage round with [`Session::collect`].
+//! 7. Open a causal read of a leader with [`Session::causal`], and walk its [`Ticket`].
+//! 8. Raise the garbage round with [`Session::collect`].
 //!
 //! ```
 //! # mod data { include!(concat!(env!("CARGO_MANIFEST_DIR"), "/examples/data/mod.rs")); }
@@ -55,17 +55,20 @@
 //!
 //! # Guarantees
 //!
-//! The proofs cover the static library: every function is memory-safe and returns, and
+//! The proofs cover the static library with its lock: every function is memory-safe and returns, and
 //!
 //! - each answer carries a [`History`] of calls and replies, which ends with its own call; a
 //!   sequential store that takes these calls in order gives exactly these replies;
+//! - however the calls of threads interleave, the history of an answer has exactly the calls that its
+//!   session made in the run, each once and in order, and everything that the session heard of;
 //! - a walk lists exactly the certified ancestors that are not below the garbage round, as of the
 //!   call that opened the ticket;
 //! - at most one write per round and author answers `Stored { vote: true }`, also across restarts
 //!   of the history.
 //!
-//! The proofs do not cover this crate, its lock, std, libc, the compilers or the code of SHA-256.
-//! Nor do they show that signatures cannot be forged, or that no two blocks have the same digest.
+//! The proofs do not cover this crate, std, libc, the compilers or the code of SHA-256. The crate has
+//! a lock too, at which threads wait for their turns. Nothing of the above rests on it. The proofs do
+//! not show that signatures cannot be forged, or that no two blocks have the same digest.
 //!
 //! # After a crash
 //!

@@ -3,10 +3,11 @@
 use crate::ffi::{Handle, Spare};
 use crate::raw::tagged;
 use crate::room::Room;
+use crate::settled::Given;
 use crate::{
     AgreeError, Block, BlockError, Causal, CheckError, Checked, CheckedBlock, CheckedCertificate,
     CheckedVote, Committee, CommitteeError, Digest, Gather, GatherError, History, Limits, Message,
-    NoMemory, OpenError, Session, Status, StepError, Store, Ticket, check_all,
+    NoMemory, OpenError, Session, SettleError, Status, StepError, Store, Ticket, check_all,
 };
 use std::cell::Cell;
 use std::ffi::c_void;
@@ -52,6 +53,7 @@ struct World {
     committee: Committee,
     store: Store,
     session: Session,
+    other: Session,
     block: CheckedBlock,
     certificate: CheckedCertificate,
     /// A complete digest.
@@ -90,6 +92,7 @@ impl World {
             tickets: [ticket(), ticket()],
             votes: votes.map(vote).collect(),
             committee,
+            other: store.session().unwrap(),
             store,
             session,
             block,
@@ -196,6 +199,72 @@ fn other_steps() {
         Ok(world.session.missing_of(&world.leader)?.into_reply())
     });
     fail_each(no_memory, |world| Ok(*world.session.status()?.reply()));
+}
+
+#[test]
+fn notes() {
+    fail_each(StepError::NoMemory, |world| world.session.note().map(drop));
+}
+
+/// The call takes its session into the new run first.
+#[test]
+fn calls_after_a_restart_of_another_session() {
+    for number in 1.. {
+        let mut world = World::new();
+        drop(world.other.restart().unwrap());
+        FAILS.set(number);
+        let outcome = world.session.status().map(drop);
+        if FAILS.replace(0) > 0 {
+            assert_eq!(outcome, Ok(()));
+            assert!(number > 1, "the call makes no allocation");
+            return;
+        }
+        if let Err(error) = outcome {
+            assert_eq!(error, StepError::NoMemory);
+            assert_eq!(world.store.events(), 0);
+            drop(world.session.status().unwrap());
+        }
+        assert_eq!(world.store.events(), 1);
+    }
+}
+
+/// Each allocation fails until the sessions have settled. Then the sessions are taken back.
+#[test]
+fn settlements() {
+    for number in 1.. {
+        let World {
+            store,
+            session,
+            mut other,
+            ..
+        } = World::new();
+        drop(other.status().unwrap());
+        let mut sessions = [session, other];
+        FAILS.set(number);
+        let mut given = Given::new(&mut sessions).map_err(SettleError::from);
+        let settled = given
+            .as_mut()
+            .map_err(|error| *error)
+            .and_then(Given::settle);
+        let is_last = FAILS.replace(0) > 0;
+        drop(given);
+        if let Err(error) = &settled {
+            assert_eq!(*error, SettleError::NoMemory);
+        }
+        let events = store.events();
+        sessions
+            .iter_mut()
+            .for_each(|own| drop(own.status().unwrap()));
+        assert_eq!(store.events(), events + 2);
+        let again = Store::settle(sessions.into()).unwrap();
+        assert_eq!(again.history().len(), events + 2);
+        assert_eq!(again.journal(1).count(), 2);
+        if is_last {
+            assert_eq!(settled.unwrap().history().len(), events);
+            assert!(number > 1, "a settlement makes no allocation");
+            return;
+        }
+    }
 }
 
 #[test]

@@ -145,7 +145,7 @@ fn settle(sessions: &mut [Session]) -> Result<Note, SettleError> {
 }
 
 /// Sessions that are given to a settlement of the library. They are taken back when it is dropped.
-struct Given<'a> {
+pub(crate) struct Given<'a> {
     settlement: Handle,
     sessions: &'a mut [Session],
     /// How many of the sessions are given.
@@ -153,7 +153,7 @@ struct Given<'a> {
 }
 
 impl Given<'_> {
-    fn new(sessions: &mut [Session]) -> Result<Given<'_>, NoMemory> {
+    pub(crate) fn new(sessions: &mut [Session]) -> Result<Given<'_>, NoMemory> {
         let settlement = Handle::opened(|out| ffi::nw_settlement_new(out));
         let mut given = Given {
             settlement: settlement.map_err(Code::no_memory)?,
@@ -168,7 +168,7 @@ impl Given<'_> {
         Ok(given)
     }
 
-    fn settle(&mut self) -> Result<Note, SettleError> {
+    pub(crate) fn settle(&mut self) -> Result<Note, SettleError> {
         let history = Handle::opened(|out| ffi::nw_answer_new(out));
         let mut history = history.map_err(Code::no_memory)?;
         match again(|| ffi::nw_settle(&mut self.settlement, &mut history)) {

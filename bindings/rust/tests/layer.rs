@@ -1,10 +1,12 @@
-//! Small faults that the Rust layer could have, each with one test: weights, limits, iterators, and the library that build.rs links.
+//! Small faults that the Rust layer could have, each with one test: weights, limits, iterators, restarts, settlements, and the library that
+//! build.rs links.
 
 mod lab;
 
 use lab::Com;
+use narwhal_store::WriteReply;
 use narwhal_store::{AgreeError, Checked, Gather, GatherError, Limits, Member, Message, OpenError};
-use narwhal_store::{PublicKey, Session, Store, Subject, Ticket};
+use narwhal_store::{Call, Event, PublicKey, Reply, Session, SettleError, Store, Subject, Ticket};
 use std::fmt::Debug;
 use std::fs;
 use std::path::{Path, PathBuf};
@@ -184,6 +186,156 @@ fn tickets_of_two_blocks_or_floors_are_not_compared() {
     let collected = ticket(&mut session, &subjects[2]);
     assert_eq!(high.agrees(&collected), Err(AgreeError::NotComparable));
     assert_eq!((high.floor(), collected.floor()), (0, 1));
+}
+
+/// A store with some sessions.
+fn sessions(com: &Com, count: usize) -> (Store, Vec<Session>) {
+    let store = Store::new(&com.committee, Limits::default()).expect("a store");
+    let sessions = (0..count).map(|_| store.session().expect("a session"));
+    let sessions = sessions.collect();
+    (store, sessions)
+}
+
+fn numbers(sessions: &[Session]) -> Vec<u16> {
+    sessions.iter().map(Session::id).collect()
+}
+
+/// The sessions do not settle, for this reason, and come back.
+fn does_not_settle(sessions: Vec<Session>, why: SettleError) -> Vec<Session> {
+    let refused = Store::settle(sessions).expect_err("sessions that do not settle");
+    assert_eq!((refused.why(), refused.to_string()), (why, why.to_string()));
+    refused.into_sessions()
+}
+
+#[test]
+fn only_all_sessions_of_one_store_settle() {
+    let com = Com::new(1);
+    let (store, mut own) = sessions(&com, 3);
+    let (_, mut others) = sessions(&com, 3);
+    for session in &mut own {
+        drop(session.status().expect("a status"));
+    }
+    assert!(does_not_settle(Vec::new(), SettleError::Missing).is_empty());
+    for place in 0..3 {
+        let left_out = own.remove(place);
+        own = does_not_settle(own, SettleError::Missing);
+        assert!(!numbers(&own).contains(&left_out.id()) && own.len() == 2);
+        // A session of another store with the missing number, or with any other one.
+        for number in 0..3 {
+            own.push(others.remove(number));
+            own = does_not_settle(own, SettleError::OtherStore);
+            // The sort is stable, so the other store's session is after the own one of its number.
+            let at = numbers(&own)
+                .iter()
+                .rposition(|id| usize::from(*id) == number);
+            others.insert(number, own.remove(at.expect("the other session")));
+        }
+        own.insert(place, left_out);
+    }
+    assert_eq!((numbers(&own), store.events()), (vec![0, 1, 2], 3));
+    others.append(&mut own);
+    let mut mixed = does_not_settle(others, SettleError::OtherStore);
+    assert_eq!(numbers(&mixed), [0, 0, 1, 1, 2, 2]);
+    mixed
+        .iter_mut()
+        .for_each(|one| drop(one.status().expect("a status")));
+    assert_eq!(store.events(), 6, "a session that came back is another one");
+}
+
+#[test]
+fn sessions_settle_in_any_order_and_go_on() {
+    let com = Com::new(1);
+    let (store, mut own) = sessions(&com, 3);
+    for round in 1..=4 {
+        for at in [2, 0, 0] {
+            drop(own[at].collect(round).expect("a collection"));
+        }
+        own.rotate_left(1);
+        let settled = Store::settle(own).expect("all sessions");
+        assert_eq!(settled.history().len(), 3 * round as usize);
+        let journals = (0..3).flat_map(|id| settled.journal(id));
+        assert_eq!(journals.count(), 3 * round as usize);
+        assert_eq!(settled.journal(3).count(), 0);
+        for (number, event) in (1..).zip(settled.journal(2)) {
+            let (call, reply) = (Call::Collect(number), Reply::Raised { dropped: 0 });
+            let (session, number) = (2, number as u32);
+            assert_eq!(
+                event,
+                Event {
+                    session,
+                    number,
+                    call,
+                    reply
+                }
+            );
+        }
+        own = settled.into_sessions();
+        assert_eq!(numbers(&own), [0, 1, 2]);
+    }
+    let (same, mut own) = Store::settle(own)
+        .expect("all sessions")
+        .reopen()
+        .expect("memory");
+    assert_eq!((same.events(), store.events()), (0, 0));
+    assert_eq!(own[1].status().expect("a status").reply().garbage_round, 4);
+    assert_eq!((same.events(), store.events()), (1, 1));
+    let settled = Store::settle(own).expect("all sessions");
+    assert_eq!(settled.history().len(), 1);
+}
+
+/// One session ends the run while the others are in use. They go on in the new run, with the votes of the old one.
+#[test]
+fn a_restart_ends_the_run_of_all_sessions() {
+    let com = Com::new(2);
+    let (store, own) = sessions(&com, 3);
+    let [mut one, mut other, mut third] = <[Session; 3]>::try_from(own).expect("three");
+    let block = |bytes: &[u8]| match checked(&com, &com.block(1, 0, &[], &[bytes.to_vec()]).0) {
+        Checked::Block(block) => block,
+        no => panic!("{no:?}"),
+    };
+    let (first, twin) = (block(b"one"), block(b"other"));
+    let answer = one.write(&first).expect("a write");
+    assert_eq!(answer.reply(), &WriteReply::Stored { vote: true });
+    let early = third.note().expect("a note");
+    assert_eq!((one.run(), other.run(), store.events()), (0, 0, 1));
+
+    let ended = other.restart().expect("a restart");
+    assert_eq!((one.run(), other.run(), store.events()), (0, 1, 0));
+    assert!(answer.history().is_prefix_of(ended.history()) && ended.history().len() == 1);
+    // A look, a note and a hearing take their sessions into the new run, and are no calls.
+    assert_eq!(one.look(0, 1).first, Some(first.subject().digest));
+    assert_eq!(third.hear(&early), Ok(false), "a note of the ended run");
+    assert_eq!(
+        third.hear(&ended),
+        Ok(false),
+        "the last history of the ended run"
+    );
+    let empty = third.note().expect("a note");
+    assert_eq!((one.run(), third.run(), empty.history().len()), (1, 1, 0));
+    assert!(empty.history().is_empty() && other.hear(&empty) == Ok(true));
+
+    let again = one.write(&twin).expect("a write");
+    assert_eq!(
+        again.reply(),
+        &WriteReply::Equivocates(first.subject().digest)
+    );
+    let event = again.history().event(0).expect("the call itself");
+    assert_eq!(
+        (event.session, event.number, again.history().len()),
+        (0, 1, 1)
+    );
+    assert!(!answer.history().is_prefix_of(again.history()));
+    assert_eq!(
+        answer.history().len(),
+        1,
+        "an answer of the ended run changed"
+    );
+    // Two restarts in a row, and one by a session of an ended run.
+    assert_eq!(other.restart().expect("a restart").history().len(), 1);
+    assert!(one.restart().expect("a restart").history().is_empty());
+    assert_eq!((one.run(), other.run(), store.changes()), (3, 2, 1));
+    drop(other.status().expect("a status"));
+    assert_eq!((other.run(), store.events()), (3, 1));
 }
 
 /// A run of build.rs for this target.

@@ -4,6 +4,7 @@ mod answers;
 mod corpus;
 mod draw;
 mod node;
+pub mod threads;
 
 use crate::model::{Call, Digest, Reply};
 use answers::block_of;

@@ -1,14 +1,15 @@
 //! A validator: its store with the model beside it, its log, and the votes that it sent.
 
-use super::answers::{Explained, ask_store, event_of, row_of};
+use super::answers::{Explained, Got, ask_store, event_of, look_of, row_of};
 use super::corpus::{Case, Delivery, committee};
 use super::{Draw, Plan};
-use crate::model::{Block, Call, Digest, Look, Model, Reply, Slot};
+use crate::model::{Block, Call, Digest, Model, Reply, Slot};
 use narwhal_store::{
     Checked, Committee, Event, Limits, OpenError, Session, StepError, Store, Ticket,
 };
 use std::collections::{BTreeMap, VecDeque};
 use std::rc::Rc;
+use std::sync::Arc;
 
 /// A call with the model's reply.
 pub struct RawTagged {
@@ -29,7 +30,7 @@ struct Logged<'a> {
 pub struct Kept {
     pub ticket: Rc<Ticket>,
     pub floor: u64,
-    pub list: Vec<Rc<Block>>,
+    pub list: Vec<Arc<Block>>,
 }
 
 pub struct Node<'a> {
@@ -116,12 +117,7 @@ impl<'a> Node<'a> {
         let expected = self.model.look_round(round);
         assert_eq!(looks.len(), expected.len(), "the authors of a round");
         for ((author, look), (expected_author, expected)) in looks.iter().zip(&expected) {
-            let found = Look {
-                first: look.first.map(|digest| digest.0),
-                certified: look.certified.map(|digest| digest.0),
-                stands: look.stands,
-                complete: look.complete,
-            };
+            let found = look_of(look);
             assert_eq!((author, &found), (expected_author, expected), "a look");
             assert_eq!(look.garbage_round, self.model.floor(), "a garbage round");
             assert_eq!(*look, session.look(round, *author), "a look at a slot");
@@ -251,8 +247,8 @@ impl<'a> Node<'a> {
         self.plan
             .seen
             .count(row_of(&event_of(&self.told[self.told.len() - 1])));
-        self.keep_ticket(draw, heard.ticket, &reply);
-        self.compare_history(draw, heard.explained);
+        let explained = self.keep(draw, heard.answer, &reply);
+        self.compare_history(draw, explained);
         reply
     }
 
@@ -356,19 +352,23 @@ impl<'a> Node<'a> {
         refused.expect_err("a call that is refused")
     }
 
-    /// Keeps a ticket to walk it later.
-    fn keep_ticket(&mut self, draw: &mut Draw, ticket: Option<Rc<Ticket>>, reply: &Reply) {
-        if let (Some(ticket), Reply::List(list)) = (ticket, reply) {
+    /// Keeps a ticket to walk it later. Returns what has the history of the answer.
+    fn keep(&mut self, draw: &mut Draw, answer: Got, reply: &Reply) -> Rc<dyn Explained> {
+        let ticket = match answer {
+            Got::Ticket(ticket) => Rc::new(ticket),
+            Got::Other(explained) => return Rc::from(explained as Box<dyn Explained>),
+        };
+        if let Reply::List(list) = reply {
             if self.tickets.len() == 6 {
                 self.tickets.swap_remove(draw.index(6));
             }
-            let (floor, list) = (self.model.floor(), list.clone());
             self.tickets.push(Kept {
-                ticket,
-                floor,
-                list,
+                ticket: ticket.clone(),
+                floor: self.model.floor(),
+                list: list.clone(),
             });
         }
+        ticket
     }
 
     /// The answer's history is the one before with one more event, which is the call.
