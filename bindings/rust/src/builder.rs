@@ -46,8 +46,9 @@ impl StoreBuilder {
     /// write of 1,048,576 bytes and a list of 65,535 missing parents of 3.1 MB.
     ///
     /// - An answer's history has only the events since the last restart.
-    /// - The restart runs inside one call, in the turn of its thread. It copies an entry for each stored
-    ///   block and certificate, and replays no event. It ends the run: see [`Session::restart`].
+    /// - The restart runs inside one call, in the turn of its thread. It copies an entry for each
+    ///   stored block and certificate, and replays no event. It ends the run: see
+    ///   [`Session::restart`].
     /// - The old history is freed after the turn, by the thread that made the call, unless an answer
     ///   that you hold still shares it.
     /// - If there is no memory for the restart, the call goes on without it. It fails with
@@ -64,8 +65,9 @@ impl StoreBuilder {
     /// Makes a store that never restarts its history by itself.
     ///
     /// Calls fail with [`StepError::HistoryFull`] once the history has [`Limits::events`] events,
-    /// until a session [restarts](crate::Session::restart) it. A peer can fill the history with repeated messages. Use
-    /// this only if you need one history of all calls, and control who can make them.
+    /// until a session [restarts](crate::Session::restart) it. A peer can fill the history with
+    /// repeated messages. Use this only if you need one history of all calls, and control who can make
+    /// them.
     ///
     /// [`StepError::HistoryFull`]: crate::StepError::HistoryFull
     pub fn never_restart(mut self) -> StoreBuilder {
@@ -74,8 +76,8 @@ impl StoreBuilder {
     }
 
     /// Makes a store whose threads do not wait for their turns: a call that finds the library busy is
-    /// made again, until the library is not busy. It is for tests: all that the library proves holds for
-    /// such a store too.
+    /// made again, until the library is not busy. All that is proved of the library holds for such a
+    /// store too. It is for tests.
     #[doc(hidden)]
     pub fn without_turns(mut self) -> StoreBuilder {
         self.takes_turns = false;

@@ -101,8 +101,8 @@ impl History {
     /// Returns whether this history is a prefix of the other: both began from the same state, and the
     /// first events of the other are those of this one.
     ///
-    /// Of any two answers or notes of one run of a store, the history of one is a prefix of that of the
-    /// other.
+    /// Of any two answers or notes of one run of a store, the history of one is a prefix of that of
+    /// the other.
     ///
     /// This takes time in proportion to the events, and to the state that the history started from.
     #[must_use]
@@ -117,8 +117,8 @@ impl History {
     }
 }
 
-/// The rooms of two histories. They are locked in the order of their places, so that two threads that
-/// compare the same notes do not wait for each other.
+/// The rooms of two histories. They are locked in the order of their places, so that two threads
+/// that compare the same notes do not wait for each other for ever.
 pub(crate) fn both<'a>(
     one: &'a History,
     other: &'a History,

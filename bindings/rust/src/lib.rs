@@ -10,10 +10,10 @@
 //!
 //! 1. Make a [`Committee`] from the members' Ed25519 keys, and a [`Store`] under it.
 //! 2. Make a [`Session`] for each thread with [`Store::session`].
-//! 3. For each message of the network, [`Message::peek`] reads what it is about, and [`Session::look`]
-//!    says what the store has. Drop the message if the store has it or would refuse it, or if it
-//!    exceeds a peer's budget. Check the others with [`Message::check`] or [`check_all`]. A check
-//!    waits for no other thread.
+//! 3. For each message of the network, [`Message::peek`] reads what it is about, and
+//!    [`Session::look`] says what the store has. Drop the message if the store has it or would refuse
+//!    it, or if it exceeds a peer's budget. Check the others with [`Message::check`] or
+//!    [`check_all`]. A check waits for no call of a store.
 //! 4. Pass checked messages to the thread's session: [`Session::write`] and [`Session::certify`].
 //! 5. When a write answers `Stored { vote: true }`, the block is the first of its round and author.
 //!    Vote for it once all its parents are stored and certified ([`Look::satisfies`]): log, sync,
@@ -55,20 +55,20 @@
 //!
 //! # Guarantees
 //!
-//! The proofs cover the static library with its lock: every function is memory-safe and returns, and
+//! The proofs cover the static library and its lock: every function is memory-safe and returns, and
 //!
 //! - each answer carries a [`History`] of calls and replies, which ends with its own call; a
 //!   sequential store that takes these calls in order gives exactly these replies;
-//! - however the calls of threads interleave, the history of an answer has exactly the calls that its
-//!   session made in the run, each once and in order, and everything that the session heard of;
+//! - however the calls of threads interleave, the history of an answer has exactly the calls that
+//!   its session made in the run, each once and in order, and everything that the session heard of;
 //! - a walk lists exactly the certified ancestors that are not below the garbage round, as of the
 //!   call that opened the ticket;
 //! - at most one write per round and author answers `Stored { vote: true }`, also across restarts
 //!   of the history.
 //!
-//! The proofs do not cover this crate, std, libc, the compilers or the code of SHA-256. The crate has
-//! a lock too, at which threads wait for their turns. Nothing of the above rests on it. The proofs do
-//! not show that signatures cannot be forged, or that no two blocks have the same digest.
+//! The crate has a lock too, at which threads wait for their turns. Nothing of the above rests on
+//! it. The proofs do not cover this crate, std, libc, the compilers or the code of SHA-256. Nor do
+//! they show that signatures cannot be forged, or that no two blocks have the same digest.
 //!
 //! # After a crash
 //!

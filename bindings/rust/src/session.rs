@@ -16,18 +16,18 @@ use std::sync::Arc;
 /// One caller of a store. [`Store::session`](crate::Store::session) makes it.
 ///
 /// Each call is one step of the store, and one event of its history. The calls of a session are
-/// numbered 1, 2, 3, .. in the history of a run. After a [restart](Session::restart) by any session,
-/// they are numbered from 1 again.
+/// numbered 1, 2, 3, .. in the history of a run. After a [restart](Session::restart) by any
+/// session, they are numbered from 1 again.
 ///
 /// Give each thread a session of its own: the type is `Send`, and a call needs `&mut`. A history
 /// names the session of each event. The library proves of every session, however the calls of
 /// threads interleave:
 ///
 /// - The history of an answer has exactly the calls that the session made in the run, each once and
-///   in order. It begins with the history of the session's answer before, and with each note that the
-///   session [heard](Session::hear).
-/// - When all sessions [settle](crate::Store::settle), one history has all their calls, and begins with
-///   the history of each answer.
+///   in order. It begins with the history of the session's answer before, and with each note that
+///   the session [heard](Session::hear).
+/// - When all sessions [settle](crate::Store::settle), one history has all their calls, and begins
+///   with the history of each answer.
 ///
 /// A failed call changes no block, certificate or vote, and adds no event. If it restarted the
 /// history first, the history is empty. Every call can fail with these errors of [`StepError`]:
@@ -294,9 +294,9 @@ impl Session {
 
     /// Looks at what the store has for a round and an author.
     ///
-    /// It sees all calls that this session made, and all that the session heard of. This is no call: it
-    /// adds no event. It takes the library's lock for a few look-ups. No block has a round of 2^48 or
-    /// more, so such a look finds no digest.
+    /// The look is after all calls that this session made, and after all that it [heard](Session::hear)
+    /// of. This is no call: it adds no event. It takes the library's lock for a few look-ups. No block
+    /// has a round of 2^48 or more, so such a look finds no digest.
     ///
     /// A validator looks before it [checks](crate::Message::check) a message that it
     /// [peeked](crate::Message::peek) at, and looks at the parents of a block before it votes.
@@ -376,8 +376,8 @@ impl Session {
 
     /// Takes a note: the history of the store as it is now. This is no call: it adds no event.
     ///
-    /// Send the note to another thread, whose session [hears](Session::hear) it. So that session knows
-    /// all that this one knows.
+    /// Send the note to another thread, whose session [hears](Session::hear) it. From then on, that
+    /// session's histories include all that this one knows now.
     ///
     /// A note keeps its history in memory. Drop it when it is heard.
     ///
@@ -406,9 +406,9 @@ impl Session {
 
     /// Hears a note of another session. Returns whether it is a note of the store's present run.
     ///
-    /// If it is, the note is a prefix of the history of every answer that this session gets in the run.
-    /// If not, the note is of another store, or of a run that a [restart](Session::restart) ended, and
-    /// nothing changes. This is no call: it adds no event.
+    /// If it is, the note is a prefix of the history of every later answer that this session gets in
+    /// the run. If not, the note is of another store, or of a run that a [restart](Session::restart)
+    /// ended, and nothing changes. This is no call: it adds no event.
     ///
     /// This takes time in proportion to the events of the note, and holds up no call meanwhile.
     ///
@@ -434,8 +434,8 @@ impl Session {
     /// again. Answers, tickets and notes of the ended run do not change.
     ///
     /// A restart is one step under the library's lock. It copies an entry for each stored block and
-    /// certificate, and replays no event. The memory of the old history is freed when the returned note
-    /// and all answers with it are dropped.
+    /// certificate, and replays no event. The old history is freed when the returned note is dropped,
+    /// with all answers of the run.
     ///
     /// # Errors
     ///
@@ -458,8 +458,6 @@ impl Session {
     /// ```
     pub fn restart(&mut self) -> Result<Note, StepError> {
         let mut last = room_of_a_note()?;
-        // An answer of the old history is dropped after the turn, and its part of that history with it.
-        let old = self.store.spare.take();
         let mut turn = self.store.turns.take();
         let mut code = turn.restart(&mut self.caller, &mut last);
         while code == Code::ENDED {
@@ -469,7 +467,8 @@ impl Session {
             };
         }
         drop(turn);
-        drop(old);
+        // A dropped answer has a part of the old history.
+        drop(self.store.spare.take());
         code.done().map_err(StepError::of)?;
         Ok(Note::new(last))
     }

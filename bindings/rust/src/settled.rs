@@ -18,16 +18,16 @@ pub struct Settled {
 }
 
 impl Store {
-    /// Settles the sessions, which must be all that one store made, in any order. The result has the
-    /// store's history, and gives the sessions back.
+    /// Settles the sessions, which must be all that one store made, in any order. The result has
+    /// the store's history, and gives the sessions back.
     ///
     /// It is proved of the history:
     ///
     /// - It has all calls of the run, and each session's calls once and in order.
     /// - The history of each answer and note of the run is a prefix of it.
     ///
-    /// No session of the store can be left out, so do not drop one before. A session that made no call
-    /// since the last [restart](Session::restart) has no calls in the history.
+    /// No session of the store can be left out, so do not drop one before. A session that made no
+    /// call since the last [restart](Session::restart) has no calls in the history.
     ///
     /// This takes time in proportion to the sessions times the events. If memory runs out while the
     /// sessions are given back, the process ends, as with `Vec`.

@@ -339,8 +339,8 @@ impl Inner {
     }
 
     /// Ends the session's run, and returns what is left of its history. The caller drops it after
-    /// the turn: it is often the last owner of that history. If the run has ended already, this takes the
-    /// session into the present run instead.
+    /// the turn: it is often the last owner of that history. If the run has ended already, this
+    /// takes the session into the present run instead.
     #[cold]
     fn restart(
         &self,
