@@ -267,6 +267,33 @@ fn settlements() {
     }
 }
 
+/// A settlement that is not reopened gives the sessions back, in the run that they settled.
+#[test]
+fn reopenings() {
+    for number in 1.. {
+        let world = World::new();
+        let (store, sessions) = (world.store, vec![world.session, world.other]);
+        let settled = Store::settle(sessions).unwrap();
+        let events = settled.history().len();
+        FAILS.set(number);
+        let reopened = settled.reopen();
+        let is_last = FAILS.replace(0) > 0;
+        let (sessions, left) = match reopened {
+            Ok((_, sessions)) => (sessions, 0),
+            Err(unsettled) => {
+                assert_eq!(unsettled.why(), SettleError::NoMemory);
+                (unsettled.into_sessions(), events)
+            }
+        };
+        assert_eq!(store.events(), left);
+        assert_eq!(Store::settle(sessions).unwrap().history().len(), left);
+        if is_last {
+            assert!(number > 1 && left == 0);
+            return;
+        }
+    }
+}
+
 #[test]
 fn looks() {
     fail_each(NoMemory, |world| world.session.look_round(0));

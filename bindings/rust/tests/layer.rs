@@ -5,7 +5,9 @@ mod lab;
 
 use lab::Com;
 use narwhal_store::WriteReply;
-use narwhal_store::{AgreeError, Checked, Gather, GatherError, Limits, Member, Message, OpenError};
+use narwhal_store::{
+    AgreeError, Checked, CheckedBlock, Gather, GatherError, Limits, Member, Message, OpenError,
+};
 use narwhal_store::{Call, Event, PublicKey, Reply, Session, SettleError, Store, Subject, Ticket};
 use std::fmt::Debug;
 use std::fs;
@@ -283,59 +285,67 @@ fn sessions_settle_in_any_order_and_go_on() {
     assert_eq!(settled.history().len(), 1);
 }
 
-/// One session ends the run while the others are in use. They go on in the new run, with the votes of the old one.
+/// A checked block of member 1 for round 0.
+fn first_block(com: &Com, transaction: &[u8]) -> CheckedBlock {
+    let (message, _) = com.block(1, 0, &[], &[transaction.to_vec()]);
+    match checked(com, &message) {
+        Checked::Block(block) => block,
+        other => panic!("{other:?}"),
+    }
+}
+
+/// One session ends the run while the others are in use. A look, a note and a hearing take them into the new run, and are no calls.
 #[test]
 fn a_restart_ends_the_run_of_all_sessions() {
     let com = Com::new(2);
     let (store, own) = sessions(&com, 3);
     let [mut one, mut other, mut third] = <[Session; 3]>::try_from(own).expect("three");
-    let block = |bytes: &[u8]| match checked(&com, &com.block(1, 0, &[], &[bytes.to_vec()]).0) {
-        Checked::Block(block) => block,
-        no => panic!("{no:?}"),
-    };
-    let (first, twin) = (block(b"one"), block(b"other"));
-    let answer = one.write(&first).expect("a write");
-    assert_eq!(answer.reply(), &WriteReply::Stored { vote: true });
+    let block = first_block(&com, b"one");
+    let answer = one.write(&block).expect("a write");
     let early = third.note().expect("a note");
     assert_eq!((one.run(), other.run(), store.events()), (0, 0, 1));
-
     let ended = other.restart().expect("a restart");
     assert_eq!((one.run(), other.run(), store.events()), (0, 1, 0));
-    assert!(answer.history().is_prefix_of(ended.history()) && ended.history().len() == 1);
-    // A look, a note and a hearing take their sessions into the new run, and are no calls.
-    assert_eq!(one.look(0, 1).first, Some(first.subject().digest));
-    assert_eq!(third.hear(&early), Ok(false), "a note of the ended run");
-    assert_eq!(
-        third.hear(&ended),
-        Ok(false),
-        "the last history of the ended run"
-    );
-    let empty = third.note().expect("a note");
-    assert_eq!((one.run(), third.run(), empty.history().len()), (1, 1, 0));
-    assert!(empty.history().is_empty() && other.hear(&empty) == Ok(true));
+    assert!(answer.history().is_prefix_of(ended.history()));
+    assert_eq!((ended.history().len(), ended.events().count()), (1, 1));
 
-    let again = one.write(&twin).expect("a write");
-    assert_eq!(
-        again.reply(),
-        &WriteReply::Equivocates(first.subject().digest)
-    );
-    let event = again.history().event(0).expect("the call itself");
-    assert_eq!(
-        (event.session, event.number, again.history().len()),
-        (0, 1, 1)
-    );
-    assert!(!answer.history().is_prefix_of(again.history()));
-    assert_eq!(
-        answer.history().len(),
-        1,
-        "an answer of the ended run changed"
-    );
+    assert_eq!(one.look(0, 1).first, Some(block.subject().digest));
+    assert_eq!(third.hear(&early), Ok(false), "a note of the ended run");
+    assert_eq!(third.hear(&ended), Ok(false), "the last history");
+    let empty = third.note().expect("a note");
+    assert_eq!((one.run(), third.run(), store.events()), (1, 1, 0));
+    assert!(empty.history().is_empty());
+    assert_eq!(other.hear(&empty), Ok(true));
     // Two restarts in a row, and one by a session of an ended run.
+    drop(third.status().expect("a status"));
     assert_eq!(other.restart().expect("a restart").history().len(), 1);
     assert!(one.restart().expect("a restart").history().is_empty());
     assert_eq!((one.run(), other.run(), store.changes()), (3, 2, 1));
     drop(other.status().expect("a status"));
     assert_eq!((other.run(), store.events()), (3, 1));
+}
+
+#[test]
+fn a_new_run_has_the_votes_and_none_of_the_calls_before() {
+    let com = Com::new(2);
+    let (_, own) = sessions(&com, 2);
+    let [mut one, mut other] = <[Session; 2]>::try_from(own).expect("two");
+    let (first, twin) = (first_block(&com, b"one"), first_block(&com, b"other"));
+    let answer = one.write(&first).expect("a write");
+    assert_eq!(answer.reply(), &WriteReply::Stored { vote: true });
+    drop(other.restart().expect("a restart"));
+    let again = one.write(&twin).expect("a write");
+    let voted = first.subject().digest;
+    assert_eq!(again.reply(), &WriteReply::Equivocates(voted));
+    let call = Event {
+        session: 0,
+        number: 1,
+        call: Call::Write(twin.subject().digest),
+        reply: Reply::Equivocates(voted),
+    };
+    assert!(again.history().events().eq([call]));
+    assert!(!answer.history().is_prefix_of(again.history()));
+    assert_eq!(answer.history().len(), 1, "an answer of the ended run");
 }
 
 /// A run of build.rs for this target.
