@@ -59,8 +59,8 @@ impl Session {
         self.id
     }
 
-    /// Returns the number of the run of the session's last call, note or look. The first run has
-    /// number 0.
+    /// Returns the number of the run in which the session made its last call, look or note. The first
+    /// run of a store has number 0.
     ///
     /// Of two answers of one run, the history of one is a prefix of that of the other.
     #[must_use]
@@ -404,11 +404,13 @@ impl Session {
         Ok(Note::new(room))
     }
 
-    /// Hears a note of another session. Returns whether it is a note of the store's present run.
+    /// Hears a note of another session. Returns whether the note is a prefix of the history of the
+    /// store's present run. This is no call: it adds no event.
     ///
-    /// If it is, the note is a prefix of the history of every later answer that this session gets in
-    /// the run. If not, the note is of another store, or of a run that a [restart](Session::restart)
-    /// ended, and nothing changes. This is no call: it adds no event.
+    /// - `true`: from now on, the note is a prefix of the history of every answer that this session
+    ///   gets in the run. Every note of the present run is heard.
+    /// - `false`: the note is of another store, or of a run that a [restart](Session::restart) ended.
+    ///   Nothing changes.
     ///
     /// This takes time in proportion to the events of the note, and holds up no call meanwhile.
     ///

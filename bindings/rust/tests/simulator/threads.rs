@@ -282,15 +282,14 @@ impl<'a> Worker<'a> {
             let seat = &mut self.seats[at];
             let is_heard = seat.session.hear(&note).expect("memory");
             seat.enter();
-            assert_eq!(is_heard, run == seat.run, "a note of run {run}");
-            if is_heard {
+            // A note of an ended run can be a prefix of the present history too, as an empty one is if nothing changed.
+            assert!(is_heard || run < seat.run, "a note of run {run}");
+            let known = seat.heard.as_ref().map(|note| note.history().len());
+            if is_heard && known <= Some(note.history().len()) {
                 seat.heard = Some(note);
             }
-            self.count(if is_heard {
-                "notes heard"
-            } else {
-                "notes of an ended run"
-            });
+            let what = ["notes of an ended run", "notes heard"];
+            self.count(what[usize::from(is_heard)]);
         }
     }
 
