@@ -170,3 +170,26 @@ impl Turn<'_> {
         self.counts(|counts| counts.count(caller.run(), bytes, is_change))
     }
 }
+
+#[cfg(test)]
+mod tests {
+    use super::Counts;
+
+    #[test]
+    fn only_events_of_the_present_run_are_counted() {
+        let mut counts = Counts::default();
+        let of = |counts: &Counts| (counts.run, counts.events, counts.bytes, counts.changes);
+        assert!(!counts.count(0, 150, false) && !counts.count(0, 200, true));
+        assert_eq!(of(&counts), (0, 2, 350, 1));
+        counts.enter(2);
+        assert_eq!(of(&counts), (2, 0, 0, 1));
+        // A call of an ended run is counted late, and its session enters that run late.
+        counts.waiting = 1;
+        assert!(counts.count(1, 150, true) && !counts.count(0, 150, false));
+        counts.enter(1);
+        assert_eq!(of(&counts), (2, 0, 0, 2));
+        counts.count(2, 150, false);
+        counts.enter(2);
+        assert_eq!(of(&counts), (2, 1, 150, 2));
+    }
+}
