@@ -15,9 +15,10 @@ use std::time::Duration;
 ///
 /// It holds blocks and certificates under one committee. Threads call it through [`Session`]s, each
 /// through one of its own. Every call is one step under the library's lock, so all calls are
-/// linearizable: this is proved. The step table is in docs/MODEL.md of the repository.
+/// linearizable. [`Session`] says what is proved of them. The step table is in docs/MODEL.md of the
+/// repository.
 ///
-/// A call waits for its turn at a second lock, which is that of this crate. No proof rests on it.
+/// A thread waits for its turn at a second lock, which is that of this crate. No proof rests on it.
 ///
 /// A store has *runs*. Each run has one history, which begins without events. A
 /// [restart](Session::restart) ends a run and begins the next one. Blocks, certificates and votes
