@@ -3,6 +3,7 @@
 use crate::code::Code;
 use crate::ffi::{self, Handle};
 use std::thread;
+use std::time::Duration;
 
 /// A session of the library, with the number of its run.
 pub(crate) struct Caller {
@@ -66,14 +67,45 @@ impl Caller {
     }
 }
 
+/// How often a call that finds the library busy yields, before it sleeps.
+const YIELDS: u32 = 100;
+
 /// Makes a call, and again while the library is busy. A call that finds the library busy changes
 /// nothing.
 #[inline]
 pub(crate) fn again(mut call: impl FnMut() -> Code) -> Code {
+    let mut yields = 0;
     loop {
         match call() {
-            Code::BUSY => thread::yield_now(),
+            // A thread with real-time priority yields to no other thread, but it sleeps.
+            Code::BUSY if yields == YIELDS => thread::sleep(Duration::from_micros(50)),
+            Code::BUSY => {
+                yields += 1;
+                thread::yield_now();
+            }
             code => return code,
+        }
+    }
+}
+
+#[cfg(test)]
+mod tests {
+    use super::{YIELDS, again};
+    use crate::code::Code;
+
+    #[test]
+    fn a_call_is_repeated_while_the_library_is_busy() {
+        for busy in [0, 1, YIELDS, YIELDS + 1, 3 * YIELDS] {
+            let mut calls = 0;
+            let code = again(|| {
+                calls += 1;
+                if calls > busy {
+                    Code::NO_MEMORY
+                } else {
+                    Code::BUSY
+                }
+            });
+            assert_eq!((code, calls), (Code::NO_MEMORY, busy + 1));
         }
     }
 }
