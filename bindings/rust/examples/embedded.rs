@@ -266,29 +266,27 @@ impl Load<'_> {
         Ok(())
     }
 
-    /// How many calls these threads make together in a second. A write is for each block of a new store, and another call is for some block
-    /// of a full one.
+    /// How many calls these threads make together in a second. A write is of a new block, whose certificate is there, and another call is for
+    /// some stored block.
     fn rate(&self, is_write: bool, threads: usize, call: Call) -> Result<f64> {
         let (mut made, mut time) = (0, Duration::ZERO);
         while made < CALLS {
             let store = Store::new(&self.committee, Limits::default())?;
-            let calls = if is_write { self.blocks.len() } else { CALLS };
-            if !is_write {
-                self.fill(&mut store.session()?)?;
+            let mut session = store.session()?;
+            for certificate in &self.certificates {
+                drop(session.certify(certificate)?);
+            }
+            let (stored, calls) = match is_write {
+                true => (&[][..], self.blocks.len()),
+                false => (&self.blocks[..], CALLS),
+            };
+            for block in stored {
+                drop(session.write(block)?);
             }
             time += self.call_all(&store, threads, calls, call)?;
             made += calls;
         }
         Ok(made as f64 / time.as_secs_f64())
-    }
-
-    /// Writes and certifies all blocks.
-    fn fill(&self, session: &mut Session) -> Result<()> {
-        for (block, certificate) in self.blocks.iter().zip(&self.certificates) {
-            drop(session.write(block)?);
-            drop(session.certify(certificate)?);
-        }
-        Ok(())
     }
 
     /// The time that these threads take together for so many calls.

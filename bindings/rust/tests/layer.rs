@@ -4,15 +4,16 @@
 mod lab;
 
 use lab::Com;
-use narwhal_store::WriteReply;
 use narwhal_store::{
     AgreeError, Checked, CheckedBlock, Gather, GatherError, Limits, Member, Message, OpenError,
 };
 use narwhal_store::{Call, Event, PublicKey, Reply, Session, SettleError, Store, Subject, Ticket};
+use narwhal_store::{Note, WriteReply};
 use std::fmt::Debug;
 use std::fs;
 use std::path::{Path, PathBuf};
 use std::process::{Command, Output};
+use std::thread;
 
 fn checked(com: &Com, message: &[u8]) -> Checked {
     Message::check(&com.committee, message).expect("a message")
@@ -323,6 +324,47 @@ fn a_restart_ends_the_run_of_all_sessions() {
     assert_eq!((one.run(), other.run(), store.changes()), (3, 2, 1));
     drop(other.status().expect("a status"));
     assert_eq!((other.run(), store.events()), (3, 1));
+}
+
+#[test]
+fn a_note_of_another_store_is_not_heard() {
+    let com = Com::new(1);
+    let (store, mut own) = sessions(&com, 2);
+    let (_, mut others) = sessions(&com, 1);
+    drop(own[0].collect(1).expect("a collection"));
+    drop(others[0].collect(2).expect("a collection"));
+    let [note, foreign] =
+        [&mut own[0], &mut others[0]].map(|session| session.note().expect("a note"));
+    assert_eq!(own[1].hear(&foreign), Ok(false));
+    assert_eq!(own[1].hear(&note), Ok(true));
+    let clone = note.clone();
+    let answer = thread::spawn(move || (own[1].status(), own)).join();
+    let (answer, _) = answer.expect("no panic");
+    let answer = answer.expect("a status");
+    assert!(clone.history().is_prefix_of(answer.history()));
+    assert!(!foreign.history().is_prefix_of(answer.history()));
+    let last = clone.events().next_back().map(|event| event.call);
+    assert_eq!((last, store.events()), (Some(Call::Collect(1)), 2));
+}
+
+/// Threads compare the same two notes, in both orders.
+#[test]
+fn threads_that_share_notes_do_not_wait_for_ever() {
+    let com = Com::new(1);
+    let (_, mut own) = sessions(&com, 1);
+    let early = own[0].note().expect("a note");
+    drop(own[0].status().expect("a status"));
+    let late = own[0].note().expect("a note");
+    let compare = |one: &Note, other: &Note, is_prefix: bool| {
+        for _ in 0..20_000 {
+            assert_eq!(one.history().is_prefix_of(other.history()), is_prefix);
+        }
+    };
+    thread::scope(|scope| {
+        scope.spawn(|| compare(&early, &late, true));
+        scope.spawn(|| compare(&late, &early, false));
+        scope.spawn(|| compare(&late.clone(), &late, true));
+    });
 }
 
 #[test]
