@@ -144,8 +144,8 @@ struct Validator {
 }
 
 impl Validator {
-    fn flow(&self) -> Flow<'_> {
-        Flow::over(&self.store, &self.session)
+    fn flow(&mut self) -> Flow<'_> {
+        Flow::over(&self.store, &mut self.session)
     }
 
     /// Takes a message of the network: peek, drop, check, write, log, sync, send.
@@ -157,7 +157,7 @@ impl Validator {
         // A block with all its parents shows how far the others are.
         let newest = voted.iter().map(|subject| subject.round).max().unwrap_or(0);
         let garbage_round = (newest / 5 * 5).saturating_sub(15);
-        if garbage_round > self.store.look(0, 0).garbage_round {
+        if garbage_round > self.session.look(0, 0).garbage_round {
             self.make(&garbage_round.to_be_bytes())?;
         }
         Ok(())

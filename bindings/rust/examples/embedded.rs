@@ -17,19 +17,23 @@
 //! One thread checks every message once. Then it plays the messages to new stores for a second or more. It writes, certifies and reads each
 //! block. It reads one block of each round causally, and walks its ticket. The garbage round stays 20 rounds behind.
 //!
-//! Finally, `check_all` checks all messages with 1, 2, 4, .. threads, up to the number of cores. `gain` is the time of one thread divided by
+//! Then `check_all` checks all messages with 1, 2, 4, .. threads, up to the number of cores. `gain` is the time of one thread divided by
 //! that of these threads. `blocks/s` and `MB/s` say how many blocks, and bytes of their bodies, a node takes in a second: it checks the blocks
 //! and certificates with these threads, and then makes the calls above in one thread.
+//!
+//! Finally, one thread calls a store, and then four threads do, each with a session of its own. `calls/s` is the sum of their calls in a second.
 
 #[path = "../tests/corpus/records.rs"]
 mod file;
 mod held;
 
 use narwhal_store::{CheckError, Checked, CheckedBlock, CheckedCertificate, Committee};
-use narwhal_store::{Digest, Limits, Message, Store, TextFault, check_all};
+use narwhal_store::{Digest, Limits, Message, Session, StepError, Store, TextFault, check_all};
 use std::error::Error;
 use std::path::Path;
 use std::process::Command;
+use std::sync::Barrier;
+use std::sync::atomic::{AtomicUsize, Ordering};
 use std::time::{Duration, Instant};
 use std::{env, fs, hint, thread};
 
@@ -43,6 +47,9 @@ const NODES: [[usize; 3]; 4] = [[4, 2_000, 16], [20, 350, 16], [4, 100, 504], [2
 const TRANSACTIONS: usize = 16;
 const KEPT_ROUNDS: u64 = 20;
 const LONG_ENOUGH: Duration = Duration::from_secs(1);
+/// How many threads call one store, and the fewest calls that they make together.
+const CALLERS: [usize; 2] = [1, 4];
+const CALLS: usize = 200_000;
 
 fn main() -> Result<()> {
     let words: Vec<_> = env::args().skip(1).collect();
@@ -102,7 +109,8 @@ fn measure([members, rounds]: [usize; 2]) -> Result<()> {
         share(load.decoding),
         share(calls)
     );
-    load.print_threads(calls)
+    load.print_threads(calls)?;
+    load.print_callers()
 }
 
 /// The signed messages, made by the script unless an earlier run left them.
@@ -181,7 +189,7 @@ impl<'a> Load<'a> {
     /// Plays all messages to a new store.
     fn play(&self, calls: &mut Calls) -> Result<()> {
         let store = Store::new(&self.committee, Limits::default())?;
-        let session = store.session()?;
+        let mut session = store.session()?;
         for (block, certificate) in self.blocks.iter().zip(&self.certificates) {
             let subject = block.subject();
             calls.write.take(|| session.write(block).map(drop))?;
@@ -231,6 +239,89 @@ impl<'a> Load<'a> {
             );
         }
         Ok(())
+    }
+}
+
+/// The calls of one thread on one item of a load.
+type Call = fn(&mut Session, &CheckedBlock) -> std::result::Result<(), StepError>;
+
+impl Load<'_> {
+    /// Prints how many calls one thread makes in a second, and four threads together.
+    fn print_callers(&self) -> Result<()> {
+        println!("{:18} {:>10} {:>10}", "calls/s", "1 thread", "4 threads");
+        let calls: [(&str, Call); 3] = [
+            ("write", |session, block| session.write(block).map(drop)),
+            ("read", |session, block| {
+                session.read(&block.subject().digest).map(drop)
+            }),
+            ("causal", |session, block| {
+                session.causal(&block.subject().digest).map(drop)
+            }),
+        ];
+        for (name, call) in calls {
+            let rate = |threads| self.rate(name == "write", threads, call);
+            let [one, four] = CALLERS.map(rate);
+            println!("{name:18} {:>10.0} {:>10.0}", one?, four?);
+        }
+        Ok(())
+    }
+
+    /// How many calls these threads make together in a second. A write is of a new block, whose certificate is there, and another call is for
+    /// some stored block.
+    fn rate(&self, is_write: bool, threads: usize, call: Call) -> Result<f64> {
+        let (mut made, mut time) = (0, Duration::ZERO);
+        while made < CALLS {
+            let store = Store::new(&self.committee, Limits::default())?;
+            let mut session = store.session()?;
+            for certificate in &self.certificates {
+                drop(session.certify(certificate)?);
+            }
+            let (stored, calls) = match is_write {
+                true => (&[][..], self.blocks.len()),
+                false => (&self.blocks[..], CALLS),
+            };
+            for block in stored {
+                drop(session.write(block)?);
+            }
+            time += self.call_all(&store, threads, calls, call)?;
+            made += calls;
+        }
+        Ok(made as f64 / time.as_secs_f64())
+    }
+
+    /// The time that these threads take together for so many calls.
+    fn call_all(
+        &self,
+        store: &Store,
+        threads: usize,
+        calls: usize,
+        call: Call,
+    ) -> Result<Duration> {
+        let (next, begin) = (AtomicUsize::new(0), Barrier::new(threads + 1));
+        let work = |mut session: Session| {
+            begin.wait();
+            loop {
+                let index = next.fetch_add(1, Ordering::Relaxed);
+                if index >= calls {
+                    return Ok::<_, StepError>(());
+                }
+                call(&mut session, &self.blocks[index % self.blocks.len()])?;
+            }
+        };
+        let sessions: std::result::Result<Vec<_>, _> =
+            (0..threads).map(|_| store.session()).collect();
+        let sessions = sessions?.into_iter();
+        thread::scope(|scope| {
+            let callers: Vec<_> = sessions
+                .map(|session| scope.spawn(|| work(session)))
+                .collect();
+            begin.wait();
+            let start = Instant::now();
+            for caller in callers {
+                caller.join().expect("no caller panics")?;
+            }
+            Ok(start.elapsed())
+        })
     }
 }
 

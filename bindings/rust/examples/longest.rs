@@ -42,7 +42,7 @@ fn main() -> Result<()> {
 
 /// A walk of 1,000 blocks of 100 KB that reads every part, beside a copy of their bodies.
 fn large_walk() -> Result<()> {
-    let lab = Lab::heavy(1)?;
+    let mut lab = Lab::heavy(1)?;
     let (mut bodies, mut parents, mut last) = (Vec::new(), Vec::new(), None);
     for round in 0..1_000 {
         let transactions = vec![vec![round as u8; 1_024]; 100];
@@ -73,7 +73,7 @@ fn large_walk() -> Result<()> {
 
 /// Messages that are dropped, and messages whose last signature is bad.
 fn drops_and_checks() -> Result<()> {
-    let lab = Lab::new(&[1; 100])?;
+    let mut lab = Lab::new(&[1; 100])?;
     let everybody: Vec<u16> = (0..100).collect();
     let (block, subject) = lab.com.block(0, 0, &[], &[vec![7; 10_000]]);
     let known = lab.com.certificate(&subject, &everybody[..67]);
@@ -83,7 +83,7 @@ fn drops_and_checks() -> Result<()> {
         black_box(Message::peek(black_box(&known)));
     });
     mean("look at a round and author", 2_000_000, || {
-        black_box(lab.store.look(black_box(0), 0));
+        black_box(lab.session.look(black_box(0), 0));
     });
     let messages = [
         ("block of 10,000 bytes", block),
@@ -103,7 +103,7 @@ fn drops_and_checks() -> Result<()> {
 
 /// Restarts of a store with this many rounds, of which the last `lag` ones are stored, with an empty and a full history.
 fn restarts(members: u16, rounds: u64, lag: u64) -> Result<()> {
-    let lab = Lab::heavy(members)?;
+    let mut lab = Lab::heavy(members)?;
     let mut parents = Vec::new();
     for round in 0..rounds {
         let made = lab.round(round, 0..members, &parents)?;
@@ -122,9 +122,11 @@ fn restarts(members: u16, rounds: u64, lag: u64) -> Result<()> {
             lab.store.events()
         );
     } else {
-        lab.store.restart()?;
+        drop(lab.session.restart()?);
     }
-    once(&format!("restart, {what}"), || Ok(lab.store.restart()?))?;
+    once(&format!("restart, {what}"), || {
+        Ok(lab.session.restart().map(drop)?)
+    })?;
     let (message, _) = lab.com.block(0, rounds - 1, &[(0, Digest([1; 32]))], &[]);
     let Checked::Block(twin) = Message::check(&lab.com.committee, &message)? else {
         return Err("no block".into());
@@ -134,7 +136,7 @@ fn restarts(members: u16, rounds: u64, lag: u64) -> Result<()> {
             drop(lab.session.write(&twin)?);
         }
         once(&format!("restart, {what}, 65,536 events"), || {
-            Ok(lab.store.restart()?)
+            Ok(lab.session.restart().map(drop)?)
         })?;
     }
     Ok(())
@@ -142,7 +144,7 @@ fn restarts(members: u16, rounds: u64, lag: u64) -> Result<()> {
 
 /// A certificate that completes all blocks above it.
 fn withheld_certificate(rounds: u64, parents: usize) -> Result<()> {
-    let lab = Lab::heavy(100)?;
+    let mut lab = Lab::heavy(100)?;
     let first = lab.round(0, 0..100, &[])?;
     lab.certify(&first[1..])?;
     let mut last = first.clone();
@@ -154,7 +156,7 @@ fn withheld_certificate(rounds: u64, parents: usize) -> Result<()> {
         last = lab.round(round, 0..100, &of_last[..parents])?;
         lab.certify(&last)?;
     }
-    lab.store.restart()?;
+    drop(lab.session.restart()?);
     let what = format!("certify, {rounds} rounds of 100 blocks with {parents} parents each");
     let message = lab.com.certificate(&first[0], &[0]);
     let Checked::Certificate(certificate) = Message::check(&lab.com.committee, &message)? else {
@@ -167,13 +169,13 @@ fn withheld_certificate(rounds: u64, parents: usize) -> Result<()> {
 
 /// A collection of blocks whose 100 parents do not exist.
 fn unmet_parents(rounds: u64) -> Result<()> {
-    let lab = Lab::heavy(100)?;
+    let mut lab = Lab::heavy(100)?;
     for round in 1..rounds {
         let parent = |author| (author, Digest::of(&[round as u8, author as u8]));
         let parents: Vec<_> = (0..100).map(parent).collect();
         lab.round(round, 1..FAULTY + 1, &parents)?;
     }
-    lab.store.restart()?;
+    drop(lab.session.restart()?);
     let what = format!(
         "collect, {} blocks with 100 unmet parents",
         33 * (rounds - 1)
@@ -212,7 +214,7 @@ impl Lab {
 
     /// Stores a block of each of these members for the round.
     fn round(
-        &self,
+        &mut self,
         round: u64,
         authors: std::ops::Range<u16>,
         parents: &[(u16, Digest)],
@@ -223,14 +225,14 @@ impl Lab {
         Ok(subjects)
     }
 
-    fn certify(&self, subjects: &[Subject]) -> Result<()> {
+    fn certify(&mut self, subjects: &[Subject]) -> Result<()> {
         let certificate = |subject: &Subject| self.com.certificate(subject, &[0]);
         self.take(&subjects.iter().map(certificate).collect::<Vec<_>>())
     }
 
-    fn take(&self, messages: &[Vec<u8>]) -> Result<()> {
+    fn take(&mut self, messages: &[Vec<u8>]) -> Result<()> {
         if self.store.events() + messages.len() > 65_000 {
-            self.store.restart()?;
+            drop(self.session.restart()?);
         }
         for checked in check_all(&self.com.committee, messages, 4) {
             match checked? {

@@ -8,7 +8,7 @@ fn main() -> Result<(), Box<dyn Error>> {
     // Four members of weight 1, by their Ed25519 public keys. Three of them are a quorum.
     let committee = Committee::equal(&data::keys())?;
     let store = Store::new(&committee, Limits::default())?;
-    let session = store.session()?;
+    let mut session = store.session()?;
     let mut newest = Digest([0; 32]);
 
     for message in data::values("message") {

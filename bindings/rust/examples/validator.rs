@@ -139,8 +139,8 @@ impl Intake<'_> {
         }
     }
 
-    fn flow(&self) -> Flow<'_> {
-        Flow::over(self.store, &self.session)
+    fn flow(&mut self) -> Flow<'_> {
+        Flow::over(self.store, &mut self.session)
     }
 
     /// Whether a message is worth its check: it is neither known, nor refused, nor over the budget
@@ -170,7 +170,8 @@ impl Intake<'_> {
             return Ok(());
         }
         (self.spent, self.since) = ([0; MEMBERS as usize], Instant::now());
-        self.vote(&self.flow().due(ASKED)?)?;
+        let due = self.flow().due(ASKED)?;
+        self.vote(&due)?;
         let mut missing = self.flow().missing()?;
         missing.extend(self.flow().doubtful(ASKED)?);
         let parents = missing.into_iter().map(|(_, parent)| parent);
@@ -205,11 +206,12 @@ impl Intake<'_> {
     }
 
     /// Writes a block. A refused block is dropped: if it gets a certificate, it is fetched.
-    fn take_block(&self, block: &CheckedBlock) -> Outcome<()> {
-        match self.session.write(block)?.into_reply() {
-            WriteReply::Stored { .. } => self.vote(&self.flow().stored(&block.subject())?),
-            _ => Ok(()),
-        }
+    fn take_block(&mut self, block: &CheckedBlock) -> Outcome<()> {
+        let WriteReply::Stored { .. } = self.session.write(block)?.into_reply() else {
+            return Ok(());
+        };
+        let due = self.flow().stored(&block.subject())?;
+        self.vote(&due)
     }
 
     /// Counts a vote for one of its blocks, and sends the certificate when the votes reach the
@@ -227,7 +229,7 @@ impl Intake<'_> {
     }
 
     /// Hands in a certificate, and fetches its block if another block of its slot came first.
-    fn certify(&self, certificate: &CheckedCertificate) -> Outcome<()> {
+    fn certify(&mut self, certificate: &CheckedCertificate) -> Outcome<()> {
         let subject = certificate.subject();
         if self.session.certify(certificate)?.into_reply() != CertifyReply::Certified {
             return Ok(());
@@ -235,12 +237,14 @@ impl Intake<'_> {
         if !self.flow().stands(&subject) {
             self.network.fetch(self.me, &subject);
         }
-        self.vote(&self.flow().certified(&subject)?)
+        let due = self.flow().certified(&subject)?;
+        self.vote(&due)
     }
 
     /// The garbage round was raised: its blocks need no parents.
-    fn collected(&self, garbage_round: u64) -> Outcome<()> {
-        self.vote(&self.flow().collected(garbage_round)?)
+    fn collected(&mut self, garbage_round: u64) -> Outcome<()> {
+        let due = self.flow().collected(garbage_round)?;
+        self.vote(&due)
     }
 
     /// Votes for the blocks whose parents are now satisfied.
@@ -257,10 +261,10 @@ impl Intake<'_> {
 /// Decides one leader after another, and delivers the blocks of its causal list that the list of the
 /// leader before does not have. Each leader of the corpus is an ancestor of the next.
 fn decide_all(store: &Store, collected: impl Fn(u64)) -> Outcome<Decided> {
-    let session = store.session()?;
+    let mut session = store.session()?;
     let (mut order, mut next, mut last) = (Vec::new(), 2, None);
     loop {
-        let leader = wait_for_leader(store, next)?;
+        let leader = wait_for_leader(store, &mut session, next)?;
         let ticket = session.causal(&leader)?.into_ticket()?;
         let new = match &last {
             Some(earlier) => ticket.walk_after(earlier)?,
@@ -279,10 +283,10 @@ fn decide_all(store: &Store, collected: impl Fn(u64)) -> Outcome<Decided> {
 }
 
 /// Sleeps until the leader's block of this round is complete, and returns its digest.
-fn wait_for_leader(store: &Store, round: u64) -> Outcome<Digest> {
+fn wait_for_leader(store: &Store, session: &mut Session, round: u64) -> Outcome<Digest> {
     let mut seen = store.changes();
     loop {
-        if let Some(digest) = complete_leader(store, round) {
+        if let Some(digest) = complete_leader(session, round) {
             return Ok(digest);
         }
         let changes = store.wait_for_change(seen, PATIENCE);
@@ -294,8 +298,8 @@ fn wait_for_leader(store: &Store, round: u64) -> Outcome<Digest> {
 }
 
 /// The digest of the leader's block of this round, if it is complete.
-fn complete_leader(store: &Store, round: u64) -> Option<Digest> {
+fn complete_leader(session: &mut Session, round: u64) -> Option<Digest> {
     let leader = round / 2 % u64::from(MEMBERS);
-    let look = store.look(round, leader as u16);
+    let look = session.look(round, leader as u16);
     look.certified.filter(|_| look.complete)
 }

@@ -37,14 +37,14 @@ impl<R> Answer<R> {
     /// Returns the reply, which is decoded on first use.
     #[must_use]
     pub fn reply(&self) -> &R {
-        let decode = || (self.decode)(&mut self.history.room.borrow_mut(), false);
+        let decode = || (self.decode)(&mut self.history.room(), false);
         self.reply.get_or_init(decode)
     }
 
     /// Returns the reply and drops the history.
     #[must_use]
     pub fn into_reply(self) -> R {
-        let decode = || (self.decode)(&mut self.history.room.into_inner(), true);
+        let decode = || (self.decode)(&mut self.history.into_room(), true);
         self.reply.into_inner().unwrap_or_else(decode)
     }
 
@@ -71,7 +71,7 @@ impl<R: fmt::Debug> fmt::Debug for Answer<R> {
 /// use narwhal_store::{Causal, CausalFault};
 ///
 /// # let committee = Committee::equal(&[PublicKey([7; 32])])?;
-/// # let session = Store::new(&committee, Limits::default())?.session()?;
+/// # let mut session = Store::new(&committee, Limits::default())?.session()?;
 /// # let digest = Digest::of(b"nothing");
 /// match session.causal(&digest)? {
 ///     Causal::Ready(ticket) => println!("{} blocks", ticket.walk()?.len()),

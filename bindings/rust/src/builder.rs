@@ -3,6 +3,7 @@
 use crate::ffi::{self, Handle};
 use crate::room::Content;
 use crate::store::Inner;
+use crate::turns::Turns;
 use crate::{Committee, Limits, OpenError, Store};
 use std::sync::Arc;
 
@@ -13,6 +14,7 @@ pub struct StoreBuilder {
     committee: Committee,
     limits: Limits,
     restart: Option<RestartWhen>,
+    takes_turns: bool,
 }
 
 impl StoreBuilder {
@@ -24,6 +26,7 @@ impl StoreBuilder {
                 bytes: Store::HISTORY_BYTES,
                 events: u32::MAX,
             }),
+            takes_turns: true,
         }
     }
 
@@ -43,13 +46,15 @@ impl StoreBuilder {
     /// write of 1,048,576 bytes and a list of 65,535 missing parents of 3.1 MB.
     ///
     /// - An answer's history has only the events since the last restart.
-    /// - The restart runs inside one call under the store's lock. It copies an entry for each stored
-    ///   block and certificate, and replays no event.
-    /// - The old history is freed after the lock if an answer still shares it: the answer that was
-    ///   dropped last, or one that you hold. Otherwise the restart frees it under the lock.
+    /// - The restart runs inside one call, in the turn of its thread. It copies an entry for each
+    ///   stored block and certificate, and replays no event. It ends the run: see
+    ///   [`Session::restart`].
+    /// - The old history is freed after the turn, by the thread that made the call, unless an answer
+    ///   that you hold still shares it.
     /// - If there is no memory for the restart, the call goes on without it. It fails with
     ///   [`StepError::NoMemory`] only if the history has as many events as [`Limits::events`].
     ///
+    /// [`Session::restart`]: crate::Session::restart
     /// [`StepError::HistoryFull`]: crate::StepError::HistoryFull
     /// [`StepError::NoMemory`]: crate::StepError::NoMemory
     pub fn restart_when(mut self, bytes: u64, events: u32) -> StoreBuilder {
@@ -60,12 +65,22 @@ impl StoreBuilder {
     /// Makes a store that never restarts its history by itself.
     ///
     /// Calls fail with [`StepError::HistoryFull`] once the history has [`Limits::events`] events,
-    /// until you call [`Store::restart`]. A peer can fill the history with repeated messages. Use
-    /// this only if you need one history of all calls, and control who can make them.
+    /// until a session [restarts](crate::Session::restart) it. A peer can fill the history with
+    /// repeated messages. Use this only if you need one history of all calls, and control who can make
+    /// them.
     ///
     /// [`StepError::HistoryFull`]: crate::StepError::HistoryFull
     pub fn never_restart(mut self) -> StoreBuilder {
         self.restart = None;
+        self
+    }
+
+    /// Makes a store whose threads do not wait for their turns: a call that finds the library busy is
+    /// made again, until the library is not busy. All that is proved of the library holds for such a
+    /// store too. It is for tests.
+    #[doc(hidden)]
+    pub fn without_turns(mut self) -> StoreBuilder {
+        self.takes_turns = false;
         self
     }
 
@@ -76,10 +91,11 @@ impl StoreBuilder {
     /// [`OpenError::BadLimits`] if a limit is outside its range.
     pub fn open(self) -> Result<Store, OpenError> {
         let mut members = self.committee.share().map_err(OpenError::of)?;
-        let book = |out: &mut Handle| ffi::nw_book_new(&mut members, &self.limits, out);
-        let handle = Handle::opened(book).map_err(OpenError::of)?;
+        let store = |out: &mut Handle| ffi::nw_store_new(&mut members, &self.limits, out);
+        let store = Handle::opened(store).map_err(OpenError::of)?;
         let restart = self.restart.map(|when| when.within(&self.limits));
-        let inner = Inner::new(handle, self.committee, self.limits, restart);
+        let turns = Turns::new(self.takes_turns);
+        let inner = Inner::new(store, self.committee, self.limits, restart, turns);
         Ok(Store {
             inner: Arc::new(inner),
         })

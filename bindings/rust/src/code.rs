@@ -26,6 +26,11 @@ impl Code {
     pub(crate) const BAD_SIGNATURE: Code = Code(17);
     pub(crate) const FEW_VOTES: Code = Code(18);
     pub(crate) const NOT_COMPARABLE: Code = Code(19);
+    pub(crate) const BUSY: Code = Code(20);
+    pub(crate) const TOO_MANY_SESSIONS: Code = Code(21);
+    pub(crate) const OTHER_HISTORY: Code = Code(22);
+    pub(crate) const UNSETTLED: Code = Code(23);
+    pub(crate) const ENDED: Code = Code(24);
 
     /// `Ok` if the call succeeded, and otherwise its code.
     #[inline]

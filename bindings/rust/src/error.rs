@@ -1,7 +1,7 @@
 //! Errors that several modules share.
 
 use crate::code::Code;
-use crate::{AgreeError, BlockError, CheckError, CommitteeError, GatherError};
+use crate::{AgreeError, BlockError, CheckError, CommitteeError, GatherError, SettleError};
 use std::error::Error;
 use std::fmt;
 
@@ -69,6 +69,7 @@ impl OpenError {
     pub(crate) fn of(code: Code) -> OpenError {
         match code {
             Code::BAD_LIMITS => OpenError::BadLimits,
+            Code::TOO_MANY_SESSIONS => OpenError::TooManySessions,
             Code::NO_MEMORY => OpenError::NoMemory,
             other => other.unexpected(),
         }
@@ -82,7 +83,8 @@ impl OpenError {
 pub enum StepError {
     /// The block or certificate was checked under another committee than the store's.
     OtherCommittee,
-    /// The history has as many events as its limit: call [`Store::restart`](crate::Store::restart).
+    /// The history has as many events as its limit: call
+    /// [`Session::restart`](crate::Session::restart).
     HistoryFull,
     /// The round is 2^48 or more.
     BadRound,
@@ -127,5 +129,6 @@ from_no_memory!(
     CommitteeError,
     GatherError,
     OpenError,
+    SettleError,
     StepError
 );

@@ -94,11 +94,11 @@ impl Drop for Spare {
 /// Ties the crate to the interface of the library that it is made for. The number in the export's
 /// name changes with each change of an export or a struct, so another library does not link.
 #[used]
-static INTERFACE: extern "C" fn() -> i32 = nw_interface_5;
+static INTERFACE: extern "C" fn() -> i32 = nw_interface_6;
 
 // Without this, a shared object links with another library, and does not load.
 #[cfg(target_os = "linux")]
-global_asm!(".hidden nw_interface_5");
+global_asm!(".hidden nw_interface_6");
 
 /// A handle, lent to a call.
 type At<'a> = &'a mut Handle;
@@ -132,19 +132,30 @@ exports! {
     nw_gather_add(gather: At, vote: At, quorum: &mut bool);
     nw_gather_certificate(gather: At, out: At);
 
-    nw_book_new(committee: At, limits: &Limits, out: At);
-    nw_book_events(book: At, out: &mut usize);
-    nw_book_compact(book: At);
-    nw_book_restart(book: At);
-    nw_book_look(book: At, round: u64, author: u16, out: &mut RawLook);
-    nw_book_hand_in(book: At, session: u16, number: u32, checked: At, answer: At);
-    nw_book_certificate(book: At, session: u16, number: u32, digest: &Digest, answer: At);
-    nw_book_read(book: At, session: u16, number: u32, digest: &Digest, answer: At);
-    nw_book_open(book: At, session: u16, number: u32, digest: &Digest, answer: At);
-    nw_book_collect(book: At, session: u16, number: u32, round: u64, answer: At);
-    nw_book_missing(book: At, session: u16, number: u32, most: u16, answer: At);
-    nw_book_missing_of(book: At, session: u16, number: u32, digest: &Digest, answer: At);
-    nw_book_status(book: At, session: u16, number: u32, answer: At);
+    nw_store_new(committee: At, limits: &Limits, out: At);
+    nw_store_session(store: At, out: At);
+    nw_store_compact(store: At);
+
+    nw_session_id(session: At, out: &mut u16);
+    nw_session_run(session: At, out: &mut u64);
+    nw_session_look(session: At, round: u64, author: u16, out: &mut RawLook);
+    nw_session_hand_in(session: At, checked: At, answer: At);
+    nw_session_certificate(session: At, digest: &Digest, answer: At);
+    nw_session_read(session: At, digest: &Digest, answer: At);
+    nw_session_open(session: At, digest: &Digest, answer: At);
+    nw_session_collect(session: At, round: u64, answer: At);
+    nw_session_missing(session: At, most: u16, answer: At);
+    nw_session_missing_of(session: At, digest: &Digest, answer: At);
+    nw_session_status(session: At, answer: At);
+    nw_session_note(session: At, answer: At);
+    nw_session_hear(session: At, note: At);
+    nw_session_restart(session: At, answer: At);
+    nw_session_renew(session: At);
+
+    nw_settlement_new(out: At);
+    nw_settlement_give(settlement: At, session: At);
+    nw_settle(settlement: At, answer: At);
+    nw_settlement_take(settlement: At, out: At);
 
     nw_answer_new(out: At);
     nw_answer_reply(answer: At, out: &mut RawTagged);
@@ -167,7 +178,7 @@ exports! {
 unsafe extern "C" {
     pub(crate) safe fn nw_text_of_block(digest: &Digest, out: &mut [u8; 36]);
     safe fn nw_free(handle: &mut Handle);
-    safe fn nw_interface_5() -> i32;
+    safe fn nw_interface_6() -> i32;
     fn nw_committee_new(members: *const Member, members_len: usize, out: &mut Handle) -> Code;
     fn nw_digest_of(bytes: *const u8, bytes_len: usize, out: &mut Digest);
     fn nw_peek(text: *const u8, text_len: usize, out: &mut RawMessage) -> Code;
@@ -184,8 +195,8 @@ unsafe extern "C" {
         lengths_len: usize,
         out: &mut Handle,
     ) -> Code;
-    fn nw_book_look_round(
-        book: &mut Handle,
+    fn nw_session_look_round(
+        session: &mut Handle,
         round: u64,
         looks: *mut RawAuthorLook,
         looks_len: usize,
@@ -280,18 +291,16 @@ pub(crate) fn block_transactions(block: &mut Handle, lengths: &mut [u32]) -> Res
     }
 }
 
-/// What a book has in each slot of a round. `looks` has a place for each member.
-pub(crate) fn book_look_round(
-    book: &mut Handle,
+/// What a store has in each slot of a round. `looks` has a place for each member.
+pub(crate) fn session_look_round(
+    session: &mut Handle,
     round: u64,
-    looks: &mut Vec<RawAuthorLook>,
+    looks: &mut [RawAuthorLook],
+    found: &mut usize,
 ) -> Code {
-    let mut needed = 0;
+    let (places, count) = (looks.as_mut_ptr(), looks.len());
     // SAFETY: the pointer and the length are those of one buffer, which may be written to.
-    let code =
-        unsafe { nw_book_look_round(book, round, looks.as_mut_ptr(), looks.len(), &mut needed) };
-    looks.truncate(needed);
-    code
+    unsafe { nw_session_look_round(session, round, places, count, found) }
 }
 
 /// Makes a committee.

@@ -5,26 +5,26 @@ use crate::code::Code;
 use crate::ffi;
 use crate::raw::RawEvent;
 use crate::room::Room;
-use std::cell::RefCell;
 use std::fmt;
 use std::iter::FusedIterator;
 use std::ptr;
+use std::sync::{Mutex, MutexGuard, PoisonError};
 
-/// The history that explains an answer: the events of the store up to the answered call, which is
-/// the last event.
+/// The history that explains an answer: the events of the run up to the answered call, which is
+/// the last event. The history of a [`Note`](crate::Note) has the events up to the note.
 ///
 /// It is proved that the answer is what the step table of docs/MODEL.md gives after the earlier
 /// events, in this order, whatever other threads did.
 ///
-/// The history is a view of the answer and never changes. Events are decoded on use. The type is
-/// `Send` and not `Sync`.
+/// The history is a view of the answer or note, and never changes. Events are decoded on use. The
+/// type is `Send` and `Sync`.
 ///
 /// ```
 /// # use narwhal_store::{Committee, Digest, Limits, PublicKey, Store};
 /// use narwhal_store::{Call, Event, Reply};
 ///
 /// # let committee = Committee::equal(&[PublicKey([7; 32])])?;
-/// # let session = Store::new(&committee, Limits::default())?.session()?;
+/// # let mut session = Store::new(&committee, Limits::default())?.session()?;
 /// let digest = Digest::of(b"nothing");
 /// let first = session.read(&digest)?;
 /// let second = session.collect(4)?;
@@ -38,25 +38,40 @@ use std::ptr;
 /// # Ok::<(), Box<dyn std::error::Error>>(())
 /// ```
 pub struct History {
-    pub(crate) room: RefCell<Room>,
+    /// Only the threads that share a note wait for each other here.
+    room: Mutex<Room>,
 }
 
 impl History {
     pub(crate) fn new(room: Room) -> History {
         History {
-            room: RefCell::new(room),
+            room: Mutex::new(room),
         }
     }
 
-    /// Returns the number of events, which is at least 1.
+    /// What has the history in the library, for one call.
+    #[inline]
+    pub(crate) fn room(&self) -> MutexGuard<'_, Room> {
+        // No call leaves a room half changed, so a panic of another thread does no harm.
+        self.room.lock().unwrap_or_else(PoisonError::into_inner)
+    }
+
+    /// The room, for good.
+    #[inline]
+    pub(crate) fn into_room(self) -> Room {
+        let room = self.room.into_inner();
+        room.unwrap_or_else(PoisonError::into_inner)
+    }
+
+    /// Returns the number of events. The history of an answer has at least 1.
     #[must_use]
     pub fn len(&self) -> usize {
         let mut events = 0;
-        ffi::nw_answer_events(&mut self.room.borrow_mut(), &mut events).or_abort();
+        ffi::nw_answer_events(&mut self.room(), &mut events).or_abort();
         events
     }
 
-    /// Returns whether there are no events. This is always `false`.
+    /// Returns whether there are no events. This is `false` for the history of an answer.
     #[must_use]
     pub fn is_empty(&self) -> bool {
         self.len() == 0
@@ -66,7 +81,7 @@ impl History {
     #[must_use]
     pub fn event(&self, index: usize) -> Option<Event> {
         let mut raw = RawEvent::EMPTY;
-        match ffi::nw_answer_event(&mut self.room.borrow_mut(), index, &mut raw) {
+        match ffi::nw_answer_event(&mut self.room(), index, &mut raw) {
             Code::DONE => Some(Event::of(&raw)),
             Code::ABSENT => None,
             refused => refused.abort(),
@@ -86,8 +101,8 @@ impl History {
     /// Returns whether this history is a prefix of the other: both began from the same state, and the
     /// first events of the other are those of this one.
     ///
-    /// Of any two answers of a store, the history of one is a prefix of that of the other, unless the
-    /// store was restarted between them.
+    /// Of any two answers or notes of one run of a store, the history of one is a prefix of that of
+    /// the other.
     ///
     /// This takes time in proportion to the events, and to the state that the history started from.
     #[must_use]
@@ -95,10 +110,25 @@ impl History {
         if ptr::eq(self, other) {
             return true;
         }
-        let (mut this, mut other) = (self.room.borrow_mut(), other.room.borrow_mut());
+        let (mut this, mut other) = both(self, other);
         let mut is_prefix = false;
         ffi::nw_answer_is_prefix(&mut this, &mut other, &mut is_prefix).or_abort();
         is_prefix
+    }
+}
+
+/// The rooms of two histories. They are locked in the order of their places, so that two threads
+/// that compare the same notes do not wait for each other for ever.
+pub(crate) fn both<'a>(
+    one: &'a History,
+    other: &'a History,
+) -> (MutexGuard<'a, Room>, MutexGuard<'a, Room>) {
+    if ptr::from_ref(one) < ptr::from_ref(other) {
+        let one = one.room();
+        (one, other.room())
+    } else {
+        let other = other.room();
+        (one.room(), other)
     }
 }
 

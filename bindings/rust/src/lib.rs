@@ -9,20 +9,20 @@
 //! # Use
 //!
 //! 1. Make a [`Committee`] from the members' Ed25519 keys, and a [`Store`] under it.
-//! 2. For each message of the network, [`Message::peek`] reads what it is about, and [`Store::look`]
-//!    says what the store has. Drop the message if the store has it or would refuse it, or if it
-//!    exceeds a peer's budget. Check the others with [`Message::check`] or [`check_all`]. A check
-//!    does not take the store's lock.
-//! 3. Pass checked messages to a [`Session`] of the store: [`Session::write`] and
-//!    [`Session::certify`].
-//! 4. When a write answers `Stored { vote: true }`, the block is the first of its round and author.
+//! 2. Make a [`Session`] for each thread with [`Store::session`].
+//! 3. For each message of the network, [`Message::peek`] reads what it is about, and
+//!    [`Session::look`] says what the store has. Drop the message if the store has it or would refuse
+//!    it, or if it exceeds a peer's budget. Check the others with [`Message::check`] or
+//!    [`check_all`]. A check waits for no call of a store.
+//! 4. Pass checked messages to the thread's session: [`Session::write`] and [`Session::certify`].
+//! 5. When a write answers `Stored { vote: true }`, the block is the first of its round and author.
 //!    Vote for it once all its parents are stored and certified ([`Look::satisfies`]): log, sync,
 //!    and send the vote.
-//! 5. Make your own blocks with [`Block::new`], sign [`Block::text_to_sign`], and pass
+//! 6. Make your own blocks with [`Block::new`], sign [`Block::text_to_sign`], and pass
 //!    [`Block::message`] to [`Message::check`] before you write and send it. Make a vote with
 //!    [`vote_message`], and pass the checked votes to [`Gather::add`], which verifies them.
-//! 6. Open a causal read of a leader with [`Session::causal`], and walk its [`Ticket`].
-//! 7. Raise the garbage round with [`Session::collect`].
+//! 7. Open a causal read of a leader with [`Session::causal`], and walk its [`Ticket`].
+//! 8. Raise the garbage round with [`Session::collect`].
 //!
 //! ```
 //! # mod data { include!(concat!(env!("CARGO_MANIFEST_DIR"), "/examples/data/mod.rs")); }
@@ -31,7 +31,7 @@
 //!
 //! let committee = Committee::equal(&keys)?;
 //! let store = Store::new(&committee, Limits::default())?;
-//! let session = store.session()?;
+//! let mut session = store.session()?;
 //! let mut last = Digest([0; 32]);
 //! for message in &messages {
 //!     match Message::check(&committee, message)? {
@@ -55,17 +55,20 @@
 //!
 //! # Guarantees
 //!
-//! The proofs cover the static library: every function is memory-safe and returns, and
+//! The proofs cover the static library and its lock: every function is memory-safe and returns, and
 //!
 //! - each answer carries a [`History`] of calls and replies, which ends with its own call; a
 //!   sequential store that takes these calls in order gives exactly these replies;
+//! - however the calls of threads interleave, the history of an answer has exactly the calls that
+//!   its session made in the run, each once and in order, and everything that the session heard of;
 //! - a walk lists exactly the certified ancestors that are not below the garbage round, as of the
 //!   call that opened the ticket;
 //! - at most one write per round and author answers `Stored { vote: true }`, also across restarts
 //!   of the history.
 //!
-//! The proofs do not cover this crate, its lock, std, libc, the compilers or the code of SHA-256.
-//! Nor do they show that signatures cannot be forged, or that no two blocks have the same digest.
+//! The crate has a lock too, at which threads wait for their turns. Nothing of the above rests on
+//! it. The proofs do not cover this crate, std, libc, the compilers or the code of SHA-256. Nor do
+//! they show that signatures cannot be forged, or that no two blocks have the same digest.
 //!
 //! # After a crash
 //!
@@ -88,6 +91,7 @@ mod answer;
 mod block;
 mod builder;
 mod bytes;
+mod caller;
 mod checked;
 mod code;
 mod committee;
@@ -103,15 +107,18 @@ mod look;
 mod message;
 #[cfg(test)]
 mod no_memory;
+mod note;
 mod parts;
 mod peek;
 mod raw;
 mod reply;
 mod room;
 mod session;
+mod settled;
 mod store;
 mod subject;
 mod ticket;
+mod turns;
 mod walk;
 
 pub use answer::{Answer, Causal};
@@ -129,10 +136,12 @@ pub use intake::check_all;
 pub use limits::Limits;
 pub use look::Look;
 pub use message::Message;
+pub use note::Note;
 pub use parts::Transactions;
 pub use peek::Peek;
 pub use reply::{CausalFault, CertifyReply, CollectReply, Status, WriteReply};
 pub use session::Session;
+pub use settled::{SettleError, Settled, Unsettled};
 pub use store::Store;
 pub use subject::{Subject, text_of_block, text_of_vote, vote_message};
 pub use ticket::{AgreeError, Ticket};
@@ -156,7 +165,6 @@ const _: () = {
     send::<Store>();
     sync::<Store>();
     send::<Session>();
-    sync::<Session>();
     send::<Block>();
     sync::<Block>();
     send::<Checked>();
@@ -165,6 +173,11 @@ const _: () = {
     send::<Answer<WriteReply>>();
     send::<Causal>();
     send::<History>();
+    sync::<History>();
+    send::<Note>();
+    sync::<Note>();
+    send::<Settled>();
+    send::<Unsettled>();
     send::<Ticket>();
     send::<Walk>();
     sync::<Walk>();

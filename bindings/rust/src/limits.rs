@@ -48,14 +48,14 @@ impl Limits {
     /// member, and one more block of each faulty one. These are in the tables, in the state that the
     /// history began with, and in the list that causal reads share. [`Store::HISTORY_BYTES`] are
     /// added. Answers and tickets that the caller holds are not counted, and collected blocks are
-    /// only freed by a [restart](Store::restart) and [`Store::compact`].
+    /// only freed by a [restart] and [`Store::compact`].
     ///
     /// [`Limits::default`] knows neither the committee nor the bodies, so it bounds no bytes.
     ///
     /// Returns `None` if not even a window of one round fits.
     ///
     /// [`Store::HISTORY_BYTES`]: crate::Store::HISTORY_BYTES
-    /// [`Store::restart`]: crate::Store::restart
+    /// [restart]: crate::Session::restart
     /// [`Store::compact`]: crate::Store::compact
     ///
     /// ```

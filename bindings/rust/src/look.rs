@@ -3,7 +3,7 @@
 use crate::Digest;
 use crate::raw::RawLook;
 
-/// What a store has for a round and an author. [`Store::look`](crate::Store::look) returns it.
+/// What a store has for a round and an author. [`Session::look`](crate::Session::look) returns it.
 #[derive(Clone, Copy, Debug, PartialEq, Eq)]
 #[non_exhaustive]
 pub struct Look {

@@ -3,10 +3,11 @@
 use crate::ffi::{Handle, Spare};
 use crate::raw::tagged;
 use crate::room::Room;
+use crate::settled::Given;
 use crate::{
     AgreeError, Block, BlockError, Causal, CheckError, Checked, CheckedBlock, CheckedCertificate,
     CheckedVote, Committee, CommitteeError, Digest, Gather, GatherError, History, Limits, Message,
-    NoMemory, OpenError, Session, Status, StepError, Store, Ticket, check_all,
+    NoMemory, OpenError, Session, SettleError, Status, StepError, Store, Ticket, check_all,
 };
 use std::cell::Cell;
 use std::ffi::c_void;
@@ -52,6 +53,7 @@ struct World {
     committee: Committee,
     store: Store,
     session: Session,
+    other: Session,
     block: CheckedBlock,
     certificate: CheckedCertificate,
     /// A complete digest.
@@ -65,7 +67,7 @@ impl World {
     fn new() -> World {
         let committee = Committee::equal(&data::keys()).unwrap();
         let store = Store::new(&committee, Limits::default()).unwrap();
-        let session = store.session().unwrap();
+        let mut session = store.session().unwrap();
         let (mut blocks, mut certificates) = (Vec::new(), Vec::new());
         for checked in check_all(&committee, &data::values("message"), 1) {
             match checked.unwrap() {
@@ -75,12 +77,12 @@ impl World {
             }
         }
         let (block, certificate) = (blocks.pop().unwrap(), certificates.pop().unwrap());
-        let write = |block| session.write(block).unwrap();
+        let mut write = |block| session.write(block).unwrap();
         blocks.iter().for_each(|block| drop(write(block)));
-        let certify = |certificate| session.certify(certificate).unwrap();
+        let mut certify = |certificate| session.certify(certificate).unwrap();
         certificates.iter().for_each(|one| drop(certify(one)));
         let leader = certificates.last().unwrap().subject().digest;
-        let ticket = || session.causal(&leader).unwrap().into_ticket().unwrap();
+        let mut ticket = || session.causal(&leader).unwrap().into_ticket().unwrap();
         let votes = check_all(&committee, &data::values("vote"), 1).into_iter();
         let vote = |checked| match checked {
             Ok(Checked::Vote(vote)) => vote,
@@ -90,6 +92,7 @@ impl World {
             tickets: [ticket(), ticket()],
             votes: votes.map(vote).collect(),
             committee,
+            other: store.session().unwrap(),
             store,
             session,
             block,
@@ -98,7 +101,7 @@ impl World {
         }
     }
 
-    fn status(&self) -> Status {
+    fn status(&mut self) -> Status {
         self.session.status().unwrap().into_reply()
     }
 }
@@ -108,15 +111,15 @@ impl World {
 #[track_caller]
 fn fail_each<T: Debug + PartialEq, E: Debug + PartialEq>(
     no_memory: E,
-    call: impl Fn(&World) -> Result<T, E>,
+    call: impl Fn(&mut World) -> Result<T, E>,
 ) {
-    let wanted = call(&World::new());
+    let wanted = call(&mut World::new());
     assert!(wanted.is_ok(), "{wanted:?}");
     for number in 1.. {
-        let world = World::new();
+        let mut world = World::new();
         let (before, events) = (world.status(), world.store.events());
         FAILS.set(number);
-        let outcome = call(&world);
+        let outcome = call(&mut world);
         if FAILS.replace(0) > 0 {
             assert_eq!(outcome, wanted);
             assert!(number > 1, "the call makes no allocation");
@@ -126,7 +129,7 @@ fn fail_each<T: Debug + PartialEq, E: Debug + PartialEq>(
             assert_eq!(error, no_memory);
             assert_eq!(world.store.events(), events);
             assert_eq!(world.status(), before);
-            assert_eq!(call(&world), wanted);
+            assert_eq!(call(&mut world), wanted);
         }
     }
 }
@@ -139,7 +142,12 @@ fn committees_and_stores() {
     fail_each(OpenError::NoMemory, |world| {
         Store::new(&world.committee, Limits::default()).map(|store| store.events())
     });
-    fail_each(NoMemory, |world| world.store.restart());
+    fail_each(OpenError::NoMemory, |world| {
+        world.store.session().map(|session| session.id())
+    });
+    fail_each(StepError::NoMemory, |world| {
+        world.session.restart().map(drop)
+    });
 }
 
 #[test]
@@ -194,8 +202,101 @@ fn other_steps() {
 }
 
 #[test]
+fn notes() {
+    fail_each(StepError::NoMemory, |world| world.session.note().map(drop));
+}
+
+/// The call takes its session into the new run first.
+#[test]
+fn calls_after_a_restart_of_another_session() {
+    for number in 1.. {
+        let mut world = World::new();
+        drop(world.other.restart().unwrap());
+        FAILS.set(number);
+        let outcome = world.session.status().map(drop);
+        if FAILS.replace(0) > 0 {
+            assert_eq!(outcome, Ok(()));
+            assert!(number > 1, "the call makes no allocation");
+            return;
+        }
+        if let Err(error) = outcome {
+            assert_eq!(error, StepError::NoMemory);
+            assert_eq!(world.store.events(), 0);
+            drop(world.session.status().unwrap());
+        }
+        assert_eq!(world.store.events(), 1);
+    }
+}
+
+/// Each allocation fails until the sessions have settled. Then the sessions are taken back.
+#[test]
+fn settlements() {
+    for number in 1.. {
+        let World {
+            store,
+            session,
+            mut other,
+            ..
+        } = World::new();
+        drop(other.status().unwrap());
+        let mut sessions = [session, other];
+        FAILS.set(number);
+        let mut given = Given::new(&mut sessions).map_err(SettleError::from);
+        let settled = given
+            .as_mut()
+            .map_err(|error| *error)
+            .and_then(Given::settle);
+        let is_last = FAILS.replace(0) > 0;
+        drop(given);
+        if let Err(error) = &settled {
+            assert_eq!(*error, SettleError::NoMemory);
+        }
+        let events = store.events();
+        sessions
+            .iter_mut()
+            .for_each(|own| drop(own.status().unwrap()));
+        assert_eq!(store.events(), events + 2);
+        let again = Store::settle(sessions.into()).unwrap();
+        assert_eq!(again.history().len(), events + 2);
+        assert_eq!(again.journal(1).count(), 2);
+        if is_last {
+            assert_eq!(settled.unwrap().history().len(), events);
+            assert!(number > 1, "a settlement makes no allocation");
+            return;
+        }
+    }
+}
+
+/// A settlement that is not reopened gives the sessions back, in the run that they settled.
+#[test]
+fn reopenings() {
+    for number in 1.. {
+        let world = World::new();
+        let (store, sessions) = (world.store, vec![world.session, world.other]);
+        let settled = Store::settle(sessions).unwrap();
+        let events = settled.history().len();
+        FAILS.set(number);
+        let reopened = settled.reopen();
+        let is_last = FAILS.replace(0) > 0;
+        let (sessions, left) = match reopened {
+            Ok((_, sessions)) => (sessions, 0),
+            Err(unsettled) => {
+                assert_eq!(unsettled.why(), SettleError::NoMemory);
+                (unsettled.into_sessions(), events)
+            }
+        };
+        assert_eq!(store.events(), left);
+        assert_eq!(Store::settle(sessions).unwrap().history().len(), left);
+        if is_last {
+            assert!(number > 1 && left == 0);
+            return;
+        }
+    }
+}
+
+#[test]
 fn looks() {
-    fail_each(NoMemory, |world| world.store.look_round(0));
+    fail_each(NoMemory, |world| world.session.look_round(0));
 }
 
 #[test]
@@ -214,7 +315,7 @@ fn causal_reads() {
 fn all_is_freed_at_the_end() {
     let before = LIVE.get();
     for _ in 0..2 {
-        let world = World::new();
+        let mut world = World::new();
         let [one, other] = &world.tickets;
         assert!(one.agrees(other).unwrap());
         // Three answers are dropped, and the store keeps one of them as its spare.
@@ -227,7 +328,7 @@ fn all_is_freed_at_the_end() {
             .iter()
             .for_each(|vote| assert!(gather.add(vote).is_ok()));
         drop(gather.certificate().unwrap().message());
-        world.store.restart().unwrap();
+        drop(world.session.restart().unwrap());
         assert!(
             world
                 .session
@@ -243,10 +344,10 @@ fn all_is_freed_at_the_end() {
 
 #[test]
 fn a_restart_frees_the_history() {
-    let world = World::new();
-    let live_after = |calls: usize| {
+    let mut world = World::new();
+    let mut live_after = |calls: usize| {
         (0..calls).for_each(|_| drop(world.session.status().unwrap()));
-        world.store.restart().unwrap();
+        drop(world.session.restart().unwrap());
         LIVE.get()
     };
     let few = live_after(1);
@@ -296,7 +397,7 @@ fn restarting_calls(limits: Limits, bytes: u64) -> Vec<(Option<StepError>, usize
     for number in 1.. {
         let builder = Store::builder(&committee).limits(limits);
         let store = builder.restart_when(bytes, u32::MAX).open().unwrap();
-        let session = store.session().unwrap();
+        let mut session = store.session().unwrap();
         (0..4).for_each(|_| drop(session.status().unwrap()));
         FAILS.set(number);
         let outcome = session.status().map(drop).err();

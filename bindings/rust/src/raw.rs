@@ -83,7 +83,7 @@ impl RawParent {
     };
 }
 
-/// What a book has in a slot.
+/// What a store has in a slot.
 #[derive(Clone, Copy, Debug)]
 #[repr(C)]
 pub(crate) struct RawLook {
@@ -109,7 +109,7 @@ impl RawLook {
     };
 }
 
-/// What a book has in the slot of this author.
+/// What a store has in the slot of this author.
 #[derive(Clone, Copy, Debug)]
 #[repr(C)]
 pub(crate) struct RawAuthorLook {

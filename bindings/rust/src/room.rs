@@ -7,11 +7,12 @@ use std::mem;
 use std::ops::{Deref, DerefMut};
 use std::sync::Arc;
 
-/// The handle of an answer. When it is dropped, its store keeps it for the next call, which
-/// replaces the answer.
+/// The handle of an answer or a note. When an answer is dropped, its store keeps the handle for the
+/// next call, which replaces the answer.
 pub(crate) struct Room {
     handle: Handle,
-    spare: Arc<Spare>,
+    /// Where the handle goes when it is dropped. `None` if it is closed then.
+    spare: Option<Arc<Spare>>,
 }
 
 impl Room {
@@ -24,8 +25,16 @@ impl Room {
         }
         Ok(Room {
             handle,
-            spare: Arc::clone(spare),
+            spare: Some(Arc::clone(spare)),
         })
+    }
+
+    /// The room of a note.
+    pub(crate) fn own(handle: Handle) -> Room {
+        Room {
+            handle,
+            spare: None,
+        }
     }
 
     /// Replaces the answer by new room, and returns the answer.
@@ -38,7 +47,7 @@ impl Room {
     pub(crate) fn take(&mut self) -> Room {
         Room {
             handle: self.handle.take(),
-            spare: Arc::clone(&self.spare),
+            spare: self.spare.clone(),
         }
     }
 }
@@ -61,8 +70,10 @@ impl DerefMut for Room {
 impl Drop for Room {
     #[inline]
     fn drop(&mut self) {
-        if !self.handle.is_closed() {
-            self.spare.put(self.handle.take());
+        let handle = self.handle.take();
+        match &self.spare {
+            Some(spare) if !handle.is_closed() => spare.put(handle),
+            _ => drop(handle),
         }
     }
 }

@@ -2,21 +2,32 @@
 
 use crate::answer::Answer;
 use crate::block::Source;
+use crate::caller::Caller;
 use crate::code::Code;
 use crate::ffi::{self, Handle};
-use crate::raw::{reply, tagged};
+use crate::raw::{RawAuthorLook, RawLook, reply, tagged};
 use crate::room::{Content, Room};
 use crate::store::Inner;
 use crate::{Block, Causal, CertifyReply, CheckedBlock, CheckedCertificate, CollectReply, Digest};
-use crate::{Status, StepError, Subject, WriteReply};
+use crate::{Look, NoMemory, Note, Status, StepError, Subject, WriteReply};
 use std::fmt;
 use std::sync::Arc;
 
 /// One caller of a store. [`Store::session`](crate::Store::session) makes it.
 ///
-/// Each call is one step under the store's lock, and one event of its history. The calls of a
-/// session are numbered 1, 2, 3, .. in the history. Threads can share a session or have one each: a
-/// history names the session of each event.
+/// Each call is one step of the store, and one event of its history. The calls of a session are
+/// numbered 1, 2, 3, .. in the history of a run. After a [restart](Session::restart) by any
+/// session, they are numbered from 1 again.
+///
+/// Give each thread a session of its own: the type is `Send`, and a call needs `&mut`. A history
+/// names the session of each event. The library proves of every session, however the calls of
+/// threads interleave:
+///
+/// - The history of an answer has exactly the calls that the session made in the run, each once and
+///   in order. It begins with the history of the session's answer before, and with each note that
+///   the session [heard](Session::hear).
+/// - When all sessions [settle](crate::Store::settle), one history has all their calls, and begins
+///   with the history of each answer.
 ///
 /// A failed call changes no block, certificate or vote, and adds no event. If it restarted the
 /// history first, the history is empty. Every call can fail with these errors of [`StepError`]:
@@ -25,14 +36,21 @@ use std::sync::Arc;
 ///   store [never restarts](crate::StoreBuilder::never_restart).
 /// - [`NoMemory`](StepError::NoMemory) if the library could not allocate memory. The call can be
 ///   repeated.
+///
+/// ```compile_fail,E0277
+/// fn shared<T: Sync>() {}
+/// shared::<narwhal_store::Session>();
+/// ```
 pub struct Session {
-    store: Arc<Inner>,
+    pub(crate) store: Arc<Inner>,
+    pub(crate) caller: Caller,
     id: u16,
 }
 
 impl Session {
-    pub(crate) fn new(store: Arc<Inner>, id: u16) -> Session {
-        Session { store, id }
+    pub(crate) fn new(store: Arc<Inner>, mut caller: Caller) -> Session {
+        let id = caller.id();
+        Session { store, caller, id }
     }
 
     /// Returns the number of the session, counted from 0. Its events have this number.
@@ -41,12 +59,21 @@ impl Session {
         self.id
     }
 
+    /// Returns the number of the run in which the session made its last call, look or note. The first
+    /// run of a store has number 0.
+    ///
+    /// Of two answers of one run, the history of one is a prefix of that of the other.
+    #[must_use]
+    pub fn run(&self) -> u64 {
+        self.caller.run()
+    }
+
     /// Writes a block. What a validator does next depends on the reply:
     ///
     /// - `Stored { vote: true }`: log the block. Vote for it once all its parents are satisfied: they
     ///   are stored and certified, with the named authors and the preceding round
     ///   ([`Look::satisfies`](crate::Look::satisfies)). Until then, keep its subject, and
-    ///   [look](crate::Store::look) again when a parent is stored or certified, and when the garbage
+    ///   [look](Session::look) again when a parent is stored or certified, and when the garbage
     ///   round is raised. A block of the garbage round needs no parents. A validator that votes for
     ///   blocks with made-up parents never completes a leader again.
     /// - `Stored { vote: false }`: log the block. Send no vote: the block is certified, and another
@@ -69,7 +96,7 @@ impl Session {
     /// # use narwhal_store::{Limits, Store};
     /// # let (keys, messages) = (data::keys(), data::values("message"));
     /// # let committee = narwhal_store::Committee::equal(&keys)?;
-    /// # let session = Store::new(&committee, Limits::default())?.session()?;
+    /// # let mut session = Store::new(&committee, Limits::default())?.session()?;
     /// # let message = &messages[0];
     /// use narwhal_store::{Checked, Message, WriteReply, text_of_vote};
     ///
@@ -85,7 +112,7 @@ impl Session {
     /// }
     /// # Ok::<(), Box<dyn std::error::Error>>(())
     /// ```
-    pub fn write(&self, block: &CheckedBlock) -> Result<Answer<WriteReply>, StepError> {
+    pub fn write(&mut self, block: &CheckedBlock) -> Result<Answer<WriteReply>, StepError> {
         let content = Content::Block(block.size);
         let answer = self.hand_in(content, &mut block.handle.lock())?;
         Ok(Answer::new(answer, |answer, _| {
@@ -103,7 +130,7 @@ impl Session {
     ///
     /// [`StepError::OtherCommittee`] if the certificate was checked under another committee.
     pub fn certify(
-        &self,
+        &mut self,
         certificate: &CheckedCertificate,
     ) -> Result<Answer<CertifyReply>, StepError> {
         let content = Content::Certificate(certificate.size);
@@ -119,9 +146,9 @@ impl Session {
     /// # Errors
     ///
     /// Those that every call can have.
-    pub fn certificate(&self, digest: &Digest) -> Result<Answer<Option<Vec<u8>>>, StepError> {
-        let answer = self.step(Content::Small, |book, session, number, answer| {
-            ffi::nw_book_certificate(book, session, number, digest, answer)
+    pub fn certificate(&mut self, digest: &Digest) -> Result<Answer<Option<Vec<u8>>>, StepError> {
+        let answer = self.step(Content::Small, |session, answer| {
+            ffi::nw_session_certificate(session, digest, answer)
         })?;
         Ok(Answer::new(answer, |answer, _| certificate_of(answer)))
     }
@@ -131,9 +158,9 @@ impl Session {
     /// # Errors
     ///
     /// Those that every call can have.
-    pub fn read(&self, digest: &Digest) -> Result<Answer<Option<Block>>, StepError> {
-        let answer = self.step(Content::Small, |book, session, number, answer| {
-            ffi::nw_book_read(book, session, number, digest, answer)
+    pub fn read(&mut self, digest: &Digest) -> Result<Answer<Option<Block>>, StepError> {
+        let answer = self.step(Content::Small, |session, answer| {
+            ffi::nw_session_read(session, digest, answer)
         })?;
         Ok(Answer::new(answer, block_of))
     }
@@ -152,7 +179,7 @@ impl Session {
     /// # mod data { include!(concat!(env!("CARGO_MANIFEST_DIR"), "/examples/data/mod.rs")); }
     /// # use narwhal_store::{Checked, Committee, Limits, Message, Store};
     /// # let committee = Committee::equal(&data::keys())?;
-    /// # let session = Store::new(&committee, Limits::default())?.session()?;
+    /// # let mut session = Store::new(&committee, Limits::default())?.session()?;
     /// # let mut last = narwhal_store::Digest([0; 32]);
     /// # for message in data::values("message") {
     /// #     match Message::check(&committee, &message)? {
@@ -175,9 +202,9 @@ impl Session {
     /// assert_eq!(unknown.unwrap_err(), CausalFault::Unknown);
     /// # Ok::<(), Box<dyn std::error::Error>>(())
     /// ```
-    pub fn causal(&self, digest: &Digest) -> Result<Causal, StepError> {
-        let answer = self.step(Content::Small, |book, session, number, answer| {
-            ffi::nw_book_open(book, session, number, digest, answer)
+    pub fn causal(&mut self, digest: &Digest) -> Result<Causal, StepError> {
+        let answer = self.step(Content::Small, |session, answer| {
+            ffi::nw_session_open(session, digest, answer)
         })?;
         Ok(Causal::of(answer))
     }
@@ -194,9 +221,9 @@ impl Session {
     /// # Errors
     ///
     /// [`StepError::BadRound`] if the round is 2^48 or more.
-    pub fn collect(&self, round: u64) -> Result<Answer<CollectReply>, StepError> {
-        let answer = self.step(Content::Collection, |book, session, number, answer| {
-            ffi::nw_book_collect(book, session, number, round, answer)
+    pub fn collect(&mut self, round: u64) -> Result<Answer<CollectReply>, StepError> {
+        let answer = self.step(Content::Collection, |session, answer| {
+            ffi::nw_session_collect(session, round, answer)
         })?;
         Ok(Answer::new(answer, |answer, _| {
             CollectReply::of(&tagged(answer))
@@ -212,9 +239,9 @@ impl Session {
     /// # Errors
     ///
     /// Those that every call can have.
-    pub fn missing(&self, most: u16) -> Result<Answer<Vec<Subject>>, StepError> {
-        let answer = self.step(Content::Parents(most), |book, session, number, answer| {
-            ffi::nw_book_missing(book, session, number, most, answer)
+    pub fn missing(&mut self, most: u16) -> Result<Answer<Vec<Subject>>, StepError> {
+        let answer = self.step(Content::Parents(most), |session, answer| {
+            ffi::nw_session_missing(session, most, answer)
         })?;
         Ok(Answer::new(answer, |answer, _| subjects_of(answer)))
     }
@@ -234,7 +261,7 @@ impl Session {
     /// # mod data { include!(concat!(env!("CARGO_MANIFEST_DIR"), "/examples/data/mod.rs")); }
     /// # use narwhal_store::{Checked, Committee, Limits, Message, Store};
     /// # let committee = Committee::equal(&data::keys())?;
-    /// # let session = Store::new(&committee, Limits::default())?.session()?;
+    /// # let mut session = Store::new(&committee, Limits::default())?.session()?;
     /// # let messages = data::values("message");
     /// # let Checked::Block(block) = Message::check(&committee, &messages[0])? else { panic!() };
     /// let digest = block.subject().digest;
@@ -243,9 +270,12 @@ impl Session {
     /// assert_eq!(session.missing_of(&digest)?.reply(), &Some(vec![]));
     /// # Ok::<(), Box<dyn std::error::Error>>(())
     /// ```
-    pub fn missing_of(&self, digest: &Digest) -> Result<Answer<Option<Vec<Subject>>>, StepError> {
-        let answer = self.step(Content::ParentsOfOne, |book, session, number, answer| {
-            ffi::nw_book_missing_of(book, session, number, digest, answer)
+    pub fn missing_of(
+        &mut self,
+        digest: &Digest,
+    ) -> Result<Answer<Option<Vec<Subject>>>, StepError> {
+        let answer = self.step(Content::ParentsOfOne, |session, answer| {
+            ffi::nw_session_missing_of(session, digest, answer)
         })?;
         Ok(Answer::new(answer, |answer, _| missing_of(answer)))
     }
@@ -255,17 +285,200 @@ impl Session {
     /// # Errors
     ///
     /// Those that every call can have.
-    pub fn status(&self) -> Result<Answer<Status>, StepError> {
-        let answer = self.step(Content::Small, |book, session, number, answer| {
-            ffi::nw_book_status(book, session, number, answer)
+    pub fn status(&mut self) -> Result<Answer<Status>, StepError> {
+        let answer = self.step(Content::Small, |session, answer| {
+            ffi::nw_session_status(session, answer)
         })?;
         Ok(Answer::new(answer, |answer, _| status_of(answer)))
     }
 
+    /// Looks at what the store has for a round and an author.
+    ///
+    /// The look is after all calls that this session made, and after all that it [heard](Session::hear)
+    /// of. This is no call: it adds no event. It takes the library's lock for a few look-ups. No block
+    /// has a round of 2^48 or more, so such a look finds no digest.
+    ///
+    /// A validator looks before it [checks](crate::Message::check) a message that it
+    /// [peeked](crate::Message::peek) at, and looks at the parents of a block before it votes.
+    ///
+    /// ```
+    /// # mod data { include!(concat!(env!("CARGO_MANIFEST_DIR"), "/examples/data/mod.rs")); }
+    /// # use narwhal_store::{Checked, Committee, Limits, Message, Store};
+    /// # let committee = Committee::equal(&data::keys())?;
+    /// # let mut session = Store::new(&committee, Limits::default())?.session()?;
+    /// # let messages = data::values("message");
+    /// # let Checked::Block(block) = Message::check(&committee, &messages[0])? else { panic!() };
+    /// drop(session.write(&block)?);
+    /// let subject = block.subject();
+    /// let look = session.look(subject.round, subject.author);
+    /// assert_eq!(look.first, Some(subject.digest));
+    /// assert_eq!((look.certified, look.stands), (None, false));
+    /// # Ok::<(), Box<dyn std::error::Error>>(())
+    /// ```
+    #[must_use]
+    pub fn look(&mut self, round: u64, author: u16) -> Look {
+        let mut raw = RawLook::EMPTY;
+        let mut look = |round, author| {
+            self.in_turn(|session| ffi::nw_session_look(session, round, author, &mut raw))
+        };
+        match look(round, author) {
+            Code::BAD_ROUND => {
+                look(0, 0).or_abort();
+                Look::nothing(raw.garbage_round)
+            }
+            code => {
+                code.or_abort();
+                Look::of(&raw)
+            }
+        }
+    }
+
+    /// Looks at what the store has for each author of a round.
+    ///
+    /// The result has exactly the authors with a first or a certified digest in the round, ascending,
+    /// each with the [`Look`] that [`Session::look`] returns for it. All looks are of one moment. This
+    /// is no call: it adds no event.
+    ///
+    /// The certified digests that [stand](Look::stands) are the parents of the next own block. The
+    /// digests that are [complete](Look::complete) now and were not at an earlier look became complete
+    /// in between. If a certified digest does not stand, fetch its block. If it stands and is not
+    /// complete, fetch what [`Session::missing_of`] lists for it.
+    ///
+    /// # Errors
+    ///
+    /// [`NoMemory`] if the library could not allocate memory.
+    ///
+    /// ```
+    /// # mod data { include!(concat!(env!("CARGO_MANIFEST_DIR"), "/examples/data/mod.rs")); }
+    /// # use narwhal_store::{Checked, Committee, Limits, Message, Store};
+    /// # let committee = Committee::equal(&data::keys())?;
+    /// # let mut session = Store::new(&committee, Limits::default())?.session()?;
+    /// # let messages = data::values("message");
+    /// # let Checked::Block(block) = Message::check(&committee, &messages[0])? else { panic!() };
+    /// drop(session.write(&block)?);
+    /// let subject = block.subject();
+    /// let looks = session.look_round(subject.round)?;
+    /// assert_eq!(looks, [(subject.author, session.look(subject.round, subject.author))]);
+    /// # Ok::<(), Box<dyn std::error::Error>>(())
+    /// ```
+    pub fn look_round(&mut self, round: u64) -> Result<Vec<(u16, Look)>, NoMemory> {
+        let mut looks = vec![RawAuthorLook::EMPTY; self.store.committee().size()];
+        let mut found = 0;
+        let look =
+            |session: &mut _| ffi::session_look_round(session, round, &mut looks, &mut found);
+        match self.in_turn(look) {
+            Code::BAD_ROUND => return Ok(Vec::new()),
+            code => code.or_no_memory()?,
+        }
+        let pair = |raw: &RawAuthorLook| (raw.author, Look::of(&raw.look));
+        Ok(looks[..found].iter().map(pair).collect())
+    }
+
+    /// Takes a note: the history of the store as it is now. This is no call: it adds no event.
+    ///
+    /// Send the note to another thread, whose session [hears](Session::hear) it. From then on, that
+    /// session's histories include all that this one knows now.
+    ///
+    /// A note keeps its history in memory. Drop it when it is heard.
+    ///
+    /// # Errors
+    ///
+    /// [`StepError::NoMemory`] if the library could not allocate memory.
+    ///
+    /// ```
+    /// # use narwhal_store::{Committee, Limits, PublicKey, Store};
+    /// # let committee = Committee::equal(&[PublicKey([7; 32])])?;
+    /// let store = Store::new(&committee, Limits::default())?;
+    /// let (mut one, mut other) = (store.session()?, store.session()?);
+    /// drop(one.collect(4)?);
+    /// let note = one.note()?;
+    /// assert!(other.hear(&note)?);
+    /// let answer = other.status()?;
+    /// assert!(note.history().is_prefix_of(answer.history()));
+    /// # Ok::<(), Box<dyn std::error::Error>>(())
+    /// ```
+    pub fn note(&mut self) -> Result<Note, StepError> {
+        let mut room = room_of_a_note()?;
+        let code = self.in_turn(|session| ffi::nw_session_note(session, &mut room));
+        code.done().map_err(StepError::of)?;
+        Ok(Note::new(room))
+    }
+
+    /// Hears a note of another session. Returns whether the note is a prefix of the history of the
+    /// store's present run. This is no call: it adds no event.
+    ///
+    /// - `true`: from now on, the note is a prefix of the history of every answer that this session
+    ///   gets in the run. Every note of the present run is heard.
+    /// - `false`: the note is of another store, or of a run that a [restart](Session::restart) ended.
+    ///   Nothing changes.
+    ///
+    /// This takes time in proportion to the events of the note, and holds up no call meanwhile.
+    ///
+    /// # Errors
+    ///
+    /// [`StepError::NoMemory`] if the library could not allocate memory.
+    pub fn hear(&mut self, note: &Note) -> Result<bool, StepError> {
+        let mut note = note.room();
+        // The library compares the events without its lock, so this takes no turn.
+        let mut turn = self.store.turns.none();
+        let hear = |session: &mut _| ffi::nw_session_hear(session, &mut note);
+        match turn.call(&mut self.caller, hear) {
+            Code::DONE => Ok(true),
+            Code::OTHER_HISTORY => Ok(false),
+            refused => Err(StepError::of(refused)),
+        }
+    }
+
+    /// Ends the run, and begins the next one with an empty history. Returns the last history of the
+    /// ended run.
+    ///
+    /// All blocks, certificates and votes stay. The calls of every session are numbered from 1
+    /// again. Answers, tickets and notes of the ended run do not change.
+    ///
+    /// A restart is one step under the library's lock. It copies an entry for each stored block and
+    /// certificate, and replays no event. The old history is freed when the returned note is dropped,
+    /// with all answers of the run.
+    ///
+    /// # Errors
+    ///
+    /// [`StepError::NoMemory`] if the library could not allocate memory.
+    ///
+    /// ```
+    /// # use narwhal_store::{Committee, Limits, PublicKey, Store};
+    /// # let committee = Committee::equal(&[PublicKey([7; 32])])?;
+    /// let store = Store::new(&committee, Limits::default())?;
+    /// let (mut one, mut other) = (store.session()?, store.session()?);
+    /// drop(one.collect(4)?);
+    /// drop(other.status()?);
+    /// let ended = one.restart()?;
+    /// assert_eq!((ended.history().len(), store.events()), (2, 0));
+    /// // The other session goes on in the new run.
+    /// let answer = other.status()?;
+    /// assert_eq!(answer.history().event(0).unwrap().number, 1);
+    /// assert_eq!(answer.reply().garbage_round, 4);
+    /// # Ok::<(), Box<dyn std::error::Error>>(())
+    /// ```
+    pub fn restart(&mut self) -> Result<Note, StepError> {
+        let mut last = room_of_a_note()?;
+        let mut turn = self.store.turns.take();
+        let mut code = turn.restart(&mut self.caller, &mut last);
+        while code == Code::ENDED {
+            code = match turn.renew(&mut self.caller) {
+                Code::DONE => turn.restart(&mut self.caller, &mut last),
+                refused => refused,
+            };
+        }
+        drop(turn);
+        // A dropped answer has a part of the old history.
+        drop(self.store.spare.take());
+        code.done().map_err(StepError::of)?;
+        Ok(Note::new(last))
+    }
+
     /// Writes a block, or hands in a certificate.
-    fn hand_in(&self, content: Content, checked: &mut Handle) -> Result<Room, StepError> {
-        self.step(content, |book, session, number, answer| {
-            ffi::nw_book_hand_in(book, session, number, checked, answer)
+    fn hand_in(&mut self, content: Content, checked: &mut Handle) -> Result<Room, StepError> {
+        self.step(content, |session, answer| {
+            ffi::nw_session_hand_in(session, checked, answer)
         })
     }
 
@@ -273,16 +486,26 @@ impl Session {
     /// before the call, so that no event loses its answer.
     #[inline]
     fn step(
-        &self,
+        &mut self,
         content: Content,
-        call: impl FnOnce(&mut Handle, u16, u32, &mut Handle) -> Code,
+        call: impl FnMut(&mut Handle, &mut Handle) -> Code,
     ) -> Result<Room, StepError> {
         let mut room = self.store.room().map_err(StepError::of)?;
-        let id = self.id;
-        let call = |book: &mut Handle, number, answer: &mut Handle| call(book, id, number, answer);
-        self.store.step(id, content, &mut room, call)?;
+        self.store
+            .step(&mut self.caller, content, &mut room, call)?;
         Ok(room)
     }
+
+    /// Waits for the turn of this thread, and then calls the session, in the present run.
+    fn in_turn(&mut self, call: impl FnMut(&mut Handle) -> Code) -> Code {
+        self.store.turns.take().call(&mut self.caller, call)
+    }
+}
+
+/// Room for a note. The store does not keep it when the note is dropped, because it would keep the
+/// note's history too.
+fn room_of_a_note() -> Result<Handle, StepError> {
+    Handle::opened(|out| ffi::nw_answer_new(out)).map_err(StepError::of)
 }
 
 /// The message of the certificate that was found.

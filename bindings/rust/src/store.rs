@@ -1,20 +1,28 @@
 //! The store and its builder.
 
 use crate::builder::RestartWhen;
+use crate::caller::{Caller, again};
 use crate::code::Code;
 use crate::ffi::{self, Handle, Spare};
-use crate::raw::{RawAuthorLook, RawLook};
 use crate::room::{Content, Room};
-use crate::{Committee, Limits, Look, NoMemory, OpenError, Session, StepError, StoreBuilder};
+use crate::turns::{Turn, Turns};
+use crate::{Committee, Limits, NoMemory, OpenError, Session, StepError, StoreBuilder};
 use std::fmt;
-use std::sync::{Arc, Condvar, Mutex, MutexGuard, PoisonError};
+use std::sync::{Arc, Mutex, MutexGuard, PoisonError};
 use std::time::Duration;
 
 /// The block store of one validator, in memory.
 ///
-/// It holds blocks and certificates under one committee. Threads call it through [`Session`]s.
-/// Every call is one step under the store's lock, so all calls are linearizable. The step table is
-/// in docs/MODEL.md of the repository.
+/// It holds blocks and certificates under one committee. Threads call it through [`Session`]s, each
+/// through one of its own. Every call is one step under the library's lock, so all calls are
+/// linearizable. [`Session`] says what is proved of them. The step table is in docs/MODEL.md of the
+/// repository.
+///
+/// A thread waits for its turn at a second lock, which is that of this crate. No proof rests on it.
+///
+/// A store has *runs*. Each run has one history, which begins without events. A
+/// [restart](Session::restart) ends a run and begins the next one. Blocks, certificates and votes
+/// stay.
 ///
 /// A clone is a second owner of the same store and costs one atomic increment.
 ///
@@ -35,7 +43,7 @@ use std::time::Duration;
 ///
 /// let committee = Committee::equal(&keys)?;
 /// let store = Store::new(&committee, Limits::default())?;
-/// let session = store.session()?;
+/// let mut session = store.session()?;
 ///
 /// if let Checked::Block(block) = Message::check(&committee, &messages[0])? {
 ///     let answer = session.write(&block)?;
@@ -53,28 +61,18 @@ pub struct Store {
 
 /// The state that all owners of a store share.
 pub(crate) struct Inner {
-    book: Mutex<Book>,
-    /// Wakes the threads that wait for a change.
-    changed: Condvar,
+    /// The store of the library. Its sessions are called without it.
+    store: Mutex<Handle>,
+    pub(crate) turns: Turns,
     /// The room of a dropped answer, for the next call.
-    spare: Arc<Spare>,
+    pub(crate) spare: Arc<Spare>,
     committee: Committee,
     limits: Limits,
     restart: Option<RestartWhen>,
 }
 
-/// The state under the lock.
-struct Book {
-    handle: Handle,
-    /// The number of each session's next call.
-    next: Vec<u32>,
-    /// The bytes that the history's events take.
-    bytes: u64,
-    /// How many calls changed the store.
-    changes: u64,
-    /// How many threads wait for a change.
-    waiting: usize,
-}
+/// What a restart leaves of the old history. It is dropped after the turn.
+type Old = [Handle; 2];
 
 impl Store {
     /// The bytes of a history at which a store restarts it by default: 64 MiB.
@@ -105,7 +103,7 @@ impl Store {
     ///     .limits(Limits { window: 64, ..Limits::default() })
     ///     .restart_when(Store::HISTORY_BYTES, 2)
     ///     .open()?;
-    /// let session = store.session()?;
+    /// let mut session = store.session()?;
     /// for _ in 0..3 {
     ///     drop(session.status()?);
     /// }
@@ -122,16 +120,16 @@ impl Store {
     ///
     /// # Errors
     ///
-    /// [`OpenError::TooManySessions`] if the store has made as many sessions as its limit.
+    /// - [`OpenError::TooManySessions`] if the store has made as many sessions as its limit.
+    /// - [`OpenError::NoMemory`] if the library could not allocate memory.
     pub fn session(&self) -> Result<Session, OpenError> {
-        let mut book = self.inner.lock();
-        let id = book.next.len();
-        if id >= self.inner.limits.sessions as usize {
-            return Err(OpenError::TooManySessions);
-        }
-        book.next.push(1);
-        drop(book);
-        Ok(Session::new(Arc::clone(&self.inner), id as u16))
+        let mut store = self.inner.store();
+        let mut turn = self.inner.turns.take();
+        let open = |out: &mut Handle| again(|| ffi::nw_store_session(&mut store, out));
+        let caller = Caller::new(Handle::opened(open).map_err(OpenError::of)?);
+        turn.enter(&caller);
+        drop(turn);
+        Ok(Session::new(Arc::clone(&self.inner), caller))
     }
 
     /// Rebuilds the list of blocks that causal reads share, without the collected blocks.
@@ -146,32 +144,15 @@ impl Store {
     ///
     /// [`NoMemory`] if the library could not allocate memory.
     pub fn compact(&self) -> Result<(), NoMemory> {
-        ffi::nw_book_compact(&mut self.inner.lock().handle).or_no_memory()
-    }
-
-    /// Begins an empty history.
-    ///
-    /// All blocks, certificates and votes stay. The calls of every session are numbered from 1
-    /// again. Answers and tickets of the old history do not change.
-    ///
-    /// A restart runs under the store's lock. It copies an entry for each stored block and
-    /// certificate, and replays no event.
-    ///
-    /// # Errors
-    ///
-    /// [`NoMemory`] if the library could not allocate memory.
-    pub fn restart(&self) -> Result<(), NoMemory> {
-        // An answer of the old history is dropped after the lock, and the history with it.
-        let old = self.inner.spare.take();
-        let restarted = self.inner.lock().restart();
-        drop(old);
-        restarted
+        let mut store = self.inner.store();
+        let _turn = self.inner.turns.take();
+        again(|| ffi::nw_store_compact(&mut store)).or_no_memory()
     }
 
     /// Returns how many events the history has.
     #[must_use]
     pub fn events(&self) -> usize {
-        self.inner.lock().events()
+        self.inner.turns.counts().events
     }
 
     /// Returns how many bytes the events of the history take.
@@ -190,90 +171,16 @@ impl Store {
     /// # use narwhal_store::{Committee, Limits, PublicKey, Store};
     /// # let committee = Committee::equal(&[PublicKey([7; 32])])?;
     /// let store = Store::new(&committee, Limits::default())?;
-    /// store.session()?.status()?;
+    /// let mut session = store.session()?;
+    /// drop(session.status()?);
     /// assert_eq!(store.history_bytes(), 150);
-    /// store.restart()?;
+    /// drop(session.restart()?);
     /// assert_eq!(store.history_bytes(), 0);
     /// # Ok::<(), Box<dyn std::error::Error>>(())
     /// ```
     #[must_use]
     pub fn history_bytes(&self) -> u64 {
-        self.inner.lock().bytes
-    }
-
-    /// Looks at what the store has for a round and an author.
-    ///
-    /// This is no call of a session: it adds no event. It takes the lock for a few look-ups. No block
-    /// has a round of 2^48 or more, so such a look finds no digest.
-    ///
-    /// A validator looks before it [checks](crate::Message::check) a message that it
-    /// [peeked](crate::Message::peek) at, and looks at the parents of a block before it votes.
-    ///
-    /// ```
-    /// # mod data { include!(concat!(env!("CARGO_MANIFEST_DIR"), "/examples/data/mod.rs")); }
-    /// # use narwhal_store::{Checked, Committee, Limits, Message, Store};
-    /// # let committee = Committee::equal(&data::keys())?;
-    /// # let store = Store::new(&committee, Limits::default())?;
-    /// # let session = store.session()?;
-    /// # let messages = data::values("message");
-    /// # let Checked::Block(block) = Message::check(&committee, &messages[0])? else { panic!() };
-    /// drop(session.write(&block)?);
-    /// let subject = block.subject();
-    /// let look = store.look(subject.round, subject.author);
-    /// assert_eq!(look.first, Some(subject.digest));
-    /// assert_eq!((look.certified, look.stands), (None, false));
-    /// # Ok::<(), Box<dyn std::error::Error>>(())
-    /// ```
-    #[must_use]
-    pub fn look(&self, round: u64, author: u16) -> Look {
-        let mut raw = RawLook::EMPTY;
-        let mut book = self.inner.lock();
-        let code = ffi::nw_book_look(&mut book.handle, round, author, &mut raw);
-        if code == Code::BAD_ROUND {
-            ffi::nw_book_look(&mut book.handle, 0, 0, &mut raw).or_abort();
-            return Look::nothing(raw.garbage_round);
-        }
-        code.or_abort();
-        Look::of(&raw)
-    }
-
-    /// Looks at what the store has for each author of a round.
-    ///
-    /// The result has exactly the authors with a first or a certified digest in the round, ascending,
-    /// each with the [`Look`] that [`Store::look`] returns for it. All looks are of one moment. This
-    /// is no call of a session: it adds no event.
-    ///
-    /// The certified digests that [stand](Look::stands) are the parents of the next own block. The
-    /// digests that are [complete](Look::complete) now and were not at an earlier look became complete
-    /// in between. If a certified digest does not stand, fetch its block. If it stands and is not
-    /// complete, fetch what [`Session::missing_of`] lists for it.
-    ///
-    /// # Errors
-    ///
-    /// [`NoMemory`] if the library could not allocate memory.
-    ///
-    /// ```
-    /// # mod data { include!(concat!(env!("CARGO_MANIFEST_DIR"), "/examples/data/mod.rs")); }
-    /// # use narwhal_store::{Checked, Committee, Limits, Message, Store};
-    /// # let committee = Committee::equal(&data::keys())?;
-    /// # let store = Store::new(&committee, Limits::default())?;
-    /// # let session = store.session()?;
-    /// # let messages = data::values("message");
-    /// # let Checked::Block(block) = Message::check(&committee, &messages[0])? else { panic!() };
-    /// drop(session.write(&block)?);
-    /// let subject = block.subject();
-    /// let looks = store.look_round(subject.round)?;
-    /// assert_eq!(looks, [(subject.author, store.look(subject.round, subject.author))]);
-    /// # Ok::<(), Box<dyn std::error::Error>>(())
-    /// ```
-    pub fn look_round(&self, round: u64) -> Result<Vec<(u16, Look)>, NoMemory> {
-        let mut looks = vec![RawAuthorLook::EMPTY; self.inner.committee.size()];
-        match ffi::book_look_round(&mut self.inner.lock().handle, round, &mut looks) {
-            Code::BAD_ROUND => return Ok(Vec::new()),
-            code => code.or_no_memory()?,
-        }
-        let pair = |raw: &RawAuthorLook| (raw.author, Look::of(&raw.look));
-        Ok(looks.iter().map(pair).collect())
+        self.inner.turns.counts().bytes
     }
 
     /// Returns how many calls have changed the store: writes that answered `Stored`, certificates that
@@ -283,7 +190,7 @@ impl Store {
     /// changed 0 times.
     #[must_use]
     pub fn changes(&self) -> u64 {
-        self.inner.lock().changes
+        self.inner.turns.counts().changes
     }
 
     /// Waits until the store has changed more than `seen` times, and returns how often it has
@@ -291,8 +198,7 @@ impl Store {
     ///
     /// Take `seen` before you look at the store, or from the last wait. Then no change is missed: if
     /// the store changed in between, the call returns at once. Each change wakes all waiting threads.
-    /// A waiting thread does not hold the store's lock. With `Duration::MAX`, the call waits without
-    /// a limit.
+    /// A waiting thread holds up no call. With `Duration::MAX`, the call waits without a limit.
     ///
     /// This is no call of a session: it adds no event.
     ///
@@ -301,15 +207,15 @@ impl Store {
     /// # use narwhal_store::{Checked, Committee, Limits, Message, Store};
     /// # let committee = Committee::equal(&data::keys())?;
     /// # let store = Store::new(&committee, Limits::default())?;
-    /// # let session = store.session()?;
+    /// # let mut session = store.session()?;
     /// # let messages = data::values("message");
     /// # let Checked::Block(block) = Message::check(&committee, &messages[0])? else { panic!() };
     /// use std::{thread, time::Duration};
     ///
-    /// let subject = block.subject();
+    /// let (subject, mut reader) = (block.subject(), store.session()?);
     /// let waiter = thread::spawn(move || {
     ///     let mut seen = store.changes();
-    ///     while store.look(subject.round, subject.author).first.is_none() {
+    ///     while reader.look(subject.round, subject.author).first.is_none() {
     ///         let changes = store.wait_for_change(seen, Duration::from_secs(60));
     ///         assert!(changes > seen, "nothing changed for a minute");
     ///         seen = changes;
@@ -321,13 +227,7 @@ impl Store {
     /// ```
     #[must_use]
     pub fn wait_for_change(&self, seen: u64, timeout: Duration) -> u64 {
-        let mut book = self.inner.lock();
-        book.waiting += 1;
-        let is_old = |book: &mut Book| book.changes <= seen;
-        let waited = self.inner.changed.wait_timeout_while(book, timeout, is_old);
-        let (mut book, _) = waited.unwrap_or_else(PoisonError::into_inner);
-        book.waiting -= 1;
-        book.changes
+        self.inner.turns.wait(seen, timeout)
     }
 
     /// Returns the limits that the store was opened with.
@@ -344,22 +244,17 @@ impl Store {
 }
 
 impl Inner {
-    /// The state of a new store over the library's book.
+    /// The state of a new store over the library's store.
     pub(crate) fn new(
-        handle: Handle,
+        store: Handle,
         committee: Committee,
         limits: Limits,
         restart: Option<RestartWhen>,
+        turns: Turns,
     ) -> Inner {
         Inner {
-            book: Mutex::new(Book {
-                handle,
-                next: Vec::new(),
-                bytes: 0,
-                changes: 0,
-                waiting: 0,
-            }),
-            changed: Condvar::new(),
+            store: Mutex::new(store),
+            turns,
             spare: Arc::new(Spare::new()),
             committee,
             limits,
@@ -367,9 +262,13 @@ impl Inner {
         }
     }
 
-    fn lock(&self) -> MutexGuard<'_, Book> {
-        // No call leaves the book half changed, so a panic of another thread does no harm.
-        self.book.lock().unwrap_or_else(PoisonError::into_inner)
+    pub(crate) fn committee(&self) -> &Committee {
+        &self.committee
+    }
+
+    fn store(&self) -> MutexGuard<'_, Handle> {
+        // No call leaves a handle half changed, so a panic of another thread does no harm.
+        self.store.lock().unwrap_or_else(PoisonError::into_inner)
     }
 
     /// Returns room for an answer.
@@ -385,71 +284,82 @@ impl Inner {
     #[inline]
     pub(crate) fn step(
         &self,
-        session: u16,
+        caller: &mut Caller,
         content: Content,
         room: &mut Room,
-        call: impl FnOnce(&mut Handle, u32, &mut Handle) -> Code,
+        mut call: impl FnMut(&mut Handle, &mut Handle) -> Code,
     ) -> Result<(), StepError> {
-        let mut book = self.lock();
-        let is_due = |when: RestartWhen| when.is_met(book.events(), book.bytes, content);
-        let old = match self.restart.is_some_and(is_due) {
-            true => self.restart(&mut book, room),
-            false => Ok(None),
+        let mut turn = self.turns.take();
+        let mut old = Ok(None);
+        if self.is_due(&mut turn, content) {
+            old = self.restart_due(&mut turn, caller, content, room);
+        }
+        let mut code = turn.call(caller, |session| call(session, room));
+        // Without turns, the history can be full before all its events are counted.
+        while code == Code::HISTORY_FULL && self.restart.is_some() && old.is_ok() {
+            old = self.restart(&mut turn, caller, room);
+            code = turn.call(caller, |session| call(session, room));
+        }
+        let wakes = code == Code::DONE && {
+            let (bytes, is_change) = (content.bytes(room), content.is_change(room));
+            turn.count(caller, bytes, is_change)
         };
-        let before = book.changes;
-        let code = book.step(session, content, room, call);
-        let wakes = book.changes > before && book.waiting > 0;
-        drop(book);
+        drop(turn);
         if wakes {
-            self.changed.notify_all();
+            self.turns.wake();
         }
         match (old, code) {
-            (Err(NoMemory), Code::HISTORY_FULL) => Err(StepError::NoMemory),
+            (Err(_), Code::HISTORY_FULL) => Err(StepError::NoMemory),
             (_, code) => code.done().map_err(StepError::of),
         }
     }
 
-    /// Restarts the history, and returns what is left of the old one. The caller drops it after the
-    /// lock: the answers of the last calls are often the last owners of the old history.
-    #[cold]
-    fn restart(&self, book: &mut Book, room: &mut Room) -> Result<Option<[Handle; 2]>, NoMemory> {
-        let old = [room.renew().map_err(Code::no_memory)?, self.spare.take()];
-        book.restart()?;
-        Ok(Some(old))
-    }
-}
-
-impl Book {
+    /// Whether the history restarts before a call with this content.
     #[inline]
-    fn step(
-        &mut self,
-        session: u16,
+    fn is_due(&self, turn: &mut Turn, content: Content) -> bool {
+        let is_met = |when: RestartWhen| {
+            turn.counts(|counts| when.is_met(counts.events, counts.bytes, content))
+        };
+        self.restart.is_some_and(is_met)
+    }
+
+    /// Restarts the history until the call with this content fits.
+    #[cold]
+    fn restart_due(
+        &self,
+        turn: &mut Turn,
+        caller: &mut Caller,
         content: Content,
         room: &mut Room,
-        call: impl FnOnce(&mut Handle, u32, &mut Handle) -> Code,
-    ) -> Code {
-        let number = &mut self.next[usize::from(session)];
-        let code = call(&mut self.handle, *number, room);
-        if code == Code::DONE {
-            *number += 1;
-            self.bytes += content.bytes(room);
-            self.changes += u64::from(content.is_change(room));
+    ) -> Result<Option<Old>, Code> {
+        let mut old = None;
+        while self.is_due(turn, content) {
+            old = self.restart(turn, caller, room)?;
         }
-        code
+        Ok(old)
     }
 
-    #[inline]
-    fn events(&mut self) -> usize {
-        let mut events = 0;
-        ffi::nw_book_events(&mut self.handle, &mut events).or_abort();
-        events
-    }
-
-    fn restart(&mut self) -> Result<(), NoMemory> {
-        ffi::nw_book_restart(&mut self.handle).or_no_memory()?;
-        self.next.fill(1);
-        self.bytes = 0;
-        Ok(())
+    /// Ends the session's run, and returns what is left of its history. The caller drops it after
+    /// the turn: it is often the last owner of that history. If the run has ended already, this
+    /// takes the session into the present run instead.
+    #[cold]
+    fn restart(
+        &self,
+        turn: &mut Turn,
+        caller: &mut Caller,
+        room: &mut Room,
+    ) -> Result<Option<Old>, Code> {
+        let mut last = room.renew()?;
+        match turn.restart(caller, &mut last) {
+            Code::ENDED => {
+                turn.renew(caller).done()?;
+                Ok(None)
+            }
+            code => {
+                code.done()?;
+                Ok(Some([last, self.spare.take()]))
+            }
+        }
     }
 }
 
@@ -466,7 +376,8 @@ impl fmt::Debug for Store {
 mod tests {
     use crate::ffi;
     use crate::room::Content;
-    use crate::{Committee, Digest, Limits, PublicKey, StepError, Store};
+    use crate::{Committee, Digest, Limits, PublicKey, Session, StepError, Store};
+    use std::sync::Mutex;
     use std::thread;
     use std::time::Duration;
 
@@ -482,16 +393,16 @@ mod tests {
             ..Limits::default()
         };
         let store = Store::new(&committee(), limits).unwrap();
-        let sessions = [store.session().unwrap(), store.session().unwrap()];
+        let sessions = [(); 2].map(|()| Mutex::new(store.session().unwrap()));
+        let status = |place: usize| sessions[place].lock().unwrap().status().unwrap();
         store.session().unwrap_err();
         thread::scope(|scope| {
             for place in 0..4 {
-                let session = &sessions[place % 2];
-                scope.spawn(move || (0..100).for_each(|_| drop(session.status().unwrap())));
+                scope.spawn(move || (0..100).for_each(|_| drop(status(place % 2))));
             }
         });
         // 400 calls are 57 histories of 7 events, and one more event.
-        let last = sessions[0].status().unwrap();
+        let last = status(0);
         assert_eq!((store.events(), last.history().len()), (2, 2));
         assert_eq!(last.history().event(1).unwrap().session, 0);
     }
@@ -500,7 +411,7 @@ mod tests {
     fn a_history_restarts_before_the_call_that_would_exceed_its_bytes() {
         let builder = Store::builder(&committee()).restart_when(1_000, u32::MAX);
         let store = builder.open().unwrap();
-        let session = store.session().unwrap();
+        let mut session = store.session().unwrap();
         for call in 0..100 {
             drop(session.read(&Digest([7; 32])).unwrap());
             // Six events take 900 bytes.
@@ -520,22 +431,22 @@ mod tests {
         };
         let builder = Store::builder(&committee()).limits(limits);
         let store = builder.never_restart().open().unwrap();
-        let session = store.session().unwrap();
+        let mut session = store.session().unwrap();
         drop(session.status().unwrap());
         drop(session.status().unwrap());
         let refused = session.status().unwrap_err();
         assert_eq!(refused, StepError::HistoryFull);
-        store.restart().unwrap();
+        drop(session.restart().unwrap());
         drop(session.status().unwrap());
     }
 
     #[test]
     fn a_panic_under_the_lock_stops_nobody() {
         let store = Store::new(&committee(), Limits::default()).unwrap();
-        let session = store.session().unwrap();
+        let mut session = store.session().unwrap();
         thread::scope(|scope| {
             let panics = scope.spawn(|| {
-                let _guard = store.inner.lock();
+                let _guards = (store.inner.store(), store.inner.turns.take());
                 panic!("under the lock");
             });
             panics.join().unwrap_err();
@@ -543,7 +454,7 @@ mod tests {
         drop(session.status().unwrap());
         assert_eq!(store.events(), 1);
         store.compact().unwrap();
-        store.restart().unwrap();
+        drop(session.restart().unwrap());
         store.session().unwrap();
     }
 
@@ -551,37 +462,37 @@ mod tests {
     #[test]
     fn only_changes_end_a_wait() {
         let store = Store::new(&committee(), Limits::default()).unwrap();
-        let session = store.session().unwrap();
+        let mut session = store.session().unwrap();
         let short = Duration::from_millis(1);
         drop(session.status().unwrap());
         drop(session.collect(0).unwrap());
-        store.restart().unwrap();
+        drop(session.restart().unwrap());
         store.compact().unwrap();
         assert_eq!((store.changes(), store.wait_for_change(0, short)), (0, 0));
         drop(session.collect(1).unwrap());
         assert_eq!(store.wait_for_change(0, Duration::MAX), 1);
         assert_eq!(store.wait_for_change(1, short), 1);
-        assert_eq!(store.inner.lock().waiting, 0);
+        assert_eq!(store.inner.turns.waiting(), 0);
     }
 
     /// Each thread waits for each of 100 changes, and none is missed.
     #[test]
     fn a_change_wakes_all_threads() {
         let store = Store::new(&committee(), Limits::default()).unwrap();
-        let session = store.session().unwrap();
-        let wait = |seen| {
+        let mut session = store.session().unwrap();
+        let wait = |session: &mut Session, seen| {
             let changes = store.wait_for_change(seen, Duration::from_secs(60));
             assert!(changes > seen, "change {seen} woke nobody");
-            let look = store.look(0, 0);
+            let look = session.look(0, 0);
             assert!(look.garbage_round >= changes);
             changes
         };
         thread::scope(|scope| {
             for _ in 0..4 {
                 scope.spawn(|| {
-                    let mut seen = 0;
+                    let (mut own, mut seen) = (store.session().unwrap(), 0);
                     while seen < 100 {
-                        seen = wait(seen);
+                        seen = wait(&mut own, seen);
                     }
                 });
             }
@@ -598,16 +509,15 @@ mod tests {
     fn an_automatic_restart_keeps_no_spare_answer() {
         let builder = Store::builder(&committee()).restart_when(u64::MAX, 1);
         let store = builder.open().unwrap();
-        let session = store.session().unwrap();
+        let mut session = store.session().unwrap();
         let answer = session.status().unwrap();
         let mut room = store.inner.room().unwrap();
         drop(answer);
-        let status =
-            |book: &mut _, number, answer: &mut _| ffi::nw_book_status(book, 0, number, answer);
-        store
+        let status = |own: &mut _, answer: &mut _| ffi::nw_session_status(own, answer);
+        let stepped = store
             .inner
-            .step(0, Content::Small, &mut room, status)
-            .unwrap();
+            .step(&mut session.caller, Content::Small, &mut room, status);
+        stepped.unwrap();
         assert_eq!(store.events(), 1);
         assert!(store.inner.spare.take().is_closed());
     }

@@ -3,9 +3,12 @@
 use crate::code::Code;
 use crate::error::error_texts;
 use crate::ffi::{self, Handle};
+use crate::history::both;
 use crate::room::Room;
 use crate::{Block, Digest, History, NoMemory, Walk};
+use std::cell::Cell;
 use std::fmt;
+use std::marker::PhantomData;
 use std::ptr;
 
 /// A causal read that is ready to be walked. It is a snapshot of a block and its certified
@@ -25,12 +28,15 @@ use std::ptr;
 /// ```
 pub struct Ticket {
     history: History,
+    /// Threads that share a ticket would wait for each other, but a walk waits for nobody.
+    is_not_shared: PhantomData<Cell<()>>,
 }
 
 impl Ticket {
     pub(crate) fn new(room: Room) -> Ticket {
         Ticket {
             history: History::new(room),
+            is_not_shared: PhantomData,
         }
     }
 
@@ -49,7 +55,7 @@ impl Ticket {
 
     fn about(&self) -> (Digest, u64) {
         let (mut digest, mut floor) = (Digest::ZERO, 0);
-        let handle = &mut self.history.room.borrow_mut();
+        let handle = &mut self.history.room();
         ffi::nw_ticket_scope(handle, &mut digest, &mut floor).or_abort();
         (digest, floor)
     }
@@ -69,7 +75,7 @@ impl Ticket {
     /// # mod data { include!(concat!(env!("CARGO_MANIFEST_DIR"), "/examples/data/mod.rs")); }
     /// # use narwhal_store::{Checked, Committee, Limits, Message, Store};
     /// # let committee = Committee::equal(&data::keys())?;
-    /// # let session = Store::new(&committee, Limits::default())?.session()?;
+    /// # let mut session = Store::new(&committee, Limits::default())?.session()?;
     /// # let mut last = narwhal_store::Digest([0; 32]);
     /// # for message in data::values("message") {
     /// #     match Message::check(&committee, &message)? {
@@ -90,7 +96,7 @@ impl Ticket {
     /// # Ok::<(), Box<dyn std::error::Error>>(())
     /// ```
     pub fn walk(&self) -> Result<Walk, NoMemory> {
-        let ticket = &mut self.history.room.borrow_mut();
+        let ticket = &mut self.history.room();
         let mut list =
             Handle::opened(|out| ffi::nw_ticket_walk(ticket, out)).map_err(Code::no_memory)?;
         let mut len = 0;
@@ -113,7 +119,7 @@ impl Ticket {
     /// # mod data { include!(concat!(env!("CARGO_MANIFEST_DIR"), "/examples/data/mod.rs")); }
     /// # use narwhal_store::{Checked, Committee, Limits, Message, Store};
     /// # let committee = Committee::equal(&data::keys())?;
-    /// # let session = Store::new(&committee, Limits::default())?.session()?;
+    /// # let mut session = Store::new(&committee, Limits::default())?.session()?;
     /// # let mut certified = Vec::new();
     /// # for message in data::values("message") {
     /// #     match Message::check(&committee, &message)? {
@@ -158,10 +164,9 @@ impl Ticket {
         if ptr::eq(self, other) {
             return Ok(true);
         }
-        let this = &mut self.history.room.borrow_mut();
-        let other = &mut other.history.room.borrow_mut();
+        let (mut this, mut other) = both(&self.history, &other.history);
         let mut same = false;
-        agreement(ffi::nw_ticket_agree(this, other, &mut same), same)
+        agreement(ffi::nw_ticket_agree(&mut this, &mut other, &mut same), same)
     }
 
     /// Returns the history that explains the ticket. Its last event is the call that opened the

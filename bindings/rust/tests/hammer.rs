@@ -2,6 +2,8 @@
 //!
 //! The tests look for races in the Rust layer: a lock that is released too early, or that is not taken. They take a few seconds. A race
 //! appears by chance, so one run can miss a fault.
+//!
+//! The threads of a store wait for their turns at a lock of the Rust layer. No answer rests on that lock, so the tests pass without it too.
 
 mod lab;
 
@@ -10,8 +12,8 @@ use narwhal_store::{Call, Causal, Checked, Event, History, Limits, Message, Repl
 use narwhal_store::{Session, Store, Subject, WriteReply};
 use std::collections::{BTreeMap, HashMap};
 use std::hash::{DefaultHasher, Hash, Hasher};
-use std::sync::Barrier;
 use std::sync::atomic::{AtomicBool, Ordering};
+use std::sync::{Barrier, Mutex};
 use std::thread;
 
 const THREADS: usize = 4;
@@ -23,6 +25,14 @@ const ROUNDS: u64 = 8;
 const FLOOR: u64 = 2;
 /// How many sessions each thread makes.
 const SESSIONS: usize = 40;
+
+/// Whether the threads of a store wait for their turns.
+#[derive(Clone, Copy, PartialEq, Eq)]
+enum Turns {
+    Taken,
+    /// A thread calls again while the library is busy.
+    NotTaken,
+}
 
 /// The blocks of all members and rounds, and their certificates.
 struct Network {
@@ -59,17 +69,19 @@ impl Network {
         checked.map(|checked| checked.expect("a message")).collect()
     }
 
-    fn store(&self, events: u32) -> Store {
+    fn store(&self, events: u32, turns: Turns) -> Store {
         let limits = Limits {
             events,
             sessions: 256,
             ..Limits::default()
         };
         let builder = Store::builder(&self.com.committee).limits(limits);
-        builder
-            .restart_when(u64::MAX, u32::MAX)
-            .open()
-            .expect("a store")
+        let builder = builder.restart_when(u64::MAX, u32::MAX);
+        let builder = match turns {
+            Turns::Taken => builder,
+            Turns::NotTaken => builder.without_turns(),
+        };
+        builder.open().expect("a store")
     }
 }
 
@@ -85,7 +97,7 @@ struct Seen {
 /// One thread that makes calls, by its own sessions and by those that all threads share.
 struct Caller<'a> {
     network: &'a Network,
-    shared: &'a [Session],
+    shared: &'a [Mutex<Session>],
     own: Vec<Session>,
     checked: Vec<Checked>,
     seen: Vec<Seen>,
@@ -93,7 +105,7 @@ struct Caller<'a> {
 }
 
 impl<'a> Caller<'a> {
-    fn new(network: &'a Network, store: &Store, shared: &'a [Session]) -> Caller<'a> {
+    fn new(network: &'a Network, store: &Store, shared: &'a [Mutex<Session>]) -> Caller<'a> {
         let session = |_| store.session().expect("a session");
         Caller {
             network,
@@ -107,10 +119,14 @@ impl<'a> Caller<'a> {
 
     /// Makes one call, which `choice` determines.
     fn call(&mut self, choice: usize) {
-        let (own, shared) = (&self.own, self.shared);
+        let (own, shared) = (self.own.len(), self.shared.len());
+        let mut locked;
         let session = match choice % 3 {
-            0 => &own[choice % own.len()],
-            _ => &shared[choice % shared.len()],
+            0 => &mut self.own[choice % own],
+            _ => {
+                locked = self.shared[choice % shared].lock().expect("no panic");
+                &mut locked
+            }
         };
         let id = session.id();
         let digest = self.network.subjects[choice % self.network.subjects.len()].digest;
@@ -224,11 +240,12 @@ impl Seen {
 
 /// Runs a store whose history has at most `limit` events. Several threads make calls, while another thread counts the events and compacts
 /// the store. If `by_hand` is set, that thread restarts the history too.
-fn run(network: &Network, limit: u32, by_hand: bool) {
-    let store = network.store(limit);
-    let shared = [store.session().unwrap(), store.session().unwrap()];
+fn run(network: &Network, limit: u32, by_hand: bool, turns: Turns) {
+    let store = network.store(limit, turns);
+    let shared = [(); 2].map(|()| Mutex::new(store.session().unwrap()));
+    let mut watching = store.session().unwrap();
     let (start, is_done) = (Barrier::new(THREADS), AtomicBool::new(false));
-    let first = shared[0].status().expect("the first call");
+    let first = shared[0].lock().unwrap().status().expect("the first call");
     let first = Seen::of(first.history(), 0, Call::Status, None);
     let work = |thread: usize| {
         start.wait();
@@ -236,13 +253,13 @@ fn run(network: &Network, limit: u32, by_hand: bool) {
         (0..CALLS).for_each(|call| caller.call(7919 * call + 31 * thread));
         caller
     };
-    let watch = || {
+    let mut watch = || {
         let mut restarts = 0;
         while !is_done.load(Ordering::Relaxed) {
             for _ in 0..500 {
                 let events = store.events();
-                // An automatic restart and its call are one step, which leaves one event.
-                let least = usize::from(!by_hand);
+                // In one turn, an automatic restart and its call are one step, which leaves one event.
+                let least = usize::from(!by_hand && turns == Turns::Taken);
                 assert!(
                     (least..=limit as usize).contains(&events),
                     "{events} events"
@@ -250,14 +267,14 @@ fn run(network: &Network, limit: u32, by_hand: bool) {
             }
             store.compact().expect("a compaction");
             if by_hand {
-                store.restart().expect("a restart");
+                drop(watching.restart().expect("a restart"));
                 restarts += 1;
             }
         }
         restarts
     };
     let (callers, restarts) = thread::scope(|scope| {
-        let watcher = scope.spawn(watch);
+        let watcher = scope.spawn(&mut watch);
         let callers: Vec<_> = (0..THREADS)
             .map(|thread| scope.spawn(move || work(thread)))
             .collect();
@@ -286,7 +303,7 @@ fn check_sessions(callers: &[Caller]) {
     let mut ids: Vec<_> = ids.collect();
     ids.sort_unstable();
     assert!(
-        ids.into_iter().eq(2..2 + (THREADS * SESSIONS) as u16),
+        ids.into_iter().eq(3..3 + (THREADS * SESSIONS) as u16),
         "the numbers of the sessions"
     );
 }
@@ -342,7 +359,7 @@ fn check_lengths(seen: &[&Seen], limit: usize, restarts: Option<usize>) {
 fn an_automatic_restart_is_part_of_its_call() {
     let network = Network::new();
     for limit in [1, 2, 3, 5, 50] {
-        run(&network, limit, false);
+        run(&network, limit, false, Turns::Taken);
     }
 }
 
@@ -350,7 +367,19 @@ fn an_automatic_restart_is_part_of_its_call() {
 fn restarts_by_hand_come_between_calls() {
     let network = Network::new();
     for limit in [3, 200] {
-        run(&network, limit, true);
+        run(&network, limit, true, Turns::Taken);
+    }
+}
+
+/// The lock of the Rust layer is replaced by nothing. All answers fit one order of all calls as before.
+#[test]
+fn no_answer_rests_on_turns() {
+    let network = Network::new();
+    for limit in [1, 2, 3, 5, 50] {
+        run(&network, limit, false, Turns::NotTaken);
+    }
+    for limit in [3, 200] {
+        run(&network, limit, true, Turns::NotTaken);
     }
 }
 
@@ -358,7 +387,7 @@ fn restarts_by_hand_come_between_calls() {
 fn events_are_counted_between_calls() {
     let network = Network::new();
     for _ in 0..20 {
-        count(&network.store(Limits::default().events));
+        count(&network.store(Limits::default().events, Turns::Taken));
     }
 }
 
@@ -368,7 +397,7 @@ fn count(store: &Store) {
     let start = Barrier::new(THREADS);
     let work = || {
         start.wait();
-        let session = store.session().expect("a session");
+        let mut session = store.session().expect("a session");
         let (mut counted, mut lengths) = (0, Vec::new());
         for _ in 0..CALLS {
             let answer = session.status().expect("a status");

@@ -37,7 +37,7 @@ fn the_code_of_the_readme_runs() -> Result<(), Box<dyn Error>> {
 
     let committee = Committee::equal(&keys)?;             // Ed25519 public keys, each of weight 1
     let store = Store::new(&committee, Limits::default())?;
-    let session = store.session()?;
+    let mut session = store.session()?;
 
     for bytes in network {
         match Message::check(&committee, &bytes) {        // verifies the signatures of blocks and certificates

@@ -4,6 +4,8 @@
 //! lost, or come twice. Stores collect garbage, restart their histories, crash, and replay their logs. After each call the reply, the vote
 //! and the history must be those of the model in `tests/model`.
 //!
+//! Another test runs threads that call one store at the same time. The answers of all threads must be those of the model, in one order.
+//!
 //! ```text
 //! cargo test --release --test simulate                    200 seeds
 //! SEED=17 cargo test --release --test simulate            one seed, which a failure prints
@@ -15,7 +17,8 @@ mod simulator;
 
 use model::{Call, Certificate};
 use narwhal_store::{CheckError, Checked, Gather, GatherError, Message, TextFault};
-use simulator::{Case, Draw, Plan, Tally, World, code_of, corpus, subject_of, votes_of};
+use simulator::{Case, Draw, Plan, Tally, World, code_of, corpus, subject_of, threads, votes_of};
+use std::ops::Range;
 
 /// Prints the seed if its run fails.
 struct Named(u64);
@@ -37,15 +40,29 @@ fn number_of(variable: &str) -> Option<u64> {
         .map(|value| value.parse().expect("a number of seeds"))
 }
 
-#[test]
-fn every_answer_is_the_models() {
-    let cases = corpus();
-    let seeds = match (number_of("SEED"), number_of("SEEDS")) {
+/// The seeds to run.
+fn seeds() -> Range<u64> {
+    match (number_of("SEED"), number_of("SEEDS")) {
         (Some(seed), _) => seed..seed + 1,
         (None, most) => 0..most.unwrap_or(200),
-    };
-    let (seen, count) = (Tally::default(), seeds.end - seeds.start);
-    for seed in seeds {
+    }
+}
+
+/// Prints how often each case was met. 200 seeds must meet each of these.
+fn judge(seeds: &Range<u64>, seen: Tally, must_be_met: &[&str]) {
+    let (rows, count) = (seen.into_rows(), seeds.end - seeds.start);
+    println!("{count} seeds passed");
+    rows.iter()
+        .for_each(|(what, times)| println!("{times:>9} {what}"));
+    let is_met = |row: &&&str| rows.contains_key(**row);
+    let missed: Vec<_> = must_be_met.iter().filter(|row| !is_met(row)).collect();
+    assert!(count < 200 || missed.is_empty(), "no seed met {missed:?}");
+}
+
+#[test]
+fn every_answer_is_the_models() {
+    let (cases, seen) = (corpus(), Tally::default());
+    for seed in seeds() {
         let named = Named(seed);
         let mut draw = Draw::new(seed);
         let (case, other) = if draw.chance(50) {
@@ -57,13 +74,29 @@ fn every_answer_is_the_models() {
         World::new(case, other, &plan, draw).run();
         drop(named);
     }
-    let rows = seen.into_rows();
-    println!("{count} seeds passed");
-    rows.iter()
-        .for_each(|(what, times)| println!("{times:>9} {what}"));
-    let is_met = |row: &&str| rows.contains_key(*row);
-    let missed: Vec<_> = MUST_BE_MET.iter().filter(|row| !is_met(row)).collect();
-    assert!(count < 200 || missed.is_empty(), "no seed met {missed:?}");
+    judge(&seeds(), seen, &MUST_BE_MET);
+}
+
+/// A seed does not determine how the threads interleave. So a failure may need several runs of its seed.
+#[test]
+fn threads_of_one_store_are_answered_as_by_the_model() {
+    let (cases, seen) = (corpus(), Tally::default());
+    for seed in seeds() {
+        let named = Named(seed);
+        threads::play(&cases, seed, &seen);
+        drop(named);
+    }
+    let must_be_met = [
+        "calls after another thread's",
+        "looks",
+        "notes heard",
+        "notes of an ended run",
+        "runs ended by a session",
+        "runs ended by themselves",
+        "with turns",
+        "without turns",
+    ];
+    judge(&seeds(), seen, &must_be_met);
 }
 
 /// The cases that 200 seeds must meet: the rows of the step table, except for two blocks with one digest (`Clash`), and five events.

@@ -39,7 +39,8 @@ fn or_null(value: Option<String>) -> String {
 pub fn state(world: &World, store: u16) -> String {
     let flags = (0..MEMBERS).map(|number| flags_of(&world.validator(number)));
     let (flags, (is_paused, beats)) = (array(flags), world.pace());
-    let validator = world.validator(store);
+    let mut validator = world.validator(store);
+    let content = or_null(validator.node.as_mut().map(content_of));
     object([
         ("store", &store),
         ("paused", &is_paused),
@@ -51,7 +52,7 @@ pub fn state(world: &World, store: u16) -> String {
         ("replayed", &validator.replayed),
         ("logged", &validator.log.messages.len()),
         ("double_votes", &world.post.double_votes()),
-        ("content", &or_null(validator.node.as_ref().map(content_of))),
+        ("content", &content),
     ])
 }
 
@@ -64,9 +65,9 @@ fn flags_of(validator: &Validator) -> String {
 }
 
 /// The counts and the blocks of a store.
-fn content_of(node: &Node) -> String {
-    let status = node.status;
-    let blocks = node.rows().into_iter().map(|(key, state)| {
+fn content_of(node: &mut Node) -> String {
+    let (status, rows) = (node.status, node.rows());
+    let blocks = rows.into_iter().map(|(key, state)| {
         let parents = node.seen.get(&key).map(|(block, _)| block.parents());
         let parents = parents
             .into_iter()
@@ -94,7 +95,7 @@ fn content_of(node: &Node) -> String {
 }
 
 /// What the page shows of a block, or `None` if the store has nothing of this digest.
-pub fn block(node: &Node, digest: &Digest) -> Option<String> {
+pub fn block(node: &mut Node, digest: &Digest) -> Option<String> {
     let (key, state) = node.rows().into_iter().find(|(key, _)| key.2 == *digest)?;
     Some(object([
         ("digest", &text(digest)),

@@ -62,7 +62,7 @@ pub struct Node {
 impl Node {
     pub fn new(me: u16, committee: &Committee) -> Outcome<Node> {
         let store = Store::new(committee, LIMITS)?;
-        let (session, reader) = (store.session()?, store.session()?);
+        let (session, mut reader) = (store.session()?, store.session()?);
         Ok(Node {
             me,
             decider: Decider::new(MEMBERS),
@@ -82,8 +82,8 @@ impl Node {
     }
 
     /// The questions to its store.
-    pub fn flow(&self) -> Flow<'_> {
-        Flow::over(&self.store, &self.reader)
+    pub fn flow(&mut self) -> Flow<'_> {
+        Flow::over(&self.store, &mut self.reader)
     }
 
     /// The highest round of a block or certificate.
@@ -93,7 +93,7 @@ impl Node {
     }
 
     /// Whether the message is worth its check.
-    pub fn wants(&self, message: &[u8]) -> bool {
+    pub fn wants(&mut self, message: &[u8]) -> bool {
         match Message::peek(message) {
             Some(Peek::Vote { subject, .. }) => self
                 .gather
@@ -107,8 +107,8 @@ impl Node {
     }
 
     /// Whether this is another block than the first one. A validator drops it. The explorer writes it, so that a history shows `Equivocates`.
-    fn is_twin(&self, round: u64, author: u16, message: &[u8]) -> bool {
-        let has_first = self.store.look(round, author).first.is_some();
+    fn is_twin(&mut self, round: u64, author: u16, message: &[u8]) -> bool {
+        let has_first = self.reader.look(round, author).first.is_some();
         let is_new = |digest| !self.seen.contains_key(&(round, author, digest));
         has_first && digest_of(message).is_some_and(is_new)
     }
@@ -172,11 +172,11 @@ impl Node {
     /// Decides all leaders that it can. Returns the garbage round if it was raised, and the subjects to vote for.
     pub fn decide(&mut self) -> Outcome<(Option<u64>, Vec<Subject>)> {
         let (mut raised, mut due) = (None, Vec::new());
-        while self.decider.decide(&self.session, &self.store).is_some() {
+        while self.decider.decide(&mut self.session).is_some() {
             let leader = self.decider.leaders.pop().unwrap_or(0);
             self.decider.order.clear();
             let author = (leader / 2 % u64::from(MEMBERS)) as u16;
-            if let Some(digest) = self.store.look(leader, author).certified {
+            if let Some(digest) = self.session.look(leader, author).certified {
                 let ticket = self.session.causal(&digest)?.into_ticket()?;
                 self.walk = ticket.walk()?.map(|block| block.digest()).collect();
             }
@@ -190,10 +190,10 @@ impl Node {
     }
 
     /// The round and the parents of its next block, if a quorum of parents is satisfied.
-    pub fn next_block(&self) -> Outcome<Option<(u64, Parents)>> {
+    pub fn next_block(&mut self) -> Outcome<Option<(u64, Parents)>> {
         let quorum = self.store.committee().quorum() as usize;
         for round in (self.round.max(1)..self.newest() + 2).rev() {
-            let looks = self.store.look_round(round - 1)?;
+            let looks = self.reader.look_round(round - 1)?;
             let parent = |(author, look): (u16, Look)| {
                 let digest = look.certified.filter(|_| look.stands)?;
                 Some((author, digest))
@@ -207,8 +207,8 @@ impl Node {
     }
 
     /// The digests to ask for: certified blocks that are not stored, and missing parents.
-    pub fn unknown(&self) -> Outcome<BTreeSet<Digest>> {
-        let flow = self.flow();
+    pub fn unknown(&mut self) -> Outcome<BTreeSet<Digest>> {
+        let mut flow = self.flow();
         let missing = flow.missing()?.into_iter().chain(flow.doubtful(ASKED)?);
         let parents = missing.map(|(_, parent)| parent);
         let subjects = flow.absent()?.into_iter().chain(parents);
@@ -230,7 +230,7 @@ impl Node {
     }
 
     /// The blocks that the page shows, each with its state.
-    pub fn rows(&self) -> BTreeMap<Key, &'static str> {
+    pub fn rows(&mut self) -> BTreeMap<Key, &'static str> {
         let mut keys: BTreeSet<Key> = self.seen.keys().copied().collect();
         keys.extend(self.absent.iter().chain(&self.missing).map(key_of));
         let is_same_slot = |one: &Key, other: &Key| (one.0, one.1) == (other.0, other.1);
@@ -239,8 +239,8 @@ impl Node {
         keys.iter().map(state).collect()
     }
 
-    fn state(&self, key: &Key, is_alone: bool) -> &'static str {
-        let look = self.store.look(key.0, key.1);
+    fn state(&mut self, key: &Key, is_alone: bool) -> &'static str {
+        let look = self.reader.look(key.0, key.1);
         match (look.certified == Some(key.2), look.stands) {
             _ if key.0 < look.garbage_round => "collected",
             (true, false) => "missing",

@@ -51,10 +51,10 @@ fn block(world: &World, request: &Request) -> Answer {
     let digest: Digest = digest
         .and_then(|text| text.parse().ok())
         .ok_or(BAD_REQUEST)?;
-    let validator = world.validator(store);
+    let mut validator = world.validator(store);
     let found = validator
         .node
-        .as_ref()
+        .as_mut()
         .and_then(|node| json::block(node, &digest));
     found.map(Response::json).ok_or("404 Not Found")
 }

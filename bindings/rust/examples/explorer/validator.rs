@@ -38,7 +38,7 @@ impl Validator {
     pub fn take(&mut self, from: u16, message: &[u8], post: &Post) -> Outcome<()> {
         if let Some((&REQUEST, digest)) = message.split_first() {
             self.serve(from, Digest::try_from(digest)?, post);
-        } else if self.node.as_ref().is_some_and(|node| node.wants(message)) {
+        } else if self.node.as_mut().is_some_and(|node| node.wants(message)) {
             self.handle(message, post)?;
         }
         Ok(())
@@ -110,30 +110,35 @@ impl Validator {
         }
         self.replayed = self.log.messages.len();
         // The second time that a vote is sent does no harm.
-        self.vote(&node.flow().due(ASKED)?, post);
+        let due = node.flow().due(ASKED)?;
+        self.vote(&due, post);
         self.node = Some(node);
         Ok(())
     }
 
     /// Begins a round: asks for missing blocks, votes again for blocks without a certificate, and proposes a block.
     pub fn tick(&mut self, post: &Post) -> Outcome<()> {
-        let Some(node) = &self.node else {
+        let Some(node) = &mut self.node else {
             return Ok(());
         };
         for digest in node.unknown()? {
             self.asked += 1;
             post.send_to_others(self.me, &[&[REQUEST][..], &digest.0].concat());
         }
-        self.vote(&node.flow().due(ASKED)?, post);
-        match node.next_block()? {
+        let (due, next) = (node.flow().due(ASKED)?, node.next_block()?);
+        self.vote(&due, post);
+        match next {
             _ if self.is_silent => {}
             Some((round, parents)) => self.propose(round, &parents, post)?,
-            None => {
-                let own = node.own.iter();
-                own.for_each(|message| post.send_to_others(self.me, message));
-            }
+            None => self.send_again(post),
         }
         Ok(())
+    }
+
+    /// Sends the messages of its last block again.
+    fn send_again(&self, post: &Post) {
+        let own = self.node.iter().flat_map(|node| &node.own);
+        own.for_each(|message| post.send_to_others(self.me, message));
     }
 
     fn propose(&mut self, round: u64, parents: &[(u16, Digest)], post: &Post) -> Outcome<()> {

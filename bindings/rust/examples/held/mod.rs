@@ -67,7 +67,7 @@ pub fn run(committee: &Committee, messages: &[&[u8]]) -> Result<()> {
         most = if is_last { most.max(resident()?) } else { most };
     }
     let time = thread_time() - start;
-    node.time(|node| Ok(node.store.restart()?))?;
+    drop(node.time(|node| Ok(node.session.restart()?))?);
     println!(
         "{:>7} {body:>8} {:>9.0} {:>15.0} {:>8.0} {:>16.2} {:>11.2}",
         committee.size(),
@@ -134,7 +134,7 @@ impl Node {
     }
 
     /// Makes a call and keeps its time, if it is the longest.
-    fn time<R>(&mut self, call: impl FnOnce(&Node) -> Result<R>) -> Result<R> {
+    fn time<R>(&mut self, call: impl FnOnce(&mut Node) -> Result<R>) -> Result<R> {
         let (events, start) = (self.store.events(), thread_time());
         let made = call(self)?;
         let time = thread_time() - start;

@@ -124,17 +124,17 @@ impl Costs {
         (blocks, certificates)
     }
 
-    fn status(&self) -> Status {
+    fn status(&mut self) -> Status {
         *self.session.status().unwrap().reply()
     }
 
     /// The nanoseconds of a look at a slot, in the best of five batches.
-    fn look(&self) -> f64 {
+    fn look(&mut self) -> f64 {
         let slots = || ROUNDS.flat_map(|round| (0..MEMBERS).map(move |author| (round, author)));
         let batch = |_| {
             let start = thread_time();
             for (round, author) in slots() {
-                black_box(self.store.look(round, author));
+                black_box(self.session.look(round, author));
             }
             (thread_time() - start) / slots().count() as f64
         };
@@ -142,10 +142,16 @@ impl Costs {
     }
 
     /// Compares the time of these calls with the things that they look at: these, and those by which the store's counts change.
-    fn compare<A>(&self, what: &str, calls: u64, things: u64, run: impl FnOnce(&Session) -> A) {
+    fn compare<A>(
+        &mut self,
+        what: &str,
+        calls: u64,
+        things: u64,
+        run: impl FnOnce(&mut Session) -> A,
+    ) {
         let before = self.status();
         let start = thread_time();
-        drop(run(&self.session));
+        drop(run(&mut self.session));
         let time = thread_time() - start;
         let things = CALL * calls + things + changed(&before, &self.status());
         let look = self.look();
@@ -156,7 +162,13 @@ impl Costs {
     }
 
     /// Compares 500 calls at a time.
-    fn each<T, A>(&self, what: &str, of: &[T], things: u64, call: impl Fn(&Session, &T) -> A) {
+    fn each<T, A>(
+        &mut self,
+        what: &str,
+        of: &[T],
+        things: u64,
+        call: impl Fn(&mut Session, &T) -> A,
+    ) {
         for some in of.chunks(500) {
             let calls = some.len() as u64;
             self.compare(what, calls, calls * things, |session| {
@@ -166,7 +178,7 @@ impl Costs {
     }
 
     /// Compares a call that changes no count.
-    fn repeat<A>(&self, what: &str, things: u64, call: impl Fn(&Session) -> A) {
+    fn repeat<A>(&mut self, what: &str, things: u64, call: impl Fn(&mut Session) -> A) {
         let before = self.status();
         self.compare(what, REPEATS, REPEATS * things, |session| {
             (0..REPEATS).for_each(|_| drop(call(session)));
@@ -175,7 +187,7 @@ impl Costs {
     }
 
     /// Calls that change nothing, with a stored block and a stored certificate.
-    fn unchanging(&self, block: &CheckedBlock, certificate: &CheckedCertificate) {
+    fn unchanging(&mut self, block: &CheckedBlock, certificate: &CheckedCertificate) {
         let Subject {
             digest,
             round,
@@ -198,7 +210,7 @@ impl Costs {
 
 #[test]
 fn no_call_takes_more_look_ups_than_its_bound() {
-    let costs = Costs::new();
+    let mut costs = Costs::new();
     let (mut blocks, mut certificates) = costs.messages();
     let (honest, members) = (u64::from(HONEST), u64::from(MEMBERS));
     // Of the last honest member: in the first round of the second part, and in that of the third one.
@@ -219,14 +231,14 @@ fn no_call_takes_more_look_ups_than_its_bound() {
     costs.compare("collect", 1, of_round, |one| one.collect(FIRST));
     // In the first rounds of the other parts, all blocks but one are complete.
     assert_eq!(costs.status().complete, COMPLETE + honest - 1);
-    let certify = |one: &Session| one.certify(&late_certificate);
+    let certify = |one: &mut Session| one.certify(&late_certificate);
     costs.compare("certify a withheld certificate", 1, 0, certify);
     assert_eq!(costs.status().complete, 2 * COMPLETE + honest - 1);
-    let write = |one: &Session| one.write(&late_block);
+    let write = |one: &mut Session| one.write(&late_block);
     costs.compare("write a withheld block", 1, NEW_BLOCK, write);
     assert_eq!(costs.status().complete, 3 * COMPLETE);
 
-    let causal = |one: &Session| one.causal(&last.subject().digest);
+    let causal = |one: &mut Session| one.causal(&last.subject().digest);
     costs.compare("the first causal", 1, 3 * COMPLETE, causal);
     costs.unchanging(last, &certificates[0]);
     costs.compare("collect a part", 1, of_round, |one| {
@@ -236,5 +248,5 @@ fn no_call_takes_more_look_ups_than_its_bound() {
     // Each block and certificate is copied and freed, with the entry of its slot. The history is freed too.
     let status = costs.status();
     let things = 4 * (status.blocks + status.certificates) + costs.store.events() as u64;
-    costs.compare("restart", 1, things, |_| costs.store.restart().unwrap());
+    costs.compare("restart", 1, things, |one| one.restart().unwrap());
 }

@@ -3,7 +3,7 @@
 //! Every second round has a leader. A leader is decided if f + 1 certified blocks of the next round refer to it. Before it, the leaders in its
 //! causal list are decided. A later leader always has such a leader in its list, so all validators decide the same leaders.
 
-use narwhal_store::{CheckedBlock, Digest, Session, Store, Ticket};
+use narwhal_store::{CheckedBlock, Digest, Session, Ticket};
 use std::collections::{BTreeMap, BTreeSet, VecDeque};
 
 /// How far the garbage round stays behind the last leader.
@@ -48,9 +48,9 @@ impl Decider {
     }
 
     /// Delivers the next decided leader, and returns the garbage round that follows.
-    pub fn decide(&mut self, session: &Session, store: &Store) -> Option<u64> {
+    pub fn decide(&mut self, session: &mut Session) -> Option<u64> {
         if self.due.is_empty() {
-            self.find(session, store);
+            self.find(session);
         }
         let (round, digest) = self.due.pop_front()?;
         for block in causal(session, &digest)?.walk().expect("memory") {
@@ -67,20 +67,20 @@ impl Decider {
         Some(floor)
     }
 
-    fn leader(&self, round: u64, store: &Store) -> Option<Digest> {
+    fn leader(&self, round: u64, session: &mut Session) -> Option<Digest> {
         let author = (round / 2 % u64::from(self.members)) as u16;
-        let look = store.look(round, author);
+        let look = session.look(round, author);
         look.certified.filter(|_| look.stands)
     }
 
     /// Finds the first leader with enough support, and the leaders before it.
-    fn find(&mut self, session: &Session, store: &Store) {
+    fn find(&mut self, session: &mut Session) {
         let newest = self.parents.last_key_value().map_or(0, |(key, _)| key.0);
         for round in (self.next..newest).step_by(2) {
-            let Some(digest) = self.leader(round, store) else {
+            let Some(digest) = self.leader(round, session) else {
                 continue;
             };
-            if !self.is_supported(round, digest, store) {
+            if !self.is_supported(round, digest, session) {
                 continue;
             }
             let Some(mut ticket) = causal(session, &digest) else {
@@ -88,7 +88,7 @@ impl Decider {
             };
             self.due.push_front((round, digest));
             for earlier in (self.next..round).rev().filter(|round| round % 2 == 0) {
-                let Some(digest) = self.leader(earlier, store) else {
+                let Some(digest) = self.leader(earlier, session) else {
                     continue;
                 };
                 let mut list = ticket.walk().expect("memory");
@@ -102,10 +102,10 @@ impl Decider {
     }
 
     /// Whether f + 1 certified blocks of the next round refer to the leader.
-    fn is_supported(&self, round: u64, leader: Digest, store: &Store) -> bool {
+    fn is_supported(&self, round: u64, leader: Digest, session: &mut Session) -> bool {
         let of_next = (round + 1, 0, [0; 32])..(round + 2, 0, [0; 32]);
         let supports = |(key, parents): &(&Key, &Parents)| {
-            let is_certified = store.look(key.0, key.1).certified == Some(Digest(key.2));
+            let is_certified = session.look(key.0, key.1).certified == Some(Digest(key.2));
             is_certified && parents.iter().any(|(_, digest)| *digest == leader)
         };
         let support = self.parents.range(of_next).filter(supports).count();
@@ -113,6 +113,6 @@ impl Decider {
     }
 }
 
-fn causal(session: &Session, digest: &Digest) -> Option<Ticket> {
+fn causal(session: &mut Session, digest: &Digest) -> Option<Ticket> {
     session.causal(digest).expect("memory").into_ticket().ok()
 }

@@ -31,12 +31,12 @@ impl Drops {
         }
     }
 
-    fn flow(&self) -> Flow<'_> {
-        Flow::over(&self.store, &self.session)
+    fn flow(&mut self) -> Flow<'_> {
+        Flow::over(&self.store, &mut self.session)
     }
 
     /// What the certified blocks lack, and what all others do.
-    fn lacks(&self) -> [Vec<Missing>; 2] {
+    fn lacks(&mut self) -> [Vec<Missing>; 2] {
         let (missing, doubtful) = (self.flow().missing(), self.flow().doubtful(usize::MAX));
         [missing.unwrap(), doubtful.unwrap()]
     }
@@ -99,7 +99,8 @@ fn copies_of_a_certificate_are_dropped_without_a_check() {
     copy[100] ^= 1;
     assert!(!drops.flow().wants(&copy));
     let (_, other) = drops.com.block(8, 0, &[], &[]);
-    assert!(drops.flow().wants(&drops.com.certificate(&other, &signers)));
+    let certificate = drops.com.certificate(&other, &signers);
+    assert!(drops.flow().wants(&certificate));
 }
 
 /// Repeated blocks, twins, and blocks outside of the window.
@@ -112,8 +113,9 @@ fn refused_blocks_are_dropped_without_a_check() {
     assert_eq!(drops.write(&first), [subject]);
     assert!(!drops.flow().wants(&first) && !drops.flow().wants(&twin));
     let window = u64::from(WINDOW);
-    assert!(!drops.flow().wants(&drops.made_up(2, window)));
-    assert!(drops.flow().wants(&drops.made_up(2, window - 1)));
+    let [far, near] = [window, window - 1].map(|round| drops.made_up(2, round));
+    assert!(!drops.flow().wants(&far));
+    assert!(drops.flow().wants(&near));
     // The twin is wanted once it is certified, and until it is stored.
     drops.certify(&of_twin);
     assert!(drops.flow().wants(&twin));

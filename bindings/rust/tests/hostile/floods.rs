@@ -45,7 +45,7 @@ impl Flooded {
         self.com.block(0, round, &parents, transactions).0
     }
 
-    fn write(&self, block: &CheckedBlock) -> WriteReply {
+    fn write(&mut self, block: &CheckedBlock) -> WriteReply {
         let reply = self.session.write(block).unwrap().into_reply();
         assert!(self.store.history_bytes() <= Store::HISTORY_BYTES);
         reply
@@ -63,7 +63,7 @@ fn resident() -> u64 {
 /// Refused bodies: 300 MB of blocks above the window, each a message of its own.
 #[test]
 fn refused_blocks_of_100_kb_stay_within_the_bound() {
-    let flooded = Flooded::new();
+    let mut flooded = Flooded::new();
     let before = resident();
     for round in 0..3_000 {
         let message = flooded.far(1_000 + round, &[vec![7; 50_000], vec![8; 50_000]]);
@@ -79,7 +79,7 @@ fn refused_blocks_of_100_kb_stay_within_the_bound() {
 /// One valid block of 102 bytes, replayed without end. It is stored, or below the garbage round, or above the window.
 #[test]
 fn a_block_replayed_100_000_times_fills_nothing() {
-    let flooded = Flooded::new();
+    let mut flooded = Flooded::new();
     let (message, _) = flooded.com.block(3, 0, &[], &[vec![7; 20]]);
     let block = flooded.block(&message);
     assert_eq!(message.len(), 102);
@@ -101,7 +101,7 @@ fn a_block_replayed_100_000_times_fills_nothing() {
 /// Twins without end: one author signs block after block for one slot. No twin is stored, and none is kept.
 #[test]
 fn twins_of_one_slot_stay_within_the_bound() {
-    let flooded = Flooded::new();
+    let mut flooded = Flooded::new();
     let first = flooded.block(&flooded.com.block(2, 0, &[], &[]).0);
     let voted = first.subject().digest;
     assert_eq!(flooded.write(&first), WriteReply::Stored { vote: true });
@@ -118,7 +118,7 @@ fn twins_of_one_slot_stay_within_the_bound() {
 /// A certificate repeated without end, also with other votes.
 #[test]
 fn a_certificate_replayed_100_000_times_fills_nothing() {
-    let flooded = Flooded::new();
+    let mut flooded = Flooded::new();
     let (_, subject) = flooded.com.block(1, 0, &[], &[]);
     let copies = [[0, 1, 2], [1, 2, 3]].map(|signers| flooded.certificate(&subject, &signers));
     for copy in 0..100_000 {
@@ -132,7 +132,7 @@ fn a_certificate_replayed_100_000_times_fills_nothing() {
 /// Long lists of missing parents: each takes up to 3.1 MB of the history, and the store restarts in time.
 #[test]
 fn long_lists_of_missing_parents_stay_within_the_bound() {
-    let flooded = Flooded::new();
+    let mut flooded = Flooded::new();
     for round in 1..500 {
         flooded.write(&flooded.block(&flooded.far(round, &[])));
     }

@@ -81,8 +81,8 @@ impl<'a> Honest<'a> {
         }
     }
 
-    fn flow(&self) -> Flow<'_> {
-        Flow::over(&self.store, &self.session)
+    fn flow(&mut self) -> Flow<'_> {
+        Flow::over(&self.store, &mut self.session)
     }
 
     /// The bytes that it keeps outside of its store and its disk.
@@ -211,7 +211,7 @@ impl<'a> Honest<'a> {
 
     /// Decides leaders, and collects what they leave behind.
     fn decide(&mut self, post: &mut Post) {
-        while let Some(floor) = self.decider.decide(&self.session, &self.store) {
+        while let Some(floor) = self.decider.decide(&mut self.session) {
             let reply = self.session.collect(floor).expect("memory").into_reply();
             if let CollectReply::Raised { .. } = reply {
                 let due = self.flow().collected(floor).expect("memory");
@@ -232,7 +232,7 @@ impl<'a> Honest<'a> {
 
     fn propose(&mut self, checks: &mut Checks, post: &mut Post) {
         let quorum = self.com.committee.quorum() as usize;
-        let floor = self.store.look(0, 0).garbage_round;
+        let floor = self.session.look(0, 0).garbage_round;
         for round in (self.round..floor + u64::from(LIMITS.window)).rev() {
             let parents = self.parents(round);
             if round > 0 && parents.len() < quorum {
@@ -251,11 +251,11 @@ impl<'a> Honest<'a> {
     }
 
     /// The parents of a block of this round: the certified blocks of the preceding round that are stored.
-    fn parents(&self, round: u64) -> Vec<(u16, Digest)> {
+    fn parents(&mut self, round: u64) -> Vec<(u16, Digest)> {
         let Some(preceding) = round.checked_sub(1) else {
             return Vec::new();
         };
-        let looks = self.store.look_round(preceding).expect("memory");
+        let looks = self.session.look_round(preceding).expect("memory");
         let parent = |(author, look): (u16, Look)| {
             let digest = look.certified.filter(|_| look.stands)?;
             Some((author, digest))
@@ -264,7 +264,7 @@ impl<'a> Honest<'a> {
     }
 
     /// Asks several members for what certified blocks need, and only the author for what its other blocks need.
-    fn ask(&self, post: &mut Post) {
+    fn ask(&mut self, post: &mut Post) {
         for subject in self.flow().absent().expect("memory") {
             post.ask_some(self.me, subject.author, subject);
         }
@@ -284,7 +284,7 @@ impl<'a> Honest<'a> {
     }
 
     /// The store has at most as many blocks as the window has slots.
-    pub fn check_blocks(&self) {
+    pub fn check_blocks(&mut self) {
         let status = self.session.status().expect("memory").into_reply();
         let most = self.spent.len() as u64 * u64::from(LIMITS.window);
         assert!(status.blocks <= most, "{} blocks are stored", status.blocks);

@@ -3,7 +3,7 @@
 //! It is written from that document and shares no code with the store or the crate. The caller decodes messages.
 
 use std::collections::{BTreeMap, BTreeSet};
-use std::rc::Rc;
+use std::sync::Arc;
 
 pub type Digest = [u8; 32];
 
@@ -27,8 +27,8 @@ pub struct Certificate {
 
 #[derive(Clone, Debug)]
 pub enum Call {
-    Write(Rc<Block>),
-    Certify(Rc<Certificate>),
+    Write(Arc<Block>),
+    Certify(Arc<Certificate>),
     Certificate(Digest),
     Read(Digest),
     Causal(Digest),
@@ -62,12 +62,12 @@ pub enum Reply {
     TooFar,
     Misfit,
     Full,
-    Certificate(Option<Rc<Certificate>>),
-    Block(Option<Rc<Block>>),
+    Certificate(Option<Arc<Certificate>>),
+    Block(Option<Arc<Block>>),
     Unknown,
     Uncertified,
     Incomplete,
-    List(Vec<Rc<Block>>),
+    List(Vec<Arc<Block>>),
     /// Stands for the list in an answer that opens a ticket.
     Ready,
     Raised {
@@ -91,8 +91,8 @@ pub struct Counts {
 /// A state with its bounds.
 #[derive(Clone, Debug, PartialEq)]
 pub struct Model {
-    blocks: BTreeMap<Digest, Rc<Block>>,
-    certificates: BTreeMap<Digest, Rc<Certificate>>,
+    blocks: BTreeMap<Digest, Arc<Block>>,
+    certificates: BTreeMap<Digest, Arc<Certificate>>,
     firsts: BTreeMap<Slot, Digest>,
     floor: u64,
     most: usize,
@@ -144,7 +144,7 @@ impl Model {
         }
     }
 
-    fn write(&mut self, block: &Rc<Block>) -> Reply {
+    fn write(&mut self, block: &Arc<Block>) -> Reply {
         let (digest, round) = (block.digest, block.slot.0);
         let certified = self.certificates.get(&digest);
         let first = self.firsts.get(&block.slot).copied();
@@ -173,7 +173,7 @@ impl Model {
         }
     }
 
-    fn certify(&mut self, certificate: &Rc<Certificate>) -> Reply {
+    fn certify(&mut self, certificate: &Arc<Certificate>) -> Reply {
         let (digest, slot) = (certificate.digest, certificate.slot);
         let held = self.blocks.get(&digest);
         if slot.0 < self.floor {

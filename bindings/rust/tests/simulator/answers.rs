@@ -2,16 +2,16 @@
 
 use super::corpus::certificate_of;
 use super::node::RawTagged;
-use crate::model::{Block, Call, Certificate, Counts, Reply, Slot};
+use crate::model::{Block, Call, Certificate, Counts, Look, Reply, Slot};
 use narwhal_store::{
-    Answer, Causal, CausalFault, Checked, Digest, Event, History, Session, StepError, Ticket,
+    Answer, Causal, CausalFault, Checked, Digest, Event, History, Note, Session, StepError, Ticket,
 };
 use narwhal_store::{BlockFault, CertificateFault, CheckError, TextFault};
 use narwhal_store::{Call as ToldCall, Reply as ToldReply};
 use narwhal_store::{CertifyReply, CollectReply, Status, Subject, WriteReply};
-use std::rc::Rc;
+use std::sync::Arc;
 
-/// An answer or a ticket, which carries a history.
+/// An answer, a ticket or a note, which carries a history.
 pub trait Explained {
     fn history(&self) -> &History;
 }
@@ -28,26 +28,45 @@ impl Explained for Ticket {
     }
 }
 
+impl Explained for Note {
+    fn history(&self) -> &History {
+        Note::history(self)
+    }
+}
+
 /// The result of a call.
 pub struct Heard {
     pub reply: Reply,
-    pub explained: Rc<dyn Explained>,
-    pub ticket: Option<Rc<Ticket>>,
+    pub answer: Got,
+}
+
+/// What a call gave. It can be sent to another thread.
+pub enum Got {
+    Ticket(Ticket),
+    Other(Box<dyn Explained + Send>),
 }
 
 impl Heard {
-    fn of<R: 'static>(answer: Answer<R>, reply: impl FnOnce(&R) -> Reply) -> Heard {
+    fn of<R: Send + 'static>(answer: Answer<R>, reply: impl FnOnce(&R) -> Reply) -> Heard {
         Heard {
             reply: reply(answer.reply()),
-            explained: Rc::new(answer),
-            ticket: None,
+            answer: Got::Other(Box::new(answer)),
+        }
+    }
+}
+
+impl Explained for Got {
+    fn history(&self) -> &History {
+        match self {
+            Got::Ticket(ticket) => ticket.history(),
+            Got::Other(explained) => explained.history(),
         }
     }
 }
 
 /// Makes the call. `checked` is the message to write or certify.
 pub fn ask_store(
-    session: &Session,
+    session: &mut Session,
     call: &Call,
     checked: Option<&Checked>,
 ) -> Result<Heard, StepError> {
@@ -61,22 +80,18 @@ pub fn ask_store(
                 Reply::Certificate(
                     found
                         .as_ref()
-                        .map(|message| Rc::new(certificate_of(message))),
+                        .map(|message| Arc::new(certificate_of(message))),
                 )
             })
         }
         (Call::Read(digest), _) => Heard::of(session.read(&Digest(*digest))?, |found| {
-            Reply::Block(found.as_ref().map(|block| Rc::new(block_of(block))))
+            Reply::Block(found.as_ref().map(|block| Arc::new(block_of(block))))
         }),
         (Call::Causal(digest), _) => match session.causal(&Digest(*digest))? {
-            Causal::Ready(ticket) => {
-                let ticket = Rc::new(ticket);
-                Heard {
-                    reply: Reply::Ready,
-                    explained: ticket.clone(),
-                    ticket: Some(ticket),
-                }
-            }
+            Causal::Ready(ticket) => Heard {
+                reply: Reply::Ready,
+                answer: Got::Ticket(ticket),
+            },
             Causal::NotReady(answer) => Heard::of(answer, |fault| match fault {
                 CausalFault::Unknown => Reply::Unknown,
                 CausalFault::Uncertified => Reply::Uncertified,
@@ -156,6 +171,16 @@ pub fn block_of(block: &narwhal_store::Block) -> Block {
             .map(|(author, digest)| (*author, digest.0))
             .collect(),
         body: block.body(),
+    }
+}
+
+/// The model's look.
+pub fn look_of(look: &narwhal_store::Look) -> Look {
+    Look {
+        first: look.first.map(|digest| digest.0),
+        certified: look.certified.map(|digest| digest.0),
+        stands: look.stands,
+        complete: look.complete,
     }
 }
 

@@ -8,7 +8,7 @@ pub use file::committee;
 use file::records;
 use narwhal_store::{Checked, Committee, check_all};
 use std::collections::BTreeMap;
-use std::rc::Rc;
+use std::sync::Arc;
 
 /// A checked message, with the call that hands it to a store.
 pub struct Delivery {
@@ -55,11 +55,14 @@ impl Case {
                 b'B' => {
                     let (digest, message) = record.split_at(32);
                     texts.push(message);
-                    calls.push((kind, Call::Write(Rc::new(block_of(array(digest), message)))));
+                    calls.push((
+                        kind,
+                        Call::Write(Arc::new(block_of(array(digest), message))),
+                    ));
                 }
                 b'C' | b'Q' => {
                     texts.push(record);
-                    calls.push((kind, Call::Certify(Rc::new(certificate_of(record)))));
+                    calls.push((kind, Call::Certify(Arc::new(certificate_of(record)))));
                 }
                 _ => refused.push(refused_of(record)),
             }

@@ -4,6 +4,7 @@ mod answers;
 mod corpus;
 mod draw;
 mod node;
+pub mod threads;
 
 use crate::model::{Call, Digest, Reply};
 use answers::block_of;
@@ -148,7 +149,7 @@ impl<'a> World<'a> {
                 self.ask(node, Call::Collect((1 << 48) - 1));
                 self.ask(node, Call::Status);
             }
-            self.nodes[node].restart();
+            self.nodes[node].restart(&mut self.draw);
         }
     }
 
@@ -227,7 +228,7 @@ impl<'a> World<'a> {
             63..66 => self.look_round(node),
             66..74 => self.fetch_missing(time, node),
             74..84 => self.collect(node),
-            84..87 => self.nodes[node].restart(),
+            84..87 => self.nodes[node].restart(&mut self.draw),
             87..89 => self.nodes[node].compact(),
             89..91 => self.nodes[node].open_session(),
             91..96 => self.take_foreign(node),
@@ -257,7 +258,7 @@ impl<'a> World<'a> {
     fn look_round(&mut self, node: usize) {
         let newest = self.nodes[node].newest;
         let round = (newest + 2).saturating_sub(self.draw.below(6));
-        self.nodes[node].look_round(round);
+        self.nodes[node].look_round(&mut self.draw, round);
     }
 
     /// Lists missing parents, and sends some of them.

@@ -1,14 +1,15 @@
 //! A validator: its store with the model beside it, its log, and the votes that it sent.
 
-use super::answers::{Explained, ask_store, event_of, row_of};
+use super::answers::{Explained, Got, ask_store, event_of, look_of, row_of};
 use super::corpus::{Case, Delivery, committee};
 use super::{Draw, Plan};
-use crate::model::{Block, Call, Digest, Look, Model, Reply, Slot};
+use crate::model::{Block, Call, Digest, Model, Reply, Slot};
 use narwhal_store::{
     Checked, Committee, Event, Limits, OpenError, Session, StepError, Store, Ticket,
 };
 use std::collections::{BTreeMap, VecDeque};
 use std::rc::Rc;
+use std::sync::Arc;
 
 /// A call with the model's reply.
 pub struct RawTagged {
@@ -29,7 +30,7 @@ struct Logged<'a> {
 pub struct Kept {
     pub ticket: Rc<Ticket>,
     pub floor: u64,
-    pub list: Vec<Rc<Block>>,
+    pub list: Vec<Arc<Block>>,
 }
 
 pub struct Node<'a> {
@@ -109,20 +110,17 @@ impl<'a> Node<'a> {
     }
 
     /// Looks at a round, and at each of its slots. The looks must be the model's.
-    pub fn look_round(&self, round: u64) {
-        let looks = self.store.look_round(round).expect("memory");
+    pub fn look_round(&mut self, draw: &mut Draw, round: u64) {
+        let at = draw.index(self.sessions.len());
+        let (session, _) = &mut self.sessions[at];
+        let looks = session.look_round(round).expect("memory");
         let expected = self.model.look_round(round);
         assert_eq!(looks.len(), expected.len(), "the authors of a round");
         for ((author, look), (expected_author, expected)) in looks.iter().zip(&expected) {
-            let found = Look {
-                first: look.first.map(|digest| digest.0),
-                certified: look.certified.map(|digest| digest.0),
-                stands: look.stands,
-                complete: look.complete,
-            };
+            let found = look_of(look);
             assert_eq!((author, &found), (expected_author, expected), "a look");
             assert_eq!(look.garbage_round, self.model.floor(), "a garbage round");
-            assert_eq!(*look, self.store.look(round, *author), "a look at a slot");
+            assert_eq!(*look, session.look(round, *author), "a look at a slot");
         }
         self.plan.seen.count("looks at a round".into());
     }
@@ -222,7 +220,7 @@ impl<'a> Node<'a> {
 
     /// Makes a call in some session, and compares the reply and the history with the model's.
     fn step(&mut self, draw: &mut Draw, call: &Call, checked: Option<&Checked>) -> Reply {
-        self.meet_the_limit(call, checked);
+        self.meet_the_limit(draw, call, checked);
         let at = draw.index(self.sessions.len());
         let (session, calls) = &mut self.sessions[at];
         *calls += 1;
@@ -249,13 +247,13 @@ impl<'a> Node<'a> {
         self.plan
             .seen
             .count(row_of(&event_of(&self.told[self.told.len() - 1])));
-        self.keep_ticket(draw, heard.ticket, &reply);
-        self.compare_history(draw, heard.explained);
+        let explained = self.keep(draw, heard.answer, &reply);
+        self.compare_history(draw, explained);
         reply
     }
 
     /// The store restarts a history that is due before the call. A store that never restarts refuses the call if the history is full.
-    fn meet_the_limit(&mut self, call: &Call, checked: Option<&Checked>) {
+    fn meet_the_limit(&mut self, draw: &mut Draw, call: &Call, checked: Option<&Checked>) {
         let (events, most) = (self.told.len(), self.plan.limits.events);
         if let Some((bytes, restart_events)) = self.plan.restart {
             let is_over = self.bytes + most_bytes_of(call) > bytes;
@@ -265,20 +263,29 @@ impl<'a> Node<'a> {
                 self.begin_history();
             }
         } else if events == most as usize {
-            let refused = ask_store(&self.sessions[0].0, call, checked);
+            let refused = ask_store(&mut self.sessions[0].0, call, checked);
             assert!(
                 matches!(refused, Err(StepError::HistoryFull)),
                 "a call after the last event"
             );
             self.plan.seen.count("history full".into());
-            self.restart();
+            self.restart(draw);
         }
     }
 
-    /// Checks the whole history, and begins another one over the same state.
-    pub fn restart(&mut self) {
+    /// Checks the whole history, and begins another one over the same state. The restart gives the history that ends.
+    pub fn restart(&mut self, draw: &mut Draw) {
         self.replay_history();
-        self.store.restart().expect("memory");
+        let at = draw.index(self.sessions.len());
+        let ended = self.sessions[at].0.restart().expect("memory");
+        let told = self.told.iter().map(event_of);
+        assert!(ended.events().eq(told), "the last history of a run");
+        if let Some(last) = &self.last {
+            assert!(
+                last.history().is_prefix_of(ended.history())
+                    && ended.history().is_prefix_of(last.history())
+            );
+        }
         self.begin_history();
     }
 
@@ -332,9 +339,10 @@ impl<'a> Node<'a> {
     /// Makes a call that is refused: it is no event.
     fn refused(&mut self, draw: &mut Draw, call: &Call, checked: Option<&Checked>) -> StepError {
         if self.plan.restart.is_some() {
-            self.meet_the_limit(call, checked);
+            self.meet_the_limit(draw, call, checked);
         }
-        let (session, _) = &self.sessions[draw.index(self.sessions.len())];
+        let at = draw.index(self.sessions.len());
+        let (session, _) = &mut self.sessions[at];
         let refused = ask_store(session, call, checked).map(|heard| heard.reply);
         assert_eq!(
             self.store.events(),
@@ -344,19 +352,23 @@ impl<'a> Node<'a> {
         refused.expect_err("a call that is refused")
     }
 
-    /// Keeps a ticket to walk it later.
-    fn keep_ticket(&mut self, draw: &mut Draw, ticket: Option<Rc<Ticket>>, reply: &Reply) {
-        if let (Some(ticket), Reply::List(list)) = (ticket, reply) {
+    /// Keeps a ticket to walk it later. Returns what has the history of the answer.
+    fn keep(&mut self, draw: &mut Draw, answer: Got, reply: &Reply) -> Rc<dyn Explained> {
+        let ticket = match answer {
+            Got::Ticket(ticket) => Rc::new(ticket),
+            Got::Other(explained) => return Rc::from(explained as Box<dyn Explained>),
+        };
+        if let Reply::List(list) = reply {
             if self.tickets.len() == 6 {
                 self.tickets.swap_remove(draw.index(6));
             }
-            let (floor, list) = (self.model.floor(), list.clone());
             self.tickets.push(Kept {
-                ticket,
-                floor,
-                list,
+                ticket: ticket.clone(),
+                floor: self.model.floor(),
+                list: list.clone(),
             });
         }
+        ticket
     }
 
     /// The answer's history is the one before with one more event, which is the call.

@@ -1,0 +1,111 @@
+//! The library's sessions.
+
+use crate::code::Code;
+use crate::ffi::{self, Handle};
+use std::thread;
+use std::time::Duration;
+
+/// A session of the library, with the number of its run.
+pub(crate) struct Caller {
+    handle: Handle,
+    run: u64,
+}
+
+impl Caller {
+    pub(crate) fn new(handle: Handle) -> Caller {
+        let mut caller = Caller { handle, run: 0 };
+        caller.note_run();
+        caller
+    }
+
+    /// The number of the run that the session belongs to.
+    #[inline]
+    pub(crate) fn run(&self) -> u64 {
+        self.run
+    }
+
+    /// The number of the session among those of its store.
+    pub(crate) fn id(&mut self) -> u16 {
+        let mut id = 0;
+        ffi::nw_session_id(&mut self.handle, &mut id).or_abort();
+        id
+    }
+
+    /// Makes a call of the session, and again while the library is busy.
+    #[inline]
+    pub(crate) fn call(&mut self, mut call: impl FnMut(&mut Handle) -> Code) -> Code {
+        again(|| call(&mut self.handle))
+    }
+
+    /// Takes the session into the present run.
+    pub(crate) fn renew(&mut self) -> Code {
+        let code = self.call(|session| ffi::nw_session_renew(session));
+        self.note_run();
+        code
+    }
+
+    /// Ends the session's run, and begins the next one. The answer gets the last history of the
+    /// ended run.
+    pub(crate) fn restart(&mut self, answer: &mut Handle) -> Code {
+        let code = self.call(|session| ffi::nw_session_restart(session, answer));
+        self.note_run();
+        code
+    }
+
+    /// Gives the session to the settlement. The handle of the session is then closed.
+    pub(crate) fn give_to(&mut self, settlement: &mut Handle) -> Code {
+        ffi::nw_settlement_give(settlement, &mut self.handle)
+    }
+
+    /// Takes the session back, which was given last.
+    pub(crate) fn take_from(&mut self, settlement: &mut Handle) -> Code {
+        ffi::nw_settlement_take(settlement, &mut self.handle)
+    }
+
+    fn note_run(&mut self) {
+        ffi::nw_session_run(&mut self.handle, &mut self.run).or_abort();
+    }
+}
+
+/// How often a call that finds the library busy yields, before it sleeps.
+const YIELDS: u32 = 100;
+
+/// Makes a call, and again while the library is busy. A call that finds the library busy changes
+/// nothing.
+#[inline]
+pub(crate) fn again(mut call: impl FnMut() -> Code) -> Code {
+    let mut yields = 0;
+    loop {
+        match call() {
+            // A thread with real-time priority yields to no other thread, but it sleeps.
+            Code::BUSY if yields == YIELDS => thread::sleep(Duration::from_micros(50)),
+            Code::BUSY => {
+                yields += 1;
+                thread::yield_now();
+            }
+            code => return code,
+        }
+    }
+}
+
+#[cfg(test)]
+mod tests {
+    use super::{YIELDS, again};
+    use crate::code::Code;
+
+    #[test]
+    fn a_call_is_repeated_while_the_library_is_busy() {
+        for busy in [0, 1, YIELDS, YIELDS + 1, 3 * YIELDS] {
+            let mut calls = 0;
+            let code = again(|| {
+                calls += 1;
+                if calls > busy {
+                    Code::NO_MEMORY
+                } else {
+                    Code::BUSY
+                }
+            });
+            assert_eq!((code, calls), (Code::NO_MEMORY, busy + 1));
+        }
+    }
+}

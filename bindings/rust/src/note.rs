@@ -1,0 +1,50 @@
+//! Notes: histories that sessions pass to each other.
+
+use crate::ffi::Handle;
+use crate::room::Room;
+use crate::{Events, History};
+use std::fmt;
+use std::ops::DerefMut;
+use std::sync::Arc;
+
+/// The history of a store at some moment. [`Session::note`](crate::Session::note) takes it, and
+/// [`Session::hear`](crate::Session::hear) hears it.
+///
+/// A clone shares the note, and costs one atomic increment. The type is `Send` and `Sync`.
+#[derive(Clone)]
+pub struct Note {
+    history: Arc<History>,
+}
+
+impl Note {
+    pub(crate) fn new(handle: Handle) -> Note {
+        Note {
+            history: Arc::new(History::new(Room::own(handle))),
+        }
+    }
+
+    /// Returns the history. It has no events if the run had none yet.
+    #[must_use]
+    pub fn history(&self) -> &History {
+        &self.history
+    }
+
+    /// Returns an iterator over the events of the history, from the first.
+    #[must_use]
+    pub fn events(&self) -> Events<'_> {
+        self.history.events()
+    }
+
+    /// The note in the library, for one call.
+    pub(crate) fn room(&self) -> impl DerefMut<Target = Room> {
+        self.history.room()
+    }
+}
+
+impl fmt::Debug for Note {
+    fn fmt(&self, f: &mut fmt::Formatter<'_>) -> fmt::Result {
+        f.debug_struct("Note")
+            .field("history", &self.history)
+            .finish()
+    }
+}
