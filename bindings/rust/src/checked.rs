@@ -4,7 +4,7 @@ use crate::block::{Source, opened};
 use crate::code::Code;
 use crate::ffi::{self, Handle};
 use crate::raw::RawMessage;
-use crate::{Block, Subject};
+use crate::{Block, Signature, Subject};
 use std::fmt;
 use std::sync::{Arc, Mutex, MutexGuard, PoisonError};
 
@@ -45,6 +45,7 @@ pub enum Checked {
 pub struct CheckedBlock {
     pub(crate) handle: SharedHandle,
     pub(crate) subject: Subject,
+    pub(crate) signature: Signature,
     /// The bytes of its body.
     pub(crate) size: u64,
 }
@@ -61,6 +62,24 @@ impl CheckedBlock {
     pub fn block(&self) -> Block {
         let handle = opened(|out| ffi::nw_checked_block(&mut self.handle.lock(), out));
         Block::at(Source::Own(handle))
+    }
+
+    /// Returns the message that was checked, to be logged or sent to other validators.
+    ///
+    /// ```
+    /// # mod data { include!(concat!(env!("CARGO_MANIFEST_DIR"), "/examples/data/mod.rs")); }
+    /// # use narwhal_store::{Checked, Committee, Message};
+    /// # let committee = Committee::equal(&data::keys())?;
+    /// # let message = data::values("message").remove(0);
+    /// let Checked::Block(block) = Message::check(&committee, &message)? else {
+    ///     panic!("the first message is a block");
+    /// };
+    /// assert_eq!(block.message(), message);
+    /// # Ok::<(), Box<dyn std::error::Error>>(())
+    /// ```
+    #[must_use]
+    pub fn message(&self) -> Vec<u8> {
+        self.block().message(&self.signature)
     }
 }
 
