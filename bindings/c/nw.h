@@ -406,7 +406,7 @@ typedef struct {
 /* Makes a committee of 1 to 100 members. A member's number is its index in the array. Returns
    NW_BAD_COMMITTEE if there are too few or too many members, a weight is out of range, or a key is repeated.
    It prepares the members' keys, with which checks and gatherings take less than half the time. This costs
-   34 KiB of memory for each member and 544 KiB once, and 20 to 40 ms for 100 members. All handles of
+   24 KiB of memory for each member and 384 KiB once, and 20 to 40 ms for 100 members. All handles of
    nw_committee_share have the same prepared keys. */
 NW_USE int32_t nw_committee_new(const nw_member *members, size_t members_len, nw_committee *out);
 

@@ -56,7 +56,7 @@ impl Committee {
     /// Makes a committee of these members, in this order, and prepares their keys.
     ///
     /// With prepared keys, checks of blocks, certificates and votes take less than half the time. They
-    /// cost 34 KiB of memory for each member and 544 KiB once, and 20 to 40 ms for 100 members. Make a
+    /// cost 24 KiB of memory for each member and 384 KiB once, and 20 to 40 ms for 100 members. Make a
     /// committee once, and clone it: all clones and threads share the prepared keys.
     ///
     /// # Errors

@@ -86,8 +86,8 @@ fn prepared(
 /// Makes a committee of 1 to 100 members. A member's number is its index in the array. Returns `NW_BAD_COMMITTEE` if there are too few or
 /// too many members, a weight is out of range, or a key is repeated.
 ///
-/// It prepares the members' keys, with which checks and gatherings take less than half the time. This costs 34 KiB of memory for each member
-/// and 544 KiB once, and 20 to 40 ms for 100 members. All handles of `nw_committee_share` have the same prepared keys.
+/// It prepares the members' keys, with which checks and gatherings take less than half the time. This costs 24 KiB of memory for each member
+/// and 384 KiB once, and 20 to 40 ms for 100 members. All handles of `nw_committee_share` have the same prepared keys.
 #[unsafe(no_mangle)]
 pub extern "C" fn nw_committee_new(
     alloc: Global,

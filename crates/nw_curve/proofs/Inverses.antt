@@ -1,10 +1,11 @@
 -- Inverses modulo the prime: that of a product gives those of its factors.
-use Rattle.std.proofs.Common.{◌≡◌, ℕ, ◌*◌, ◌%◌, refl, sym, ◌∙◌, ap, arith}
+use Rattle.std.proofs.Common.{◌≡◌, ℕ, ◌*◌, ◌%◌, refl, ◌∙◌, ap, arith}
 use Rattle.std.proofs.Math.Nat.{mul_comm}
 use Rattle.nw_curve.specs.Field.{prime as modulus, times, inverse as field_inverse}
 use Rattle.nw_curve.specs.Inverse.{IsInverse, HasInverse}
 use Rattle.nw_curve.specs.declared.curve.point.Point.{Point}
 use Rattle.nw_curve.specs.Coding.{scaled, encoded}
+use Rattle.nw_curve.specs.Completed.{normalized}
 use Rattle.nw_curve.proofs.Constants.{prime}
 use Rattle.nw_curve.proofs.Congruence.{Congruent, equal, itself, turned, chained, products, remainder}
 use Rattle.nw_curve.proofs.Divisibility.{Divides, divides_multiple, zero_from_divides}
@@ -81,3 +82,8 @@ same_coordinate x z i h =
 pub scaled_encodes : (p : Point) (i : ℕ) → IsInverse p.z i → scaled p i ≡ encoded p
 unfolding encoded modulus
 scaled_encodes p i h = rw (same_coordinate p.x p.z i h, same_coordinate p.y p.z i h) refl
+
+-- and X, Y and T give the point with Z 1
+pub scaled_normalizes : (p : Point) (i : ℕ) → IsInverse p.z i → let q : Point = record { x = times p.x i; y = times p.y i; z = 1; t = times p.t i } in q ≡ normalized p
+unfolding normalized modulus
+scaled_normalizes p i h = rw (same_coordinate p.x p.z i h, same_coordinate p.y p.z i h, same_coordinate p.t p.z i h) refl

@@ -24,3 +24,4 @@ pub mod Negatives
 pub mod Decoding
 pub mod Tables
 pub mod Inverses
+pub mod Normalized

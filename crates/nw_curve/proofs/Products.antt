@@ -1,5 +1,5 @@
 -- Products modulo the prime.
-use Rattle.std.proofs.Common.{◌≡◌, ℕ, ◌+◌, ◌*◌, ◌%◌, sym, ◌∙◌, ap, arith, nat_eq, true, rules}
+use Rattle.std.proofs.Common.{◌≡◌, ℕ, ◌+◌, ◌*◌, ◌%◌, sym, ◌∙◌, ap, arith}
 use Rattle.std.proofs.Math.Nat.{mod-mod}
 use Rattle.std.proofs.lemmas.Nat.{mul-mod_first, mul-mod_second}
 use Rattle.nw_curve.specs.Field.{prime, times}
@@ -14,7 +14,6 @@ pub twice_times : (a b : ℕ) → times (twice a) b ≡ times a (twice b)
 twice_times a b = mul-mod_first (a + a) b prime ∙ (ap (λ (n : ℕ). n % prime) (omega arith) ∙ sym (mul-mod_second a (b + b) prime))
 
 -- a factor 1 can be left out
-pub twice_one : (a b : ℕ) → nat_eq b 1 ≡ true → times (twice a) b ≡ twice a
-twice_one a b h =
-    let one : b ≡ 1 = search rules in
+pub twice_one : (a b : ℕ) → b ≡ 1 → times (twice a) b ≡ twice a
+twice_one a b one =
     rw one (ap (λ (n : ℕ). n % prime) (omega arith) ∙ mod-mod (a + a) prime)

@@ -10,7 +10,7 @@ mod laws;
 mod point;
 mod table;
 
-pub use completed::{Addend, CompletedPoint};
+pub use completed::{Addend, AffineAddend, CompletedPoint};
 pub use laws::{constants_of_the_curve, multiples_add};
 pub use point::Point;
 pub use table::Table;

@@ -7,5 +7,7 @@
 mod curve;
 mod field;
 
-pub use curve::{Addend, CompletedPoint, Point, Table, constants_of_the_curve, multiples_add};
+pub use curve::{
+    Addend, AffineAddend, CompletedPoint, Point, Table, constants_of_the_curve, multiples_add,
+};
 pub use field::{Number, Whole};

@@ -3,12 +3,15 @@ use Rattle.std.proofs.Common.{◌≡◌, ℕ, zero, suc, ◌+◌, ◌*◌, ◌/�
 use Rattle.std.proofs.Math.Nat.{div-div-eq-div-mul, pow-suc, mod-one, mod-eq_of_lt, div-add-mod}
 use Rattle.std.proofs.lemmas.Nat.{pow-add, mod-pow-add}
 use Rattle.nw_curve.specs.Curve.{identity, doubled}
+use Rattle.nw_curve.specs.Completed.{normalized}
 use Rattle.nw_curve.specs.declared.curve.point.Point.{Point}
 use Rattle.nw_curve.proofs.AffineGroup.{Affine, IsOnCurve, times, times_valid, neutral_sum}
 use Rattle.nw_curve.proofs.Extended.{Represents, added_represents, identity_represents}
+use Rattle.nw_curve.proofs.Inverses.{not_divided-has_inverse}
 use Rattle.nw_curve.proofs.Negatives.{times_product}
+use Rattle.nw_curve.proofs.Normalized.{normalized_represents}
 use Rattle.nw_curve.proofs.Tables.{combination, combination_of_zeros, entry_doubles, first_added, second_added, combination_doubled}
-use Rattle.nw_ed25519.specs.Comb.{repeated, doubled_times, row_point, chunk, digit, with_rows}
+use Rattle.nw_ed25519.specs.Comb.{repeated, doubled_times, row_point, chunk, digit, with_rows, AreAllProper}
 
 repeated_represents : (n : ℕ) (p : Point) (a : Affine) → IsOnCurve a → Represents p a → Represents (repeated n p) (times n a)
 unfolding repeated times
@@ -34,11 +37,20 @@ row_represents (suc n) p a u r =
     let e : 2 ^ 16 * m ≡ 2 ^ (16 * suc n) = sym (pow-add 2 16 (16 * n)) ∙ ap (λ (k : ℕ). 2 ^ k) index in
     subst (λ (k : ℕ). Represents (doubled_times 16 (row_point n p)) (times k a)) e (doubled_represents 16 m (row_point n p) a u (row_represents n p a u r))
 
+-- a multiple of a row's point
+multiple_represents : (r d : ℕ) (p : Point) (a : Affine) → IsOnCurve a → Represents p a → Represents (repeated d (row_point r p)) (times d (times (2 ^ (16 * r)) a))
+multiple_represents r d p a u h = let m = 2 ^ (16 * r) in repeated_represents d (row_point r p) (times m a) (times_valid m a u) (row_represents r p a u h)
+
+-- so the Z of each has an inverse
+pub all_proper : (p : Point) (a : Affine) → IsOnCurve a → Represents p a → AreAllProper p
+all_proper p a u h = λ r n. not_divided-has_inverse (repeated n (row_point r p)).z (multiple_represents r n p a u h).z_not_zero
+
 -- the entry of a row
-entry_represents : (r d : ℕ) (p : Point) (a : Affine) → IsOnCurve a → Represents p a → Represents (repeated d (row_point r p)) (times (d * 2 ^ (16 * r)) a)
+entry_represents : (r d : ℕ) (p : Point) (a : Affine) → IsOnCurve a → Represents p a → Represents (normalized (repeated d (row_point r p))) (times (d * 2 ^ (16 * r)) a)
 entry_represents r d p a u h =
     let m = 2 ^ (16 * r) in
-    subst (Represents (repeated d (row_point r p))) (sym (times_product d m a u)) (repeated_represents d (row_point r p) (times m a) (times_valid m a u) (row_represents r p a u h))
+    let q = repeated d (row_point r p) in
+    normalized_represents q (times (d * m) a) (subst (Represents q) (sym (times_product d m a u)) (multiple_represents r d p a u h))
 
 -- the first rows by their digits of so many bits
 unfoldable pub rows_value : ℕ → ℕ → ℕ → ℕ → ℕ
@@ -62,7 +74,7 @@ first_rows bits (suc r) shift n s k start p a b u v rp rs =
     let i = d * 2 ^ (16 * r) in
     let ih = first_rows bits r shift n s k start p a b u v rp rs in
     let e : s + rows_value bits r shift n + i ≡ s + (rows_value bits r shift n + i) = omega arith in
-    rw (← e) (first_added (s + rows_value bits r shift n) k i (with_rows bits r shift n start p) (repeated d (row_point r p)) a b u v ih (entry_represents r d p a u rp))
+    rw (← e) (first_added (s + rows_value bits r shift n) k i (with_rows bits r shift n start p) (normalized (repeated d (row_point r p))) a b u v ih (entry_represents r d p a u rp))
 
 -- an entry of each row of the second point's comb is added
 pub second_rows : (bits r shift n s k : ℕ) (start p : Point) (a b : Affine) → IsOnCurve a → IsOnCurve b → Represents p b → Represents start (combination s k a b)
@@ -76,7 +88,7 @@ second_rows bits (suc r) shift n s k start p a b u v rp rs =
     let i = d * 2 ^ (16 * r) in
     let ih = second_rows bits r shift n s k start p a b u v rp rs in
     let e : k + rows_value bits r shift n + i ≡ k + (rows_value bits r shift n + i) = omega arith in
-    rw (← e) (second_added s (k + rows_value bits r shift n) i (with_rows bits r shift n start p) (repeated d (row_point r p)) a b u v ih (entry_represents r d p b v rp))
+    rw (← e) (second_added s (k + rows_value bits r shift n) i (with_rows bits r shift n start p) (normalized (repeated d (row_point r p))) a b u v ih (entry_represents r d p b v rp))
 
 -- one more digit of each row
 next_digit : (c bits shift : ℕ) → c / 2 ^ shift ≡ 2 ^ bits * (c / 2 ^ (shift + bits)) + c / 2 ^ shift % 2 ^ bits

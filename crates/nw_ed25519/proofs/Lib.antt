@@ -4,3 +4,4 @@ mod DigitSums
 mod Expected
 mod Remainders
 mod Verdicts
+mod KeyCombs

@@ -40,7 +40,7 @@ no_comb None comb e h = refl
 no_comb (Some p) comb e h = let k = rw h at e in cc
 
 -- a comb of a prepared key is that of the key's point
-pub comb_of_point : (o : Option Point) (comb : Option Comb) (c : Comb) → entries_of comb ≡ key_rows o → comb ≡ Some c → (p : Point) × ((o ≡ Some p) × (c.entries.items ≡ rows 16 16 (negated p)))
+pub comb_of_point : (o : Option Point) (comb : Option Comb) (c : Comb) → entries_of comb ≡ key_rows o → comb ≡ Some c → (p : Point) × ((o ≡ Some p) × (c.entries.items ≡ rows 1 16 (negated p)))
 comb_of_point None comb c e h = let k = rw h at e in absurd (cc)
 comb_of_point (Some p) comb c e h = let k = rw h at e in (p, (refl, (cc)))
 

@@ -17,12 +17,12 @@ use nw_committee::Key;
 use nw_curve::{Point, Whole};
 use std::alloc::{AllocError, Global};
 
-/// The base point, prepared for verifications: 544 KiB, which many keys share.
+/// The base point, prepared for verifications: 384 KiB, which many keys share.
 #[derive(Debug, Drop)]
 pub struct PreparedBase {
     comb: Comb,
     ghost bits: { comb.bits ≡ 8 },
-    ghost rows: { comb.entries.items ≡ rows 256 16 base },
+    ghost rows: { comb.entries.items ≡ rows 16 16 base },
 }
 
 impl PreparedBase {
@@ -33,7 +33,7 @@ impl PreparedBase {
     }
 }
 
-/// A key, prepared for verifications: 34 KiB, or none if the key is no point.
+/// A key, prepared for verifications: 24 KiB, or none if the key is no point.
 #[derive(Debug, Drop)]
 pub struct PreparedKey {
     key: Key,

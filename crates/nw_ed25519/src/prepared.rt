@@ -1,5 +1,5 @@
 //! The point that a verification compares with R, by combs.
-ghost use Rattle.std.specs.Prelude.{◌≡◌, ℕ, ◌<◌, ◌^◌, List, Some};
+ghost use Rattle.std.specs.Prelude.{◌≡◌, ℕ, ◌/◌, ◌<◌, ◌^◌, List, Some};
 ghost use Rattle.nw_curve.specs.Coding.{decoded, encoded};
 ghost use Rattle.nw_curve.specs.Inverse.{HasInverse};
 ghost use Rattle.nw_curve.specs.Curve.{base, doubled, negated};
@@ -16,7 +16,7 @@ pub fn expected_by_combs(bases: &Comb, keys: &Comb, s: &Whole, k: &Whole) -> Poi
     requires s { s.now < 2 ^ 253 }
     requires k { k.now < 2 ^ 253 }
     ensures { (bytes : List ℕ) (p : Point) → decoded bytes ≡ Some p → bases.now.bits ≡ 8 → keys.now.bits ≡ 4
-        → bases.now.entries.items ≡ rows 256 16 base → keys.now.entries.items ≡ rows 16 16 (negated p)
+        → bases.now.entries.items ≡ rows 16 16 base → keys.now.entries.items ≡ rows 1 16 (negated p)
         → HasInverse result.z × (encoded result ≡ expected s.now k.now p) }
 {
     let highest = with_rows(CompletedPoint::identity(), keys, k, 12);
@@ -35,7 +35,7 @@ fn doubled_with_rows(
     shift: u32,
 ) -> CompletedPoint
     requires { shift < 16 }
-    ensures { (p : Point) → comb.now.entries.items ≡ rows (2 ^ comb.now.bits) 16 p
+    ensures { (p : Point) → comb.now.entries.items ≡ rows (2 ^ comb.now.bits / 16) 16 p
         → point_of result ≡ with_rows comb.now.bits 16 shift number.now
         (doubled (doubled (doubled (doubled (point_of start))))) p }
 {
@@ -52,13 +52,13 @@ fn four_times_doubled(point: CompletedPoint) -> CompletedPoint
 /// The point, and an entry of each row of the comb: by the digits of the number from bit `shift` of each row's 16 bits on.
 fn with_rows(start: CompletedPoint, comb: &Comb, number: &Whole, shift: u32) -> CompletedPoint
     requires { shift < 16 }
-    ensures { (p : Point) → comb.now.entries.items ≡ rows (2 ^ comb.now.bits) 16 p
+    ensures { (p : Point) → comb.now.entries.items ≡ rows (2 ^ comb.now.bits / 16) 16 p
         → point_of result ≡ with_rows comb.now.bits 16 shift number.now (point_of start) p }
 {
     let mut partial = start;
     for row in 0..ROWS {
         let entry = comb.entry(row, digit(number, row, shift, comb.bits()));
-        partial = CompletedPoint::of_sum(&partial.point(), entry);
+        partial = CompletedPoint::of_affine_sum(&partial.point(), entry);
     }
     partial
 }

@@ -20,7 +20,7 @@ use std::alloc::Global;
 use std::marker::Model;
 
 /// A committee whose keys are prepared for Ed25519: its members' signatures are verified in less than half the time. Contracts see the list
-/// of the members. It takes 34 KiB a member, and 544 KiB once. It never changes, so threads can share it.
+/// of the members. It takes 24 KiB a member, and 384 KiB once. It never changes, so threads can share it.
 #[derive(Debug, Drop)]
 pub struct PreparedCommittee {
     committee: Shared<Committee>,

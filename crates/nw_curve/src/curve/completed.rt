@@ -1,8 +1,7 @@
 //! Points before the last four products of a sum or a doubling.
 ghost use Rattle.std.specs.Prelude.{◌≡◌, ℕ};
-ghost use Rattle.nw_curve.specs.Field.{times};
-ghost use Rattle.nw_curve.specs.Curve.{identity, added, doubled, twice};
-ghost use Rattle.nw_curve.specs.Completed.{prepared, point_of};
+ghost use Rattle.nw_curve.specs.Curve.{identity, added, doubled};
+ghost use Rattle.nw_curve.specs.Completed.{affine_prepared, prepared, point_of};
 ghost use Rattle.nw_curve.specs.declared.curve.point.Point.{Point};
 
 use super::Point;
@@ -88,7 +87,26 @@ impl CompletedPoint {
         let a = point.y.minus(&point.x).times(&addend.difference);
         let b = point.y.plus(&point.x).times(&addend.sum);
         let c = point.t.times(&addend.twice_d_t);
-        let d = addend.twice_z_times(&point.z);
+        let d = point.z.times(&addend.twice_z);
+        CompletedPoint {
+            e: b.minus(&a),
+            f: d.minus(&c),
+            g: d.plus(&c),
+            h: b.plus(&a),
+        }
+    }
+
+    /// The sum of a point and a prepared point whose Z is 1. It needs one multiplication less.
+    #[inline(always)]
+    #[tactic(auto, unfolding(crate::specs::Curve::added, crate::specs::Completed::affine_prepared), using(crate::proofs::Products::times_times, crate::proofs::Products::twice_one))]
+    pub fn of_affine_sum(point: &Point, addend: &AffineAddend) -> CompletedPoint
+        ensures { (p : Point) → addend.now ≡ affine_prepared p → p.z ≡ 1
+            → point_of result ≡ added point.now p }
+    {
+        let a = point.y.minus(&point.x).times(&addend.difference);
+        let b = point.y.plus(&point.x).times(&addend.sum);
+        let c = point.t.times(&addend.twice_d_t);
+        let d = point.z.plus(&point.z);
         CompletedPoint {
             e: b.minus(&a),
             f: d.minus(&c),
@@ -98,14 +116,13 @@ impl CompletedPoint {
     }
 }
 
-/// A point prepared for many sums: Y - X, Y + X, 2 Z, 2 d T, and whether Z is 1.
+/// A point prepared for many sums: Y - X, Y + X, 2 Z and 2 d T.
 #[derive(Debug, Drop)]
 pub struct Addend {
     pub difference: Number,
     pub sum: Number,
     pub twice_z: Number,
     pub twice_d_t: Number,
-    pub has_unit_z: bool,
 }
 
 impl Addend {
@@ -119,20 +136,28 @@ impl Addend {
             sum: point.y.plus(&point.x),
             twice_z: point.z.plus(&point.z),
             twice_d_t: twice_d().times(&point.t),
-            has_unit_z: point.z.equals(&Number::one()),
         }
     }
+}
 
-    /// Twice the product of the two points' Z, from the other point's Z. If this point's Z is 1, it needs no multiplication.
-    #[inline(always)]
-    #[tactic(auto, unfolding(crate::specs::Completed::prepared), using(crate::proofs::Products::twice_one, crate::proofs::Products::twice_times))]
-    fn twice_z_times(&self, z: &Number) -> Number
-        ensures { (p : Point) → self.now ≡ prepared p → result ≡ times (twice z.now) p.z }
+/// A point with Z 1 prepared for many sums: Y - X, Y + X and 2 d T.
+#[derive(Debug, Drop)]
+pub struct AffineAddend {
+    pub difference: Number,
+    pub sum: Number,
+    pub twice_d_t: Number,
+}
+
+impl AffineAddend {
+    /// Prepares the point, whose Z must be 1.
+    #[tactic(auto, unfolding(crate::specs::Completed::affine_prepared))]
+    pub fn of(point: &Point) -> AffineAddend
+        ensures { result ≡ affine_prepared point.now }
     {
-        if self.has_unit_z {
-            z.plus(z)
-        } else {
-            z.times(&self.twice_z)
+        AffineAddend {
+            difference: point.y.minus(&point.x),
+            sum: point.y.plus(&point.x),
+            twice_d_t: twice_d().times(&point.t),
         }
     }
 }

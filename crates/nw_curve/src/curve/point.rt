@@ -1,6 +1,7 @@
 //! Points in extended coordinates.
 ghost use Rattle.std.specs.Prelude.{◌≡◌};
-ghost use Rattle.nw_curve.specs.Completed.{prepared};
+ghost use Rattle.nw_curve.specs.Completed.{prepared, normalized};
+ghost use Rattle.nw_curve.specs.Inverse.{IsInverse};
 ghost use Rattle.nw_curve.specs.declared.curve.point.Point.{Point};
 ghost use Rattle.nw_curve.specs.Curve.{base, identity, added, doubled, negated};
 
@@ -62,6 +63,19 @@ impl Point {
         ensures { result ≡ doubled self.now }
     {
         CompletedPoint::of_twice(&self.x, &self.y, &self.z).point()
+    }
+
+    /// The same point with Z 1, by an inverse of its Z. So a caller can compute the inverses of many Z at once.
+    #[tactic(auto, using(crate::proofs::Inverses::scaled_normalizes))]
+    pub fn normalized_by(&self, inverse: &Number) -> Point
+        ensures { IsInverse self.now.z inverse.now → result ≡ normalized self.now }
+    {
+        Point {
+            x: self.x.times(inverse),
+            y: self.y.times(inverse),
+            z: Number::one(),
+            t: self.t.times(inverse),
+        }
     }
 
     /// The negative of the point: the same y, and -x.

@@ -1,4 +1,4 @@
-use Rattle.std.proofs.Common.{◌≡◌, ◌*◌, ◌^◌, subst, arith}
+use Rattle.std.proofs.Common.{◌≡◌, ◌*◌, ◌/◌, ◌^◌, subst, arith}
 use Rattle.nw_ed25519.specs.Comb.{rows}
 use Rattle.nw_curve.specs.Curve.{base, negated}
 use Rattle.nw_curve.specs.Completed.{point_of}
@@ -19,8 +19,8 @@ returns c bytes p h bb bk hb hk =
     let k = c.args.k.now in
     let valid = negative_valid key on.0 in
     let keyed = negated_represents p key on.0 on.1 in
-    let keys : c.args.keys.now.entries.items ≡ rows (2 ^ c.args.keys.now.bits) 16 q = rw bk hk in
-    let bases : c.args.bases.now.entries.items ≡ rows (2 ^ c.args.bases.now.bits) 16 base = rw bb hb in
+    let keys : c.args.keys.now.entries.items ≡ rows (2 ^ c.args.keys.now.bits / 16) 16 q = rw bk hk in
+    let bases : c.args.bases.now.entries.items ≡ rows (2 ^ c.args.bases.now.bits / 16) 16 base = rw bb hb in
     let highest = first_digits k (point_of c.identity.result) (point_of c.with_rows-highest.result) q affine_base n base_valid valid keyed c.identity.ensures (rw bk at (c.with_rows-highest.ensures q keys)) in
     let upper = next_digits 8 0 k (point_of c.with_rows-highest.result) (point_of c.doubled_with_rows-upper.result) q affine_base n base_valid valid keyed highest (rw bk at (c.doubled_with_rows-upper.ensures q keys)) in
     let half = next_base_digits 8 (16 * 0) (above 16 8 k) s (point_of c.doubled_with_rows-upper.result) (point_of c.with_rows-half.result) base affine_base n base_valid valid base_represents upper (none_above s) (rw bb at (c.with_rows-half.ensures base bases)) in
