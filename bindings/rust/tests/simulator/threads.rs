@@ -1,7 +1,7 @@
 //! Threads that call one store at the same time, each through sessions of its own.
 //!
 //! A seed determines what each thread does, but not how the threads interleave. The answers are compared with the model afterwards: the
-//! longest history of a run has the order in which the store took the calls.
+//! last history of a run has the order in which the store took the calls.
 
 use super::answers::{Explained, Got, ask_store, block_of, event_of, look_of};
 use super::corpus::{Case, Delivery};
