@@ -4,7 +4,9 @@ use crate::checked::SharedHandle;
 use crate::code::Code;
 use crate::ffi::{self, Handle};
 use crate::raw::{RawMessage, message};
-use crate::{CheckError, Checked, CheckedBlock, CheckedCertificate, CheckedVote, Committee, Signature};
+use crate::{
+    CheckError, Checked, CheckedBlock, CheckedCertificate, CheckedVote, Committee, Signature,
+};
 
 /// The messages that validators send one another: signed blocks, certificates and votes.
 ///

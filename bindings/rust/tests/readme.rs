@@ -6,6 +6,7 @@ mod data;
 use narwhal_store::{Causal, Checked, Committee, Gather, Limits, Message};
 use narwhal_store::{Store, Subject, Transactions, WriteReply, text_of_vote};
 use std::error::Error;
+use std::thread;
 
 /// The last subject that gets a certificate, and the messages: blocks, certificates and votes.
 fn network(keys: &[narwhal_store::PublicKey]) -> (Subject, Vec<Vec<u8>>) {
@@ -81,4 +82,28 @@ fn subject_of_votes(keys: &[narwhal_store::PublicKey]) -> Subject {
         Ok(Checked::Vote(vote)) => vote.subject(),
         other => panic!("{other:?}"),
     }
+}
+
+#[test]
+fn the_threads_of_the_readme_settle() -> Result<(), Box<dyn Error>> {
+    let store = Store::new(&Committee::equal(&data::keys())?, Limits::default())?;
+    let rounds = 0..3;
+
+    let sessions = [store.session()?, store.session()?];
+    let threads = sessions.map(|mut session| {
+        let rounds = rounds.clone();
+        thread::spawn(move || {
+            let answers: Vec<_> = rounds.map(|round| session.collect(round)).collect();
+            (session, answers)
+        })
+    });
+    let joined = threads.map(|thread| thread.join().unwrap());
+    let (sessions, answers): (Vec<_>, Vec<_>) = joined.into_iter().unzip();
+
+    let settled = Store::settle(sessions)?;
+    for answer in answers.into_iter().flatten() {
+        assert!(answer?.history().is_prefix_of(settled.history()));
+    }
+    assert_eq!(settled.history().events().count(), 6);
+    Ok(())
 }
