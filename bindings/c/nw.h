@@ -25,7 +25,7 @@
 
    Threads call one store (nw_store) at the same time, each through a handle and a session of its own. They need no lock: the store's own
    is proved. A call that comes while another thread has the lock returns NW_BUSY and changes nothing: call again. Checks and walks take
-   no lock.
+   no lock. A thread that is killed in the middle of a call may leave the store busy for good.
 
    A store has runs, and each run has one history. The first is run 0. nw_session_restart ends the run and begins the next: blocks,
    certificates and votes stay, and the history is empty. A session belongs to a run. Once its run has ended, its calls return NW_ENDED
