@@ -16,8 +16,8 @@
 //!    [`check_all`]. A check waits for no call of a store.
 //! 4. Pass checked messages to the thread's session: [`Session::write`] and [`Session::certify`].
 //! 5. When a write answers `Stored { vote: true }`, the block is the first of its round and author.
-//!    Vote for it once all its parents are stored and certified ([`Look::satisfies`]): log, sync,
-//!    and send the vote.
+//!    Vote for it once all its parents are stored and certified ([`Session::missing_of`]): log,
+//!    sync, and send the vote.
 //! 6. Make your own blocks with [`Block::new`], sign [`Block::text_to_sign`], and pass
 //!    [`Block::message`] to [`Message::check`] before you write and send it. Make a vote with
 //!    [`vote_message`], and pass the checked votes to [`Gather::add`], which verifies them.

@@ -70,10 +70,9 @@ impl Session {
 
     /// Writes a block. What a validator does next depends on the reply:
     ///
-    /// - `Stored { vote: true }`: log the block. Vote for it once all its parents are satisfied: they
-    ///   are stored and certified, with the named authors and the preceding round
-    ///   ([`Look::satisfies`](crate::Look::satisfies)). Until then, keep its subject, and
-    ///   [look](Session::look) again when a parent is stored or certified, and when the garbage
+    /// - `Stored { vote: true }`: log the block. Vote for it once it misses no parent
+    ///   ([`missing_of`](Session::missing_of)): all are stored and certified, with the named authors
+    ///   and the preceding round. Ask again when a parent is stored or certified, and when the garbage
     ///   round is raised. A block of the garbage round needs no parents. A validator that votes for
     ///   blocks with made-up parents never completes a leader again.
     /// - `Stored { vote: false }`: log the block. Send no vote: the block is certified, and another

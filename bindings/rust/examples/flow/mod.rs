@@ -82,7 +82,7 @@ impl<'a> Flow<'a> {
     }
 
     /// The subjects whose vote is due, also those whose vote was sent, among each author's `most`
-    /// oldest blocks without a certificate. Send these votes after a restart, and again from time
+    /// oldest blocks without a certificate. Send these votes after a crash, and again from time
     /// to time, because a network may lose them. An author who leaves many blocks without a
     /// certificate makes no more questions than this.
     pub fn due(&mut self, most: usize) -> Result<Vec<Subject>, StepError> {
