@@ -7,8 +7,19 @@
 use crate::caller::Caller;
 use crate::code::Code;
 use crate::ffi::Handle;
-use std::sync::{Condvar, Mutex, MutexGuard, PoisonError};
+use std::hint;
+use std::sync::{Condvar, Mutex, MutexGuard, PoisonError, TryLockError};
+use std::thread;
 use std::time::Duration;
+
+/// How often a thread tries to take its turn before it sleeps. After each try it waits twice as long
+/// as before, which takes some 20 microseconds in all. A call takes less than one.
+const TRIES: u32 = 9;
+/// How long a thread sleeps before it tries again. To wake it would take longer than a call does, so
+/// the thread whose turn it is does not have to.
+const PAUSE: Duration = Duration::from_micros(50);
+/// How often it sleeps so. Then it sleeps until it is woken.
+const PAUSES: u32 = 20;
 
 /// The counts of a store, and the lock at which threads wait for their turns.
 pub(crate) struct Turns {
@@ -51,8 +62,26 @@ impl Turns {
 
     /// The counts, between two turns.
     pub(crate) fn counts(&self) -> MutexGuard<'_, Counts> {
+        for _ in 0..PAUSES {
+            if let Some(counts) = self.free_counts() {
+                return counts;
+            }
+            thread::sleep(PAUSE);
+        }
         // No call leaves the counts half changed, so a panic of another thread does no harm.
         self.counts.lock().unwrap_or_else(PoisonError::into_inner)
+    }
+
+    /// The counts, if this thread finds them free in one of its tries.
+    fn free_counts(&self) -> Option<MutexGuard<'_, Counts>> {
+        (0..TRIES).find_map(|power| match self.counts.try_lock() {
+            Ok(counts) => Some(counts),
+            Err(TryLockError::Poisoned(counts)) => Some(counts.into_inner()),
+            Err(TryLockError::WouldBlock) => {
+                (0..1 << power).for_each(|_| hint::spin_loop());
+                None
+            }
+        })
     }
 
     /// Waits for the turn of this thread.
@@ -173,7 +202,27 @@ impl Turn<'_> {
 
 #[cfg(test)]
 mod tests {
-    use super::Counts;
+    use super::{Counts, PAUSE, PAUSES, Turns};
+    use std::sync::Barrier;
+    use std::thread;
+
+    #[test]
+    fn a_thread_waits_for_a_long_turn() {
+        let (turns, begun) = (Turns::new(true), Barrier::new(2));
+        thread::scope(|scope| {
+            let mut turn = turns.take();
+            let next = scope.spawn(|| {
+                begun.wait();
+                turns.take().counts(|counts| counts.changes)
+            });
+            begun.wait();
+            // By now the other thread sleeps until it is woken, or has not come so far.
+            thread::sleep(3 * PAUSES * PAUSE);
+            turn.counts(|counts| counts.changes = 7);
+            drop(turn);
+            assert_eq!(next.join().unwrap(), 7);
+        });
+    }
 
     #[test]
     fn only_events_of_the_present_run_are_counted() {
