@@ -601,8 +601,8 @@ NW_USE int32_t nw_session_run(nw_session *session, uint64_t *out);
    runs. */
 NW_USE int32_t nw_session_restart(nw_session *session, nw_answer *answer);
 
-/* Takes the session into the present run, with its number and no calls. If it is of the present run, nothing
-   changes. This is not a call. Returns NW_BUSY if another thread has the lock. */
+/* Takes the session into the present run, with its number and no calls. If it is of the present run, it only
+   looks at the history. This is not a call. Returns NW_BUSY if another thread has the lock. */
 NW_USE int32_t nw_session_renew(nw_session *session);
 
 /* Replaces the content of answer with a note: the history of the session's run as it is now. This is not a

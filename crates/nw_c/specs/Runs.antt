@@ -15,7 +15,7 @@ abbrev pub IsRunEnded : Meaning → Content → Content → Content → Type 0
 IsRunEnded accepts (kind.Session old) (kind.Session new) (kind.History last) = IsRestarted accepts old new last
 IsRunEnded accepts old new answer = ⊥
 
--- the session is of the present run: nothing changed, or it has come to a later run, in which it made no call
+-- the session is of the present run: it saw the history of its run, or it has come to a later run, in which it made no call
 abbrev pub IsOfPresentRun : Meaning → Content → Content → Type 0
 IsOfPresentRun accepts (kind.Session old) (kind.Session new) = IsRenewed accepts old new
 IsOfPresentRun accepts old new = ⊥

@@ -371,22 +371,37 @@ module _ (accepts : Meaning) (at : TableId) (run id : ℕ) (seat : TableId) (m0 
       renewed = record {
         lock = refl;
         run = subst (λ n. m0.0.run ≤ n) (sym run_is) lock.2.run;
-        same = λ is. absurd (other_run (sym is ∙ run_is));
+        seen = λ is. absurd (other_run (sym is ∙ run_is));
         legal = λ _. record { starts = refl; legal = subst (IsLegalStory accepts) (sym first_is) seen_is.1.legal };
         committee = ap (λ (h : Story). h.committee) first_is ∙ sym lock.2.committee;
         limits = ap (λ (h : Story). h.limits) first_is ∙ sym lock.2.limits;
         journal = λ _. ap (λ (m : Me Current Known). m.0.journal) is_new ∙ ap (λ (h : Story). new_journal m0.0.journal.id (h ∷ [])) (sym first_is);
       }
 
-  -- nothing changed
-  module _ (m3 : Me Current Known) (free : m3 ≡ (freed m2.0, [])) where
-    pub not_renewed : IsRenewed accepts (view_at at m0) (view_at at m3)
-    not_renewed = subst (λ (m : Me Current Known). IsRenewed accepts (view_at at m0) (view_at at m)) (sym (as_before at run id seat m0 m1 session lock m2 m3 same free)) (record {
+  -- the session is of the present run
+  module _ (is : present_run ≡ run) (m3 : Me Current Known) (ended : (g : Current) → m2.0.holds ≡ Some g → m3 ≡ (looked g.history m2.0, [])) where
+    abbrev here : HasLock m0.0 m1 (λ now. KnowsRun now m0.0)
+    here = (lock.0, lock.1, record { same = session.run_is ∙ (sym is ∙ seen_is.0); knows = lock.2 })
+
+    pub session_stayed : (other : TableId) → other ≡ seat → IsSessionAt at run id other m3
+    session_stayed = session_knowing accepts at run id seat m0 m1 session here m2 m3 same ended
+
+    view_is : m3 ≡ (with_journal m0.0 (knowing m0.0.journal lock.0.history), [])
+    view_is = looked_is accepts at run id seat m0 m1 session here m2 m3 same ended
+
+    run_stays : m3.0.run ≡ m0.0.run
+    run_stays = ap (λ (m : Me Current Known). m.0.run) view_is
+
+    pub stayed : IsRenewed accepts (view_at at m0) (view_at at m3)
+    stayed = record {
       lock = refl;
-      run = omega arith;
-      same = λ _. refl;
-      committee = refl;
-      limits = refl;
-      legal = λ apart. absurd (apart refl);
-      journal = λ apart. absurd (apart refl);
-    })
+      run = subst (λ n. m0.0.run ≤ n) (sym run_stays) (omega arith);
+      seen = λ _. (
+        same_looked accepts at run id seat m0 m1 session here m2 m3 same ended,
+        seen accepts at run id seat m0 m1 session here m2 m3 same ended (λ h. ⊤) (found.0, found.1, (found.2.1, tt)),
+      );
+      committee = ap (λ (m : Me Current Known). m.0.first.committee) view_is;
+      limits = ap (λ (m : Me Current Known). m.0.first.limits) view_is;
+      legal = λ apart. absurd (apart run_stays);
+      journal = λ apart. absurd (apart run_stays);
+    }

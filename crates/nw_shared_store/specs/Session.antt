@@ -1,5 +1,5 @@
 -- Shared stores and their sessions, as contracts see them.
-use Rattle.std.specs.Prelude.{◌≡◌, ℕ, ◌+◌, ◌<◌, ◌≤◌, List, [], ◌∷◌, Option, All}
+use Rattle.std.specs.Prelude.{◌≡◌, ℕ, ◌+◌, ◌<◌, ◌≤◌, ⊤, List, [], ◌∷◌, Option, All}
 use Rattle.std.specs.List.{Contains}
 use Rattle.atomic_table.specs.Seated.{TableId}
 use Rattle.atomic_table.specs.Table.{Me}
@@ -129,11 +129,11 @@ pub record IsRestarted (accepts : Meaning) (old new : SessionView) (last : Story
   -- the session made no call in this run
   pub journal : new.journal ≡ new_journal old.journal.id (reopened last ∷ [])
 
--- the session is of the present run: nothing changed, or it has come to a later run, in which it made no call
+-- the session is of the present run: it saw the history of its run, or it has come to a later run, in which it made no call
 pub record IsRenewed (accepts : Meaning) (old new : SessionView) : Type 0 where
   pub lock : new.lock ≡ old.lock
   pub run : old.run ≤ new.run
-  pub same : new.run ≡ old.run → new ≡ old
+  pub seen : new.run ≡ old.run → IsSameSession old new × HasSeen accepts old new (λ h. ⊤)
   -- the store's committee and limits are the same in each run
   pub committee : new.first.committee ≡ old.first.committee
   pub limits : new.first.limits ≡ old.first.limits

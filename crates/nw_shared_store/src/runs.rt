@@ -2,7 +2,7 @@
 ghost use Rattle.std.specs.Prelude.{◌≡◌, IfOk, IfErr, OnOk, OnErr};
 ghost use Rattle.nw_shared_store.specs.Session.{IsPassing, IsRenewed, IsRestarted, IsUnseen};
 
-use crate::lock::{give_back, join, take_in, try_take};
+use crate::lock::{end_look, give_back, join, take_in, try_take};
 use crate::work::{restart_at, run_at};
 use crate::{Refusal, SharedSession};
 use nw_book::{Front, NoStep};
@@ -39,8 +39,8 @@ impl<S: Scheme> SharedSession<S> {
         Ok(last)
     }
 
-    /// Comes to the present run of the store, with the session's id and no calls. If the session is of the present run, nothing changes. This
-    /// is not a call.
+    /// Comes to the present run of the store, with the session's id and no calls. If the session is of the present run, it only looks at the
+    /// history. This is not a call.
     ///
     /// `Busy`: another thread has the lock.
     pub fn renew(&mut self) -> Result<(), Refusal>
@@ -53,7 +53,7 @@ impl<S: Scheme> SharedSession<S> {
         }
         let present = run_at(&self.lock, &mut self.pass);
         if present == self.run {
-            give_back(&self.lock, &mut self.pass);
+            end_look(&self.lock, &mut self.pass);
             return Ok(());
         }
         join(&self.lock, &mut self.pass);

@@ -75,7 +75,8 @@ pub extern "C" fn nw_session_restart(
     }
 }
 
-/// Takes the session into the present run, with its number and no calls. If it is of the present run, nothing changes. This is not a call.
+/// Takes the session into the present run, with its number and no calls. If it is of the present run, it only looks at the history. This is
+/// not a call.
 /// Returns `NW_BUSY` if another thread has the lock.
 #[unsafe(no_mangle)]
 pub extern "C" fn nw_session_renew(session: &mut SessionHandle) -> i32

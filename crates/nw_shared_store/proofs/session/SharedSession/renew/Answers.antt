@@ -1,22 +1,22 @@
 use Rattle.std.proofs.Common.{◌∙◌, refl, subst}
 use Rattle.nw_shared_store.specs.Session.{IsRenewed, SessionView}
-use Rattle.nw_shared_store.proofs.Answered.{has_value, may_free, may_renew, not_renewed, renewed, session_freed, session_renewed, view_at}
+use Rattle.nw_shared_store.proofs.Answered.{has_value, may_free, may_renew, renewed, session_renewed, session_stayed, stayed, view_at}
 use Rattle.nw_shared_store.proofs.session.SharedSession.renew.Goals as goal
 
 pub run_at-present-requires-clause-held : goal.run_at-present-requires-clause-held
 run_at-present-requires-clause-held g c = has_value _ _ (c.if-not-try_take.ensures.got refl)
 
-pub give_back-requires-clause-same : goal.give_back-requires-clause-same
-give_back-requires-clause-same g c = may_free _ _ _ (c.if-not-try_take.ensures.got refl) c.run_at-present.ensures.same
+pub end_look-requires-clause-same : goal.end_look-requires-clause-same
+end_look-requires-clause-same g c = may_free _ _ _ (c.if-not-try_take.ensures.got refl) c.run_at-present.ensures.same
 
 pub invariant_of-self-then-present-self : goal.invariant_of-self-then-present-self
 invariant_of-self-then-present-self g c =
-    session_freed _ _ _ _ _ _ c.self.invariant (c.if-not-try_take.ensures.got refl) _ _ _ (c.give_back.ensures.at ∙ (c.run_at-present.ensures.at ∙ c.try_take.ensures.at)) c.run_at-present.ensures.same c.give_back.ensures.freed
+    session_stayed g.S.Scheme.accepts _ _ _ _ _ _ c.self.invariant (c.if-not-try_take.ensures.got refl) _ c.run_at-present.ensures.same _ c.run_at-present.ensures.run c.if-present-self.true _ c.end_look.ensures.looked _ (c.end_look.ensures.at ∙ (c.run_at-present.ensures.at ∙ c.try_take.ensures.at))
 
 pub returns-then-present-self-clause-renewed : goal.returns-then-present-self-clause-renewed
 returns-then-present-self-clause-renewed g c =
-    subst (λ (v : SessionView). IsRenewed g.S.Scheme.accepts v (view_at c.self.inside.lock.value.shared.table_id c.give_back.new.pass.me)) c.self.view_is
-    (not_renewed g.S.Scheme.accepts _ _ _ _ _ _ c.self.invariant (c.if-not-try_take.ensures.got refl) _ c.run_at-present.ensures.same _ c.run_at-present.ensures.run _ c.give_back.ensures.freed)
+    subst (λ (v : SessionView). IsRenewed g.S.Scheme.accepts v (view_at c.self.inside.lock.value.shared.table_id c.end_look.new.pass.me)) c.self.view_is
+    (stayed g.S.Scheme.accepts _ _ _ _ _ _ c.self.invariant (c.if-not-try_take.ensures.got refl) _ c.run_at-present.ensures.same _ c.run_at-present.ensures.run c.if-present-self.true _ c.end_look.ensures.looked)
 
 pub join-requires-clause-joins : goal.join-requires-clause-joins
 join-requires-clause-joins g c =
