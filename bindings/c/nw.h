@@ -5,16 +5,17 @@
    function of its kind, as nw_block_free. It does nothing for NULL or a closed handle.
 
    If several codes apply, a function returns the first of NW_CLOSED, NW_OPEN and NW_OTHER_KIND, and otherwise the first that its comment
-   names. A call of a session returns the first of NW_BUSY, NW_ENDED, NW_OTHER_COMMITTEE, NW_HISTORY_FULL and NW_NO_MEMORY. But
-   nw_session_hand_in looks at its text before all else, and nw_session_collect at its round. nw_settle looks at one session after another.
+   names. A call of a session returns the first of NW_BUSY, NW_ENDED, NW_OTHER_COMMITTEE, NW_HISTORY_FULL and NW_NO_MEMORY. nw_settle
+   looks at one session after another.
 
    The numbers of codes, kinds of texts, replies and calls do not overlap.
 
    The caller owes what the library cannot check:
 
    - Every pointer is valid, and only an array of length 0 may be NULL. No two parameters of one call are the same handle or overlap.
-   - There is one call at a time on one handle. A handle passes to another thread by a lock, by starting or joining a thread, or by a
-     sequentially consistent atomic operation.
+   - There is one call at a time on one handle, even if the parameter is const: a function leaves such a handle as it was, but may use it
+     alone during the call. A handle passes to another thread by a lock, by starting or joining a thread, or by a sequentially consistent
+     atomic operation.
    - No call comes from a signal handler, or from the child of a fork of a process with more than one thread.
    - The allocation functions are as in nw_alloc.h.
 
@@ -411,17 +412,17 @@ typedef struct {
 NW_USE int32_t nw_committee_new(const nw_member *members, size_t members_len, nw_committee *out);
 
 /* Opens a second handle of the committee, which another thread can use. Both handles share the members. */
-NW_USE int32_t nw_committee_share(nw_committee *committee, nw_committee *out);
+NW_USE int32_t nw_committee_share(const nw_committee *committee, nw_committee *out);
 
 /* Writes the number of members. */
-NW_USE int32_t nw_committee_size(nw_committee *committee, size_t *out);
+NW_USE int32_t nw_committee_size(const nw_committee *committee, size_t *out);
 
 /* Writes the key and the weight of the member with this number. Returns NW_ABSENT if there is no such
    member. */
-NW_USE int32_t nw_committee_member(nw_committee *committee, uint16_t number, nw_member *out);
+NW_USE int32_t nw_committee_member(const nw_committee *committee, uint16_t number, nw_member *out);
 
 /* Writes the quorum: the least weight that is more than two thirds of the total weight. */
-NW_USE int32_t nw_committee_quorum(nw_committee *committee, uint32_t *out);
+NW_USE int32_t nw_committee_quorum(const nw_committee *committee, uint32_t *out);
 
 /* Writes the SHA-256 digest of the bytes. */
 void nw_digest_of(const uint8_t *bytes, size_t bytes_len, nw_digest *out);
@@ -446,30 +447,30 @@ NW_USE int32_t nw_vote_message(const nw_subject *subject, uint16_t signer, const
 NW_USE int32_t nw_block_new(uint16_t author, uint64_t round, const nw_parent *parents, size_t parents_len, const uint8_t *transactions, size_t transactions_len, const uint32_t *lengths, size_t lengths_len, nw_block *out);
 
 /* Writes the digest, round and author of the block. It hashes nothing: every block handle keeps its digest. */
-NW_USE int32_t nw_block_subject(nw_block *block, nw_subject *out);
+NW_USE int32_t nw_block_subject(const nw_block *block, nw_subject *out);
 
 /* Writes how many parents and how many transactions the block has. */
-NW_USE int32_t nw_block_counts(nw_block *block, size_t *parents, size_t *transactions);
+NW_USE int32_t nw_block_counts(const nw_block *block, size_t *parents, size_t *transactions);
 
 /* Writes the parent at the index, counted from 0. Parents ascend by author. Returns NW_ABSENT if the block
    has no such parent. */
-NW_USE int32_t nw_block_parent(nw_block *block, size_t index, nw_parent *out);
+NW_USE int32_t nw_block_parent(const nw_block *block, size_t index, nw_parent *out);
 
 /* Writes the encoded body of the block to the buffer. The block's digest is SHA-256 of these bytes. Writes
    their size to needed. Returns NW_SMALL if the buffer is smaller, and NW_OVER_LIMIT if the block breaks a
    limit of the format. */
-NW_USE int32_t nw_block_body(nw_block *block, uint8_t *buffer, size_t buffer_len, size_t *needed);
+NW_USE int32_t nw_block_body(const nw_block *block, uint8_t *buffer, size_t buffer_len, size_t *needed);
 
 /* Writes the message of the block with this signature, which can be sent to other members. Writes its size
    to needed. Returns NW_SMALL if the buffer is smaller, and NW_OVER_LIMIT if the block breaks a limit of the
    format. It does not check the signature. */
-NW_USE int32_t nw_block_message(nw_block *block, const nw_signature *signature, uint8_t *buffer, size_t buffer_len, size_t *needed);
+NW_USE int32_t nw_block_message(const nw_block *block, const nw_signature *signature, uint8_t *buffer, size_t buffer_len, size_t *needed);
 
 /* Copies all transactions of the block to the buffer, one after another, and their sizes to lengths, in the
    form that nw_block_new takes. Writes the size of all together to needed. Returns NW_SMALL if the buffer is
    smaller than that, or if lengths has fewer places than the block has transactions (nw_block_counts).
    Returns NW_OVER_LIMIT if the block breaks a limit of the format; no checked block does. */
-NW_USE int32_t nw_block_transactions(nw_block *block, uint8_t *buffer, size_t buffer_len, uint32_t *lengths, size_t lengths_len, size_t *needed);
+NW_USE int32_t nw_block_transactions(const nw_block *block, uint8_t *buffer, size_t buffer_len, uint32_t *lengths, size_t lengths_len, size_t *needed);
 
 /* Writes what the front of the text says: the kind of message, its round and author, the digest of a
    certificate or vote, and the signer of a vote. A block's digest is not in its text, and is written as 0.
@@ -481,71 +482,71 @@ NW_USE int32_t nw_peek(const uint8_t *text, size_t text_len, nw_message *out);
 
 /* Decodes the text and checks its message under the committee. It also returns NW_DONE for a text that is
    not a message, and for a block or certificate that breaks a rule. nw_checked_kind says what the text is. */
-NW_USE int32_t nw_check(nw_committee *committee, const uint8_t *text, size_t text_len, nw_checked *out);
+NW_USE int32_t nw_check(const nw_committee *committee, const uint8_t *text, size_t text_len, nw_checked *out);
 
 /* Writes what the checked text is: a block, a certificate, a vote, or the first rule that it breaks. */
-NW_USE int32_t nw_checked_kind(nw_checked *checked, nw_message *out);
+NW_USE int32_t nw_checked_kind(const nw_checked *checked, nw_message *out);
 
 /* Opens a handle of the checked block. Returns NW_OTHER_KIND if the text is not a valid block. */
-NW_USE int32_t nw_checked_block(nw_checked *checked, nw_block *out);
+NW_USE int32_t nw_checked_block(const nw_checked *checked, nw_block *out);
 
-/* Writes the message of the checked certificate or vote, which can be sent to other members. Writes its size
-   to needed. Returns NW_SMALL if the buffer is smaller, and NW_OTHER_KIND if the text is neither a valid
-   certificate nor a vote. */
-NW_USE int32_t nw_checked_message(nw_checked *checked, uint8_t *buffer, size_t buffer_len, size_t *needed);
+/* Writes the message of the checked block, certificate or vote, which can be sent to other members. Writes
+   its size to needed. Returns NW_SMALL if the buffer is smaller, and NW_OTHER_KIND if the text is neither a
+   valid block, nor a valid certificate, nor a vote. */
+NW_USE int32_t nw_checked_message(const nw_checked *checked, uint8_t *buffer, size_t buffer_len, size_t *needed);
 
 /* Writes the number of the signer at the index, counted from 0, of the checked certificate. Signers ascend.
    Returns NW_ABSENT if the certificate has no such signer, and NW_OTHER_KIND if the text is not a valid
    certificate. */
-NW_USE int32_t nw_checked_signer(nw_checked *checked, size_t index, uint16_t *out);
+NW_USE int32_t nw_checked_signer(const nw_checked *checked, size_t index, uint16_t *out);
 
 /* Starts to gather votes for the block of this subject. Returns NW_BAD_ROUND if the round is not below 2^48,
    and NW_NO_MEMBER if the author is not a member. */
-NW_USE int32_t nw_gather_new(nw_committee *committee, const nw_subject *subject, nw_gather *out);
+NW_USE int32_t nw_gather_new(const nw_committee *committee, const nw_subject *subject, nw_gather *out);
 
 /* Checks the signature of the vote and counts the vote. Writes to quorum whether the counted votes reach the
    quorum. Refuses a vote with NW_OTHER_BLOCK, NW_REPEATED, NW_NO_MEMBER or NW_BAD_SIGNATURE, the first that
    applies, and then changes nothing. Returns NW_OTHER_KIND if the checked text is not a vote. */
-NW_USE int32_t nw_gather_add(nw_gather *gather, nw_checked *vote, bool *quorum);
+NW_USE int32_t nw_gather_add(nw_gather *gather, const nw_checked *vote, bool *quorum);
 
 /* Makes the certificate of the counted votes and opens a handle of it, as a checked text. Returns
    NW_FEW_VOTES if the votes do not reach the quorum. More votes can be added afterwards. */
-NW_USE int32_t nw_gather_certificate(nw_gather *gather, nw_checked *out);
+NW_USE int32_t nw_gather_certificate(const nw_gather *gather, nw_checked *out);
 
 /* Makes a store under the committee and the limits. Its first run, run 0, has an empty history. Threads may
    call it at the same time without a lock of their own: each through a handle of its own, see
    nw_store_share, and sessions of its own. Returns NW_BAD_LIMITS if a limit is out of range. */
-NW_USE int32_t nw_store_new(nw_committee *committee, const nw_limits *limits, nw_store *out);
+NW_USE int32_t nw_store_new(const nw_committee *committee, const nw_limits *limits, nw_store *out);
 
 /* Opens one more handle of the store, for another thread. The store lives until its last handle and its last
    session are freed. */
-NW_USE int32_t nw_store_share(nw_store *store, nw_store *out);
+NW_USE int32_t nw_store_share(const nw_store *store, nw_store *out);
 
 /* Makes a session of the present run, which has made no call. A store numbers its sessions from 0, in all
    runs together. Returns NW_BUSY if another thread has the lock, and NW_TOO_MANY_SESSIONS at the limit on
    sessions. */
-NW_USE int32_t nw_store_session(nw_store *store, nw_session *out);
+NW_USE int32_t nw_store_session(const nw_store *store, nw_session *out);
 
 /* Writes the limits that the store was made with. Returns NW_BUSY if another thread has the lock. */
-NW_USE int32_t nw_store_limits(nw_store *store, nw_limits *out);
+NW_USE int32_t nw_store_limits(const nw_store *store, nw_limits *out);
 
 /* Opens a handle of the store's committee. It prepares the keys again, which costs what it costs in
    nw_committee_new. Returns NW_BUSY if another thread has the lock. */
-NW_USE int32_t nw_store_committee(nw_store *store, nw_committee *out);
+NW_USE int32_t nw_store_committee(const nw_store *store, nw_committee *out);
 
 /* Rebuilds the list of complete blocks that tickets share, without collected blocks. Later tickets share the
    new list, and earlier tickets keep theirs. It changes nothing that a call can observe. Returns NW_BUSY if
    another thread has the lock. */
-NW_USE int32_t nw_store_compact(nw_store *store);
+NW_USE int32_t nw_store_compact(const nw_store *store);
 
 /* Writes the session's number. A store numbers its sessions from 0, in the order in which it makes them. */
-NW_USE int32_t nw_session_id(nw_session *session, uint16_t *out);
+NW_USE int32_t nw_session_id(const nw_session *session, uint16_t *out);
 
 /* Writes the checked block, or certifies the digest of the checked certificate, as the session's next call.
    Returns NW_BUSY if another thread has the lock: call again. Returns NW_ENDED if the run of the session has
    ended: renew the session. The handle of the checked text stays open, and the text may be handed to other
    stores. Returns NW_OTHER_KIND if the text is neither a valid block nor a valid certificate. */
-NW_USE int32_t nw_session_hand_in(nw_session *session, nw_checked *checked, nw_answer *answer);
+NW_USE int32_t nw_session_hand_in(nw_session *session, const nw_checked *checked, nw_answer *answer);
 
 /* Asks for the certificate of the digest, as the session's next call. */
 NW_USE int32_t nw_session_certificate(nw_session *session, const nw_digest *digest, nw_answer *answer);
@@ -589,7 +590,7 @@ NW_USE int32_t nw_session_look(nw_session *session, uint64_t round, uint16_t aut
 NW_USE int32_t nw_session_look_round(nw_session *session, uint64_t round, nw_author_look *looks, size_t looks_len, size_t *needed);
 
 /* Writes the number of the session's run. A store begins with run 0. */
-NW_USE int32_t nw_session_run(nw_session *session, uint64_t *out);
+NW_USE int32_t nw_session_run(const nw_session *session, uint64_t *out);
 
 /* Ends the run and begins the next, to which the session then belongs. The store keeps its blocks,
    certificates, votes and garbage round, so no round and author gets a second vote. The history of the next
@@ -615,7 +616,7 @@ NW_USE int32_t nw_session_note(nw_session *session, nw_answer *answer);
    NW_BUSY if another thread has the lock, NW_ENDED if the run of the session has ended, and NW_OTHER_HISTORY
    if the note is no prefix of the run's history, for instance because it is of another store or run. The
    time grows with the number of events of the note. */
-NW_USE int32_t nw_session_hear(nw_session *session, nw_answer *note);
+NW_USE int32_t nw_session_hear(nw_session *session, const nw_answer *note);
 
 /* Makes a settlement, to which no session is given. */
 NW_USE int32_t nw_settlement_new(nw_settlement *out);
@@ -643,55 +644,55 @@ NW_USE int32_t nw_answer_new(nw_answer *out);
 
 /* Opens a handle of the block that a read found. Returns NW_ABSENT if the read found none, and NW_OTHER_KIND
    if the answer is not to a read. */
-NW_USE int32_t nw_answer_block(nw_answer *answer, nw_block *out);
+NW_USE int32_t nw_answer_block(const nw_answer *answer, nw_block *out);
 
 /* Writes the message of the certificate that a call for a certificate found. Writes its size to needed.
    Returns NW_SMALL if the buffer is smaller, NW_ABSENT if the call found no certificate, and NW_OTHER_KIND
    if the answer is to another call. */
-NW_USE int32_t nw_answer_message(nw_answer *answer, uint8_t *buffer, size_t buffer_len, size_t *needed);
+NW_USE int32_t nw_answer_message(const nw_answer *answer, uint8_t *buffer, size_t buffer_len, size_t *needed);
 
 /* Writes one of the parents that a call for missing parents listed, of all blocks or of one. index counts
    from 0. Returns NW_ABSENT if the list has no parent at that index, and NW_OTHER_KIND if the answer is to
    another call or lists nothing because the block is not stored. */
-NW_USE int32_t nw_answer_missing(nw_answer *answer, size_t index, nw_subject *out);
+NW_USE int32_t nw_answer_missing(const nw_answer *answer, size_t index, nw_subject *out);
 
 /* Writes the counts of a call for the status. Returns NW_OTHER_KIND if the answer is to another call. */
-NW_USE int32_t nw_answer_status(nw_answer *answer, nw_status *out);
+NW_USE int32_t nw_answer_status(const nw_answer *answer, nw_status *out);
 
 /* Writes the reply of the answer. The reply of a ticket is NW_READY. */
-NW_USE int32_t nw_answer_reply(nw_answer *answer, nw_tagged *out);
+NW_USE int32_t nw_answer_reply(const nw_answer *answer, nw_tagged *out);
 
 /* Writes the number of events in the history, or in the history of the answer or ticket. The last event of
    an answer or ticket is its own call. */
-NW_USE int32_t nw_answer_events(nw_answer *answer, size_t *out);
+NW_USE int32_t nw_answer_events(const nw_answer *answer, size_t *out);
 
 /* Writes the event at the index, counted from 0, of the history, or of the history of the answer or ticket.
    Returns NW_ABSENT if there is no such event. */
-NW_USE int32_t nw_answer_event(nw_answer *answer, size_t index, nw_event *out);
+NW_USE int32_t nw_answer_event(const nw_answer *answer, size_t index, nw_event *out);
 
 /* Writes whether the history of answer is a prefix of the history of other. It is if both have the same
    committee, limits and base, and the first events of other are the events of answer. The time grows with
    the number of these events. Both handles may be answers, tickets or histories. */
-NW_USE int32_t nw_answer_is_prefix(nw_answer *answer, nw_answer *other, bool *out);
+NW_USE int32_t nw_answer_is_prefix(const nw_answer *answer, const nw_answer *other, bool *out);
 
 /* Writes the digest that the ticket is for, and the garbage round at the call that gave the ticket. */
-NW_USE int32_t nw_ticket_scope(nw_answer *ticket, nw_digest *digest, uint64_t *floor);
+NW_USE int32_t nw_ticket_scope(const nw_answer *ticket, nw_digest *digest, uint64_t *floor);
 
 /* Compares the lists of both tickets, and writes whether they are equal. The tickets may come from two
    stores. If the lists differ, two different blocks have the same digest. Returns NW_NOT_COMPARABLE if the
    tickets have different digests or garbage rounds. */
-NW_USE int32_t nw_ticket_agree(nw_answer *ticket, nw_answer *other, bool *out);
+NW_USE int32_t nw_ticket_agree(const nw_answer *ticket, const nw_answer *other, bool *out);
 
 /* Walks the ticket and opens the list of its block and all ancestors from the garbage round on. The list is
    as of the call that gave the ticket, and ascends by round and author. A ticket can be walked any number of
    times, at any time, without a lock. */
-NW_USE int32_t nw_ticket_walk(nw_answer *ticket, nw_list *out);
+NW_USE int32_t nw_ticket_walk(const nw_answer *ticket, nw_list *out);
 
 /* Writes how many blocks the list has. */
-NW_USE int32_t nw_list_len(nw_list *list, size_t *out);
+NW_USE int32_t nw_list_len(const nw_list *list, size_t *out);
 
 /* Opens a handle of the block at the index, counted from 0. Returns NW_ABSENT if the list has no such block. */
-NW_USE int32_t nw_list_block(nw_list *list, size_t index, nw_block *out);
+NW_USE int32_t nw_list_block(const nw_list *list, size_t index, nw_block *out);
 
 /* Closes the handle and frees everything that no other handle shares. A closed handle stays closed. */
 void nw_free(void *handle);

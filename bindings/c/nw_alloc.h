@@ -4,8 +4,8 @@
 
    - They allocate n bytes, aligned to `align`, which divides 16. n may be 0.
    - is_there says whether there is room. The returned pointer is never NULL, even if there is none.
-   - rattle_realloc keeps the first `kept` bytes of the old block, of which the library uses no more. If it fails, the old block stays.
-   - rattle_dealloc frees what one of the others returned.
+   - nw_mem_realloc keeps the first `kept` bytes of the old block, of which the library uses no more. If it fails, the old block stays.
+   - nw_mem_dealloc frees what one of the others returned.
    - Any thread may call them. */
 #ifndef NW_ALLOC_H
 #define NW_ALLOC_H
@@ -22,9 +22,9 @@ typedef struct {
 	void *at;
 } nw_room;
 
-nw_room rattle_alloc(size_t n, size_t align);
-nw_room rattle_realloc(void *at, size_t kept, size_t n, size_t align);
-void rattle_dealloc(void *at);
+nw_room nw_mem_alloc(size_t n, size_t align);
+nw_room nw_mem_realloc(void *at, size_t kept, size_t n, size_t align);
+void nw_mem_dealloc(void *at);
 
 #ifdef __cplusplus
 }

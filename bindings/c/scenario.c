@@ -45,18 +45,18 @@ static int fails(void)
 	return allocations == refused;
 }
 
-nw_room rattle_alloc(size_t n, size_t align)
+nw_room nw_mem_alloc(size_t n, size_t align)
 {
 	return room_at(fails() ? NULL : malloc(n ? n : align));
 }
 
-nw_room rattle_realloc(void *at, size_t kept, size_t n, size_t align)
+nw_room nw_mem_realloc(void *at, size_t kept, size_t n, size_t align)
 {
 	(void)kept;
 	return room_at(fails() ? NULL : realloc(at, n ? n : align));
 }
 
-void rattle_dealloc(void *at)
+void nw_mem_dealloc(void *at)
 {
 	free(at);
 }

@@ -4,7 +4,7 @@ use crate::block::{Source, opened};
 use crate::code::Code;
 use crate::ffi::{self, Handle};
 use crate::raw::RawMessage;
-use crate::{Block, Signature, Subject};
+use crate::{Block, Subject};
 use std::fmt;
 use std::sync::{Arc, Mutex, MutexGuard, PoisonError};
 
@@ -45,7 +45,6 @@ pub enum Checked {
 pub struct CheckedBlock {
     pub(crate) handle: SharedHandle,
     pub(crate) subject: Subject,
-    pub(crate) signature: Signature,
     /// The bytes of its body.
     pub(crate) size: u64,
 }
@@ -79,7 +78,7 @@ impl CheckedBlock {
     /// ```
     #[must_use]
     pub fn message(&self) -> Vec<u8> {
-        self.block().message(&self.signature)
+        message_of(&self.handle)
     }
 }
 

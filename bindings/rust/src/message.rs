@@ -4,9 +4,7 @@ use crate::checked::SharedHandle;
 use crate::code::Code;
 use crate::ffi::{self, Handle};
 use crate::raw::{RawMessage, message};
-use crate::{
-    CheckError, Checked, CheckedBlock, CheckedCertificate, CheckedVote, Committee, Signature,
-};
+use crate::{CheckError, Checked, CheckedBlock, CheckedCertificate, CheckedVote, Committee};
 
 /// The messages that validators send one another: signed blocks, certificates and votes.
 ///
@@ -69,11 +67,6 @@ impl Message {
 /// The bytes of a block's message around its body: the tag and the signature.
 const AROUND_A_BODY: u64 = 65;
 
-/// The author's signature, with which a block's message ends.
-fn signature_of(message: &[u8]) -> Signature {
-    Signature(*message.last_chunk().expect("a checked block"))
-}
-
 /// Checks a message under the committee of the handle.
 pub(crate) fn check_with(committee: &mut Handle, message: &[u8]) -> Result<Checked, CheckError> {
     let mut handle = ffi::check(committee, message).map_err(Code::no_memory)?;
@@ -84,7 +77,6 @@ pub(crate) fn check_with(committee: &mut Handle, message: &[u8]) -> Result<Check
         message::BLOCK => Ok(Checked::Block(CheckedBlock {
             handle,
             subject,
-            signature: signature_of(message),
             size: length - AROUND_A_BODY,
         })),
         message::CERTIFICATE => Ok(Checked::Certificate(CheckedCertificate {

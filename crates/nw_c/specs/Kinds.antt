@@ -2,6 +2,7 @@
 use Rattle.std.specs.Prelude.{◌≡◌, ◌⊎◌, List}
 use Rattle.nw_committee.specs.declared.member.Member.{Member}
 use Rattle.nw_codec.specs.declared.block.Block.{Block}
+use Rattle.nw_codec.specs.declared.certificate.Signature.{Signature}
 use Rattle.nw_codec.specs.declared.vote.Vote.{Vote}
 use Rattle.nw_check.specs.Checked.{CheckedBlockView, CheckedCertView}
 use Rattle.nw_check.specs.Gathering.{Gathering}
@@ -26,19 +27,27 @@ HoldsCommittee c = (members : List Member) × (c ≡ kind.Committee members)
 
 -- it is a checked text
 abbrev pub HoldsChecked : Content → Type 0
-HoldsChecked c = (text : Checked Ed25519) × (c ≡ kind.Checked text)
+HoldsChecked c = (text : Checked Ed25519) × (signature : Signature) × (c ≡ kind.Checked text signature)
 
 -- it is a checked block
 abbrev pub HoldsCheckedBlock : Content → Type 0
-HoldsCheckedBlock c = (block : CheckedBlockView) × (c ≡ kind.Checked (checked.Block block))
+HoldsCheckedBlock c = (block : CheckedBlockView) × (signature : Signature) × (c ≡ kind.Checked (checked.Block block) signature)
 
 -- it is a checked certificate
 abbrev pub HoldsCheckedCert : Content → Type 0
-HoldsCheckedCert c = (certificate : CheckedCertView) × (c ≡ kind.Checked (checked.Cert certificate))
+HoldsCheckedCert c = (certificate : CheckedCertView) × (signature : Signature) × (c ≡ kind.Checked (checked.Cert certificate) signature)
 
 -- it is a vote
 abbrev pub HoldsVote : Content → Type 0
-HoldsVote c = (vote : Vote) × (c ≡ kind.Checked (checked.Vote vote))
+HoldsVote c = (vote : Vote) × (signature : Signature) × (c ≡ kind.Checked (checked.Vote vote) signature)
+
+-- it is a checked block or certificate
+abbrev pub CanBeHandedIn : Content → Type 0
+CanBeHandedIn c = HoldsCheckedBlock c ⊎ HoldsCheckedCert c
+
+-- it is a checked text that has a message
+abbrev pub HoldsMessage : Content → Type 0
+HoldsMessage c = CanBeHandedIn c ⊎ HoldsVote c
 
 -- it is the votes gathered for a block
 abbrev pub HoldsGather : Content → Type 0

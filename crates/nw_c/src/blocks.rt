@@ -1,5 +1,5 @@
 //! Reading blocks: their parts, bodies and messages.
-ghost use Rattle.std.specs.Prelude.{◌≡◌, ◌<◌, ◌≤◌, pos, take, true, length, IsTrue};
+ghost use Rattle.std.specs.Prelude.{◌≡◌, ◌<◌, pos, take, true, length};
 ghost use Rattle.nw_c.specs.Blocks.{HasBody, HasCounts, HasMessage, HasNoParentAt, HasParentAt, HasSubject, IsBlockOverLimit};
 ghost use Rattle.nw_c.specs.Kinds.{IsUnchanged, HoldsBlock};
 ghost use Rattle.nw_c.specs.declared.codes.TheConstants.{ABSENT, CLOSED, OTHER_KIND, OVER_LIMIT, SMALL};
@@ -8,8 +8,8 @@ use crate::codes::{ABSENT, CLOSED, DONE, OTHER_KIND, SMALL};
 use crate::content::Content;
 use crate::handle::BlockHandle;
 use crate::plain::{CDigest, CSignature, CSubject};
-use crate::texts::hand_out_encoded;
-use nw_codec::{Block, Signature, encode_block, encode_body};
+use crate::texts::{hand_out_block, hand_out_encoded, is_too_small};
+use nw_codec::{Signature, encode_body};
 use std::alloc::Global;
 
 mod making;
@@ -93,23 +93,6 @@ pub extern "C" fn nw_block_parent(block: &mut BlockHandle, index: usize, out: &m
     }
 }
 
-/// The bytes of a block's message around the body: the tag and the signature.
-const AROUND_A_BODY: usize = 65;
-
-/// Whether the block fits the format, and its body with this many more bytes does not fit into the buffer. Then it writes their size to
-/// `needed`. So a caller that asks for the size encodes nothing.
-fn is_too_small(block: &Block, more: usize, buffer: &[u8], needed: &mut usize) -> bool
-    requires { more ≤ 65 }
-    ensures { IsTrue result → length buffer.now < needed.new }
-{
-    if !block.fits() {
-        return false;
-    }
-    let size = block.body_size() + more;
-    *needed = size;
-    size > buffer.len()
-}
-
 /// Writes the encoded body of the block to the buffer. The block's digest is SHA-256 of these bytes. Writes their size to `needed`. Returns
 /// `NW_SMALL` if the buffer is smaller, and `NW_OVER_LIMIT` if the block breaks a limit of the format.
 #[unsafe(no_mangle)]
@@ -165,11 +148,8 @@ pub extern "C" fn nw_block_message(
     }
     match block.lend() {
         Content::Block(held) => {
-            if is_too_small(held.block(), AROUND_A_BODY, buffer, needed) {
-                return SMALL;
-            }
-            let text = encode_block(alloc, held.block(), &Signature(signature.bytes));
-            hand_out_encoded(text, buffer, needed)
+            let signature = Signature(signature.bytes);
+            hand_out_block(alloc, held.block(), &signature, buffer, needed)
         }
         _ => OTHER_KIND,
     }

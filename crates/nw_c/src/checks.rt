@@ -1,9 +1,13 @@
 //! Decoding and checking texts.
-ghost use Rattle.std.specs.Prelude.{◌≡◌, ◌⊎◌, ◌<◌, pos, take, true, length, slice_get, IfSome, IsNone, Some, None};
+ghost use Rattle.std.specs.Prelude.{◌≡◌, ◌<◌, pos, take, true, length, slice_get, IfSome, IsNone, Some, None};
 ghost use Rattle.nw_codec.specs.Fits.{signers};
+ghost use Rattle.nw_codec.specs.Spelled.{Spells};
+ghost use Rattle.nw_codec.specs.declared.block.Block.{Block};
+ghost use Rattle.nw_codec.specs.declared.certificate.Signature.{Signature};
+ghost use Rattle.nw_codec.specs.declared.message.Message.TheVariants as messages;
 ghost use Rattle.nw_ed25519.specs.Accepts.{accepts};
-ghost use Rattle.nw_c.specs.Checks.{HasNoSignerAt, HasSignerAt, IsBlockOf, IsCheckOf, IsCertificateOverLimit, IsSpelledBy, EncodesMessageOf};
-ghost use Rattle.nw_c.specs.Kinds.{IsUnchanged, HoldsChecked, HoldsCheckedBlock, HoldsCheckedCert, HoldsCommittee, HoldsVote};
+ghost use Rattle.nw_c.specs.Checks.{HasNoSignerAt, HasSignerAt, IsBlockOf, IsCheckOf, IsOverLimit, IsSpelledBy, EncodesMessageOf};
+ghost use Rattle.nw_c.specs.Kinds.{HoldsMessage, IsUnchanged, HoldsChecked, HoldsCheckedBlock, HoldsCheckedCert, HoldsCommittee};
 ghost use Rattle.nw_c.specs.declared.codes.TheConstants.{ABSENT, CLOSED, OPEN, OTHER_KIND, OVER_LIMIT, SMALL};
 
 use crate::codes::{ABSENT, CLOSED, DONE, NO_MEMORY, OPEN, OTHER_KIND};
@@ -11,9 +15,9 @@ use crate::content::Content;
 use crate::handle::{BlockHandle, CheckedHandle, CommitteeHandle, put};
 use crate::hashed::HashedBlock;
 use crate::messages::{CMessage, message_of};
-use crate::texts::{hand_out_certificate, hand_out_encoded};
+use crate::texts::{hand_out_block, hand_out_certificate, hand_out_encoded};
 use nw_check::{Checked, CheckedCert, check_message_by};
-use nw_codec::{Message, encode_message};
+use nw_codec::{Message, Signature, encode_message};
 use nw_ed25519::Ed25519;
 use std::alloc::Global;
 
@@ -44,7 +48,10 @@ pub extern "C" fn nw_check(
         Content::Committee(members) => {
             let members = members.get();
             match check_message_by::<Ed25519, _>(alloc, members.committee(), members, text) {
-                Ok(checked) => put(alloc, out, Content::Checked(checked)),
+                Ok(checked) => {
+                    let content = Content::Checked(checked, last_signature(text));
+                    put(alloc, out, content)
+                }
                 Err(_) => NO_MEMORY,
             }
         }
@@ -64,7 +71,7 @@ pub extern "C" fn nw_checked_kind(checked: &mut CheckedHandle, out: &mut CMessag
         return CLOSED;
     }
     match checked.lend() {
-        Content::Checked(checked) => {
+        Content::Checked(checked, _) => {
             *out = message_of(checked);
             DONE
         }
@@ -94,7 +101,7 @@ pub extern "C" fn nw_checked_block(
         return OPEN;
     }
     match checked.lend() {
-        Content::Checked(Checked::Block(checked)) => match checked.block().try_clone() {
+        Content::Checked(Checked::Block(checked), _) => match checked.block().try_clone() {
             Ok(block) => {
                 let block = HashedBlock::new(checked.digest(), block);
                 put(alloc, out, Content::Block(block))
@@ -105,8 +112,8 @@ pub extern "C" fn nw_checked_block(
     }
 }
 
-/// Writes the message of the checked certificate or vote, which can be sent to other members. Writes its size to `needed`. Returns
-/// `NW_SMALL` if the buffer is smaller, and `NW_OTHER_KIND` if the text is neither a valid certificate nor a vote.
+/// Writes the message of the checked block, certificate or vote, which can be sent to other members. Writes its size to `needed`. Returns
+/// `NW_SMALL` if the buffer is smaller, and `NW_OTHER_KIND` if the text is neither a valid block, nor a valid certificate, nor a vote.
 #[unsafe(no_mangle)]
 pub extern "C" fn nw_checked_message(
     alloc: Global,
@@ -117,8 +124,8 @@ pub extern "C" fn nw_checked_message(
     ensures message { result ≡ pos 0 → IsSpelledBy checked.old.value (take needed.new buffer.new) }
     ensures same { IsUnchanged checked.old checked.new }
     ensures closed { result ≡ CLOSED → checked.old.held ≡ true → ⊥ }
-    ensures other_kind { result ≡ OTHER_KIND → (HoldsCheckedCert checked.old.value ⊎ HoldsVote checked.old.value) → ⊥ }
-    ensures over_limit { result ≡ OVER_LIMIT → IsCertificateOverLimit checked.old.value }
+    ensures other_kind { result ≡ OTHER_KIND → HoldsMessage checked.old.value → ⊥ }
+    ensures over_limit { result ≡ OVER_LIMIT → IsOverLimit checked.old.value }
     ensures small { result ≡ SMALL → length buffer.old < needed.new }
     ensures unchanged { (result ≡ pos 0 → ⊥) → buffer.new ≡ buffer.old }
 {
@@ -126,15 +133,29 @@ pub extern "C" fn nw_checked_message(
         return CLOSED;
     }
     match checked.lend() {
-        Content::Checked(Checked::Cert(checked)) => {
+        Content::Checked(Checked::Block(checked), signature) => {
+            hand_out_block(alloc, checked.block().get(), signature, buffer, needed)
+        }
+        Content::Checked(Checked::Cert(checked), _) => {
             hand_out_certificate(alloc, checked.certificate().get(), buffer, needed)
         }
-        Content::Checked(Checked::Vote(vote)) => {
+        Content::Checked(Checked::Vote(vote), _) => {
             let text = encode_message(alloc, &Message::Vote(*vote));
             hand_out_encoded(text, buffer, needed)
         }
         _ => OTHER_KIND,
     }
+}
+
+/// The signature in the text of a block: its last 64 bytes. Zeros if the text is shorter.
+fn last_signature(text: &[u8]) -> Signature
+    ensures { (b : Block) (signature : Signature) → Spells text.now (messages.Block b signature) → result ≡ signature }
+{
+    let mut bytes = [0; 64];
+    if text.len() >= 64 {
+        bytes.copy_from_slice(&text[text.len() - 64..]);
+    }
+    Signature(bytes)
 }
 
 /// The number of the certificate's signer at the index.
@@ -164,7 +185,7 @@ pub extern "C" fn nw_checked_signer(checked: &mut CheckedHandle, index: usize, o
         return CLOSED;
     }
     match checked.lend() {
-        Content::Checked(Checked::Cert(certificate)) => match signer_at(certificate, index) {
+        Content::Checked(Checked::Cert(certificate), _) => match signer_at(certificate, index) {
             Some(signer) => {
                 *out = signer;
                 DONE

@@ -14,6 +14,7 @@ use crate::content::Content;
 use crate::handle::{CheckedHandle, CommitteeHandle, GatherHandle, put};
 use crate::plain::CSubject;
 use nw_check::{Checked, Counted, FinishFault, StartFault};
+use nw_codec::Signature;
 use nw_digest::Round;
 use nw_prepared::PreparedGather;
 use std::alloc::Global;
@@ -79,7 +80,7 @@ pub extern "C" fn nw_gather_add(
         return CLOSED;
     }
     match (gather.lend(), vote.lend()) {
-        (Content::Gather(gather), Content::Checked(Checked::Vote(vote))) => {
+        (Content::Gather(gather), Content::Checked(Checked::Vote(vote), _)) => {
             match gather.add(vote) {
                 Ok(counted) => {
                     *quorum = counted == Counted::Quorum;
@@ -117,7 +118,10 @@ pub extern "C" fn nw_gather_certificate(
     }
     match gather.lend() {
         Content::Gather(gather) => match gather.finish(alloc) {
-            Ok(certificate) => put(alloc, out, Content::Checked(Checked::Cert(certificate))),
+            Ok(certificate) => {
+                let content = Content::Checked(Checked::Cert(certificate), Signature([0; 64]));
+                put(alloc, out, content)
+            }
             Err(FinishFault::FewVotes) => FEW_VOTES,
             Err(FinishFault::NoMemory) => NO_MEMORY,
         },

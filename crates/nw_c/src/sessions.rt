@@ -1,9 +1,9 @@
 //! Sessions of stores: their numbers, and handing in blocks and certificates.
-ghost use Rattle.std.specs.Prelude.{◌≡◌, ◌⊎◌, pos, true};
+ghost use Rattle.std.specs.Prelude.{◌≡◌, pos, true};
 ghost use Rattle.nw_ed25519.specs.Accepts.{accepts};
 ghost use Rattle.nw_book.specs.Command.{call_of, committee_of};
 ghost use Rattle.nw_shared_store.specs.declared.error.Refusal.{Refusal};
-ghost use Rattle.nw_c.specs.Kinds.{HoldsCheckedBlock, HoldsCheckedCert, HoldsRoom, HoldsSession, IsUnchanged};
+ghost use Rattle.nw_c.specs.Kinds.{CanBeHandedIn, HoldsRoom, HoldsSession, IsUnchanged};
 ghost use Rattle.nw_c.specs.Sessions.{HasNumber, IsCalled, IsHandedInBy, IsRefusedTo, IsUnderOwn, committee_checked_under};
 ghost use Rattle.nw_c.specs.Stores.{refusal_code};
 ghost use Rattle.nw_c.specs.declared.codes.TheConstants.{BAD_ROUND, CLOSED, OTHER_KIND};
@@ -104,18 +104,18 @@ pub extern "C" fn nw_session_hand_in(
     ensures stays { session.new.held ≡ session.old.held }
     ensures answer_stays { answer.new.held ≡ answer.old.held }
     ensures closed { result ≡ CLOSED → session.old.held ≡ true → checked.old.held ≡ true → answer.old.held ≡ true → ⊥ }
-    ensures other_kind { result ≡ OTHER_KIND → (HoldsCheckedBlock checked.old.value ⊎ HoldsCheckedCert checked.old.value) → HoldsSession session.old.value → HoldsRoom answer.old.value → ⊥ }
+    ensures other_kind { result ≡ OTHER_KIND → CanBeHandedIn checked.old.value → HoldsSession session.old.value → HoldsRoom answer.old.value → ⊥ }
 {
-    if !checked.is_open() {
+    if !session.is_open() || !checked.is_open() || !answer.is_open() {
         return CLOSED;
     }
     let content: &Content = checked.lend();
     match content {
-        Content::Checked(Checked::Block(block)) => {
+        Content::Checked(Checked::Block(block), _) => {
             let write = Command::Write(block);
             call(alloc, session, answer, &write)
         }
-        Content::Checked(Checked::Cert(certificate)) => {
+        Content::Checked(Checked::Cert(certificate), _) => {
             let certify = Command::Certify(certificate);
             call(alloc, session, answer, &certify)
         }

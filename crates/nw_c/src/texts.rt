@@ -1,13 +1,15 @@
 //! Copying texts into the caller's buffer.
-ghost use Rattle.std.specs.Prelude.{◌≡◌, ◌<◌, pos, take, length, IfOk, MatchResult, IsErrOf};
+ghost use Rattle.std.specs.Prelude.{◌≡◌, ◌<◌, ◌≤◌, pos, take, length, IfOk, IsTrue, MatchResult, IsErrOf};
 ghost use Rattle.nw_codec.specs.declared.error.EncodeError.TheVariants as EncodeError;
-ghost use Rattle.nw_codec.specs.Fits.{CertificateFits};
+ghost use Rattle.nw_codec.specs.Fits.{CertificateFits, Fits};
 ghost use Rattle.nw_codec.specs.Spelled.{Spells};
 ghost use Rattle.nw_codec.specs.declared.message.Message.TheVariants as Message;
 ghost use Rattle.nw_c.specs.declared.codes.TheConstants.{ABSENT, BAD_ROUND, CLOSED, OTHER_KIND, OVER_LIMIT, SMALL};
 
 use crate::codes::{DONE, NO_MEMORY, OVER_LIMIT, SMALL};
-use nw_codec::{Certificate, EncodeError, Message, encode_message};
+use nw_codec::{
+    Block, Certificate, EncodeError, Message, Signature, encode_block, encode_message,
+};
 use nw_digest::Sequence;
 use std::alloc::Global;
 
@@ -45,6 +47,45 @@ pub(crate) fn hand_out_encoded(
         Err(EncodeError::OverLimit) => OVER_LIMIT,
         Err(EncodeError::NoMemory) => NO_MEMORY,
     }
+}
+
+/// The bytes of a block's message around the body: the tag and the signature.
+const AROUND_A_BODY: usize = 65;
+
+/// Whether the block fits the format, and its body with this many more bytes does not fit into the buffer. Then it writes their size to
+/// `needed`. So a caller that asks for the size encodes nothing.
+pub(crate) fn is_too_small(block: &Block, more: usize, buffer: &[u8], needed: &mut usize) -> bool
+    requires { more ≤ 65 }
+    ensures { IsTrue result → length buffer.now < needed.new }
+{
+    if !block.fits() {
+        return false;
+    }
+    let size = block.body_size() + more;
+    *needed = size;
+    size > buffer.len()
+}
+
+/// Does the same for the message of the block with this signature. A caller that asks for the size encodes nothing.
+pub(crate) fn hand_out_block(
+    alloc: Global,
+    block: &Block,
+    signature: &Signature,
+    buffer: &mut [u8],
+    needed: &mut usize,
+) -> i32
+    ensures copied { result ≡ pos 0 → Spells (take needed.new buffer.new) (Message.Block block.now signature.now) }
+    ensures unchanged { (result ≡ pos 0 → ⊥) → buffer.new ≡ buffer.old }
+    ensures small { result ≡ SMALL → length buffer.old < needed.new }
+    ensures over_limit { result ≡ OVER_LIMIT → Fits block.now → ⊥ }
+    ensures other_codes { (result ≡ CLOSED → ⊥) × (result ≡ OTHER_KIND → ⊥) × (result ≡ ABSENT → ⊥)
+        × (result ≡ BAD_ROUND → ⊥) }
+{
+    if is_too_small(block, AROUND_A_BODY, buffer, needed) {
+        return SMALL;
+    }
+    let text = encode_block(alloc, block, signature);
+    hand_out_encoded(text, buffer, needed)
 }
 
 /// The size of a certificate's message without its votes: the tag, the subject and the number of votes.

@@ -36,7 +36,7 @@ unsafe extern "C" {
 // SAFETY: the name is reserved for the library's allocator, and the package's `links` key allows
 // one such crate in a program.
 #[unsafe(no_mangle)]
-pub extern "C" fn rattle_alloc(n: usize, align: usize) -> Allocated {
+pub extern "C" fn nw_mem_alloc(n: usize, align: usize) -> Allocated {
     // SAFETY: malloc takes any size, and aligns to 16.
     let allocated = Allocated::by(|size| unsafe { malloc(size) }, n, align);
     #[cfg(test)]
@@ -44,11 +44,11 @@ pub extern "C" fn rattle_alloc(n: usize, align: usize) -> Allocated {
     allocated
 }
 
-/// Resizes an allocation of `rattle_alloc` to `n` bytes. The library calls it with a pointer that
+/// Resizes an allocation of `nw_mem_alloc` to `n` bytes. The library calls it with a pointer that
 /// is not yet freed.
-// SAFETY: as for `rattle_alloc`.
+// SAFETY: as for `nw_mem_alloc`.
 #[unsafe(no_mangle)]
-pub unsafe extern "C" fn rattle_realloc(
+pub unsafe extern "C" fn nw_mem_realloc(
     at: *mut c_void,
     _kept: usize,
     n: usize,
@@ -58,10 +58,10 @@ pub unsafe extern "C" fn rattle_realloc(
     Allocated::by(|size| unsafe { realloc(at, size) }, n, align)
 }
 
-/// Frees an allocation of `rattle_alloc`. The library calls it once for each pointer.
-// SAFETY: as for `rattle_alloc`.
+/// Frees an allocation of `nw_mem_alloc`. The library calls it once for each pointer.
+// SAFETY: as for `nw_mem_alloc`.
 #[unsafe(no_mangle)]
-pub unsafe extern "C" fn rattle_dealloc(at: *mut c_void) {
+pub unsafe extern "C" fn nw_mem_dealloc(at: *mut c_void) {
     #[cfg(test)]
     crate::no_memory::note_freed();
     // SAFETY: `at` is from malloc or realloc, and is not used afterwards.
@@ -73,14 +73,14 @@ pub unsafe extern "C" fn rattle_dealloc(at: *mut c_void) {
 // functions of the same names.
 #[cfg(target_os = "linux")]
 global_asm!(
-    ".hidden rattle_alloc",
-    ".hidden rattle_realloc",
-    ".hidden rattle_dealloc",
+    ".hidden nw_mem_alloc",
+    ".hidden nw_mem_realloc",
+    ".hidden nw_mem_dealloc",
 );
 
 #[cfg(test)]
 mod tests {
-    use super::{Allocated, rattle_alloc, rattle_dealloc};
+    use super::{Allocated, nw_mem_alloc, nw_mem_dealloc};
     use std::alloc::{GlobalAlloc, Layout, System};
     use std::cell::Cell;
     use std::ptr;
@@ -112,10 +112,10 @@ mod tests {
     #[test]
     fn the_library_does_not_use_the_global_allocator() {
         let before = GLOBAL.get();
-        let allocated = rattle_alloc(64, 8);
+        let allocated = nw_mem_alloc(64, 8);
         assert_eq!(GLOBAL.get(), before);
         // SAFETY: it is freed once.
-        unsafe { rattle_dealloc(allocated.at) };
+        unsafe { nw_mem_dealloc(allocated.at) };
         drop(std::hint::black_box(Box::new(0_u64)));
         assert_eq!(GLOBAL.get(), before + 1);
     }

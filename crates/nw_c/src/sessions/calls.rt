@@ -1,5 +1,5 @@
 //! The calls of a session that hand in neither a block nor a certificate.
-ghost use Rattle.std.specs.Prelude.{◌≡◌, ◌^◌, ◌≤◌, pos, None, true, IfErr, IfOk, OnErr};
+ghost use Rattle.std.specs.Prelude.{◌≡◌, ◌⊎◌, ◌^◌, ◌≤◌, pos, None, true, IfErr, IfOk, OnErr};
 ghost use Rattle.nw_ed25519.specs.Accepts.{accepts};
 ghost use Rattle.nw_model.specs.declared.call.Call.TheVariants as Call;
 ghost use Rattle.nw_book.specs.Journal.{origin_of};
@@ -14,7 +14,7 @@ ghost use Rattle.nw_c.specs.declared.codes.TheConstants.{BAD_ROUND, CLOSED, OTHE
 use super::call;
 use crate::codes::{BAD_ROUND, CLOSED, DONE, OTHER_KIND};
 use crate::content::{Content, is_room};
-use crate::handle::{AnswerHandle, SessionHandle};
+use crate::handle::{AnswerHandle, Handle, SessionHandle};
 use crate::plain::CDigest;
 use crate::stores::code_of_refusal;
 use nw_book::Command;
@@ -101,11 +101,28 @@ pub extern "C" fn nw_session_collect(
     ensures bad_round { result ≡ BAD_ROUND → 2 ^ 48 ≤ round }
 {
     let Some(round) = Round::new(round) else {
-        return BAD_ROUND;
+        return code_of_bad_round(session, answer);
     };
     let _lent: Lent<'_> = (None, None);
     let command = Command::Collect(round);
     call(alloc, session, answer, &command)
+}
+
+/// The code of a call with a round that is not below 2^48: `BAD_ROUND`, unless a handle is closed or of another kind.
+fn code_of_bad_round(session: &mut Handle, answer: &mut Handle) -> i32
+    ensures code { (result ≡ CLOSED) ⊎ (result ≡ OTHER_KIND) ⊎ (result ≡ BAD_ROUND) }
+    ensures same { IsUnchanged session.old session.new }
+    ensures answer { IsUnchanged answer.old answer.new }
+    ensures closed { result ≡ CLOSED → session.old.held ≡ true → answer.old.held ≡ true → ⊥ }
+    ensures other_kind { result ≡ OTHER_KIND → HoldsSession session.old.value → HoldsRoom answer.old.value → ⊥ }
+{
+    if !session.is_open() || !answer.is_open() {
+        return CLOSED;
+    }
+    match session.lend() {
+        Content::Session(_) if is_room(answer.lend()) => BAD_ROUND,
+        _ => OTHER_KIND,
+    }
 }
 
 /// Asks for the first `most` missing parents, or for all if there are fewer, as the session's next call. They ascend by round, author and
