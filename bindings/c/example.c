@@ -52,7 +52,7 @@ static void tell_reply(const char *what, int32_t code, nw_answer *answer)
 
 int main(void)
 {
-	uint8_t keys[128], text[512], body[64];
+	uint8_t keys[128], text[512], again[512], body[64];
 	nw_member members[4];
 	const nw_limits limits = {1024, 1024, 64, 1};
 	nw_committee committee = {0};
@@ -83,6 +83,8 @@ int main(void)
 	tell("room for a ticket", nw_answer_new(&ticket));
 	tell("check of the block", nw_check(&committee, text, bytes_of(BLOCK, text), &block));
 	tell("check of the certificate", nw_check(&committee, text, bytes_of(CERTIFICATE, text), &certificate));
+	tell("message of the checked block", nw_checked_message(&block, again, sizeof again, &length));
+	printf("  the checked text: %s\n", length == bytes_of(BLOCK, text) && !memcmp(again, text, length) ? "yes" : "no");
 	tell("what the certificate is", nw_checked_kind(&certificate, &message));
 	printf("  kind %d round %llu author %d\n", (int)message.kind, (unsigned long long)message.subject.round, (int)message.subject.author);
 
@@ -94,6 +96,7 @@ int main(void)
 	printf("  certified %d, stands %d, complete %d\n", look.has_certified, look.stands, look.complete);
 	tell_reply("causal read", nw_session_open(&session, &message.subject.digest, &ticket), &ticket);
 	tell_reply("collect", nw_session_collect(&session, 1, &answer), &answer);
+	tell("collect round 2^48", nw_session_collect(&session, (uint64_t)1 << 48, &answer));
 	tell_reply("read", nw_session_read(&session, &message.subject.digest, &answer), &answer);
 
 	tell("walk", nw_ticket_walk(&ticket, &list));
@@ -130,6 +133,7 @@ int main(void)
 	nw_checked_free(&block);
 	nw_committee_free(&committee);
 	nw_committee_free(&committee);
+	tell("collect round 2^48 after the end", nw_session_collect(&session, (uint64_t)1 << 48, &answer));
 	tell("walk after the end", nw_ticket_walk(&ticket, &list));
 	printf("  %s\n", nw_code_text(NW_CLOSED));
 	return 0;
