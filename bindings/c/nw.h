@@ -43,8 +43,8 @@
 /* The version of this header. nw_version() returns that of the library. */
 #define NW_VERSION "0.1.0"
 #define NW_VERSION_NUMBER 100
-/* The interface of this header. A program links only with a library of the same interface: see nw_interface_6. */
-#define NW_ABI 6
+/* The interface of this header. A program links only with a library of the same interface: see nw_interface_7. */
+#define NW_ABI 7
 
 /* The largest number of members of a committee. */
 #define NW_MAX_MEMBERS 100
@@ -704,7 +704,7 @@ int32_t nw_version(void);
 /* Returns NW_ABI, the number of this interface. The number is in the name too, and changes with each change
    of an export, a struct or a code. So a program that calls this function links only with a library of the
    same interface. */
-int32_t nw_interface_6(void);
+int32_t nw_interface_7(void);
 
 /* Closes the handle, and frees everything that no other handle shares. Does nothing for NULL or a closed handle. */
 static inline void nw_committee_free(nw_committee *handle)

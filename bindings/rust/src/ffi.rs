@@ -94,11 +94,11 @@ impl Drop for Spare {
 /// Ties the crate to the interface of the library that it is made for. The number in the export's
 /// name changes with each change of an export or a struct, so another library does not link.
 #[used]
-static INTERFACE: extern "C" fn() -> i32 = nw_interface_6;
+static INTERFACE: extern "C" fn() -> i32 = nw_interface_7;
 
 // Without this, a shared object links with another library, and does not load.
 #[cfg(target_os = "linux")]
-global_asm!(".hidden nw_interface_6");
+global_asm!(".hidden nw_interface_7");
 
 /// A handle, lent to a call.
 type At<'a> = &'a mut Handle;
@@ -178,7 +178,7 @@ exports! {
 unsafe extern "C" {
     pub(crate) safe fn nw_text_of_block(digest: &Digest, out: &mut [u8; 36]);
     safe fn nw_free(handle: &mut Handle);
-    safe fn nw_interface_6() -> i32;
+    safe fn nw_interface_7() -> i32;
     fn nw_committee_new(members: *const Member, members_len: usize, out: &mut Handle) -> Code;
     fn nw_digest_of(bytes: *const u8, bytes_len: usize, out: &mut Digest);
     fn nw_peek(text: *const u8, text_len: usize, out: &mut RawMessage) -> Code;

@@ -7,4 +7,4 @@ version = 100
 
 -- the number of the interface
 abbrev pub interface : ℕ
-interface = 6
+interface = 7

@@ -14,8 +14,8 @@ pub extern "C" fn nw_version() -> i32
 /// Returns `NW_ABI`, the number of this interface. The number is in the name too, and changes with each change of an export, a struct or
 /// a code. So a program that calls this function links only with a library of the same interface.
 #[unsafe(no_mangle)]
-pub extern "C" fn nw_interface_6() -> i32
+pub extern "C" fn nw_interface_7() -> i32
     ensures { result ≡ pos interface }
 {
-    6
+    7
 }
