@@ -15,9 +15,9 @@ use crate::content::Content;
 use crate::handle::{BlockHandle, CheckedHandle, CommitteeHandle, put};
 use crate::hashed::HashedBlock;
 use crate::messages::{CMessage, message_of};
-use crate::texts::{hand_out_block, hand_out_certificate, hand_out_encoded};
+use crate::texts::{hand_out_block, hand_out_certificate, hand_out_vote};
 use nw_check::{Checked, CheckedCert, check_message_by};
-use nw_codec::{Message, Signature, encode_message};
+use nw_codec::Signature;
 use nw_ed25519::Ed25519;
 use std::alloc::Global;
 
@@ -139,10 +139,7 @@ pub extern "C" fn nw_checked_message(
         Content::Checked(Checked::Cert(checked), _) => {
             hand_out_certificate(alloc, checked.certificate().get(), buffer, needed)
         }
-        Content::Checked(Checked::Vote(vote), _) => {
-            let text = encode_message(alloc, &Message::Vote(*vote));
-            hand_out_encoded(text, buffer, needed)
-        }
+        Content::Checked(Checked::Vote(vote), _) => hand_out_vote(alloc, vote, buffer, needed),
         _ => OTHER_KIND,
     }
 }

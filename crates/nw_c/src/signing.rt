@@ -9,8 +9,8 @@ ghost use Rattle.nw_c.specs.declared.codes.TheConstants.{BAD_ROUND, SMALL};
 
 use crate::codes::{BAD_ROUND, DONE};
 use crate::plain::{CDigest, CSignature, CSubject};
-use crate::texts::hand_out_encoded;
-use nw_codec::{Message, Signature, Vote, encode_message};
+use crate::texts::hand_out_vote;
+use nw_codec::{Signature, Vote};
 use nw_digest::{Round, digest_of};
 use nw_sig::{text_of_block, text_of_vote};
 use std::alloc::Global;
@@ -91,6 +91,5 @@ pub extern "C" fn nw_vote_message(
         signer,
         signature: Signature(signature.bytes),
     };
-    let text = encode_message(alloc, &Message::Vote(vote));
-    hand_out_encoded(text, buffer, needed)
+    hand_out_vote(alloc, &vote, buffer, needed)
 }

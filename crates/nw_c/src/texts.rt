@@ -8,7 +8,7 @@ ghost use Rattle.nw_c.specs.declared.codes.TheConstants.{ABSENT, BAD_ROUND, CLOS
 
 use crate::codes::{DONE, NO_MEMORY, OVER_LIMIT, SMALL};
 use nw_codec::{
-    Block, Certificate, EncodeError, Message, Signature, encode_block, encode_message,
+    Block, Certificate, EncodeError, Message, Signature, Vote, encode_block, encode_message,
 };
 use nw_digest::Sequence;
 use std::alloc::Global;
@@ -85,6 +85,30 @@ pub(crate) fn hand_out_block(
         return SMALL;
     }
     let text = encode_block(alloc, block, signature);
+    hand_out_encoded(text, buffer, needed)
+}
+
+/// The size of a vote's message.
+const VOTE_MESSAGE: usize = 107;
+
+/// Does the same for the message of the vote. A caller that asks for the size encodes nothing.
+pub(crate) fn hand_out_vote(
+    alloc: Global,
+    vote: &Vote,
+    buffer: &mut [u8],
+    needed: &mut usize,
+) -> i32
+    ensures copied { result ≡ pos 0 → Spells (take needed.new buffer.new) (Message.Vote vote.now) }
+    ensures unchanged { (result ≡ pos 0 → ⊥) → buffer.new ≡ buffer.old }
+    ensures small { result ≡ SMALL → length buffer.old < needed.new }
+    ensures other_codes { (result ≡ CLOSED → ⊥) × (result ≡ OTHER_KIND → ⊥) × (result ≡ ABSENT → ⊥)
+        × (result ≡ BAD_ROUND → ⊥) × (result ≡ OVER_LIMIT → ⊥) }
+{
+    *needed = VOTE_MESSAGE;
+    if buffer.len() < VOTE_MESSAGE {
+        return SMALL;
+    }
+    let text = encode_message(alloc, &Message::Vote(*vote));
     hand_out_encoded(text, buffer, needed)
 }
 
