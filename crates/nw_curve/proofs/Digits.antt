@@ -31,6 +31,11 @@ sum_carried s r t q er e = er ∙ sym (carried s (t + 38 * q) q (omega arith))
 pub halves : (l h s q r : ℕ) → r % prime ≡ (s + 38 * q) % prime → s + 2 ^ 256 * q ≡ 38 * h + l → r % prime ≡ (l + 2 ^ 256 * h) % prime
 halves l h s q r er e = sum_carried (38 * h + l) r s q er (omega arith) ∙ sym (carried (l + 2 ^ 256 * h) (38 * h + l) h (omega arith))
 
+-- the part q from 2^255 on counts as 19 q
+pub folds : (a r q : ℕ) → a + 19 * q ≡ r + 2 ^ 255 * q → r % prime ≡ a % prime
+unfolding prime
+folds a r q e = sym (same a r q (omega (arith, e)))
+
 -- `difference_borrowed` without remainders
 whole_difference : (r d a b q i j m p : ℕ) → r + 38 * q ≡ i * p + m → d ≡ j * p + m → d + b ≡ a + 2 * q * p + 38 * q → r + b + j * p ≡ a + (i + 2 * q) * p
 whole_difference r d a b q i j m p er ed e = omega arith

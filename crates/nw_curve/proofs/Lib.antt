@@ -3,6 +3,7 @@ mod Digits
 mod OddMultiples
 mod Powers
 mod Products
+mod Shifts
 pub mod Congruence
 pub mod Polynomial
 pub mod Equations
@@ -25,3 +26,4 @@ pub mod Decoding
 pub mod Tables
 pub mod Inverses
 pub mod Normalized
+pub mod BaseTable

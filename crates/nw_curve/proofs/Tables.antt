@@ -3,8 +3,10 @@ use Rattle.std.proofs.Common.{◌≡◌, ℕ, zero, suc, ◌+◌, ◌*◌, ◌/�
 use Rattle.std.proofs.lemmas.Bool.Decides.{nat_tests}
 use Rattle.nw_curve.specs.declared.curve.point.Point.{Point}
 use Rattle.nw_curve.specs.Curve.{added, doubled, identity}
+use Rattle.nw_curve.specs.Completed.{normalized}
 use Rattle.nw_curve.specs.Table.{odd_multiple}
 use Rattle.nw_curve.proofs.AffineGroup.{Affine, IsOnCurve, affine_sum, sum_valid, sum_associative, sum_commutative, neutral, neutral_valid, neutral_sum, times, times_valid, times_sum}
+use Rattle.nw_curve.proofs.Normalized.{normalized_represents}
 use Rattle.nw_curve.proofs.Extended.{Represents, added_represents, doubled_represents, identity_represents}
 
 -- m P + n P, of which a table is built
@@ -89,14 +91,19 @@ entry_of_digit d q a u r odd =
     let e : suc (i + i) ≡ d = omega arith in
     subst (λ (n : ℕ). Represents (odd_multiple i q) (times n a)) e (odd_represents i q a u r)
 
+-- the sum with the entry of a digit in a table of points with Z 1
+abbrev pub with_normalized_entry : ℕ → Point → Point → Point
+with_normalized_entry d p q = if d == 0 then p else added p (normalized (odd_multiple (d / 2) q))
+
 first_entry : (s k d : ℕ) (p q : Point) (a b : Affine) → IsOnCurve a → IsOnCurve b → Represents p (combination s k a b) → Represents q a → (d ≢ 0 → d % 2 ≡ 1)
-    → (t : Bool) → (d == 0) ≡ t → Represents (if t then p else added p (odd_multiple (d / 2) q)) (combination (s + d) k a b)
+    → (t : Bool) → (d == 0) ≡ t → Represents (if t then p else added p (normalized (odd_multiple (d / 2) q))) (combination (s + d) k a b)
 first_entry s k d p q a b u v r e odd true h =
     let z : s ≡ s + d = grind (arith, nat_tests) in
     subst (λ (n : ℕ). Represents p (combination n k a b)) z r
 first_entry s k d p q a b u v r e odd false h =
     let nz : d ≢ 0 = grind (arith, nat_tests) in
-    first_added s k d p (odd_multiple (d / 2) q) a b u v r (entry_of_digit d q a u e (odd nz))
+    let entry = odd_multiple (d / 2) q in
+    first_added s k d p (normalized entry) a b u v r (normalized_represents entry (times d a) (entry_of_digit d q a u e (odd nz)))
 
 second_entry : (s k d : ℕ) (p q : Point) (a b : Affine) → IsOnCurve a → IsOnCurve b → Represents p (combination s k a b) → Represents q b → (d ≢ 0 → d % 2 ≡ 1)
     → (t : Bool) → (d == 0) ≡ t → Represents (if t then p else added p (odd_multiple (d / 2) q)) (combination s (k + d) a b)
@@ -107,13 +114,13 @@ second_entry s k d p q a b u v r e odd false h =
     let nz : d ≢ 0 = grind (arith, nat_tests) in
     second_added s k d p (odd_multiple (d / 2) q) a b u v r (entry_of_digit d q b v e (odd nz))
 
--- one step of the sum: it is doubled, and then an entry of each table is added, by the digits i and j
+-- one step of the sum: it is doubled, and then an entry of each table is added, by the digits i and j. The first table has points with Z 1
 pub digits_added : (s k i j : ℕ) (p q e f : Point) (a b : Affine) → IsOnCurve a → IsOnCurve b → Represents e a → Represents f b → (i ≢ 0 → i % 2 ≡ 1) → (j ≢ 0 → j % 2 ≡ 1)
-    → Represents p (combination s k a b) → q ≡ with_entry j (with_entry i (doubled p) e) f → Represents q (combination (i + 2 * s) (j + 2 * k) a b)
+    → Represents p (combination s k a b) → q ≡ with_entry j (with_normalized_entry i (doubled p) e) f → Represents q (combination (i + 2 * s) (j + 2 * k) a b)
 digits_added s k i j p q e f a b u v re rf oi oj r eq =
     let one = combination_doubled s k p a b u v r in
     let two = first_entry (s + s) (k + k) i (doubled p) e a b u v one re oi (i == 0) refl in
-    let three = second_entry (s + s + i) (k + k) j (with_entry i (doubled p) e) f a b u v two rf oj (j == 0) refl in
+    let three = second_entry (s + s + i) (k + k) j (with_normalized_entry i (doubled p) e) f a b u v two rf oj (j == 0) refl in
     let es : s + s + i ≡ i + 2 * s = omega arith in
     let ek : k + k + j ≡ j + 2 * k = omega arith in
     rw (eq, ← es, ← ek) three

@@ -3,6 +3,7 @@
 //! The extended coordinates of sums and multiples are exactly those of the standard's formulas. Points are decoded from 32 bytes and
 //! encoded by the standard's rules.
 
+mod base_table;
 mod coding;
 mod completed;
 mod constants;

@@ -2,3 +2,4 @@ pub mod Accepts
 pub mod Comb
 pub mod Digits
 pub mod Prepared
+pub mod Words

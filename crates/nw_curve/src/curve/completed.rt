@@ -49,11 +49,11 @@ impl CompletedPoint {
     pub fn doubled(&self) -> CompletedPoint
         ensures { point_of result ≡ doubled (point_of self.now) }
     {
-        CompletedPoint::of_twice(
-            &self.e.times(&self.f),
-            &self.g.times(&self.h),
-            &self.f.times(&self.g),
-        )
+        // A doubling computes E last, so the product with E comes last.
+        let y = self.g.times(&self.h);
+        let z = self.f.times(&self.g);
+        let x = self.e.times(&self.f);
+        CompletedPoint::of_twice(&x, &y, &z)
     }
 
     /// Twice the point with these coordinates. A doubling does not use T.
@@ -63,13 +63,14 @@ impl CompletedPoint {
         ensures { (t : ℕ) → point_of result
             ≡ doubled (record { x = x.now; y = y.now; z = z.now; t = t }) }
     {
-        let a = x.square();
         let b = y.square();
         let square = z.square();
         let c = square.plus(&square);
+        let a = x.square();
+        let sum = x.plus(y).square();
         let h = a.plus(&b);
-        let e = h.minus(&x.plus(y).square());
         let g = a.minus(&b);
+        let e = h.minus(&sum);
         CompletedPoint {
             e,
             f: c.plus(&g),

@@ -1,11 +1,12 @@
 //! Tables of odd multiples of a point.
 ghost use Rattle.std.specs.Prelude.{◌≡◌, ◌==◌, ◌/◌, ◌<◌, if◌then◌else◌};
-ghost use Rattle.nw_curve.specs.Curve.{added};
-ghost use Rattle.nw_curve.specs.Completed.{point_of};
+ghost use Rattle.nw_curve.specs.Curve.{added, base};
+ghost use Rattle.nw_curve.specs.Completed.{normalized, point_of};
 ghost use Rattle.nw_curve.specs.Table.{odd_multiple, odd_multiples};
 ghost use Rattle.nw_curve.specs.declared.curve.point.Point.{Point};
 
 use super::Point;
+use super::base_table::odd_multiple_of_base;
 use super::completed::{Addend, CompletedPoint};
 
 /// The multiples of a point by 1, 3, 5 and so on up to 15, prepared for sums.
@@ -52,6 +53,22 @@ impl Table {
             partial
         } else {
             CompletedPoint::of_sum(&partial.point(), &self.entries[digit as usize / 2])
+        }
+    }
+}
+
+impl CompletedPoint {
+    /// The sum of this point and the base point times `digit`, which is 0 or odd.
+    #[inline(always)]
+    pub fn plus_base_times(self, digit: u8) -> CompletedPoint
+        requires { digit < 128 }
+        ensures { point_of result
+            ≡ (if digit == 0 then point_of self else added (point_of self) (normalized (odd_multiple (digit / 2) base))) }
+    {
+        if digit == 0 {
+            self
+        } else {
+            CompletedPoint::of_affine_sum(&self.point(), &odd_multiple_of_base(digit as usize / 2))
         }
     }
 }

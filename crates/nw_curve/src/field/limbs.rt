@@ -158,14 +158,30 @@ fn minus_small(limbs: &Limbs, less: u64) -> Limbs
 
 /// A number below 2^256 that is congruent to the number with these two halves. The upper half counts 38 times.
 #[inline(always)]
-pub fn wrapped(low: &Limbs, high: &Limbs) -> Limbs
-    ensures { value_of result % prime ≡ (value_of low.now + 2 ^ 256 * value_of high.now) % prime }
+pub fn wrapped(low: Limbs, high: Limbs) -> Limbs
+    ensures { value_of result % prime ≡ (value_of low + 2 ^ 256 * value_of high) % prime }
 {
-    let (first, sum) = multiply_add(38, high, low);
-    plus_small(
+    let (first, sum) = multiply_add(38, &high, &low);
+    folded(
         &Limbs::new(first, sum.first, sum.second, sum.third),
-        38 * sum.fourth,
+        sum.fourth,
     )
+}
+
+/// A number below 2^256 that is congruent to the number with this fifth digit, which is below 2^32.
+///
+/// The part from 2^255 on counts 19 times. The sum of this and the lower 255 bits has no carry over 2^256, so each digit of the result is
+/// known as soon as its sum is.
+#[inline(always)]
+fn folded(limbs: &Limbs, fifth: u64) -> Limbs
+    requires { fifth < 2 ^ 32 }
+    ensures { value_of result % prime ≡ (value_of limbs.now + 2 ^ 256 * fifth) % prime }
+{
+    let above = fifth * 2 + limbs.fourth / HALF;
+    let (first, carry) = add_with_carry(limbs.first, 19 * above, 0);
+    let (second, carry) = add_with_carry(limbs.second, 0, carry);
+    let (third, carry) = add_with_carry(limbs.third, 0, carry);
+    Limbs::new(first, second, third, limbs.fourth % HALF + carry)
 }
 
 /// A number below 2^256 that is congruent to the sum.

@@ -121,7 +121,7 @@ impl Number {
     {
         let (low, high) = product(&self.limbs, &other.limbs);
         Number {
-            limbs: wrapped(&low, &high),
+            limbs: wrapped(low, high),
         }
     }
 
@@ -132,7 +132,7 @@ impl Number {
     {
         let (low, high) = square(&self.limbs);
         Number {
-            limbs: wrapped(&low, &high),
+            limbs: wrapped(low, high),
         }
     }
 }

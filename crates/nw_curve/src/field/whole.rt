@@ -96,14 +96,16 @@ impl Whole {
         self.high == other.high && self.low == other.low
     }
 
-    /// Half of the number, rounded down.
+    /// The number divided by 2^`places`, rounded down.
     #[inline(always)]
-    pub fn half(&self) -> Whole
-        ensures { result ≡ self.now / 2 }
+    pub fn shifted_down(&self, places: u32) -> Whole
+        requires some { 0 < places }
+        requires few { places < 128 }
+        ensures { result ≡ self.now / 2 ^ places }
     {
         Whole {
-            low: self.low / 2 + self.high % 2 * HALF,
-            high: self.high / 2,
+            low: (self.low >> places) + (self.high << (128 - places)),
+            high: self.high >> places,
         }
     }
 

@@ -1,6 +1,7 @@
 use Rattle.std.proofs.Common.{◌≡◌, ℕ, ◌<◌, ◌-◌, ◌∙◌, ap, sym, subst, length, arith}
 use Rattle.nw_curve.specs.Completed.{point_of}
 use Rattle.nw_curve.specs.Coding.{encoded}
+use Rattle.nw_curve.specs.Curve.{base}
 use Rattle.nw_curve.specs.declared.curve.point.Point.{Point}
 use Rattle.nw_curve.proofs.Extended.{Represents}
 use Rattle.nw_curve.proofs.Negatives.{negative_of, negative_valid, negated_represents}
@@ -13,9 +14,7 @@ use Rattle.nw_ed25519.proofs.sum.expected.Goals as goal
 
 pub loop-done-init : goal.loop-done-init
 loop-done-init c key u r =
-    let ls : length c.digits_of-base_digits.result ≡ 253 = omega arith in
-    let lk : length c.digits_of-key_digits.result ≡ 253 = omega arith in
-    no_digits c.digits_of-base_digits.result c.digits_of-key_digits.result (point_of c.identity-partial.result) affine_base (negative_of key) ls lk c.identity-partial.ensures
+    no_digits c.digits_of-base_digits.result c.digits_of-key_digits.result c.places_used-places.result (point_of c.identity-partial.result) affine_base (negative_of key) c.places_used-places.ensures.first c.places_used-places.ensures.second c.identity-partial.ensures
 
 pub loop-done-preserved : goal.loop-done-preserved
 loop-done-preserved c key u r =
@@ -24,12 +23,12 @@ loop-done-preserved c key u r =
     let d = c.loop-done.done in
     let ls : length s ≡ 253 = omega arith in
     let lk : length k ≡ 253 = omega arith in
-    let small : d < 253 = omega arith in
-    let re = subst (λ (e : Point). Represents e affine_base) (sym c.base.ensures) base_represents in
+    let places = c.places_used-places.result in
+    let small : d < places = omega arith in
     let rf = subst (λ (f : Point). Represents f (negative_of key)) (sym c.negated.ensures) (negated_represents c.args.point key u r) in
-    next_digits s k d (point_of c.loop-done.partial) (point_of c.added_to-partial.result) c.base.result c.negated.result affine_base (negative_of key) base_valid (negative_valid key u) re rf ls lk small
-    (c.digits_of-base_digits.ensures.odd (252 - d) (omega arith)) (c.digits_of-key_digits.ensures.odd (252 - d) (omega arith)) (c.loop-done.invariant key u r)
-    (let one = c.added_to-with_base.ensures c.base.result c.of-bases.ensures in let two = c.added_to-partial.ensures c.negated.result c.of-keys.ensures in rw (two, one, c.doubled.ensures))
+    next_digits s k places d (point_of c.loop-done.partial) (point_of c.added_to-partial.result) base c.negated.result affine_base (negative_of key) base_valid (negative_valid key u) base_represents rf ls lk c.places_used-places.ensures.few small
+    (c.digits_of-base_digits.ensures.odd (places - 1 - d) (omega arith)) (c.digits_of-key_digits.ensures.odd (places - 1 - d) (omega arith)) (c.loop-done.invariant key u r)
+    (let one = c.plus_base_times-with_base.ensures in let two = c.added_to-partial.ensures c.negated.result c.of-keys.ensures in rw (two, one, c.doubled.ensures))
 
 pub returns : goal.returns
 returns c bytes h =
@@ -38,7 +37,7 @@ returns c bytes h =
     let on = subst PointIfAny h (decoded_point bytes) in
     let key = coordinates c.args.point in
     let r = c.loop-done.invariant key on.0 on.1 in
-    let done : c.loop-done.done ≡ 253 = omega arith in
+    let done : c.places_used-places.result - c.loop-done.done ≡ 0 = omega arith in
     let all = rw done at r in
     let of_s = subst (λ (n : ℕ). Represents (point_of c.loop-done.partial) (combination n (number_from_digits k) affine_base (negative_of key))) c.digits_of-base_digits.ensures.value all in
     let of_k = subst (λ (n : ℕ). Represents (point_of c.loop-done.partial) (combination c.args.s.now n affine_base (negative_of key))) c.digits_of-key_digits.ensures.value of_s in

@@ -11,4 +11,4 @@ use Rattle.nw_ed25519.proofs.sum.expected.Given as goal
 abbrev pub invariant-loop-done : goal.invariant-loop-done
 invariant-loop-done l =
     (key : Affine) → IsOnCurve key → Represents l.fn.point key
-    → Represents (point_of l.partial) (combination (number_from_digits (drop (253 - l.done) l.base_digits)) (number_from_digits (drop (253 - l.done) l.key_digits)) affine_base (negative_of key))
+    → Represents (point_of l.partial) (combination (number_from_digits (drop (l.places - l.done) l.base_digits)) (number_from_digits (drop (l.places - l.done) l.key_digits)) affine_base (negative_of key))
