@@ -15,7 +15,7 @@ use Rattle.nw_store.proofs.Send.{session_send, store_sync}
 use Rattle.nw_store.proofs.Crossing.{along_send}
 use Rattle.nw_store.proofs.Crossing.Sends.{none, also}
 use Rattle.nw_load.proofs.node.LoadContext.TheSendSync as context
-use Rattle.nw_load.proofs.node.start_client.Goals as goal
+use Rattle.nw_load.proofs.threads.start_client.Goals as goal
 
 -- the values that the closure captures: the load's context, the node, the store, the session and the channel
 pub spawn-requires-send-F : goal.spawn-requires-send-F
