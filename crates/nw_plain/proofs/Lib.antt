@@ -4,3 +4,4 @@ pub mod Dropped
 pub mod Collected
 pub mod Wanting
 pub mod Counting
+pub mod Looks

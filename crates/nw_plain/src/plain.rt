@@ -12,6 +12,7 @@ mod causal;
 mod certificates;
 mod collection;
 mod copies;
+mod looks;
 mod maps;
 mod missing;
 mod sameness;

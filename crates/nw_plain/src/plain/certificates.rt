@@ -57,7 +57,7 @@ impl Plain {
     }
 
     /// The certified digest of the slot, if there is one.
-    fn certified_digest(&self, slot: (Round, u16)) -> Option<Digest>
+    pub(super) fn certified_digest(&self, slot: (Round, u16)) -> Option<Digest>
         ensures { result ≡ certified_digest self.now.state slot }
     {
         self.certified.get(&slot).copied()

@@ -2,8 +2,8 @@
 use super::both::Both;
 use super::words::{REPLIES, words};
 use super::*;
-use nw_model::{Call, Look, Reply};
-use nw_plain::{Base, Plain};
+use nw_model::Call;
+use nw_plain::Base;
 use rand_core::utils::NextWord;
 use rand_pcg::Pcg32;
 use std::collections::BTreeSet;
@@ -113,78 +113,38 @@ fn make_next_call(
     }
 }
 
-/// Whether a copy of the tables has the state of the plain store, and looks say what this state has. The plain store goes on as another copy.
+/// Whether a copy of the tables has the state of the plain store. The plain store goes on as another copy.
 fn is_copied(alloc: Global, both: &mut Both) -> Result<bool, NoMemory> {
     let copy = both.dag.copy(alloc)?;
     let expected = Base::of(mem::replace(&mut both.plain, copy));
     let copied = Base::of(both.dag.copy(alloc)?);
-    Ok(expected.is_same(&copied) && are_seen(alloc, both, &expected)?)
+    Ok(expected.is_same(&copied))
 }
 
-/// Whether looks at the first rounds from the garbage round on say what the base has.
-fn are_seen(alloc: Global, both: &mut Both, base: &Base) -> Result<bool, NoMemory> {
+/// Whether looks at the first rounds from the garbage round on say the same of both stores.
+fn look_the_same(alloc: Global, both: &Both) -> Result<bool, NoMemory> {
+    let floor = both.dag.status().floor;
     for number in 0..8 {
-        let round = round(base.floor().get() + number)?;
-        let looks = looks_in(alloc, both, base, round)?;
-        if both.dag.look_round(alloc, round)?.as_slice() != looks.as_slice() {
+        if !round_looks_the_same(alloc, both, round(floor.get() + number)?)? {
             return Ok(false);
         }
     }
     Ok(true)
 }
 
-/// The authors with digests in the round, and what the base has for them. An author is left out if a look at its slot says something else.
-fn looks_in(
-    alloc: Global,
-    both: &mut Both,
-    base: &Base,
-    round: Round,
-) -> Result<Vec<(u16, Look)>, NoMemory> {
-    let mut looks = Vec::new(alloc);
+/// Whether looks at the round, and at its slots of eight authors, say the same of both stores.
+fn round_looks_the_same(alloc: Global, both: &Both, round: Round) -> Result<bool, NoMemory> {
     for author in 0..8 {
-        let look = look_of(&mut both.plain, base, round, author)?;
-        let has_digest = look.first.is_some() || look.certified.is_some();
-        if has_digest && both.dag.look(round, author) == look {
-            looks.push((author, look))?;
+        if both.dag.look(round, author) != both.plain.look(round, author)? {
+            return Ok(false);
         }
     }
-    Ok(looks)
+    let looks = both.dag.look_round(alloc, round)?;
+    Ok(looks.as_slice() == both.plain.look_round(round)?.as_slice())
 }
 
-/// The digest that the base has certified for the slot, if there is one. It is a digest of the author's blocks in this round, or of the
-/// blocks of the author whose certificates may be for this author's slot.
-fn certified_in(base: &Base, round: Round, author: u16) -> Option<Digest> {
-    for (named, fork) in [(author, 0), (author, 1), (author ^ 1, 0), (author ^ 1, 1)] {
-        let digest = digest_of((round.get(), named, fork));
-        if let Some(kept) = base.certificate(&digest) {
-            if (kept.round, kept.author) == (round, author) {
-                return Some(digest);
-            }
-        }
-    }
-    None
-}
-
-/// What the base has in the slot. The plain store has the same state, and says whether the certified digest is complete.
-fn look_of(plain: &mut Plain, base: &Base, round: Round, author: u16) -> Result<Look, NoMemory> {
-    let certified = certified_in(base, round, author);
-    let (stands, complete) = match certified {
-        None => (false, false),
-        Some(digest) => (
-            base.block(&digest).is_some(),
-            matches!(plain.call(&Call::Causal(digest))?, Reply::List(_)),
-        ),
-    };
-    Ok(Look {
-        floor: base.floor(),
-        first: base.first(round, author),
-        certified,
-        stands,
-        complete,
-    })
-}
-
-/// Makes random calls. After every 512 calls it compacts the tables and compares a copy of them with the plain store. Returns the number of kinds of replies, or `None` if the stores differ.
+/// Makes random calls. After every 512 calls it compacts the tables, and compares a copy of them and looks with the plain store. Returns
+/// the number of kinds of replies, or `None` if the stores differ.
 fn count_replies(alloc: Global, both: &mut Both, calls: u32) -> Result<Option<usize>, NoMemory> {
     let seen = &mut BTreeSet::new(alloc);
     let mut random = Pcg32::new(1, 1);
@@ -194,7 +154,7 @@ fn count_replies(alloc: Global, both: &mut Both, calls: u32) -> Result<Option<us
         }
         if number % 512 == 0 {
             both.dag.compact(alloc)?;
-            if !is_copied(alloc, both)? {
+            if !is_copied(alloc, both)? || !look_the_same(alloc, both)? {
                 return Ok(None);
             }
         }

@@ -1,4 +1,4 @@
-use Rattle.std.proofs.Common.{◌≡◌, [], rules, subst, sym}
+use Rattle.std.proofs.Common.{◌≡◌, rules, subst, sym}
 use Rattle.std.proofs.iter.runs.Made.{chains}
 use Rattle.nw_model.specs.Missing.{ListsExactly, Wants, wanted_cmp}
 use Rattle.nw_plain.specs.Added.{IsUnionWith}
