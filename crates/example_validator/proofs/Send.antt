@@ -6,7 +6,7 @@ use denote.Param.SendFields.{declared_send}
 use Rattle.std.proofs.Crossing.{crosses}
 use Rattle.std.specs.declared.sync.ledger.Ledger.{Ghosts as LedgerGhosts}
 use Rattle.crossbeam_channel.proofs.channel.Receiver.TheSendSync as receiver
-use Rattle.nw_claims.specs.declared.log.LogName.{Ghosts as PlaceGhosts}
+use Rattle.nw_log.specs.declared.log.LogName.{Ghosts as PlaceGhosts}
 use Rattle.nw_book.proofs.Send.{ticket_send}
 use Rattle.nw_store.specs.declared.home.Home.{Ghosts as HomeGhosts}
 use Rattle.nw_store.proofs.Send.{session_send, store_sync}

@@ -20,6 +20,7 @@ mod program;
 mod report;
 mod size;
 mod store;
+mod threads;
 
 pub use fault::LoadFault;
 pub use launch::load;

@@ -12,24 +12,24 @@ use Rattle.nw_book.specs.Journal.{ArePrefixesOf, AnswersCall, AreAnswers}
 use Rattle.nw_book.proofs.Prefixes.{prefix_itself, prefix_trans, prefix_next}
 use Rattle.nw_store.specs.Lock.{AreAmong}
 
-pub among_longer : (claim log : List Story) (answers : List DoneView) → IsPrefix claim log → AreAmong claim answers → AreAmong log answers
-among_longer claim log answers p among =
-    All-weaker (λ (a : DoneView). Contains claim a.front) (λ (a : DoneView). Contains log a.front)
-    (λ a c. subst (λ l. Contains l a.front) p.1 (Contains-append_left claim p.0 a.front c)) answers among
+pub among_longer : (known log : List Story) (answers : List DoneView) → IsPrefix known log → AreAmong known answers → AreAmong log answers
+among_longer known log answers p among =
+    All-weaker (λ (a : DoneView). Contains known a.front) (λ (a : DoneView). Contains log a.front)
+    (λ a c. subst (λ l. Contains l a.front) p.1 (Contains-append_left known p.0 a.front c)) answers among
 
--- if each front in the log is a prefix of the history, so is the front of each answer, since a claim of the log has it
-pub begun_claimed : (h : Story) (log claim : List Story) (answers : List DoneView) → All (λ f. IsPrefixOf f h) log → IsPrefix claim log → AreAmong claim answers → ArePrefixesOf h answers
-begun_claimed h log claim answers begun p among =
+-- if each front in the log is a prefix of the history, so is the front of each answer, since a known prefix of the log has it
+pub begun_answers : (h : Story) (log known : List Story) (answers : List DoneView) → All (λ f. IsPrefixOf f h) log → IsPrefix known log → AreAmong known answers → ArePrefixesOf h answers
+begun_answers h log known answers begun p among =
     All-weaker (λ (a : DoneView). Contains log a.front) (λ (a : DoneView). IsPrefixOf a.front h)
-    (λ a c. All-contains (λ (f : Story). IsPrefixOf f h) log a.front begun c) answers (among_longer claim log answers p among)
+    (λ a c. All-contains (λ (f : Story). IsPrefixOf f h) log a.front begun c) answers (among_longer known log answers p among)
 
--- each front in a claim is in the log
-pub claimed_logged : (claim log : List Story) → IsPrefix claim log → (s : Story) → Contains claim s → Contains log s
-claimed_logged claim log p s c = subst (λ l. Contains l s) p.1 (Contains-append_left claim p.0 s c)
+-- each front in a known prefix is in the log
+pub known_logged : (known log : List Story) → IsPrefix known log → (s : Story) → Contains known s → Contains log s
+known_logged known log p s c = subst (λ l. Contains l s) p.1 (Contains-append_left known p.0 s c)
 
--- if each front in the log is a prefix of the history, so is each front in a claim of the log
-pub begun_known : (h : Story) (log claim : List Story) → All (λ f. IsPrefixOf f h) log → IsPrefix claim log → (s : Story) → Contains claim s → IsPrefixOf s h
-begun_known h log claim begun p s c = All-contains (λ (f : Story). IsPrefixOf f h) log s begun (claimed_logged claim log p s c)
+-- if each front in the log is a prefix of the history, so is each front in a known prefix of it
+pub begun_known : (h : Story) (log known : List Story) → All (λ f. IsPrefixOf f h) log → IsPrefix known log → (s : Story) → Contains known s → IsPrefixOf s h
+begun_known h log known begun p s c = All-contains (λ (f : Story). IsPrefixOf f h) log s begun (known_logged known log p s c)
 
 -- the log gains the history with one more event: each front in the log is a prefix of this history
 pub log_more : (h next : Story) (e : Event) (log : List Story) → next ≡ with_event h e → All (λ f. IsPrefixOf f h) log → All (λ f. IsPrefixOf f next) (log ++ next ∷ [])

@@ -175,10 +175,10 @@ zeros zero = refl
 zeros (suc n) = let r = zeros n in omega (arith, r)
 
 -- each event is counted once
-tally : (made : ℕ) (h : List Event) → sum_upto (λ s. length (events_of s h)) made + all_outside h made ≡ length h
-tally made [] = let z = zeros made in omega (arith, z)
-tally made (e ∷ es) =
-    let r = tally made es in
+all_counted : (made : ℕ) (h : List Event) → sum_upto (λ s. length (events_of s h)) made + all_outside h made ≡ length h
+all_counted made [] = let z = zeros made in omega (arith, z)
+all_counted made (e ∷ es) =
+    let r = all_counted made es in
     let o = counts_once e.session made in
     let both = sum_same (λ s. length (events_of s (e ∷ es))) (λ s. one e.session s + length (events_of s es)) (length_at e es) made ∙ sum_both (one e.session) (λ s. length (events_of s es)) made in
     omega (arith, r, o, both)
@@ -202,7 +202,7 @@ settled made h journal numbered each sum =
     let f : ℕ → ℕ = λ s. length (journal s) in
     let g : ℕ → ℕ = λ s. length (events_of s h) in
     let fewer : (s : ℕ) → s < made → f s ≤ g s = λ s lt. (let p = prefix_length (events_in (journal s)) (events_of s h) (begins s lt) in let q = length_events_in (journal s) in omega (arith, p, q)) in
-    let all = tally made h in
+    let all = all_counted made h in
     let less = sum_less f g made fewer in
     let equal = squeezed f g made fewer (omega (arith, all, sum)) in (
       (λ s lt. prefix_whole (events_in (journal s)) (events_of s h) (begins s lt) (let q = length_events_in (journal s) in let e = equal s lt in omega (arith, q, e))),

@@ -32,16 +32,16 @@ kept_more accepts h next front made total more spare idle log longer e kept is l
 pub starts_so : (h next : Story) (e : Event) (o : Origin) → next ≡ with_event h e → origin_of h ≡ o → origin_of next ≡ o
 starts_so h next e o is starts = ap origin_of is ∙ starts
 
--- the session with one more answer, whose front is in its claim
-pub session_more : (id parts same amount more : ℕ) (claim longer : List Story) (answers after : List DoneView) (a : DoneView)
-    → IsSession parts amount (record { id = id; answers = answers; known = claim })
-    → same ≡ parts → more ≡ amount + 1 → IsPrefix claim longer → Contains longer a.front → after ≡ answers ++ a ∷ [] → AnswersCall id (1 + length answers) a
+-- the session with one more answer, whose front is in its known prefix
+pub session_more : (id parts same amount more : ℕ) (known longer : List Story) (answers after : List DoneView) (a : DoneView)
+    → IsSession parts amount (record { id = id; answers = answers; known = known })
+    → same ≡ parts → more ≡ amount + 1 → IsPrefix known longer → Contains longer a.front → after ≡ answers ++ a ∷ [] → AnswersCall id (1 + length answers) a
     → IsSession same more (record { id = id; answers = after; known = longer })
-session_more id parts same amount more claim longer answers after a s part one p claimed items is = record {
+session_more id parts same amount more known longer answers after a s part one p among items is = record {
   id_below = s.id_below;
   part = part ∙ s.part;
   counted = one ∙ (ap (λ n. n + 1) s.counted ∙ sym (ap length items ∙ length-append answers (a ∷ [])));
-  claimed = subst (λ l. AreAmong longer l) (sym items) (All-push (λ (x : DoneView). Contains longer x.front) answers a (among_longer claim longer answers p s.claimed) claimed);
+  answers_known = subst (λ l. AreAmong longer l) (sym items) (All-push (λ (x : DoneView). Contains longer x.front) answers a (among_longer known longer answers p s.answers_known) among);
   numbered = subst (λ l. AreAnswers id 1 l) (sym items) (answers_last id 1 answers a s.numbered is);
 }
 
@@ -52,18 +52,18 @@ answer_is id number h front e a is session number_is same event = record {
   last = (h.events, ap (λ (s : Story). s.events) (same ∙ is) ∙ ap (λ (x : Event). h.events ++ x ∷ []) (sym event));
 }
 
--- a claim of the whole log has its last front
-pub logged_last : (log longer claim : List Story) (front f : Story) → longer ≡ log ++ front ∷ [] → claim ≡ longer → f ≡ front → Contains claim f
-logged_last log longer claim front f adds is same = subst (λ l. Contains l f) (sym (is ∙ adds ∙ ap (λ (x : Story). log ++ x ∷ []) (sym same))) (Contains-push log f)
+-- the whole log as a known prefix has its last front
+pub logged_last : (log longer known : List Story) (front f : Story) → longer ≡ log ++ front ∷ [] → known ≡ longer → f ≡ front → Contains known f
+logged_last log longer known front f adds is same = subst (λ l. Contains l f) (sym (is ∙ adds ∙ ap (λ (x : Story). log ++ x ∷ []) (sym same))) (Contains-push log f)
 
--- the session after its claim is renewed
+-- the session after its known prefix is renewed
 pub session_renewed : (parts amount : ℕ) (log longer : List Story) (j : Journal) → IsSession parts amount j → IsPrefix j.known log → longer ≡ log
     → IsSession parts amount (record { id = j.id; answers = j.answers; known = longer })
 session_renewed parts amount log longer j s p is = record {
   id_below = s.id_below;
   part = s.part;
   counted = s.counted;
-  claimed = subst (λ l. AreAmong l j.answers) (sym is) (among_longer j.known log j.answers p s.claimed);
+  answers_known = subst (λ l. AreAmong l j.answers) (sym is) (among_longer j.known log j.answers p s.answers_known);
   numbered = s.numbered;
 }
 

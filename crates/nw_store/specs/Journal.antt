@@ -1,6 +1,6 @@
 -- The names of a store, and the origin of its histories.
 use Rattle.std.specs.Prelude.{ℕ, []}
-use Rattle.nw_claims.specs.Claims.{LogId}
+use Rattle.nw_log.specs.Log.{LogId}
 use Rattle.nw_history.specs.Story.{Origin, first_origin}
 pub use Rattle.nw_book.specs.Journal.{origin_of}
 

@@ -43,6 +43,6 @@ pub record IsSession (parts amount : ℕ) (j : Journal) : Type 0 where
   -- this part counts the session's answers
   pub counted : amount ≡ length j.answers
   -- the session knows of the front of each of its answers
-  pub claimed : AreAmong j.known j.answers
+  pub answers_known : AreAmong j.known j.answers
   -- the answers are to the session's calls, numbered from 1
   pub numbered : AreAnswers j.id 1 j.answers

@@ -100,8 +100,8 @@ fn may_call<S: Scheme, L: Home>(
     ensures session { session.new ≡ session.old }
 {
     let number = locked
-        .tally
-        .next_number(&mut session.pass, session.journal.len());
+        .count
+        .next_number(&mut session.token, session.journal.len());
     locked.book.may_step(session.id, number, under)?;
     Ok(number)
 }
@@ -130,7 +130,7 @@ fn take_call<S: Scheme, L: Home>(
 {
     session.journal.reserve(1)?;
     let (done, kept) = locked.book.take_step(alloc, session.id, number, call)?;
-    locked.tally.add_call(&mut session.pass, kept.front());
+    locked.count.add_call(&mut session.token, kept.front());
     session.journal.push_reserved(kept);
     Ok(done)
 }
@@ -158,7 +158,7 @@ fn take_open<S: Scheme, L: Home>(
 {
     session.journal.reserve(1)?;
     let (answer, kept) = locked.book.take_open(alloc, session.id, number, digest)?;
-    locked.tally.add_call(&mut session.pass, kept.front());
+    locked.count.add_call(&mut session.token, kept.front());
     session.journal.push_reserved(kept);
     Ok(answer)
 }

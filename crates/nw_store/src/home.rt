@@ -1,5 +1,5 @@
 //! Names of stores.
-use nw_claims::LogName;
+use nw_log::LogName;
 use std::marker::Brand;
 
 /// The name of one store: its log, its ledger and the origin of its history. It keeps values of two stores apart.

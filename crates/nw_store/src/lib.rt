@@ -6,7 +6,7 @@
 //! The methods of [`Store`] wait for the lock. The functions whose names end in `_locked` are for callers that hold the lock. They do not
 //! wait, but no clause bounds their running time. When all sessions are given back, the history is an interleaving of their journals.
 //!
-//! The crate uses `nw_book` for steps, `nw_claims` for what sessions know of the history, and std's ledger to count their calls.
+//! The crate uses `nw_book` for steps, `nw_log` for what sessions know of the history, and std's ledger to count their calls.
 #![tactic(auto)]
 
 mod calls;

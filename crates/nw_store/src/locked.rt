@@ -13,8 +13,8 @@ use crate::opening::Opening;
 use crate::session::Session;
 use crate::{Home, TooMany};
 use nw_book::{Book, Front, History};
-use nw_claims::{Claim, Keeper};
 use nw_digest::{NoMemory, Round};
+use nw_log::{KnownPrefix, LogOwner};
 use nw_model::Look;
 use nw_sig::Scheme;
 use std::alloc::Global;
@@ -24,47 +24,47 @@ use std::sync::ledger::Share;
 
 /// What the store knows of all its sessions: the number of their calls, and the log of the fronts that it handed out.
 #[derive(Drop)]
-pub(crate) struct Tally<S: Scheme, L: Home> {
+pub(crate) struct CallCount<S: Scheme, L: Home> {
     pub(crate) calls: ledger::Book<L>,
-    pub(crate) keeper: Keeper<Front<S>, L>,
+    pub(crate) owner: LogOwner<Front<S>, L>,
 }
 
-/// What a session carries outside the lock: its part of the ledger, and a claim of the log. The claim has the fronts that the store had
-/// handed out when the session was made, was last answered or last heard a note. A pass takes no bytes at run time.
+/// What a session carries outside the lock: its part of the ledger, and a known prefix of the log. The prefix has the fronts that the store
+/// had handed out when the session was made, was last answered or last heard a note. A token takes no bytes at run time.
 #[derive(Drop)]
-pub(crate) struct Pass<S: Scheme, L: Home> {
+pub(crate) struct Token<S: Scheme, L: Home> {
     pub(crate) share: Share<L>,
-    pub(crate) claim: Claim<Front<S>, L>,
+    pub(crate) known: KnownPrefix<Front<S>, L>,
 }
 
-impl<S: Scheme, L: Home> Tally<S, L> {
+impl<S: Scheme, L: Home> CallCount<S, L> {
     /// Counts one more call of the session, and adds the front of its answer to the log.
-    pub(crate) fn add_call(&mut self, pass: &mut Pass<S, L>, front: &Front<S>)
-        requires { 0 < pass.old.share.parts }
+    pub(crate) fn add_call(&mut self, token: &mut Token<S, L>, front: &Front<S>)
+        requires { 0 < token.old.share.parts }
         ensures counted { self.new.calls.total ≡ self.old.calls.total + 1 }
-        ensures logged { self.new.keeper ≡ self.old.keeper ++ front.now ∷ [] }
-        ensures parts { pass.new.share.parts ≡ pass.old.share.parts }
-        ensures amount { pass.new.share.amount ≡ pass.old.share.amount + 1 }
-        ensures begins { IsPrefix pass.old.claim self.new.keeper }
-        ensures claim { pass.new.claim ≡ self.new.keeper }
+        ensures logged { self.new.owner ≡ self.old.owner ++ front.now ∷ [] }
+        ensures parts { token.new.share.parts ≡ token.old.share.parts }
+        ensures amount { token.new.share.amount ≡ token.old.share.amount + 1 }
+        ensures begins { IsPrefix token.old.known self.new.owner }
+        ensures known { token.new.known ≡ self.new.owner }
     {
-        self.calls.add(&mut pass.share, 1);
-        self.keeper.append(front);
-        self.keeper.renew(&mut pass.claim);
+        self.calls.add(&mut token.share, 1);
+        self.owner.append(front);
+        self.owner.renew(&mut token.known);
     }
 
     /// The number of the session's next call. It fits, since a session has at most as many calls as the history has events.
-    pub(crate) fn next_number(&mut self, pass: &mut Pass<S, L>, calls: usize) -> u32
-        requires counted { pass.old.share.amount ≡ calls }
+    pub(crate) fn next_number(&mut self, token: &mut Token<S, L>, calls: usize) -> u32
+        requires counted { token.old.share.amount ≡ calls }
         requires few { self.old.calls.total ≤ most_events }
         ensures number { result ≡ calls + 1 }
         ensures total { self.new.calls.total ≡ self.old.calls.total }
-        ensures keeper { self.new.keeper ≡ self.old.keeper }
-        ensures parts { pass.new.share.parts ≡ pass.old.share.parts }
-        ensures amount { pass.new.share.amount ≡ pass.old.share.amount }
-        ensures claim { pass.new.claim ≡ pass.old.claim }
+        ensures owner { self.new.owner ≡ self.old.owner }
+        ensures parts { token.new.share.parts ≡ token.old.share.parts }
+        ensures amount { token.new.share.amount ≡ token.old.share.amount }
+        ensures known { token.new.known ≡ token.old.known }
     {
-        self.calls.audit(&mut pass.share);
+        self.calls.audit(&mut token.share);
         calls as u32 + 1
     }
 }
@@ -75,7 +75,7 @@ pub struct Locked<S: Scheme, L: Home> {
     pub(crate) book: Book<S>,
     /// The number of sessions made so far.
     pub(crate) made: u16,
-    pub(crate) tally: Tally<S, L>,
+    pub(crate) count: CallCount<S, L>,
     /// The parts of the ledger that no session has.
     pub(crate) spare: Share<L>,
 }
@@ -94,8 +94,8 @@ impl<S: Scheme, L: Home> Model for Locked<S, L> {
     ghost view = { λ l. record { history = l.book; made = l.made } };
 
     ghost invariant = { λ l. (L.parts ≡ parts_of_a_ledger)
-        × IsLockInvariant S.accepts (record { history = l.book; made = l.made }) l.tally.calls.total
-        l.spare.parts l.spare.amount l.tally.keeper × (origin_of l.book ≡ L.origin) };
+        × IsLockInvariant S.accepts (record { history = l.book; made = l.made }) l.count.calls.total
+        l.spare.parts l.spare.amount l.count.owner × (origin_of l.book ≡ L.origin) };
 }
 
 impl<S: Scheme, L: Home> Locked<S, L> {
@@ -111,11 +111,11 @@ impl<S: Scheme, L: Home> Locked<S, L> {
     {
         let Opening { log, blank } = opening;
         let (calls, spare) = blank.open::<L>();
-        let keeper = log.keeper::<L>();
+        let owner = log.owner::<L>();
         Locked {
             book,
             made: 0,
-            tally: Tally { calls, keeper },
+            count: CallCount { calls, owner },
             spare,
         }
     }
@@ -165,9 +165,9 @@ pub fn session_locked<S: Scheme, L: Home>(
     Ok(Session {
         id,
         journal: Vec::new(alloc),
-        pass: Pass {
+        token: Token {
             share: locked.spare.split_off(1, 0),
-            claim: locked.tally.keeper.claim(),
+            known: locked.count.owner.known(),
         },
     })
 }
@@ -208,7 +208,7 @@ pub fn check_journal_locked<S: Scheme, L: Home>(
     ensures same { locked.new ≡ locked.old }
     ensures session { session.new ≡ session.old }
 {
-    locked.tally.keeper.check_in_place(&mut session.pass.claim);
+    locked.count.owner.check_in_place(&mut session.token.known);
 }
 
 /// Proves that of any two answers of the two sessions, one's front is a prefix of the other's. It changes nothing and compares no

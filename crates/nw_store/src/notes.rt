@@ -5,7 +5,7 @@ ghost use Rattle.nw_book.specs.Laws.{NotesCarryOrder};
 
 use crate::{Home, Locked, Session};
 use nw_book::Front;
-use nw_claims::Claim;
+use nw_log::KnownPrefix;
 use nw_sig::Scheme;
 use std::marker::Model;
 
@@ -15,7 +15,7 @@ use std::marker::Model;
 /// A note takes no bytes, and may be sent to another thread. `L` names its store. A note may be dropped without being heard.
 #[derive(Drop)]
 pub struct Note<S: Scheme, L: Home> {
-    claim: Claim<Front<S>, L>,
+    known: KnownPrefix<Front<S>, L>,
 }
 
 impl<S: Scheme, L: Home> Model for Note<S, L> {
@@ -28,7 +28,7 @@ impl<S: Scheme, L: Home> Model for Note<S, L> {
 
     ghost coded = { Prim.hlevel (codes, coded_state) };
 
-    ghost view = { λ n. n.claim };
+    ghost view = { λ n. n.known };
 }
 
 /// Takes a note of all histories that the session knows of, for a caller that holds the lock. It changes nothing and compares no
@@ -41,9 +41,9 @@ pub fn note_locked<S: Scheme, L: Home>(
     ensures same { locked.new ≡ locked.old }
     ensures session { session.new ≡ session.old }
 {
-    locked.tally.keeper.check_in_place(&mut session.pass.claim);
+    locked.count.owner.check_in_place(&mut session.token.known);
     Note {
-        claim: locked.tally.keeper.claim(),
+        known: locked.count.owner.known(),
     }
 }
 
@@ -60,8 +60,8 @@ pub fn hear_locked<S: Scheme, L: Home>(
     ensures answers { session.new.answers ≡ session.old.answers }
     ensures same { locked.new ≡ locked.old }
 {
-    locked.tally.keeper.check(note.claim);
-    locked.tally.keeper.renew(&mut session.pass.claim);
+    locked.count.owner.check(note.known);
+    locked.count.owner.renew(&mut session.token.known);
 }
 
 /// The law of notes. Suppose that a session got an answer, a note was then taken of what it knew, and another session heard the

@@ -1,8 +1,8 @@
 //! The log and the ledger that a store is opened with.
 
 use nw_book::{Front, MAX_SESSIONS};
-use nw_claims::NewLog;
 use nw_digest::NoMemory;
+use nw_log::NewLog;
 use nw_sig::Scheme;
 use std::alloc::Global;
 use std::marker::Model;

@@ -3,7 +3,7 @@ ghost use Rattle.std.specs.Prelude.{◌≡◌, ◌<◌, length};
 ghost use Rattle.nw_history.specs.Limits.{most_sessions};
 
 use crate::Home;
-use crate::locked::Pass;
+use crate::locked::Token;
 use nw_book::Entry;
 use nw_sig::Scheme;
 use std::marker::Model;
@@ -18,7 +18,7 @@ use std::marker::Model;
 pub struct Session<S: Scheme, L: Home> {
     pub(crate) id: u16,
     pub(crate) journal: Vec<Entry<S>>,
-    pub(crate) pass: Pass<S, L>,
+    pub(crate) token: Token<S, L>,
 }
 
 impl<S: Scheme, L: Home> Model for Session<S, L> {
@@ -32,10 +32,10 @@ impl<S: Scheme, L: Home> Model for Session<S, L> {
     ghost coded = { Prim.hlevel (codes, coded_state) };
 
     ghost view = { λ s.
-        record { id = s.id; answers = s.journal.items; known = s.pass.claim } };
+        record { id = s.id; answers = s.journal.items; known = s.token.known } };
 
-    ghost invariant = { λ s. IsSession s.pass.share.parts s.pass.share.amount
-        (record { id = s.id; answers = s.journal.items; known = s.pass.claim }) };
+    ghost invariant = { λ s. IsSession s.token.share.parts s.token.share.amount
+        (record { id = s.id; answers = s.journal.items; known = s.token.known }) };
 }
 
 impl<S: Scheme, L: Home> Session<S, L> {

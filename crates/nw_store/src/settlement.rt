@@ -129,7 +129,7 @@ fn settle_in_place<S: Scheme, L: Home>(
     if given < usize::from(made) {
         return Err(SettleFault::Unfinished { made, given });
     }
-    add_up(&mut locked.tally.calls, sessions, &mut locked.spare);
+    add_up(&mut locked.count.calls, sessions, &mut locked.spare);
     check_all_journals(locked, sessions);
     if let Some(session) = first_stray(sessions, made) {
         return Err(SettleFault::Differs { session, number: 0 });
@@ -204,9 +204,9 @@ fn add_up<S: Scheme, L: Home>(
         None => calls.audit(gathered),
         Some((first, rest)) => {
             let made = first.journal.len() as u64;
-            first.pass.share.give(gathered, 1, made);
+            first.token.share.give(gathered, 1, made);
             add_up(calls, rest, gathered);
-            gathered.give(&mut first.pass.share, 1, made);
+            gathered.give(&mut first.token.share, 1, made);
         }
     }
 }

@@ -6,17 +6,13 @@ ghost use Rattle.nw_store.specs.Journal.{origin_of};
 ghost use Rattle.nw_store.specs.Lock.{parts_of_a_ledger};
 
 use super::asking::Ask;
-use super::chains::Link;
+use super::chains::{Link, link_over};
 use super::late::{CERTIFIED, STORED};
-use super::scripts::{Row, opened_by};
+use super::scripts::{Row, play_script};
 use super::tasks::Crew;
 use super::*;
 use nw_causal::agree;
-use nw_check::check_cert;
-use nw_codec::{Certificate, Seal};
 use nw_committee::Member;
-use nw_digest::{Round, Sequence};
-use nw_sig::{DemoSigner, Signer, text_of_vote};
 use nw_store::{Agreement, NoMemory, Opening, View};
 use std::marker::Brand;
 
@@ -47,59 +43,16 @@ fn four(alloc: Global, is_weighted: bool) -> Result<Shared<Committee>, Fail> {
     Ok(Shared::new(alloc, Committee::weighted(members)?)?)
 }
 
-/// The certificate for this digest and slot, with the votes of members 0, 1 and 2.
-fn certificate_of(
-    alloc: Global,
-    under: &Shared<Committee>,
-    digest: Digest,
-    round: Round,
-    author: u16,
-) -> Result<CheckedCert<DemoScheme>, Fail> {
-    let text = text_of_vote(&digest, round, author);
-    let mut votes = Vec::new(alloc);
-    for signer in 0..3 {
-        let key = *under.get().key(signer).ok_or("there are four members")?;
-        let signature = DemoSigner::new(key).sign(&text);
-        votes.push(Seal { signer, signature })?;
-    }
-    let certificate = Certificate {
-        digest,
-        round,
-        author,
-        votes: Sequence::new(votes),
-    };
-    if !certificate.fits() {
-        return Err(Fail::from("the certificate breaks a limit"));
-    }
-    Ok(check_cert(alloc, under, certificate)?)
-}
-
-/// The author's block of the round with these parents, and its certificate.
-fn link_of(
-    alloc: Global,
-    under: &Shared<Committee>,
-    author: u16,
-    round: u64,
-    parents: &[Digest],
-) -> Result<Link, Fail> {
-    let block = block(alloc, under, author, round, parents)?;
-    let (digest, round) = (block.digest(), block.block().get().round);
-    Ok(Link {
-        block,
-        certificate: certificate_of(alloc, under, digest, round, author)?,
-    })
-}
-
 /// The four blocks of `RUN`, with their certificates.
 fn links_of(alloc: Global, under: &Shared<Committee>) -> Result<Vec<Link>, Fail> {
     let mut links = Vec::new(alloc);
     let mut parents = Vec::new(alloc);
     for author in 0..3 {
-        let link = link_of(alloc, under, author, 0, &[])?;
+        let link = link_over(alloc, under, author, 0, &[])?;
         parents.push(link.block.digest())?;
         links.push(link)?;
     }
-    links.push(link_of(alloc, under, 0, 1, &parents)?)?;
+    links.push(link_over(alloc, under, 0, 1, &parents)?)?;
     Ok(links)
 }
 
@@ -110,9 +63,9 @@ fn opened_of<L: Home, R: Wait>(
     store: &Store<DemoScheme, L>,
     crew: &Crew,
 ) -> Result<Ticket<DemoScheme>, Fail> {
-    let mut session = store.session(rt, alloc)?;
-    let opened = opened_by(rt, alloc, store, &mut session, crew, &RUN);
-    drop(session);
+    let mut sessions = vec![in alloc; store.session(rt, alloc)?]?;
+    let opened = play_script(rt, alloc, store, sessions.as_mut_slice(), crew, &RUN);
+    drop(sessions);
     Ok(opened?.ok_or("a ticket is opened")?)
 }
 

@@ -28,17 +28,6 @@ pub(super) enum Ask {
     Reach(Point),
 }
 
-impl Ask {
-    /// Whether it is a call, for which the history gets an event.
-    pub(super) fn is_call(&self) -> bool {
-        match self {
-            Ask::Write | Ask::Certify | Ask::Certificate | Ask::Read | Ask::Open => true,
-            Ask::Collect | Ask::Missing | Ask::Status => true,
-            Ask::Walk | Ask::Parts | Ask::Compact | Ask::Start(_) | Ask::Reach(_) => false,
-        }
-    }
-}
-
 /// The number of wanted parents that `Missing` asks for.
 pub(super) const MOST: u16 = 3;
 
@@ -83,15 +72,7 @@ fn open<L: Home, R: Wait>(
     }
 }
 
-/// The list of the ticket, or `Ready` if there is no ticket.
-fn walk(alloc: Global, ticket: &Option<Ticket<DemoScheme>>) -> Result<Reply, NoStep> {
-    match ticket {
-        Some(ticket) => Ok(Reply::List(Sequence::new(ticket.walk(alloc)?))),
-        None => Ok(Reply::Ready),
-    }
-}
-
-/// The reply to what the session asks. Keeps the last ticket.
+/// The reply to what the session asks. Keeps the last ticket. A walk without a ticket has the reply `Ready`.
 pub(super) fn reply_to<L: Home, R: Wait>(
     rt: &R,
     alloc: Global,
@@ -103,7 +84,10 @@ pub(super) fn reply_to<L: Home, R: Wait>(
 ) -> Result<Reply, NoStep> {
     match asked {
         Ask::Open => open(rt, alloc, store, session, link, ticket),
-        Ask::Walk => walk(alloc, ticket),
+        Ask::Walk => match ticket {
+            Some(ticket) => Ok(Reply::List(Sequence::new(ticket.walk(alloc)?))),
+            None => Ok(Reply::Ready),
+        },
         _ => Ok(
             call(rt, alloc, store, session, link, asked)?
                 .reply()

@@ -6,6 +6,7 @@ use super::scenes::{Scene, played};
 use super::scripts::Row;
 use super::tasks::{Crew, work};
 use super::*;
+use std::sync::atomic::Ordering::SeqCst;
 use std::thread::{Threads, for_each_mut};
 
 /// Does each task of the crew in its own thread, with the session at the same place.
@@ -40,7 +41,7 @@ pub(super) fn worked<R: Threads + Wait + Sync>(
     let crew = Crew::new(chain(alloc, rounds)?, tasks.to_vec(alloc)?, limits);
     let book = book(alloc, 1, limits)?;
     let seen = played(rt, alloc, book, &Scene::Crowd(sessions, before, &crew))?;
-    let agreeing = crew.agreeing();
+    let agreeing = crew.agreeing.load(SeqCst);
     drop(crew);
     Ok((seen.events, seen.recorded, agreeing))
 }

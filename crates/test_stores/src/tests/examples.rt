@@ -55,7 +55,7 @@ const DIALOGUE: [Row; 12] = [
 fn a_journal_has_each_call_and_its_reply(rt: HostRuntime) -> Result<(), Fail> {
     let alloc = rt.alloc();
     let mut links = chain(alloc, 1)?;
-    links.push(link_over(alloc, &committee(alloc, 1)?, 1, &[PARENT])?)?;
+    links.push(link_over(alloc, &committee(alloc, 1)?, 0, 1, &[PARENT])?)?;
     let seen = asked(&rt, alloc, (1, limits_of(1)), links, &DIALOGUE)?;
     assert_eq!(rt; (seen.events, seen.recorded), (12, 12));
     Ok(())
@@ -116,7 +116,7 @@ const SHORT: Limits = Limits {
 fn a_refused_call_can_be_followed_by_others(rt: HostRuntime) -> Result<(), Fail> {
     let alloc = rt.alloc();
     for (members, rows) in [(1, REFUSED.as_slice()), (4, TAKEN.as_slice())] {
-        let links = vec![in alloc; link_over(alloc, &committee(alloc, 4)?, 0, &[])?]?;
+        let links = vec![in alloc; link_over(alloc, &committee(alloc, 4)?, 0, 0, &[])?]?;
         let seen = asked(&rt, alloc, (members, SHORT), links, rows)?;
         assert_eq!(rt; (seen.events, seen.recorded), (1, 1), "{members}");
     }

@@ -14,20 +14,21 @@ use std::thread::Threads;
 /// A session that its thread returned, and the number of blocks for which the thread got the expected replies.
 type Worked<L> = (Session<DemoScheme, L>, usize);
 
-/// Writes and certifies the block. Returns whether it is certified.
-fn is_certified<L: Home, R: Wait>(
+/// Asks both of these about the block. Returns the reply to the second.
+fn asked_both<L: Home, R: Wait>(
     rt: &R,
     alloc: Global,
     store: &Store<DemoScheme, L>,
     session: &mut Session<DemoScheme, L>,
     link: &Link,
-) -> Result<bool, NoStep> {
+    [one, other]: [Ask; 2],
+) -> Result<Reply, NoStep> {
     let mut ticket = None;
-    let written = reply_to(rt, alloc, store, session, link, &mut ticket, &Ask::Write);
-    let certified = reply_to(rt, alloc, store, session, link, &mut ticket, &Ask::Certify);
+    let first = reply_to(rt, alloc, store, session, link, &mut ticket, &one);
+    let second = reply_to(rt, alloc, store, session, link, &mut ticket, &other);
     drop(ticket);
-    drop(written?);
-    Ok(matches!(&certified?, Reply::Certify(CertifyReply::Certified)))
+    drop(first?);
+    second
 }
 
 /// Writes and certifies each block, and sends a note after each. Returns the session and the number of notes sent.
@@ -41,7 +42,15 @@ fn write_all<L: Home, R: Wait>(
 ) -> Worked<L> {
     let mut sent = 0usize;
     for link in links {
-        if matches!(is_certified(rt, alloc, store, &mut session, link), Ok(true)) {
+        let certified = asked_both(
+            rt,
+            alloc,
+            store,
+            &mut session,
+            link,
+            [Ask::Write, Ask::Certify],
+        );
+        if matches!(certified, Ok(Reply::Certify(CertifyReply::Certified))) {
             let note = store.note(rt, &mut session);
             if notes.send(rt, note).is_ok() {
                 sent = sent.saturating_add(1);
@@ -50,23 +59,6 @@ fn write_all<L: Home, R: Wait>(
     }
     drop(notes);
     (session, sent)
-}
-
-/// Opens a causal read of the block, and walks it. Returns whether the walk lists the chain up to the block.
-fn is_walked<L: Home, R: Wait>(
-    rt: &R,
-    alloc: Global,
-    store: &Store<DemoScheme, L>,
-    session: &mut Session<DemoScheme, L>,
-    link: &Link,
-) -> Result<bool, NoStep> {
-    let mut ticket = None;
-    let opened = reply_to(rt, alloc, store, session, link, &mut ticket, &Ask::Open);
-    let listed = reply_to(rt, alloc, store, session, link, &mut ticket, &Ask::Walk);
-    drop(ticket);
-    drop(opened?);
-    let last = link.block.block().get().round.get();
-    Ok(matches!(&listed?, Reply::List(list) if is_chain(list.as_slice(), last)))
 }
 
 /// Whether the blocks have the rounds from 0 to the last one, in order.
@@ -93,7 +85,9 @@ fn walk_all<L: Home, R: Wait>(
     for link in links {
         if let Ok(note) = notes.recv(rt) {
             store.hear(rt, &mut session, note);
-            if matches!(is_walked(rt, alloc, store, &mut session, link), Ok(true)) {
+            let listed = asked_both(rt, alloc, store, &mut session, link, [Ask::Open, Ask::Walk]);
+            let last = link.block.block().get().round.get();
+            if matches!(&listed, Ok(Reply::List(list)) if is_chain(list.as_slice(), last)) {
                 heard = heard.saturating_add(1);
             }
         }

@@ -132,21 +132,17 @@ pub(super) fn measured(journal: &[Entry<DemoScheme>]) -> [(usize, usize); 4] {
     })
 }
 
-/// Whether the front has the right number of parts for its length.
-fn has_parts(front: &History<DemoScheme>) -> bool {
-    let (length, parts) = (front.len(), front.parts());
-    parts == length / 256 + length % 256
-}
-
 /// Whether the front of each entry ends with the session's call at that place. The front must have one part for each full chunk of 256
 /// events and one for each later event, because no front copies the events of a full chunk.
 pub(super) fn are_fronts(journal: &[Entry<DemoScheme>], session: u16) -> bool {
     for (answer, number) in journal.iter().zip(1u32..) {
-        let Some(last) = answer.front().last() else {
+        let (front, length) = (answer.front(), answer.front().len());
+        let Some(last) = front.last() else {
             return false;
         };
         let is_own = last.session == session && last.number == number;
-        if !is_own || !last.call.is_same(answer.call()) || !has_parts(answer.front()) {
+        let has_parts = front.parts() == length / 256 + length % 256;
+        if !is_own || !last.call.is_same(answer.call()) || !has_parts {
             return false;
         }
     }

@@ -37,7 +37,7 @@ impl Scene<'_> {
     /// The blocks of the scene.
     pub(super) fn links(&self) -> &[Link] {
         match self {
-            Scene::Script(_, _, crew) | Scene::Crowd(_, _, crew) => crew.links(),
+            Scene::Script(_, _, crew) | Scene::Crowd(_, _, crew) => &crew.links,
             Scene::Notes(links) => links,
         }
     }
@@ -74,13 +74,14 @@ fn perform<L: Home, R: Threads + Wait + Sync>(
     match scene {
         Scene::Crowd(count, before, crew) => {
             make_sessions(rt, alloc, store, sessions, *count)?;
-            play_script(rt, alloc, store, sessions.as_mut_slice(), crew, before)?;
+            drop(play_script(rt, alloc, store, sessions.as_mut_slice(), crew, before)?);
             in_threads(rt, alloc, store, sessions.as_mut_slice(), crew);
             Ok(())
         }
         Scene::Script(count, rows, crew) => {
             make_sessions(rt, alloc, store, sessions, *count)?;
-            play_script(rt, alloc, store, sessions.as_mut_slice(), crew, rows)
+            drop(play_script(rt, alloc, store, sessions.as_mut_slice(), crew, rows)?);
+            Ok(())
         }
         Scene::Notes(links) => {
             make_sessions(rt, alloc, store, sessions, 2)?;

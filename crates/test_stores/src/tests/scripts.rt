@@ -23,24 +23,17 @@ pub(super) const PARENT: Digest = Digest([7; 32]);
 impl Row {
     /// Whether the session's journal records it: it is a call that is not refused.
     pub(super) fn is_recorded(&self) -> bool {
-        self.2.is_call() && !self.3.starts_with(REFUSED)
+        match self.2 {
+            Ask::Walk | Ask::Parts | Ask::Compact | Ask::Start(_) | Ask::Reach(_) => false,
+            _ => !self.3.starts_with(REFUSED),
+        }
     }
 }
 
 /// The beginning of a refusal's text.
 const REFUSED: &str = "refused ";
 
-/// The place of the block among the links, or their number if none has it.
-fn place_of(block: &Block, links: &[Link]) -> usize {
-    for (place, link) in links.iter().enumerate() {
-        if link.block.block().get() == block {
-            return place;
-        }
-    }
-    links.len()
-}
-
-/// The places of the blocks among the links.
+/// The places of the blocks among the links. A block that no link has is at the place after the last.
 fn places_of(
     alloc: Global,
     blocks: &[Shared<Block>],
@@ -48,24 +41,17 @@ fn places_of(
 ) -> Result<Vec<usize>, NoMemory> {
     let mut places = Vec::new(alloc);
     for block in blocks {
-        places.push(place_of(block.get(), links))?;
+        let place = links
+            .iter()
+            .position(|link: &Link| link.block.block().get() == block.get());
+        places.push(place.unwrap_or(links.len()))?;
     }
     Ok(places)
 }
 
-/// The text of wanted parents: for a single one, its round, its author, and whether it is `PARENT`; otherwise their number.
-fn missing(alloc: Global, wanted: &[Wanted]) -> Result<String, NoMemory> {
-    match wanted {
-        [only] => {
-            let is_it = only.digest == PARENT;
-            Ok(format!(in alloc; "Missing({}, {}, {is_it})", only.round.get(), only.author)?)
-        }
-        _ => Ok(format!(in alloc; "Missing({})", wanted.len())?),
-    }
-}
-
 /// The text of the reply. For a block or certificate it says whether it is that of the link, and for a list it has the places of the blocks
-/// among the links.
+/// among the links. For a single wanted parent it has its round, its author, and whether it is `PARENT`; otherwise the number of wanted
+/// parents.
 pub(super) fn text_of(
     alloc: Global,
     reply: &Reply,
@@ -85,42 +71,19 @@ pub(super) fn text_of(
             let places = places_of(alloc, blocks.as_slice(), links)?;
             Ok(format!(in alloc; "List({places:?})")?)
         }
-        Reply::Missing(wanted) => missing(alloc, wanted.as_slice()),
+        Reply::Missing(wanted) => match wanted.as_slice() {
+            [only] => {
+                let is_it = only.digest == PARENT;
+                Ok(format!(in alloc; "Missing({}, {}, {is_it})", only.round.get(), only.author)?)
+            }
+            others => Ok(format!(in alloc; "Missing({})", others.len())?),
+        },
         reply => Ok(format!(in alloc; "{reply:?}")?),
     }
 }
 
-/// Whether the reply or the refusal has this text.
-fn has_text(
-    alloc: Global,
-    reply: &Result<Reply, NoStep>,
-    link: &Link,
-    links: &[Link],
-    expected: &str,
-) -> Result<bool, NoMemory> {
-    let text = match reply {
-        Ok(reply) => text_of(alloc, reply, link, links)?,
-        Err(refusal) => format!(in alloc; "refused {refusal:?}")?,
-    };
-    Ok(text.as_str() == expected)
-}
-
-/// Whether this text has the number of generations of the ticket's view.
-fn has_parts(
-    alloc: Global,
-    ticket: &Option<Ticket<DemoScheme>>,
-    expected: &str,
-) -> Result<bool, NoMemory> {
-    let parts = match ticket {
-        Some(ticket) => ticket.view().parts(),
-        None => 0,
-    };
-    let text = format!(in alloc; "Parts({parts})")?;
-    Ok(text.as_str() == expected)
-}
-
-/// Asks the row. Returns whether the reply is the expected one.
-fn is_answered<L: Home, R: Wait>(
+/// Asks the row. Returns the text of the reply or of the refusal. A request that is not a call has no text once it is done.
+fn asked<L: Home, R: Wait>(
     rt: &R,
     alloc: Global,
     store: &Store<DemoScheme, L>,
@@ -128,50 +91,37 @@ fn is_answered<L: Home, R: Wait>(
     crew: &Crew,
     ticket: &mut Option<Ticket<DemoScheme>>,
     row: &Row,
-) -> Result<bool, NoMemory> {
-    let Row(_, place, asked, expected) = row;
-    let Some(link) = crew.links().get(*place) else {
-        return Ok(false);
+) -> Result<String, NoMemory> {
+    let Some(link) = crew.links.get(row.1) else {
+        return Ok(format!(in alloc; "a row has no block")?);
     };
-    match asked {
-        Ask::Parts => has_parts(alloc, ticket, expected),
-        Ask::Compact => Ok(store.compact(rt, alloc).is_ok()),
-        Ask::Start(point) => Ok(crew.passes(*point)),
+    match &row.2 {
+        Ask::Parts => {
+            let parts = match ticket {
+                Some(ticket) => ticket.view().parts(),
+                None => 0,
+            };
+            Ok(format!(in alloc; "Parts({parts})")?)
+        }
+        Ask::Compact => {
+            store.compact(rt, alloc)?;
+            Ok(String::new(alloc))
+        }
+        Ask::Start(point) if !crew.passes(*point) => Ok(format!(in alloc; "a gate is shut")?),
+        Ask::Start(_) => Ok(String::new(alloc)),
         Ask::Reach(point) => {
             crew.reach(*point);
-            Ok(true)
+            Ok(String::new(alloc))
         }
-        _ => {
-            let reply = reply_to(rt, alloc, store, session, link, ticket, asked);
-            let has_text = has_text(alloc, &reply, link, crew.links(), expected);
-            drop(reply);
-            has_text
-        }
+        asked => match &reply_to(rt, alloc, store, session, link, ticket, asked) {
+            Ok(reply) => text_of(alloc, reply, link, &crew.links),
+            Err(refusal) => Ok(format!(in alloc; "refused {refusal:?}")?),
+        },
     }
 }
 
-/// Asks the rows in order, up to the first with another reply. The failure is the expected text of that row.
-fn ask_all<L: Home, R: Wait>(
-    rt: &R,
-    alloc: Global,
-    store: &Store<DemoScheme, L>,
-    sessions: &mut [Session<DemoScheme, L>],
-    crew: &Crew,
-    ticket: &mut Option<Ticket<DemoScheme>>,
-    rows: &[Row],
-) -> Result<(), Fail> {
-    for row in rows {
-        let Some(session) = sessions.get_mut(row.0) else {
-            return Err(Fail::from("a row has no session"));
-        };
-        if !is_answered(rt, alloc, store, session, crew, ticket, row)? {
-            return Err(Fail::from(row.3));
-        }
-    }
-    Ok(())
-}
-
-/// Does what `ask_all` does, and keeps the last ticket itself.
+/// Asks the rows in order, up to the first with another reply: the failure is the expected text of that row. Returns the last ticket, if
+/// there is one.
 pub(super) fn play_script<L: Home, R: Wait>(
     rt: &R,
     alloc: Global,
@@ -179,33 +129,20 @@ pub(super) fn play_script<L: Home, R: Wait>(
     sessions: &mut [Session<DemoScheme, L>],
     crew: &Crew,
     rows: &[Row],
-) -> Result<(), Fail> {
+) -> Result<Option<Ticket<DemoScheme>>, Fail> {
     let mut ticket = None;
-    let played = ask_all(rt, alloc, store, sessions, crew, &mut ticket, rows);
-    drop(ticket);
-    played
+    for row in rows {
+        let Some(session) = sessions.get_mut(row.0) else {
+            return Err(Fail::from("a row has no session"));
+        };
+        if asked(rt, alloc, store, session, crew, &mut ticket, row)?.as_str() != row.3 {
+            return Err(Fail::from(row.3));
+        }
+    }
+    Ok(ticket)
 }
 
 /// Asks the session's own rows in order, up to the first with another reply. Returns whether each gets the expected reply.
-fn ask_own<L: Home, R: Wait>(
-    rt: &R,
-    alloc: Global,
-    store: &Store<DemoScheme, L>,
-    session: &mut Session<DemoScheme, L>,
-    crew: &Crew,
-    ticket: &mut Option<Ticket<DemoScheme>>,
-    rows: &[Row],
-) -> Result<bool, NoMemory> {
-    let own = usize::from(session.id());
-    for row in rows {
-        if row.0 == own && !is_answered(rt, alloc, store, session, crew, ticket, row)? {
-            return Ok(false);
-        }
-    }
-    Ok(true)
-}
-
-/// Does what `ask_own` does, and keeps the last ticket itself.
 pub(super) fn play_own<L: Home, R: Wait>(
     rt: &R,
     alloc: Global,
@@ -213,30 +150,15 @@ pub(super) fn play_own<L: Home, R: Wait>(
     session: &mut Session<DemoScheme, L>,
     crew: &Crew,
     rows: &[Row],
-) -> Result<bool, NoMemory> {
+) -> bool {
     let mut ticket = None;
-    let played = ask_own(rt, alloc, store, session, crew, &mut ticket, rows);
-    drop(ticket);
-    played
-}
-
-/// Asks the session's own rows in order. Returns the last ticket, if there is one and each row gets the expected reply.
-pub(super) fn opened_by<L: Home, R: Wait>(
-    rt: &R,
-    alloc: Global,
-    store: &Store<DemoScheme, L>,
-    session: &mut Session<DemoScheme, L>,
-    crew: &Crew,
-    rows: &[Row],
-) -> Result<Option<Ticket<DemoScheme>>, NoMemory> {
-    let mut ticket = None;
-    let played = ask_own(rt, alloc, store, session, crew, &mut ticket, rows);
-    match played {
-        Ok(true) => Ok(ticket),
-        other => {
-            drop(ticket);
-            other?;
-            Ok(None)
+    for row in rows {
+        if row.0 == usize::from(session.id()) {
+            let text = asked(rt, alloc, store, session, crew, &mut ticket, row);
+            if !matches!(&text, Ok(text) if text.as_str() == row.3) {
+                return false;
+            }
         }
     }
+    true
 }

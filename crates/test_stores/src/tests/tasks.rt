@@ -18,7 +18,7 @@ const TRIES: u32 = 20;
 /// The blocks, the tasks of the sessions, and the counters that make sessions wait for each other.
 #[derive(Drop)]
 pub(super) struct Crew {
-    links: Vec<Link>,
+    pub(super) links: Vec<Link>,
     tasks: Vec<Task>,
     limits: Limits,
     /// The number of certified links, and of early reads that found no block.
@@ -28,7 +28,7 @@ pub(super) struct Crew {
     /// The number of writes that are done.
     writes: AtomicU64,
     /// The number of sessions that got only expected replies and walks.
-    agreeing: AtomicU64,
+    pub(super) agreeing: AtomicU64,
 }
 
 impl Crew {
@@ -45,19 +45,9 @@ impl Crew {
         }
     }
 
-    /// The blocks.
-    pub(super) fn links(&self) -> &[Link] {
-        &self.links
-    }
-
     /// The plan of the session at this place, or `None` if rows describe its task.
     pub(super) fn plan(&self, place: usize) -> Option<&'static Plan> {
         self.tasks.get(place)?.plan()
-    }
-
-    /// The number of sessions that got only expected replies and walks.
-    pub(super) fn agreeing(&self) -> u64 {
-        self.agreeing.load(SeqCst)
     }
 
     /// Counts a step, if this reply lets other sessions continue.
@@ -124,7 +114,7 @@ pub(super) fn work<L: Home, R: Wait>(
 ) {
     let is_done = match crew.plan(place) {
         Some(plan) => follows(rt, alloc, store, session, crew, plan),
-        None => matches!(play_own(rt, alloc, store, session, crew, &BESIDE), Ok(true)),
+        None => play_own(rt, alloc, store, session, crew, &BESIDE),
     };
     if is_done {
         crew.agreeing.fetch_add(1, SeqCst);

@@ -2,15 +2,15 @@ use Rattle.std.proofs.Common.{List, sym, subst}
 use Rattle.nw_history.specs.Story.{Story}
 use Rattle.nw_book.specs.Journal.{Guarded, Journal, ArePrefixesOf}
 use Rattle.nw_store.specs.Lock.{IsSession}
-use Rattle.nw_store.proofs.Begun.{begun_claimed}
+use Rattle.nw_store.proofs.Begun.{begun_answers}
 use Rattle.nw_store.proofs.locked.check_journal_locked.Goals as goal
 
 pub invariant_of-session : goal.invariant_of-session
 invariant_of-session g c =
     let s = c.session.inside in
-    subst (λ (l : List Story). IsSession s.pass.share.parts s.pass.share.amount (record { id = s.id; answers = s.journal.items; known = l })) (sym c.check_in_place.ensures.claim) c.session.invariant
+    subst (λ (l : List Story). IsSession s.token.share.parts s.token.share.amount (record { id = s.id; answers = s.journal.items; known = l })) (sym c.check_in_place.ensures.known) c.session.invariant
 
 pub returns-clause-begun : goal.returns-clause-begun
 returns-clause-begun g c =
-    let begun = begun_claimed c.locked.inside.book c.locked.inside.tally.keeper c.session.inside.pass.claim c.session.inside.journal.items c.locked.invariant.1.begun c.check_in_place.ensures.begins c.session.invariant.claimed in
+    let begun = begun_answers c.locked.inside.book c.locked.inside.count.owner c.session.inside.token.known c.session.inside.journal.items c.locked.invariant.1.begun c.check_in_place.ensures.begins c.session.invariant.answers_known in
     subst (λ (h : Guarded). ArePrefixesOf h.history c.args.session.now.answers) c.locked.view_is (subst (λ (j : Journal). ArePrefixesOf c.locked.inside.book j.answers) c.session.view_is begun)

@@ -10,4 +10,4 @@ invariant_of-locked g c =
     let made = c.from.ensures in
     let below = c.if-from-limits.false in
     let room : c.locked.inside.made < c.locked.inside.book.limits.sessions = omega (arith, history, limits, made, below) in
-    (c.locked.invariant.0, kept_made g.S.Scheme.accepts _ _ _ _ _ _ _ _ _ c.locked.invariant.1 room c.split_off.ensures.parts_left c.split_off.ensures.amount_left c.claim.ensures.same, c.locked.invariant.2)
+    (c.locked.invariant.0, kept_made g.S.Scheme.accepts _ _ _ _ _ _ _ _ _ c.locked.invariant.1 room c.split_off.ensures.parts_left c.split_off.ensures.amount_left c.known.ensures.same, c.locked.invariant.2)

@@ -1,8 +1,0 @@
-use Rattle.nw_claims.proofs.Claims.{may_show, may_check}
-use Rattle.nw_claims.proofs.log.Keeper.check.Goals as goal
-
-pub join_seat-requires : goal.join_seat-requires
-join_seat-requires g c = may_show _ _ c.self.invariant.0 c.self.inside.seat c.self.invariant.1 c.claim.inside.claimant c.claim.invariant
-
-pub load-requires : goal.load-requires
-load-requires g c = let shown = c.join_seat.ensures in may_check _ _ c.self.invariant.0 c.self.inside.seat c.self.invariant.1 c.claim.inside.claimant c.claim.invariant c.join_seat.new.seat shown.0 shown.2
