@@ -132,14 +132,17 @@ pub extern "C" fn nw_checked_message(
     if !checked.is_open() {
         return CLOSED;
     }
-    match checked.lend() {
-        Content::Checked(Checked::Block(checked), signature) => {
+    let Content::Checked(checked, signature) = checked.lend() else {
+        return OTHER_KIND;
+    };
+    match checked {
+        Checked::Block(checked) => {
             hand_out_block(alloc, checked.block().get(), signature, buffer, needed)
         }
-        Content::Checked(Checked::Cert(checked), _) => {
+        Checked::Cert(checked) => {
             hand_out_certificate(alloc, checked.certificate().get(), buffer, needed)
         }
-        Content::Checked(Checked::Vote(vote), _) => hand_out_vote(alloc, vote, buffer, needed),
+        Checked::Vote(vote) => hand_out_vote(alloc, vote, buffer, needed),
         _ => OTHER_KIND,
     }
 }
