@@ -1,5 +1,5 @@
 pub mod Looks
 pub mod AsBox
 pub mod Send
-mod Signed
+pub mod Signed
 pub mod Cut

@@ -148,6 +148,7 @@ pub extern "C" fn nw_checked_message(
 }
 
 /// The signature in the text of a block: its last 64 bytes. Zeros if the text is shorter.
+#[tactic(auto, using(crate::proofs::Signed::ends_with))]
 fn last_signature(text: &[u8]) -> Signature
     ensures { (b : Block) (signature : Signature) → Spells text.now (messages.Block b signature) → result ≡ signature }
 {

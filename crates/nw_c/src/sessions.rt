@@ -1,5 +1,5 @@
 //! Sessions of stores: their numbers, and handing in blocks and certificates.
-ghost use Rattle.std.specs.Prelude.{◌≡◌, pos, true};
+ghost use Rattle.std.specs.Prelude.{◌≡◌, ◌⊎◌, pos, true};
 ghost use Rattle.nw_ed25519.specs.Accepts.{accepts};
 ghost use Rattle.nw_book.specs.Command.{call_of, committee_of};
 ghost use Rattle.nw_shared_store.specs.declared.error.Refusal.{Refusal};
@@ -106,7 +106,7 @@ pub extern "C" fn nw_session_hand_in(
     ensures closed { result ≡ CLOSED → session.old.held ≡ true → checked.old.held ≡ true → answer.old.held ≡ true → ⊥ }
     ensures other_kind { result ≡ OTHER_KIND → CanBeHandedIn checked.old.value → HoldsSession session.old.value → HoldsRoom answer.old.value → ⊥ }
 {
-    if !session.is_open() || !checked.is_open() || !answer.is_open() {
+    if !checked.is_open() {
         return CLOSED;
     }
     let content: &Content = checked.lend();
@@ -119,6 +119,20 @@ pub extern "C" fn nw_session_hand_in(
             let certify = Command::Certify(certificate);
             call(alloc, session, answer, &certify)
         }
-        _ => OTHER_KIND,
+        _ => code_of_other_kind(session, answer),
+    }
+}
+
+/// The code of a call with a third handle of another kind: `CLOSED` if one of these two is closed, and otherwise `OTHER_KIND`.
+fn code_of_other_kind(session: &mut Handle, answer: &mut Handle) -> i32
+    ensures code { (result ≡ CLOSED) ⊎ (result ≡ OTHER_KIND) }
+    ensures same { IsUnchanged session.old session.new }
+    ensures answer { IsUnchanged answer.old answer.new }
+    ensures closed { result ≡ CLOSED → session.old.held ≡ true → answer.old.held ≡ true → ⊥ }
+{
+    if session.is_open() && answer.is_open() {
+        OTHER_KIND
+    } else {
+        CLOSED
     }
 }

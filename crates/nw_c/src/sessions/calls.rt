@@ -119,8 +119,11 @@ fn code_of_bad_round(session: &mut Handle, answer: &mut Handle) -> i32
     if !session.is_open() || !answer.is_open() {
         return CLOSED;
     }
+    if !is_room(answer.lend()) {
+        return OTHER_KIND;
+    }
     match session.lend() {
-        Content::Session(_) if is_room(answer.lend()) => BAD_ROUND,
+        Content::Session(_) => BAD_ROUND,
         _ => OTHER_KIND,
     }
 }
