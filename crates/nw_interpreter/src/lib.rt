@@ -10,6 +10,7 @@
 mod bindings;
 mod blocks;
 mod fault;
+mod looks;
 mod members;
 mod names;
 mod replies;

@@ -5,6 +5,7 @@ ghost use Rattle.nw_store.specs.Lock.{parts_of_a_ledger};
 
 use crate::books::Start;
 use nw_check::Checked;
+use nw_digest::Round;
 use nw_interpreter::{Bindings, LineFault, hash, refused};
 use nw_script::{Name, Request};
 use nw_sig::DemoScheme;
@@ -91,6 +92,8 @@ impl<L: Home> Player<L> {
                 self.call(rt, alloc, bindings, Some(*name), &command)
             }
             Request::Status => self.call(rt, alloc, bindings, None, &Command::Status),
+            Request::Look { round, author } => self.look(rt, alloc, bindings, *round, *author),
+            Request::LookRound(round) => self.look_round(rt, alloc, bindings, *round),
             Request::Causal(name) => self.open(rt, alloc, bindings, *name, *name, false),
             Request::Open { ticket, name } => {
                 self.open(rt, alloc, bindings, *ticket, *name, true)
@@ -188,6 +191,31 @@ impl<L: Home> Player<L> {
             Ok(Err(done)) => line_of(alloc, bindings, Some(printed_as), done),
             Err(refusal) => line_of_refusal(alloc, refusal),
         }
+    }
+
+    // Looks at the slot.
+    fn look<'a, R: Wait>(
+        &self,
+        rt: &R,
+        alloc: Global,
+        bindings: &Bindings<'a>,
+        round: Round,
+        author: u16,
+    ) -> Result<String, LineFault> {
+        let look = self.store.look(rt, round, author);
+        bindings.lines_of_looks(alloc, round, &[(author, look)])
+    }
+
+    // Looks at the round.
+    fn look_round<'a, R: Wait>(
+        &self,
+        rt: &R,
+        alloc: Global,
+        bindings: &Bindings<'a>,
+        round: Round,
+    ) -> Result<String, LineFault> {
+        let looks = self.store.look_round(rt, alloc, round)?;
+        bindings.lines_of_looks(alloc, round, &looks)
     }
 
     // Compacts the store.

@@ -92,6 +92,10 @@ pub enum Request<'a> {
     MissingOf(Name<'a>),
     /// `status`
     Status,
+    /// `look <round> <author>`
+    Look { round: Round, author: u16 },
+    /// `look-round <round>`
+    LookRound(Round),
     /// `compact`
     Compact,
     /// `session <id>`
@@ -155,6 +159,8 @@ fn read_request<'a>(
         b"missing" => Request::Missing(words.number_u16()?),
         b"missing-of" => Request::MissingOf(words.name()?),
         b"status" => Request::Status,
+        b"look" => look(words)?,
+        b"look-round" => Request::LookRound(words.round()?),
         b"compact" => Request::Compact,
         b"session" => Request::Session(words.number_u16()?),
         _ => return Err(LineFault::Bad),
@@ -182,6 +188,13 @@ fn open<'a>(words: &mut Words<'a>) -> Result<Request<'a>, LineFault> {
     Ok(Request::Open {
         ticket: words.name()?,
         name: words.name()?,
+    })
+}
+
+fn look<'a>(words: &mut Words<'a>) -> Result<Request<'a>, LineFault> {
+    Ok(Request::Look {
+        round: words.round()?,
+        author: words.number_u16()?,
     })
 }
 

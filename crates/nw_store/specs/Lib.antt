@@ -1,3 +1,4 @@
 pub mod Journal
 pub mod Lock
+pub mod Looks
 pub mod Fault

@@ -24,7 +24,7 @@ pub use error::{SettleFault, TooMany};
 pub use home::Home;
 pub use locked::{
     Locked, check_journal_locked, check_journals_locked, compact_locked, look_locked,
-    session_locked,
+    look_round_locked, session_locked,
 };
 pub use notes::{Note, hear_locked, note_locked, notes_carry_order};
 pub use nw_book::{

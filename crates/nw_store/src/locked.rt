@@ -3,11 +3,12 @@ ghost use Rattle.std.specs.Prelude.{◌≡◌, ◌↔◌, ◌+◌, ◌<◌, ◌�
 ghost use Rattle.std.specs.Prelude.{IsErr, IfOk, IfErr, OnOk, OnErr};
 ghost use mathlib.Core.List.{IsPrefix};
 ghost use Rattle.nw_history.specs.Limits.{AreInRange, most_events, most_sessions};
-ghost use Rattle.nw_model.specs.Look.{IsLook};
+ghost use Rattle.nw_model.specs.Look.{AreLooks, IsLook};
 ghost use Rattle.nw_history.specs.Story.{IsLegalStory, reopened, state_of};
 ghost use Rattle.nw_book.specs.Journal.{ArePrefixesOf, AreComparable, AreAnswers, origin_of};
 ghost use Rattle.nw_book.specs.Answered.{IsSeen};
 ghost use Rattle.nw_store.specs.Lock.{parts_of_a_ledger};
+ghost use Rattle.nw_store.specs.Looks.{AreSeen};
 
 use crate::opening::Opening;
 use crate::session::Session;
@@ -192,6 +193,21 @@ pub fn look_locked<S: Scheme, L: Home>(locked: &Locked<S, L>, round: Round, auth
     ensures seen { IsSeen S.accepts L.origin (round, author) result }
 {
     locked.book.look(round, author)
+}
+
+/// What the state after the history has in each slot of this round that has a first or a certified digest, for a caller that holds the
+/// lock: the authors, ascending, with the looks. This is no call.
+///
+/// `NoMemory`: an allocation failed.
+pub fn look_round_locked<S: Scheme, L: Home>(
+    locked: &Locked<S, L>,
+    alloc: Global,
+    round: Round,
+) -> Result<Vec<(u16, Look)>, NoMemory>
+    ensures looks { IfOk result (λ looks. AreLooks (state_of locked.now.history) round looks.items) }
+    ensures seen { IfOk result (λ looks. AreSeen S.accepts L.origin round looks.items) }
+{
+    locked.book.look_round(alloc, round)
 }
 
 /// Proves that each front of the session is a prefix of the history, however much other sessions added to it. It changes nothing

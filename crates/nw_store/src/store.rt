@@ -22,10 +22,11 @@ ghost use Rattle.nw_book.specs.Turn.{MatchesCommittee};
 ghost use Rattle.nw_model.specs.declared.call.Call.TheVariants as Call;
 ghost use Rattle.nw_book.specs.Journal.{KnowsAll, origin_of};
 ghost use Rattle.nw_store.specs.Lock.{parts_of_a_ledger};
+ghost use Rattle.nw_store.specs.Looks.{AreSeen};
 ghost use Rattle.nw_book.specs.Answered.{IsExplained, IsSeen, TakesNoStep};
 
 use crate::calls::{call_locked, open_locked};
-use crate::locked::{compact_locked, look_locked, session_locked};
+use crate::locked::{compact_locked, look_locked, look_round_locked, session_locked};
 use crate::notes::{hear_locked, note_locked};
 use crate::{Home, Locked, Note, Opening, Session, TooMany};
 use nw_book::{Book, BookError, Command, Done, Limits, NoStep, Ticket};
@@ -288,6 +289,21 @@ impl<S: Scheme, L: Home> Store<S, L> {
         ensures { IsSeen S.accepts L.origin (round, author) result }
     {
         look_locked(&*self.locked.lock(rt), round, author)
+    }
+
+    /// What the store has in each slot of this round that has a first or a certified digest: the authors, ascending, with the looks. This is
+    /// not a call: it adds no event.
+    ///
+    /// `NoMemory`: an allocation failed.
+    pub fn look_round<R: Wait>(
+        &self,
+        rt: &R,
+        alloc: Global,
+        round: Round,
+    ) -> Result<Vec<(u16, Look)>, NoMemory>
+        ensures { IfOk result (λ looks. AreSeen S.accepts L.origin round looks.items) }
+    {
+        look_round_locked(&*self.locked.lock(rt), alloc, round)
     }
 
     /// Freezes all complete blocks as one generation, which later tickets share. Collected blocks are not part of it. This is not a call:
