@@ -13,6 +13,7 @@ mod calls;
 mod error;
 mod home;
 mod locked;
+mod looks;
 mod notes;
 mod opening;
 mod session;

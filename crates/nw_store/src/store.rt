@@ -1,17 +1,5 @@
 //! The store. Each method takes the lock, does its work, and releases the lock.
-ghost use Rattle.std.specs.Prelude.{
-  ◌≡◌,
-  ◌↔◌,
-  ◌<◌,
-  [],
-  Some,
-  None,
-  IsOk,
-  IfOk,
-  IfErr,
-  OnOk,
-  OnErr,
-};
+ghost use Rattle.std.specs.Prelude.{◌≡◌, ◌↔◌, ◌<◌, [], Some, None, IsOk, IfOk, IfErr, OnOk, OnErr};
 ghost use Rattle.std.specs.Result.{IsErrOf};
 ghost use Rattle.nw_model.specs.Checks.{digest_of};
 ghost use Rattle.nw_history.specs.Limits.{AreInRange, most_sessions};
@@ -22,18 +10,16 @@ ghost use Rattle.nw_book.specs.Turn.{MatchesCommittee};
 ghost use Rattle.nw_model.specs.declared.call.Call.TheVariants as Call;
 ghost use Rattle.nw_book.specs.Journal.{KnowsAll, origin_of};
 ghost use Rattle.nw_store.specs.Lock.{parts_of_a_ledger};
-ghost use Rattle.nw_store.specs.Looks.{AreSeen};
-ghost use Rattle.nw_book.specs.Answered.{IsExplained, IsSeen, TakesNoStep};
+ghost use Rattle.nw_book.specs.Answered.{IsExplained, TakesNoStep};
 
 use crate::calls::{call_locked, open_locked};
-use crate::locked::{compact_locked, look_locked, look_round_locked, session_locked};
+use crate::locked::{compact_locked, session_locked};
 use crate::notes::{hear_locked, note_locked};
 use crate::{Home, Locked, Note, Opening, Session, TooMany};
 use nw_book::{Book, BookError, Command, Done, Limits, NoStep, Ticket};
 use nw_check::{CheckedBlock, CheckedCert};
 use nw_committee::Committee;
 use nw_digest::{Digest, NoMemory, Round, Shared};
-use nw_model::Look;
 use nw_sig::Scheme;
 use std::alloc::Global;
 use std::sync::{Mutex, Wait};
@@ -281,29 +267,6 @@ impl<S: Scheme, L: Home> Store<S, L> {
         ensures unchanged { OnErr result (session.new ≡ session.old) }
     {
         self.call(rt, alloc, session, &Command::Status)
-    }
-
-    /// What the store has in the slot of this round and author. This is not a call: it adds no event, and allocates nothing. A look tells
-    /// whether a parent with this round and author is stored and certified.
-    pub fn look<R: Wait>(&self, rt: &R, round: Round, author: u16) -> Look
-        ensures { IsSeen S.accepts L.origin (round, author) result }
-    {
-        look_locked(&*self.locked.lock(rt), round, author)
-    }
-
-    /// What the store has in each slot of this round that has a first or a certified digest: the authors, ascending, with the looks. This is
-    /// not a call: it adds no event.
-    ///
-    /// `NoMemory`: an allocation failed.
-    pub fn look_round<R: Wait>(
-        &self,
-        rt: &R,
-        alloc: Global,
-        round: Round,
-    ) -> Result<Vec<(u16, Look)>, NoMemory>
-        ensures { IfOk result (λ looks. AreSeen S.accepts L.origin round looks.items) }
-    {
-        look_round_locked(&*self.locked.lock(rt), alloc, round)
     }
 
     /// Freezes all complete blocks as one generation, which later tickets share. Collected blocks are not part of it. This is not a call:
