@@ -4,7 +4,7 @@ use std::alloc::{AllocError, Global};
 use std::test::Fail;
 
 // Lines of each kind, with the smallest and the largest numbers that they take, and a description of each parsed line.
-const LINES: [(&str, &str); 32] = [
+const LINES: [(&str, &str); 34] = [
     ("", "skipped"),
     ("# a comment", "skipped"),
     ("committee v1 4", "4 equal members"),
@@ -37,6 +37,11 @@ const LINES: [(&str, &str); 32] = [
     ("missing 65535", "missing 65535"),
     ("missing-of a", "missing of a"),
     ("status", "status"),
+    (
+        "look 281474976710655 65535",
+        "look in 281474976710655 at 65535",
+    ),
+    ("look-round 281474976710655", "look in 281474976710655"),
     ("compact", "compact"),
     ("session 65535", "session 65535"),
     ("settle", "settle"),
@@ -49,7 +54,7 @@ const LINES: [(&str, &str); 32] = [
 ];
 
 // Bad lines, and what each shows.
-const BAD: [(&str, &str); 30] = [
+const BAD: [(&str, &str); 33] = [
     ("a request with a word too few", "read"),
     ("a request with a word too many", "read a a"),
     ("two spaces", "read  a"),
@@ -74,6 +79,9 @@ const BAD: [(&str, &str); 30] = [
     ("a collection of no round", "collect 281474976710656"),
     ("more missing than 65535", "missing 65536"),
     ("a word after status", "status 0"),
+    ("a look at no round", "look 281474976710656 0"),
+    ("a look at an author over 65535", "look 0 65536"),
+    ("a look at a round with an author", "look-round 0 0"),
     ("a word after compact", "compact t"),
     ("a session over 65535", "session 65536"),
     ("a session that is a name", "session a"),
@@ -126,6 +134,10 @@ fn describe_request(alloc: Global, request: &Request<'_>) -> Result<String, Allo
         Request::Missing(most) => format!(in alloc; "missing {most}"),
         Request::MissingOf(name) => format!(in alloc; "missing of {}", name.as_str()),
         Request::Status => format!(in alloc; "status"),
+        Request::Look { round, author } => {
+            format!(in alloc; "look in {} at {author}", round.get())
+        }
+        Request::LookRound(round) => format!(in alloc; "look in {}", round.get()),
         Request::Compact => format!(in alloc; "compact"),
         Request::Session(id) => format!(in alloc; "session {id}"),
     }
