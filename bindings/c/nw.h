@@ -5,17 +5,17 @@
    function of its kind, as nw_block_free. It does nothing for NULL or a closed handle.
 
    If several codes apply, a function returns the first of NW_CLOSED, NW_OPEN and NW_OTHER_KIND, and otherwise the first that its comment
-   names. A call of a session returns the first of NW_BUSY, NW_ENDED, NW_OTHER_COMMITTEE, NW_HISTORY_FULL and NW_NO_MEMORY. nw_settle
-   looks at one session after another.
+   names. A call of a session then returns the first of NW_BUSY, NW_ENDED, NW_OTHER_COMMITTEE, NW_HISTORY_FULL and NW_NO_MEMORY, but
+   NW_BAD_ROUND comes before these. nw_settle looks at one session after another.
 
    The numbers of codes, kinds of texts, replies and calls do not overlap.
 
    The caller owes what the library cannot check:
 
    - Every pointer is valid, and only an array of length 0 may be NULL. No two parameters of one call are the same handle or overlap.
-   - There is one call at a time on one handle, even if the parameter is const: a function leaves such a handle as it was, but may use it
-     alone during the call. A handle passes to another thread by a lock, by starting or joining a thread, or by a sequentially consistent
-     atomic operation.
+   - There is one call at a time on one handle, even if the parameter is const: the function leaves such a handle as it was, but no other
+     call may use it meanwhile. A handle passes to another thread by a lock, by starting or joining a thread, or by a sequentially
+     consistent atomic operation.
    - No call comes from a signal handler, or from the child of a fork of a process with more than one thread.
    - The allocation functions are as in nw_alloc.h.
 

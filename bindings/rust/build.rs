@@ -16,7 +16,7 @@ const SHIPPED: [(&str, &str); 4] = [
     ("aarch64-unknown-linux-gnu", "prebuilt/aarch64-linux"),
     ("aarch64-unknown-linux-musl", "prebuilt/aarch64-linux"),
 ];
-/// The names that a library may have in the folder `NW_LIB_DIR`: as a proof leaves it, and as the
+/// The names that a library may have in the folder `NW_LIB_DIR`: as `.ci/library` leaves it, and as the
 /// package ships it.
 const NAMES: [&str; 2] = ["libnw_c.a", "libnw.a"];
 /// How to get another library.

@@ -266,7 +266,7 @@ fn filled(
     Ok(bytes)
 }
 
-/// The size of the message of a checked certificate or vote. Nothing is encoded.
+/// The size of the message of a checked block, certificate or vote. Nothing is encoded.
 pub(crate) fn checked_message_size(checked: &mut Handle) -> usize {
     let mut needed = 0;
     // SAFETY: a buffer of length 0 may be null.
